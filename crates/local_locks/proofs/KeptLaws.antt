@@ -1,0 +1,123 @@
+use Rattle.std.proofs.Common.{◌≡◌, ℕ, ◌<◌, ◌≤◌, false, List, [], ◌∷◌, suc, zero, min, refl, sym, subst, ◌∙◌, inl, inr, arith}
+use Rattle.std.specs.Prelude.{Option, Some, None, IfSome}
+use Rattle.std.specs.Option.{option_map}
+use Rattle.std.specs.List.{AllByRecursion, IsDistinct}
+use Rattle.std.proofs.lemmas.Bool.{cases_Bool, cases_lt}
+use Rattle.std.proofs.lemmas.Map.Keys.{IsDistinct-cons}
+use Rattle.std.proofs.lemmas.List.Elements.{All-from_recursion}
+use Rattle.local_locks.specs.declared.records.Entry.{Entry}
+use Rattle.local_locks.specs.declared.ends.End.{End}
+use Rattle.local_locks.specs.declared.ends.End.TheVariants.{Commit, Abort, Close}
+use Rattle.local_locks.specs.declared.ends.Progress.{Progress}
+use Rattle.local_locks.specs.Owned.{IsWellOwned, IsCounted, are_of_same, is_ended, after_end}
+use Rattle.local_locks.specs.Slots.{Slots, Index, slot_at, present, IsPast, IsKept, reached, with_reached, back_to}
+use Rattle.local_locks.proofs.SlotLaws.{if_some, at_some, placed}
+use Rattle.local_locks.proofs.EndLaws.{Keeps, Keeps-after_end, after_end-after_end, is_ended-after_end}
+
+-- ---- a table is well owned
+
+pub all_present : (P : Entry → Type 0) (slots : Slots) → ((k : ℕ) (e : Entry) → slot_at slots k ≡ Some e → P e) → AllByRecursion P (present slots)
+all_present P [] at = tt
+all_present P (None ∷ slots) at = all_present P slots (λ k. at (suc k))
+all_present P (Some e ∷ slots) at = (at zero e refl, all_present P slots (λ k. at (suc k)))
+
+distinct_present : (slots : Slots) → ((i j : ℕ) (a b : Entry) → i < j → slot_at slots i ≡ Some a → slot_at slots j ≡ Some b → are_of_same a b ≡ false) → IsDistinct are_of_same (present slots)
+unfolding IsDistinct
+distinct_present [] apart = tt
+distinct_present (None ∷ slots) apart = distinct_present slots (λ i j a b less. apart (suc i) (suc j) a b (omega arith))
+distinct_present (Some e ∷ slots) apart =
+    IsDistinct-cons are_of_same e (present slots)
+    (all_present (λ b. are_of_same e b ≡ false) slots (λ k b at. apart zero (suc k) e b (omega arith) refl at))
+    (distinct_present slots (λ i j a b less. apart (suc i) (suc j) a b (omega arith)))
+
+pub well_owned : (slots : Slots) (index : Index) (len max_local : ℕ) (progress : Progress) (room : ℕ) → IsKept slots index len max_local progress → IsWellOwned (record { entries = present slots; room = room; max_local = max_local })
+well_owned slots index len max_local progress room kept =
+    record {
+      once = distinct_present slots apart;
+      counted = All-from_recursion IsCounted (present slots) (all_present IsCounted slots kept.counted);
+      within = omega (arith, kept.number, kept.within);
+    } where
+      apart : (i j : ℕ) (a b : Entry) → i < j → slot_at slots i ≡ Some a → slot_at slots j ≡ Some b → are_of_same a b ≡ false
+      apart i j a b less at_i at_j =
+          elim (cases_Bool (are_of_same a b)) [
+            | inl same ↦
+                let both : Some i ≡ Some j = sym (placed slots index kept.indexed b.tag b.mode i a at_i same) ∙ kept.indexed.kept j b at_j in
+                let equal : i ≡ j = cc in
+                absurd (omega arith)
+            | inr other ↦ other
+          ]
+
+-- ---- how far the ends have come
+
+pub past-le : (end : End) (slots : Slots) (n m : ℕ) → m ≤ n → IsPast end slots n → IsPast end slots m
+past-le end slots n m below past = λ k before. past k (omega arith)
+
+-- where no entry is new
+pub past-fewer : (end : End) (old new : Slots) (n : ℕ) → ((k : ℕ) (x : Entry) → slot_at new k ≡ Some x → slot_at old k ≡ Some x) → IsPast end old n → IsPast end new n
+past-fewer end old new n fewer past = λ k before.
+    if_some (Keeps end) (slot_at new k) (λ x at. at_some (Keeps end) (slot_at old k) x (fewer k x at) (past k before))
+
+-- where the slots before the place are the same
+pub past-same : (end : End) (old new : Slots) (n : ℕ) → ((k : ℕ) → k < n → slot_at new k ≡ slot_at old k) → IsPast end old n → IsPast end new n
+past-same end old new n same past = λ k before. subst (λ o. IfSome o (Keeps end)) (sym (same k before)) (past k before)
+
+pub past-back_to : (end : End) (old new : Slots) (place : ℕ) (progress : Progress) → ((k : ℕ) → k < place → slot_at new k ≡ slot_at old k) → IsPast end old (reached end progress) → IsPast end new (reached end (back_to place progress))
+past-back_to Commit old new place progress same past = past-same Commit old new (min progress.commit place) (λ k before. same k (omega arith)) (past-le Commit old progress.commit (min progress.commit place) (omega arith) past)
+past-back_to Abort old new place progress same past = past-same Abort old new (min progress.abort place) (λ k before. same k (omega arith)) (past-le Abort old progress.abort (min progress.abort place) (omega arith) past)
+past-back_to Close old new place progress same past = past-same Close old new (min progress.close place) (λ k before. same k (omega arith)) (past-le Close old progress.close (min progress.close place) (omega arith) past)
+
+pub past-none : (end : End) (slots : Slots) → IsPast end slots 0
+past-none end slots = λ k before. absurd (omega arith)
+
+-- an end has come to a place: before it each entry is kept, with the counts that it leaves
+pub past-settled : (end other : End) (old new : Slots) (place : ℕ) (progress : Progress) →
+    ((k : ℕ) → k < place → IfSome (slot_at old k) (λ x. is_ended end x ≡ false)) →
+    ((k : ℕ) → k < place → slot_at new k ≡ option_map (after_end end) (slot_at old k)) →
+    ((k : ℕ) → place ≤ k → slot_at new k ≡ slot_at old k) →
+    ((e : End) → IsPast e old (reached e progress)) →
+    IsPast other new (reached other (with_reached end place progress))
+past-settled end other old new place progress kept settled others past = pick end other own (λ e. through e) where
+  mapped : (P Q : Entry → Type 0) (f : Entry → Entry) (o : Option Entry) → IfSome o P → ((x : Entry) → P x → Q (f x)) → IfSome (option_map f o) Q
+  mapped P Q f None holds step = tt
+  mapped P Q f (Some x) holds step = step x holds
+
+  both : (P Q : Entry → Type 0) (o : Option Entry) → IfSome o P → IfSome o Q → IfSome o (λ x. P x × Q x)
+  both P Q None p q = tt
+  both P Q (Some x) p q = (p, q)
+
+  own : IsPast end new place
+  own = λ k before.
+      subst (λ o. IfSome o (Keeps end)) (sym (settled k before))
+      (mapped (λ x. is_ended end x ≡ false) (Keeps end) (after_end end) (slot_at old k) (kept k before)
+      (λ x stays. (is_ended-after_end end x ∙ stays, after_end-after_end end x)))
+
+  through : (e : End) → IsPast e new (reached e progress)
+  through e = λ k before.
+      elim (cases_lt k place) [
+        | inl walked ↦
+            subst (λ o. IfSome o (Keeps e)) (sym (settled k walked))
+            (mapped (λ x. Keeps e x × (is_ended end x ≡ false)) (Keeps e) (after_end end) (slot_at old k)
+            (both (Keeps e) (λ x. is_ended end x ≡ false) (slot_at old k) (past e k before) (kept k walked))
+            (λ x holds. Keeps-after_end e end x holds.0 holds.1))
+        | inr beyond ↦ subst (λ o. IfSome o (Keeps e)) (sym (others k beyond)) (past e k before)
+      ]
+
+  pick : (end other : End) → IsPast end new place → ((e : End) → IsPast e new (reached e progress)) → IsPast other new (reached other (with_reached end place progress))
+  pick Commit Commit own rest = own
+  pick Commit Abort own rest = rest Abort
+  pick Commit Close own rest = rest Close
+  pick Abort Commit own rest = rest Commit
+  pick Abort Abort own rest = own
+  pick Abort Close own rest = rest Close
+  pick Close Commit own rest = rest Commit
+  pick Close Abort own rest = rest Abort
+  pick Close Close own rest = own
+
+-- nothing at all is well owned
+well_owned-nil : (room max_local : ℕ) → IsWellOwned (record { entries = []; room = room; max_local = max_local })
+unfolding IsDistinct
+well_owned-nil room max_local = record { once = tt; counted = All-from_recursion IsCounted [] tt; within = omega arith }
+
+pub well_owned-empty : (es : List Entry) (room max_local : ℕ) → es ≡ [] → IsWellOwned (record { entries = es; room = room; max_local = max_local })
+well_owned-empty es room max_local empty =
+    subst (λ (l : List Entry). IsWellOwned (record { entries = l; room = room; max_local = max_local })) (sym empty) (well_owned-nil room max_local)

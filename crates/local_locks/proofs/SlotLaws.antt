@@ -1,0 +1,344 @@
+use Rattle.std.proofs.Common.{◌≡◌, ◌≢◌, ℕ, ◌<◌, ◌≤◌, Bool, true, false, not, ◌&&◌, cond, [], ◌∷◌, ◌++◌, length, set, take, suc, zero, refl, sym, ap, subst, ◌∙◌, inl, inr, arith}
+use Rattle.std.specs.Prelude.{Option, Some, None, IfSome, IsSomeAnd}
+use Rattle.std.proofs.lemmas.Bool.{false≢true, cases_Bool, cases_eq, cases_lt, and_parts}
+use Rattle.std.proofs.lemmas.List.{get_or_past, get_or-set_same, get_or-set_other, get_or_push, get_or_append_left, get_or-take, length-take}
+use Rattle.std.proofs.lemmas.List.Elements.{filter_map-append}
+use Rattle.modes_core.specs.declared.modes.Mode.{Mode}
+use Rattle.modes_core.specs.declared.tags.Tag.{Tag}
+use Rattle.modes_core.specs.Mode.{mode_eq}
+use Rattle.modes_core.specs.Tag.{tag_eq}
+use Rattle.modes_core.proofs.Laws.{tag_eq-refl, tag_eq-same, mode_eq-refl, mode_eq-same}
+use Rattle.local_locks.specs.declared.records.Entry.{Entry}
+use Rattle.local_locks.specs.Owned.{is_of, entry_of, change, without}
+use Rattle.local_locks.specs.Slots.{Slots, Index, slot_at, present, is_key, place_in, IsIndexed}
+
+-- ---- options and tests
+
+pub if_some : {A : Type 0} (P : A → Type 0) (o : Option A) → ((x : A) → o ≡ Some x → P x) → IfSome o P
+if_some P None at = tt
+if_some P (Some x) at = at x refl
+
+pub at_some : {A : Type 0} (P : A → Type 0) (o : Option A) (x : A) → o ≡ Some x → IfSome o P → P x
+at_some P None x e holds = absurd (let no : None ≡ Some x = e in cc)
+at_some P (Some y) x e holds = let same : y ≡ x = cc in subst P same holds
+
+pub and_some : {A : Type 0} (P : A → Type 0) (o : Option A) → IsSomeAnd o P → (x : A) × (o ≡ Some x) × P x
+and_some P None never = absurd never
+and_some P (Some x) holds = (x, refl, holds)
+
+pub from_and_some : {A : Type 0} (P : A → Type 0) (o : Option A) (x : A) → o ≡ Some x → P x → IsSomeAnd o P
+from_and_some P o x e holds = subst (λ v. IsSomeAnd v P) (sym e) holds
+
+-- An entry of an object and mode has these.
+pub is_of-same : (tag : Tag) (mode : Mode) (entry : Entry) → is_of tag mode entry ≡ true → (entry.tag ≡ tag) × (entry.mode ≡ mode)
+is_of-same tag mode entry own =
+    let both = and_parts _ _ own in
+    (tag_eq-same entry.tag tag both.0, mode_eq-same entry.mode mode both.1)
+
+pub is_of-own : (entry : Entry) → is_of entry.tag entry.mode entry ≡ true
+is_of-own entry = λ i. and_true (tag_eq-refl entry.tag) (mode_eq-refl entry.mode) i where
+  and_true : {a b : Bool} → a ≡ true → b ≡ true → (a && b) ≡ true
+  and_true {a} {b} p q = λ i. p i && q i
+
+pub is_key-same : (tag : Tag) (mode : Mode) (t : Tag) (m : Mode) → is_key tag mode (t, m) ≡ true → (tag ≡ t) × (mode ≡ m)
+is_key-same tag mode t m own =
+    let both = and_parts _ _ own in
+    (tag_eq-same tag t both.0, mode_eq-same mode m both.1)
+
+pub is_key-own : (tag : Tag) (mode : Mode) → is_key tag mode (tag, mode) ≡ true
+is_key-own tag mode = λ i. tag_eq-refl tag i && mode_eq-refl mode i
+
+-- ---- no slot, or no other slot, has the object and mode
+
+abbrev pub NoneOf : Tag → Mode → Slots → Type 0
+NoneOf tag mode slots = (k : ℕ) → IfSome (slot_at slots k) (λ entry. is_of tag mode entry ≡ false)
+
+abbrev pub NoneElse : Tag → Mode → Slots → ℕ → Type 0
+NoneElse tag mode slots place = (k : ℕ) → k ≢ place → IfSome (slot_at slots k) (λ entry. is_of tag mode entry ≡ false)
+
+rest_none : (tag : Tag) (mode : Mode) (x : Option Entry) (slots : Slots) → NoneElse tag mode (x ∷ slots) zero → NoneOf tag mode slots
+rest_none tag mode x slots none = λ k. none (suc k) (λ e. omega arith)
+
+rest_else : (tag : Tag) (mode : Mode) (x : Option Entry) (slots : Slots) (place : ℕ) → NoneElse tag mode (x ∷ slots) (suc place) → NoneElse tag mode slots place
+rest_else tag mode x slots place none = λ k apart. none (suc k) (λ e. apart (omega arith))
+
+-- then the entry is not found, and changing or removing it changes nothing
+pub entry_of-none : (tag : Tag) (mode : Mode) (slots : Slots) → NoneOf tag mode slots → entry_of (present slots) tag mode ≡ None
+entry_of-none tag mode [] none = refl
+entry_of-none tag mode (None ∷ slots) none = entry_of-none tag mode slots (λ k. none (suc k))
+entry_of-none tag mode (Some e ∷ slots) none =
+    ap (λ b. cond b (Some e) (entry_of (present slots) tag mode)) (none zero) ∙ entry_of-none tag mode slots (λ k. none (suc k))
+
+change-none : (f : Entry → Entry) (tag : Tag) (mode : Mode) (slots : Slots) → NoneOf tag mode slots → change f (present slots) tag mode ≡ present slots
+change-none f tag mode [] none = refl
+change-none f tag mode (None ∷ slots) none = change-none f tag mode slots (λ k. none (suc k))
+change-none f tag mode (Some e ∷ slots) none = λ i. cond (none zero i) (f e) e ∷ change-none f tag mode slots (λ k. none (suc k)) i
+
+without-none : (tag : Tag) (mode : Mode) (slots : Slots) → NoneOf tag mode slots → without (present slots) tag mode ≡ present slots
+without-none tag mode [] none = refl
+without-none tag mode (None ∷ slots) none = without-none tag mode slots (λ k. none (suc k))
+without-none tag mode (Some e ∷ slots) none =
+    ap (λ b. cond (not b) (e ∷ without (present slots) tag mode) (without (present slots) tag mode)) (none zero)
+    ∙ ap (λ l. e ∷ l) (without-none tag mode slots (λ k. none (suc k)))
+
+-- ---- the entry at a place, where no other slot has its object and mode
+
+pub entry_of-at : (tag : Tag) (mode : Mode) (slots : Slots) (place : ℕ) (e : Entry) → slot_at slots place ≡ Some e → is_of tag mode e ≡ true → NoneElse tag mode slots place → entry_of (present slots) tag mode ≡ Some e
+entry_of-at tag mode [] place e at own none = absurd (let no : None ≡ Some e = at in cc)
+entry_of-at tag mode (None ∷ slots) zero e at own none = absurd (let no : None ≡ Some e = at in cc)
+entry_of-at tag mode (None ∷ slots) (suc place) e at own none = entry_of-at tag mode slots place e at own (rest_else tag mode None slots place none)
+entry_of-at tag mode (Some x ∷ slots) zero e at own none =
+    let same : x ≡ e = cc in
+    ap (λ b. cond b (Some x) (entry_of (present slots) tag mode)) (ap (is_of tag mode) same ∙ own) ∙ at
+entry_of-at tag mode (Some x ∷ slots) (suc place) e at own none =
+    ap (λ b. cond b (Some x) (entry_of (present slots) tag mode)) (none zero (λ q. omega arith))
+    ∙ entry_of-at tag mode slots place e at own (rest_else tag mode (Some x) slots place none)
+
+pub change-at : (f : Entry → Entry) (tag : Tag) (mode : Mode) (slots : Slots) (place : ℕ) (e : Entry) → slot_at slots place ≡ Some e → is_of tag mode e ≡ true → NoneElse tag mode slots place → present (set slots place (Some (f e))) ≡ change f (present slots) tag mode
+change-at f tag mode [] place e at own none = absurd (let no : None ≡ Some e = at in cc)
+change-at f tag mode (None ∷ slots) zero e at own none = absurd (let no : None ≡ Some e = at in cc)
+change-at f tag mode (None ∷ slots) (suc place) e at own none = change-at f tag mode slots place e at own (rest_else tag mode None slots place none)
+change-at f tag mode (Some x ∷ slots) zero e at own none =
+    let same : e ≡ x = cc in
+    let hit : is_of tag mode x ≡ true = ap (is_of tag mode) (sym same) ∙ own in
+    λ i. (ap f same ∙ sym (ap (λ b. cond b (f x) x) hit)) i ∷ sym (change-none f tag mode slots (rest_none tag mode (Some x) slots none)) i
+change-at f tag mode (Some x ∷ slots) (suc place) e at own none =
+    let miss : is_of tag mode x ≡ false = none zero (λ q. omega arith) in
+    λ i. sym (ap (λ b. cond b (f x) x) miss) i ∷ change-at f tag mode slots place e at own (rest_else tag mode (Some x) slots place none) i
+
+pub without-at : (tag : Tag) (mode : Mode) (slots : Slots) (place : ℕ) (e : Entry) → slot_at slots place ≡ Some e → is_of tag mode e ≡ true → NoneElse tag mode slots place → present (set slots place None) ≡ without (present slots) tag mode
+without-at tag mode [] place e at own none = absurd (let no : None ≡ Some e = at in cc)
+without-at tag mode (None ∷ slots) zero e at own none = absurd (let no : None ≡ Some e = at in cc)
+without-at tag mode (None ∷ slots) (suc place) e at own none = without-at tag mode slots place e at own (rest_else tag mode None slots place none)
+without-at tag mode (Some x ∷ slots) zero e at own none =
+    let same : x ≡ e = cc in
+    let hit : is_of tag mode x ≡ true = ap (is_of tag mode) same ∙ own in
+    sym (ap (λ b. cond (not b) (x ∷ without (present slots) tag mode) (without (present slots) tag mode)) hit
+    ∙ without-none tag mode slots (rest_none tag mode (Some x) slots none))
+without-at tag mode (Some x ∷ slots) (suc place) e at own none =
+    let miss : is_of tag mode x ≡ false = none zero (λ q. omega arith) in
+    ap (λ l. x ∷ l) (without-at tag mode slots place e at own (rest_else tag mode (Some x) slots place none))
+    ∙ sym (ap (λ b. cond (not b) (x ∷ without (present slots) tag mode) (without (present slots) tag mode)) miss)
+
+-- ---- how many entries
+
+pub length-present_set : (slots : Slots) (place : ℕ) (e x : Entry) → slot_at slots place ≡ Some e → length (present (set slots place (Some x))) ≡ length (present slots)
+length-present_set [] place e x at = refl
+length-present_set (None ∷ slots) zero e x at = absurd (let no : None ≡ Some e = at in cc)
+length-present_set (Some y ∷ slots) zero e x at = refl
+length-present_set (None ∷ slots) (suc place) e x at = length-present_set slots place e x at
+length-present_set (Some y ∷ slots) (suc place) e x at = ap (λ n. suc n) (length-present_set slots place e x at)
+
+pub length-present_clear : (slots : Slots) (place : ℕ) (e : Entry) → slot_at slots place ≡ Some e → length (present slots) ≡ suc (length (present (set slots place None)))
+length-present_clear [] place e at = absurd (let no : None ≡ Some e = at in cc)
+length-present_clear (None ∷ slots) zero e at = absurd (let no : None ≡ Some e = at in cc)
+length-present_clear (Some y ∷ slots) zero e at = refl
+length-present_clear (None ∷ slots) (suc place) e at = length-present_clear slots place e at
+length-present_clear (Some y ∷ slots) (suc place) e at = ap (λ n. suc n) (length-present_clear slots place e at)
+
+-- ---- one more slot at the end
+
+pub present-push : (slots : Slots) (e : Entry) → present (slots ++ Some e ∷ []) ≡ present slots ++ e ∷ []
+present-push slots e = filter_map-append (λ slot. slot) slots (Some e ∷ [])
+
+pub slot_at-past : (slots : Slots) (place : ℕ) → length slots ≤ place → slot_at slots place ≡ None
+slot_at-past slots place past = get_or_past slots place None past
+
+pub slot_at-within : (slots : Slots) (place : ℕ) (e : Entry) → slot_at slots place ≡ Some e → place < length slots
+slot_at-within [] place e at = absurd (let no : None ≡ Some e = at in cc)
+slot_at-within (x ∷ slots) zero e at = omega arith
+slot_at-within (x ∷ slots) (suc place) e at = let h : place < length slots = slot_at-within slots place e at in omega arith
+
+-- ---- what an exact index says
+
+-- the index finds the entry that a slot has
+pub placed : (slots : Slots) (index : Index) → IsIndexed slots index → (tag : Tag) (mode : Mode) (place : ℕ) (e : Entry) → slot_at slots place ≡ Some e → is_of tag mode e ≡ true → place_in index tag mode ≡ Some place
+placed slots index indexed tag mode place e at own =
+    let same = is_of-same tag mode e own in
+    (λ i. place_in index (sym same.0 i) (sym same.1 i)) ∙ indexed.kept place e at
+
+pub none_else : (slots : Slots) (index : Index) → IsIndexed slots index → (tag : Tag) (mode : Mode) (place : ℕ) → place_in index tag mode ≡ Some place → NoneElse tag mode slots place
+none_else slots index indexed tag mode place is k apart = if_some _ (slot_at slots k) at_entry where
+  at_entry : (x : Entry) → slot_at slots k ≡ Some x → is_of tag mode x ≡ false
+  at_entry x at =
+      elim (cases_Bool (is_of tag mode x)) [
+        | inl own ↦
+            let both : Some k ≡ Some place = sym (placed slots index indexed tag mode k x at own) ∙ is in
+            let same : k ≡ place = cc in
+            absurd (apart same)
+        | inr other ↦ other
+      ]
+
+pub none_of : (slots : Slots) (index : Index) → IsIndexed slots index → (tag : Tag) (mode : Mode) → place_in index tag mode ≡ None → NoneOf tag mode slots
+none_of slots index indexed tag mode is k = if_some _ (slot_at slots k) at_entry where
+  at_entry : (x : Entry) → slot_at slots k ≡ Some x → is_of tag mode x ≡ false
+  at_entry x at =
+      elim (cases_Bool (is_of tag mode x)) [
+        | inl own ↦
+            let both : Some k ≡ None = sym (placed slots index indexed tag mode k x at own) ∙ is in
+            absurd (cc)
+        | inr other ↦ other
+      ]
+
+-- a place that the index has is that of an entry
+pub found_at : (slots : Slots) (index : Index) → IsIndexed slots index → (tag : Tag) (mode : Mode) (place : ℕ) → place_in index tag mode ≡ Some place → (e : Entry) × (slot_at slots place ≡ Some e) × (is_of tag mode e ≡ true)
+found_at slots index indexed tag mode place is = and_some _ (slot_at slots place) (indexed.found tag mode place is)
+
+pub found_entry : (slots : Slots) (index : Index) → IsIndexed slots index → (tag : Tag) (mode : Mode) (place : ℕ) (e : Entry) → place_in index tag mode ≡ Some place → slot_at slots place ≡ Some e → entry_of (present slots) tag mode ≡ Some e
+found_entry slots index indexed tag mode place e is at =
+    entry_of-at tag mode slots place e at
+    (subst (λ o. IfSome o (λ x. is_of tag mode x ≡ true)) at (if_found (slot_at slots place) (indexed.found tag mode place is)))
+    (none_else slots index indexed tag mode place is) where
+      if_found : (o : Option Entry) → IsSomeAnd o (λ x. is_of tag mode x ≡ true) → IfSome o (λ x. is_of tag mode x ≡ true)
+      if_found None never = tt
+      if_found (Some x) own = own
+
+pub found_own : (slots : Slots) (index : Index) → IsIndexed slots index → (tag : Tag) (mode : Mode) (place : ℕ) (e : Entry) → place_in index tag mode ≡ Some place → slot_at slots place ≡ Some e → is_of tag mode e ≡ true
+found_own slots index indexed tag mode place e is at =
+    let found = found_at slots index indexed tag mode place is in
+    let both : Some found.0 ≡ Some e = sym found.1 ∙ at in
+    let same : found.0 ≡ e = cc in
+    ap (is_of tag mode) (sym same) ∙ found.2
+
+-- ---- an exact index stays so
+
+pub key-is_of : (tag : Tag) (mode : Mode) (e : Entry) → is_key tag mode (e.tag, e.mode) ≡ is_of tag mode e
+key-is_of tag mode e =
+    elim (cases_Bool (is_of tag mode e)) [
+      | inl own ↦
+          let both = is_of-same tag mode e own in
+          (λ i. is_key tag mode (both.0 i, both.1 i)) ∙ (is_key-own tag mode ∙ sym own)
+      | inr other ↦
+          elim (cases_Bool (is_key tag mode (e.tag, e.mode))) [
+            | inl key ↦
+                let same = is_key-same tag mode e.tag e.mode key in
+                let own : is_of tag mode e ≡ true = (λ i. is_of (same.0 i) (same.1 i) e) ∙ is_of-own e in
+                absurd (false≢true (sym other ∙ own))
+            | inr apart ↦ apart ∙ sym other
+          ]
+    ]
+
+-- The index changes at one object and mode, to the place of its entry if there is one, and the others stay where they are.
+pub reindexed :
+    (slots slots' : Slots) (index index' : Index) (tag : Tag) (mode : Mode) (w : Option ℕ) →
+    IsIndexed slots index →
+    (places : (t : Tag) (m : Mode) → place_in index' t m ≡ cond (is_key tag mode (t, m)) w (place_in index t m)) →
+    (stay : (k : ℕ) (x : Entry) → is_of tag mode x ≡ false → slot_at slots k ≡ Some x → slot_at slots' k ≡ Some x) →
+    (came : (k : ℕ) (x : Entry) → is_of tag mode x ≡ false → slot_at slots' k ≡ Some x → slot_at slots k ≡ Some x) →
+    (own : (k : ℕ) (x : Entry) → is_of tag mode x ≡ true → slot_at slots' k ≡ Some x → w ≡ Some k) →
+    (there : (k : ℕ) → w ≡ Some k → IsSomeAnd (slot_at slots' k) (λ x. is_of tag mode x ≡ true)) →
+    IsIndexed slots' index'
+reindexed slots slots' index index' tag mode w indexed places stay came own there = record { found = found; kept = kept } where
+  found : (t : Tag) (m : Mode) (place : ℕ) → place_in index' t m ≡ Some place → IsSomeAnd (slot_at slots' place) (λ e. is_of t m e ≡ true)
+  found t m place is =
+      elim (cases_Bool (is_key tag mode (t, m))) [
+        | inl key ↦
+            let same = is_key-same tag mode t m key in
+            let w_is : w ≡ Some place = sym (ap (λ b. cond b w (place_in index t m)) key) ∙ (sym (places t m) ∙ is) in
+            let at = there place w_is in
+            subst (λ a. IsSomeAnd (slot_at slots' place) (λ e. is_of a m e ≡ true)) same.0
+            (subst (λ x. IsSomeAnd (slot_at slots' place) (λ e. is_of tag x e ≡ true)) same.1 at)
+        | inr apart ↦
+            let old_is : place_in index t m ≡ Some place = sym (ap (λ b. cond b w (place_in index t m)) apart) ∙ (sym (places t m) ∙ is) in
+            let at = found_at slots index indexed t m place old_is in
+            from_and_some _ (slot_at slots' place) at.0 (stay place at.0 (not_own at.0 t m at.2 apart) at.1) at.2
+      ] where
+        not_own : (e : Entry) (t : Tag) (m : Mode) → is_of t m e ≡ true → is_key tag mode (t, m) ≡ false → is_of tag mode e ≡ false
+        not_own e t m its apart =
+            let both = is_of-same t m e its in
+            sym (key-is_of tag mode e) ∙ ((λ i. is_key tag mode (both.0 i, both.1 i)) ∙ apart)
+
+  kept : (place : ℕ) (e : Entry) → slot_at slots' place ≡ Some e → place_in index' e.tag e.mode ≡ Some place
+  kept place e at =
+      elim (cases_Bool (is_of tag mode e)) [
+        | inl its ↦ places e.tag e.mode ∙ (ap (λ b. cond b w (place_in index e.tag e.mode)) (key-is_of tag mode e ∙ its) ∙ own place e its at)
+        | inr other ↦ places e.tag e.mode ∙ (ap (λ b. cond b w (place_in index e.tag e.mode)) (key-is_of tag mode e ∙ other) ∙ indexed.kept place e (came place e other at))
+      ]
+
+-- ---- one slot written
+
+pub slot_at-set : (slots : Slots) (place : ℕ) (x : Option Entry) → place < length slots → slot_at (set slots place x) place ≡ x
+slot_at-set slots place x within = get_or-set_same slots place x None within
+
+pub slot_at-set_other : (slots : Slots) (place k : ℕ) (x : Option Entry) → k ≢ place → slot_at (set slots place x) k ≡ slot_at slots k
+slot_at-set_other slots place k x apart = get_or-set_other slots place k x None apart
+
+pub slot_at-push : (slots : Slots) (x : Option Entry) → slot_at (slots ++ x ∷ []) (length slots) ≡ x
+slot_at-push slots x = get_or_push slots x None (length slots) refl
+
+pub slot_at-push_before : (slots : Slots) (x : Option Entry) (k : ℕ) → k < length slots → slot_at (slots ++ x ∷ []) k ≡ slot_at slots k
+slot_at-push_before slots x k within = get_or_append_left slots (x ∷ []) None k within
+
+-- an entry with other counts in the same slot
+pub indexed-change : (slots : Slots) (index : Index) (place : ℕ) (e x : Entry) → IsIndexed slots index → slot_at slots place ≡ Some e → x.tag ≡ e.tag → x.mode ≡ e.mode → IsIndexed (set slots place (Some x)) index
+indexed-change slots index place e x indexed at same_tag same_mode =
+    record {
+      found = λ tag mode k is. elim (cases_eq k place) [
+        | inl same ↦
+            let found = found_at slots index indexed tag mode k is in
+            let both : Some found.0 ≡ Some e = sym found.1 ∙ (ap (slot_at slots) same ∙ at) in
+            let its : found.0 ≡ e = cc in
+            from_and_some _ _ x (ap (slot_at (set slots place (Some x))) same ∙ slot_at-set slots place (Some x) (slot_at-within slots place e at))
+            ((λ i. tag_eq (same_tag i) tag && mode_eq (same_mode i) mode) ∙ (ap (is_of tag mode) (sym its) ∙ found.2))
+        | inr apart ↦ subst (λ o. IsSomeAnd o (λ y. is_of tag mode y ≡ true)) (sym (slot_at-set_other slots place k (Some x) apart)) (indexed.found tag mode k is)
+      ];
+      kept = λ k y at_k. elim (cases_eq k place) [
+        | inl same ↦
+            let both : Some x ≡ Some y = sym (ap (slot_at (set slots place (Some x))) same ∙ slot_at-set slots place (Some x) (slot_at-within slots place e at)) ∙ at_k in
+            let its : y ≡ x = cc in
+            (λ i. place_in index (its i).tag (its i).mode) ∙ ((λ i. place_in index (same_tag i) (same_mode i)) ∙ (indexed.kept place e at ∙ ap (λ n. Some n) (sym same)))
+        | inr apart ↦ indexed.kept k y (sym (slot_at-set_other slots place k (Some x) apart) ∙ at_k)
+      ];
+    }
+
+-- ---- slots at the end that are empty
+
+pub present-take : (n : ℕ) (slots : Slots) → ((k : ℕ) → n ≤ k → slot_at slots k ≡ None) → present (take n slots) ≡ present slots
+present-take zero slots none = sym (all_none slots (λ k. none k (omega arith))) where
+  all_none : (slots : Slots) → ((k : ℕ) → slot_at slots k ≡ None) → present slots ≡ []
+  all_none [] none = refl
+  all_none (None ∷ slots) none = all_none slots (λ k. none (suc k))
+  all_none (Some e ∷ slots) none = absurd (let bad : Some e ≡ None = none zero in cc)
+present-take (suc n) [] none = refl
+present-take (suc n) (None ∷ slots) none = present-take n slots (λ k past. none (suc k) (omega arith))
+present-take (suc n) (Some e ∷ slots) none = ap (λ l. e ∷ l) (present-take n slots (λ k past. none (suc k) (omega arith)))
+
+pub slot_at-take : (n : ℕ) (slots : Slots) → ((k : ℕ) → n ≤ k → slot_at slots k ≡ None) → (k : ℕ) → slot_at (take n slots) k ≡ slot_at slots k
+slot_at-take n slots none k =
+    elim (cases_lt k n) [
+      | inl below ↦ get_or-take n slots k None below
+      | inr past ↦ slot_at-past (take n slots) k (omega (arith, length-take n slots)) ∙ sym (none k past)
+    ]
+
+-- slots with the same content at each place have the same index
+pub indexed-same : (slots slots' : Slots) (index : Index) → ((k : ℕ) → slot_at slots' k ≡ slot_at slots k) → IsIndexed slots index → IsIndexed slots' index
+indexed-same slots slots' index same indexed =
+    record {
+      found = λ tag mode k is. subst (λ o. IsSomeAnd o (λ y. is_of tag mode y ≡ true)) (sym (same k)) (indexed.found tag mode k is);
+      kept = λ k y at. indexed.kept k y (sym (same k) ∙ at);
+    }
+
+-- ---- an entry that moves down over empty slots
+
+present-first : (slots : Slots) (place : ℕ) (e : Entry) → slot_at slots place ≡ Some e → ((k : ℕ) → k < place → slot_at slots k ≡ None) → present slots ≡ e ∷ present (set slots place None)
+present-first [] place e at none = absurd (let bad : None ≡ Some e = at in cc)
+present-first (None ∷ slots) zero e at none = absurd (let bad : None ≡ Some e = at in cc)
+present-first (Some x ∷ slots) zero e at none = let same : x ≡ e = cc in ap (λ y. y ∷ present slots) same
+present-first (None ∷ slots) (suc place) e at none = present-first slots place e at (λ k below. none (suc k) (omega arith))
+present-first (Some x ∷ slots) (suc place) e at none = absurd (let bad : Some x ≡ None = none zero (omega arith) in cc)
+
+pub present-move : (slots : Slots) (to place : ℕ) (e : Entry) → slot_at slots place ≡ Some e → to ≤ place → ((k : ℕ) → to ≤ k → k < place → slot_at slots k ≡ None) → present (set (set slots place None) to (Some e)) ≡ present slots
+present-move [] to place e at down none = absurd (let bad : None ≡ Some e = at in cc)
+present-move (x ∷ slots) zero zero e at down none = let same : x ≡ Some e = at in sym (ap (λ y. present (y ∷ slots)) same)
+present-move (x ∷ slots) zero (suc place) e at down none =
+    let head : x ≡ None = none zero (omega arith) (omega arith) in
+    sym (present-first slots place e at (λ k below. none (suc k) (omega arith) (omega arith))) ∙ sym (ap (λ y. present (y ∷ slots)) head)
+present-move (x ∷ slots) (suc to) zero e at down none = absurd (omega arith)
+present-move (None ∷ slots) (suc to) (suc place) e at down none = present-move slots to place e at (omega arith) (λ k low high. none (suc k) (omega arith) (omega arith))
+present-move (Some x ∷ slots) (suc to) (suc place) e at down none = ap (λ l. x ∷ l) (present-move slots to place e at (omega arith) (λ k low high. none (suc k) (omega arith) (omega arith)))
+
+-- slots of which none is empty
+pub length-full : (slots : Slots) → ((k : ℕ) → k < length slots → IsSomeAnd (slot_at slots k) (λ _. Unit {0})) → length (present slots) ≡ length slots
+length-full [] full = refl
+length-full (None ∷ slots) full = absurd (full zero (omega arith))
+length-full (Some e ∷ slots) full = ap (λ n. suc n) (length-full slots (λ k within. full (suc k) (omega arith)))

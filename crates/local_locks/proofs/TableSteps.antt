@@ -1,0 +1,211 @@
+use Rattle.std.proofs.Common.{◌≡◌, ◌≢◌, ℕ, ◌+◌, ◌-◌, ◌<◌, true, not, cond, List, [], ◌∷◌, ◌++◌, length, set, refl, sym, ap, subst, ◌∙◌, inl, inr, arith}
+use Rattle.std.specs.Prelude.{Some, None, IfSome, is_some}
+use Rattle.std.specs.Option.{option_map_or}
+use Rattle.std.proofs.lemmas.Bool.{cases_Bool, cases_eq, cases_lt, eq-eqb, ne_eqb}
+use Rattle.modes_core.specs.declared.modes.Mode.{Mode}
+use Rattle.modes_core.specs.declared.tags.Tag.{Tag}
+use Rattle.modes_core.specs.declared.sessions.Owner.{Owner}
+use Rattle.modes_core.specs.declared.sessions.Owner.TheVariants.{Session, Transaction}
+use Rattle.local_locks.specs.declared.records.Entry.{Entry}
+use Rattle.local_locks.specs.declared.ends.End.{End}
+use Rattle.local_locks.specs.declared.ends.Progress.{Progress}
+use Rattle.local_locks.specs.Owned.{IsCounted, count_for, count_in_all, raised, lowered, new_entry, max_count, is_of, entry_of, has_entry, owner_count_of, total_of, change, without, with_one_more, with_one_less}
+use Rattle.local_locks.specs.Slots.{Slots, Index, slot_at, present, IsIndexed, IsPast, IsKept, reached, back_to}
+use Rattle.local_locks.proofs.SlotLaws.{is_of-same, placed, none_else, found_entry, change-at, length-present_set, slot_at-set, slot_at-set_other, slot_at-push_before, slot_at-past, slot_at-push, slot_at-within, present-push, indexed-change}
+use Rattle.local_locks.proofs.EndLaws.{Keeps, Keeps-lowered}
+use Rattle.local_locks.proofs.KeptLaws.{past-back_to, past-fewer}
+use Rattle.std.proofs.lemmas.List.{length_push}
+
+-- ---- counts read from the entries
+
+pub owner_count-at : (es : List Entry) (tag : Tag) (mode : Mode) (owner : Owner) (e : Entry) → entry_of es tag mode ≡ Some e → owner_count_of es tag mode owner ≡ count_for owner e
+owner_count-at es tag mode owner e at = ap (λ o. option_map_or (count_for owner) o 0) at
+
+pub total-at : (es : List Entry) (tag : Tag) (mode : Mode) (e : Entry) → entry_of es tag mode ≡ Some e → total_of es tag mode ≡ count_in_all e
+total-at es tag mode e at = ap (λ o. option_map_or count_in_all o 0) at
+
+pub total-none : (es : List Entry) (tag : Tag) (mode : Mode) → entry_of es tag mode ≡ None → total_of es tag mode ≡ 0
+total-none es tag mode none = ap (λ o. option_map_or count_in_all o 0) none
+
+pub entry_of-without : (es : List Entry) (tag : Tag) (mode : Mode) → entry_of (without es tag mode) tag mode ≡ None
+entry_of-without [] tag mode = refl
+entry_of-without (e ∷ es) tag mode =
+    elim (cases_Bool (is_of tag mode e)) [
+      | inl own ↦ ap (λ b. entry_of (cond (not b) (e ∷ without es tag mode) (without es tag mode)) tag mode) own ∙ entry_of-without es tag mode
+      | inr other ↦
+          ap (λ b. entry_of (cond (not b) (e ∷ without es tag mode) (without es tag mode)) tag mode) other
+          ∙ (ap (λ b. cond b (Some e) (entry_of (without es tag mode) tag mode)) other ∙ entry_of-without es tag mode)
+    ]
+
+-- ---- one count more or less
+
+pub raised-key : (owner : Owner) (e : Entry) → ((raised owner e).tag ≡ e.tag) × ((raised owner e).mode ≡ e.mode)
+raised-key Session e = (refl, refl)
+raised-key Transaction e = (refl, refl)
+
+pub lowered-key : (owner : Owner) (e : Entry) → ((lowered owner e).tag ≡ e.tag) × ((lowered owner e).mode ≡ e.mode)
+lowered-key Session e = (refl, refl)
+lowered-key Transaction e = (refl, refl)
+
+pub IsCounted-raised : (owner : Owner) (e : Entry) → count_for owner e < max_count → IsCounted e → IsCounted (raised owner e)
+IsCounted-raised Session e below counted = record { some = omega arith; transaction = counted.transaction; session = omega arith }
+IsCounted-raised Transaction e below counted = record { some = omega arith; transaction = omega arith; session = counted.session }
+
+pub IsCounted-lowered : (owner : Owner) (e : Entry) → 0 < count_for owner e → count_in_all e ≢ 1 → IsCounted e → IsCounted (lowered owner e)
+IsCounted-lowered Session e some more counted = record { some = omega arith; transaction = counted.transaction; session = omega (arith, counted.session) }
+IsCounted-lowered Transaction e some more counted = record { some = omega arith; transaction = omega (arith, counted.transaction); session = counted.session }
+
+pub IsCounted-new : (tag : Tag) (mode : Mode) (owner : Owner) → IsCounted (new_entry tag mode owner)
+IsCounted-new tag mode Session = record { some = omega arith; transaction = omega arith; session = omega arith }
+IsCounted-new tag mode Transaction = record { some = omega arith; transaction = omega arith; session = omega arith }
+
+-- ---- what stands in the slots after a change to one entry
+
+pub kept-change :
+    (slots : Slots) (index : Index) (len max_local : ℕ) (progress progress' : Progress) (place : ℕ) (e x : Entry) →
+    IsKept slots index len max_local progress → slot_at slots place ≡ Some e → x.tag ≡ e.tag → x.mode ≡ e.mode → IsCounted x →
+    ((end : End) → IsPast end (set slots place (Some x)) (reached end progress')) →
+    IsKept (set slots place (Some x)) index len max_local progress'
+kept-change slots index len max_local progress progress' place e x kept at same_tag same_mode counted_x past =
+    record {
+      indexed = indexed-change slots index place e x kept.indexed at same_tag same_mode;
+      counted = counted;
+      number = kept.number ∙ sym (length-present_set slots place e x at);
+      within = kept.within;
+      past = past;
+    } where
+      counted : (k : ℕ) (y : Entry) → slot_at (set slots place (Some x)) k ≡ Some y → IsCounted y
+      counted k y at_k =
+          elim (cases_eq k place) [
+            | inl same ↦
+                let both : Some x ≡ Some y = sym (ap (slot_at (set slots place (Some x))) same ∙ slot_at-set slots place (Some x) (slot_at-within slots place e at)) ∙ at_k in
+                let its : x ≡ y = cc in
+                subst IsCounted its counted_x
+            | inr apart ↦ kept.counted k y (sym (slot_at-set_other slots place k (Some x) apart) ∙ at_k)
+          ]
+
+pub kept-raised :
+    (slots : Slots) (index : Index) (len max_local : ℕ) (progress : Progress) (place : ℕ) (owner : Owner) (e : Entry) →
+    IsKept slots index len max_local progress → slot_at slots place ≡ Some e → count_for owner e < max_count →
+    IsKept (set slots place (Some (raised owner e))) index len max_local (back_to place progress)
+kept-raised slots index len max_local progress place owner e kept at below =
+    let key = raised-key owner e in
+    kept-change slots index len max_local progress (back_to place progress) place e (raised owner e) kept at key.0 key.1
+    (IsCounted-raised owner e below (kept.counted place e at))
+    (λ end. past-back_to end slots (set slots place (Some (raised owner e))) place progress
+    (λ k before. slot_at-set_other slots place k (Some (raised owner e)) (λ same. omega arith)) (kept.past end))
+
+pub kept-lowered :
+    (slots : Slots) (index : Index) (len max_local : ℕ) (progress : Progress) (place : ℕ) (owner : Owner) (e : Entry) →
+    IsKept slots index len max_local progress → slot_at slots place ≡ Some e → 0 < count_for owner e → count_in_all e ≢ 1 →
+    IsKept (set slots place (Some (lowered owner e))) index len max_local progress
+kept-lowered slots index len max_local progress place owner e kept at some more =
+    let key = lowered-key owner e in
+    kept-change slots index len max_local progress progress place e (lowered owner e) kept at key.0 key.1
+    (IsCounted-lowered owner e some more (kept.counted place e at)) past where
+      past : (end : End) → IsPast end (set slots place (Some (lowered owner e))) (reached end progress)
+      past end k before =
+          elim (cases_eq k place) [
+            | inl same ↦
+                let keeps : Keeps end e = subst (λ o. IfSome o (Keeps end)) (ap (slot_at slots) same ∙ at) (kept.past end k before) in
+                subst (λ o. IfSome o (Keeps end)) (sym (ap (slot_at (set slots place (Some (lowered owner e)))) same ∙ slot_at-set slots place (Some (lowered owner e)) (slot_at-within slots place e at)))
+                (Keeps-lowered end owner e keeps some more)
+            | inr apart ↦ subst (λ o. IfSome o (Keeps end)) (sym (slot_at-set_other slots place k (Some (lowered owner e)) apart)) (kept.past end k before)
+          ]
+
+-- a new last entry
+pub kept-pushed :
+    (slots : Slots) (index index' : Index) (len max_local : ℕ) (progress : Progress) (e : Entry) →
+    IsKept slots index len max_local progress → IsIndexed (slots ++ Some e ∷ []) index' → IsCounted e → len < max_local →
+    IsKept (slots ++ Some e ∷ []) index' (len + 1) max_local (back_to (length slots) progress)
+kept-pushed slots index index' len max_local progress e kept indexed counted_e below =
+    record {
+      indexed = indexed;
+      counted = counted;
+      number = (let number = kept.number in let more : length (present (slots ++ Some e ∷ [])) ≡ length (present slots) + 1 = ap (λ l. length l) (present-push slots e) ∙ length_push (present slots) e in omega arith);
+      within = omega arith;
+      past = λ end. past-back_to end slots (slots ++ Some e ∷ []) (length slots) progress (λ k before. slot_at-push_before slots (Some e) k before) (kept.past end);
+    } where
+      counted : (k : ℕ) (y : Entry) → slot_at (slots ++ Some e ∷ []) k ≡ Some y → IsCounted y
+      counted k y at_k =
+          elim (cases_lt k (length slots)) [
+            | inl before ↦ kept.counted k y (sym (slot_at-push_before slots (Some e) k before) ∙ at_k)
+            | inr past ↦
+                elim (cases_eq k (length slots)) [
+                  | inl same ↦
+                      let both : Some e ≡ Some y = sym (ap (slot_at (slots ++ Some e ∷ [])) same ∙ slot_at-push slots (Some e)) ∙ at_k in
+                      let its : e ≡ y = cc in
+                      subst IsCounted its counted_e
+                  | inr apart ↦ absurd (let bad : None ≡ Some y = sym (slot_at-past (slots ++ Some e ∷ []) k (omega (arith, length_push slots (Some e)))) ∙ at_k in cc)
+                ]
+          ]
+
+-- an entry gone
+pub kept-taken :
+    (slots slots' : Slots) (index index' : Index) (len max_local : ℕ) (progress : Progress) (place : ℕ) →
+    IsKept slots index len max_local progress → IsIndexed slots' index' →
+    slot_at slots' place ≡ None → ((k : ℕ) → k ≢ place → slot_at slots' k ≡ slot_at slots k) → length (present slots) ≡ length (present slots') + 1 →
+    IsKept slots' index' (len - 1) max_local progress
+kept-taken slots slots' index index' len max_local progress place kept indexed gone others number =
+    record {
+      indexed = indexed;
+      counted = λ k y at. kept.counted k y (fewer k y at);
+      number = omega (arith, kept.number, number);
+      within = omega (arith, kept.within);
+      past = λ end. past-fewer end slots slots' (reached end progress) fewer (kept.past end);
+    } where
+      fewer : (k : ℕ) (y : Entry) → slot_at slots' k ≡ Some y → slot_at slots k ≡ Some y
+      fewer k y at =
+          elim (cases_eq k place) [
+            | inl same ↦ absurd (let bad : None ≡ Some y = sym gone ∙ (ap (slot_at slots') (sym same) ∙ at) in cc)
+            | inr apart ↦ sym (others k apart) ∙ at
+          ]
+
+-- ---- what the entries are after it
+
+pub entries-raised :
+    (slots : Slots) (index : Index) (tag : Tag) (mode : Mode) (owner : Owner) (place : ℕ) (e : Entry) →
+    IsIndexed slots index → slot_at slots place ≡ Some e → is_of tag mode e ≡ true →
+    present (set slots place (Some (raised owner e))) ≡ with_one_more (present slots) tag mode owner
+entries-raised slots index tag mode owner place e indexed at own =
+    let where_it_is = placed slots index indexed tag mode place e at own in
+    let has : has_entry (present slots) tag mode ≡ true = ap (λ o. is_some o) (found_entry slots index indexed tag mode place e where_it_is at) in
+    change-at (raised owner) tag mode slots place e at own (none_else slots index indexed tag mode place where_it_is)
+    ∙ sym (ap (λ b. cond b (change (raised owner) (present slots) tag mode) (present slots ++ new_entry tag mode owner ∷ [])) has)
+
+pub entries-lowered :
+    (slots : Slots) (index : Index) (tag : Tag) (mode : Mode) (owner : Owner) (place : ℕ) (e : Entry) →
+    IsIndexed slots index → slot_at slots place ≡ Some e → is_of tag mode e ≡ true → count_in_all e ≢ 1 →
+    present (set slots place (Some (lowered owner e))) ≡ with_one_less (present slots) tag mode owner
+entries-lowered slots index tag mode owner place e indexed at own more =
+    let where_it_is = placed slots index indexed tag mode place e at own in
+    let found = found_entry slots index indexed tag mode place e where_it_is at in
+    let total = total-at (present slots) tag mode e found in
+    change-at (lowered owner) tag mode slots place e at own (none_else slots index indexed tag mode place where_it_is)
+    ∙ sym (ap (λ b. cond b (without (present slots) tag mode) (change (lowered owner) (present slots) tag mode))
+    (ne_eqb (total_of (present slots) tag mode) 1 (λ one. more (sym total ∙ one))))
+
+-- the total after it
+pub total-lowered :
+    (slots : Slots) (index : Index) (tag : Tag) (mode : Mode) (owner : Owner) (place : ℕ) (e : Entry) →
+    IsIndexed slots index → slot_at slots place ≡ Some e → is_of tag mode e ≡ true → IsCounted (lowered owner e) →
+    0 < total_of (present (set slots place (Some (lowered owner e)))) tag mode
+total-lowered slots index tag mode owner place e indexed at own counted =
+    let key = lowered-key owner e in
+    let still = indexed-change slots index place e (lowered owner e) indexed at key.0 key.1 in
+    let here = slot_at-set slots place (Some (lowered owner e)) (slot_at-within slots place e at) in
+    let where_it_is = placed slots index indexed tag mode place e at own in
+    let found = found_entry (set slots place (Some (lowered owner e))) index still tag mode place (lowered owner e) where_it_is here in
+    let total = total-at (present (set slots place (Some (lowered owner e)))) tag mode (lowered owner e) found in
+    let some = counted.some in
+    omega (arith, total, some)
+
+pub entries-released :
+    (slots : Slots) (es : List Entry) (tag : Tag) (mode : Mode) (owner : Owner) (e : Entry) →
+    is_of tag mode e ≡ true → entry_of (present slots) tag mode ≡ Some e → count_in_all e ≡ 1 → es ≡ without (present slots) e.tag e.mode →
+    es ≡ with_one_less (present slots) tag mode owner
+entries-released slots es tag mode owner e own found one is =
+    let both = is_of-same tag mode e own in
+    let total = total-at (present slots) tag mode e found in
+    is ∙ ((λ i. without (present slots) (both.0 i) (both.1 i))
+    ∙ sym (ap (λ b. cond b (without (present slots) tag mode) (change (lowered owner) (present slots) tag mode)) (eq-eqb (total_of (present slots) tag mode) 1 (total ∙ one))))

@@ -1,0 +1,17 @@
+/// How a lock was acquired (`LockAcquireResult` in lock.h).
+#[derive(Clone, Copy, Debug, PartialEq, Eq)]
+pub enum Acquired {
+    /// The session has the mode newly.
+    Granted,
+    /// The session had the mode before, and has it once more.
+    AlreadyHeld,
+}
+
+/// What a release left.
+#[derive(Clone, Copy, Debug, PartialEq, Eq)]
+pub enum Unlocked {
+    /// That was the last count: the session no longer has the mode.
+    Released,
+    /// Other counts are left, so the session still has the mode.
+    StillHeld,
+}

@@ -1,0 +1,50 @@
+ghost use Rattle.std.specs.Prelude.{◌≡◌, List};
+ghost use Rattle.std.specs.Iterator.{YieldsFirst, item_count};
+
+use crate::Entry;
+use std::marker::Model;
+
+/// The entries of a table that are left to give, in the order of making. Contracts see their list.
+#[derive(Drop)]
+pub struct Entries<'a> {
+    slots: &'a [Option<Entry>],
+}
+
+impl<'a> Model for Entries<'a> {
+    ghost use Rattle.std.specs.Prelude.{List};
+    ghost use Rattle.local_locks.specs.declared.records.Entry.{Entry};
+    ghost use Rattle.local_locks.specs.Slots.{present};
+
+    ghost Value = { List Entry };
+
+    ghost view = { λ s. present s.slots.now };
+}
+
+impl<'a> Entries<'a> {
+    ghost use Rattle.local_locks.specs.Slots.{present};
+
+    /// The entries of these slots.
+    pub(crate) fn of(slots: &'a [Option<Entry>]) -> Self
+        ensures { result ≡ present slots.now }
+    {
+        Entries { slots }
+    }
+}
+
+impl<'a> Iterator for Entries<'a> {
+    type Item = Entry;
+
+    ghost next_gives = { YieldsFirst (λ s. s) };
+
+    ghost remaining = { item_count (λ s. s) };
+
+    fn next(&mut self) -> Option<Entry> {
+        while let Some((first, others)) = self.slots.split_first() {
+            self.slots = others;
+            if let Some(entry) = *first {
+                return Some(entry);
+            }
+        }
+        None
+    }
+}

@@ -1,0 +1,18 @@
+//! What a session holds, how often and for which owner: the local lock table (`LOCALLOCK` with its
+//! `LOCALLOCKOWNER` array in lock.h), which answers a second acquire of a held mode and the release of
+//! one of several counts with no look at shared state.
+#![tactic(auto)]
+
+pub mod answers;
+pub mod ends;
+pub mod entries;
+mod index;
+pub mod records;
+mod slots;
+pub mod tables;
+
+pub use answers::{Acquired, Unlocked};
+pub use ends::End;
+pub use entries::Entries;
+pub use records::Entry;
+pub use tables::LocalTable;

@@ -1,0 +1,86 @@
+ghost use Rattle.std.specs.Prelude.{◌≡◌, ◌+◌, ◌<◌};
+
+use modes_core::{Mode, Owner, Tag};
+
+/// An object and a mode that the session has, and how often it has it for each owner (`LOCALLOCK` in
+/// lock.h).
+#[derive(Clone, Copy, Debug, PartialEq, Eq)]
+pub struct Entry {
+    pub tag: Tag,
+    pub mode: Mode,
+    /// How often for the transaction.
+    pub transaction: u16,
+    /// How often for the session.
+    pub session: u16,
+}
+
+impl Entry {
+    ghost use Rattle.local_locks.specs.Owned.{count_for, count_in_all, raised, lowered, new_entry, max_count};
+
+    /// The entry of a first acquire.
+    pub(crate) fn new(tag: Tag, mode: Mode, owner: Owner) -> Self
+        ensures { result ≡ new_entry tag mode owner }
+    {
+        let (transaction, session) = match owner {
+            Owner::Session => (0, 1),
+            Owner::Transaction => (1, 0),
+        };
+        Entry {
+            tag,
+            mode,
+            transaction,
+            session,
+        }
+    }
+
+    /// How often an owner has it.
+    pub fn count(self, owner: Owner) -> u16
+        ensures { result ≡ count_for owner self }
+    {
+        match owner {
+            Owner::Session => self.session,
+            Owner::Transaction => self.transaction,
+        }
+    }
+
+    /// How often both owners together have it (`nLocks` of `LOCALLOCK`).
+    pub fn total(self) -> u32
+        ensures { result ≡ count_in_all self }
+    {
+        u32::from(self.transaction) + u32::from(self.session)
+    }
+
+    /// The entry with one count more of this owner.
+    pub(crate) fn raised(self, owner: Owner) -> Self
+        requires { count_for owner self < max_count }
+        ensures { result ≡ raised owner self }
+    {
+        match owner {
+            Owner::Session => Entry {
+                session: self.session + 1,
+                ..self
+            },
+            Owner::Transaction => Entry {
+                transaction: self.transaction + 1,
+                ..self
+            },
+        }
+    }
+
+    /// The entry with one count less of this owner.
+    pub(crate) fn lowered(self, owner: Owner) -> Self
+        requires { 0 < count_for owner self }
+        ensures { result ≡ lowered owner self }
+    {
+        match owner {
+            Owner::Session => Entry {
+                session: self.session - 1,
+                ..self
+            },
+            Owner::Transaction => Entry {
+                transaction: self.transaction - 1,
+                ..self
+            },
+        }
+    }
+}

@@ -1,0 +1,246 @@
+ghost use Rattle.std.specs.Prelude.{◌≡◌, ◌+◌, ◌<◌, ◌≤◌, ◌↔◌, ◌⊎◌, ◌∷◌, [], true, false, if◌then◌else◌, Some, None, IsErrOf, IsOkUnless, IfOk, IfErr, OnOk, OnErr, IfSome, IfNone, length};
+ghost use Rattle.local_locks.specs.Owned.{max_count, has_entry, owner_count_of, total_of, with_one_more, with_one_less, acquired_as, ended_by, left_by, with_next_ended, IsWellOwned, IsReserved};
+
+use crate::ends::Progress;
+use crate::index::{Index, reserve_place};
+use crate::slots::{compact, find, push_entry, settle, take_out};
+use crate::{Acquired, End, Entries, Entry, Unlocked};
+use modes_core::{Mode, Owner, Refusal, Tag};
+use std::alloc::Global;
+use std::collections::HashMap;
+use std::marker::Model;
+
+/// What a session holds, how often and for which owner (the hash table `LockMethodLocalHash` in
+/// lock.c). Contracts see the entries in the order of making, how many more can be made with no growth,
+/// and how many there may be.
+#[derive(Drop)]
+pub struct LocalTable {
+    slots: Vec<Option<Entry>>,
+    index: Index,
+    len: usize,
+    max_local: u32,
+    progress: Progress,
+}
+
+impl Model for LocalTable {
+    ghost use Rattle.std.specs.Prelude.{◌-◌, min, length, vec_capacity};
+    ghost use Rattle.std.specs.HashMap.{spare};
+    ghost use Rattle.local_locks.specs.Owned.{Owned};
+    ghost use Rattle.local_locks.specs.Slots.{present, IsKept};
+
+    ghost Value = { Owned };
+
+    ghost view = { λ t. record { entries = present t.slots.items; room = min (vec_capacity t.slots - length t.slots.items) (spare t.index); max_local = t.max_local } };
+
+    ghost invariant = { λ t. IsKept t.slots.items t.index t.len t.max_local t.progress };
+}
+
+impl LocalTable {
+    /// An empty table with room for one entry.
+    pub fn new(alloc: Global, max_local: u32) -> Result<Self, Refusal>
+        requires from { 1 ≤ max_local }
+        requires to { max_local ≤ 65536 }
+        ensures empty { IfOk result (λ table. table.entries ≡ []) }
+        ensures room { IfOk result (λ table. 0 < table.room) }
+        ensures max_local { IfOk result (λ table. table.max_local ≡ max_local) }
+        ensures well_owned { IfOk result (λ table. IsWellOwned table) }
+        ensures no_memory { IsOkUnless result Refusal.NoMemory }
+    {
+        let Ok(slots) = Vec::with_capacity(alloc, 1) else {
+            return Err(Refusal::NoMemory);
+        };
+        let Ok(index) = HashMap::with_capacity(alloc, 1) else {
+            return Err(Refusal::NoMemory);
+        };
+        Ok(LocalTable {
+            slots,
+            index,
+            len: 0,
+            max_local,
+            progress: Progress::start(),
+        })
+    }
+
+    /// How often both owners together have the object in the mode.
+    pub fn total(&self, tag: Tag, mode: Mode) -> u32
+        ensures total { result ≡ total_of self.now.entries tag mode }
+        ensures well_owned { IsWellOwned self.now }
+    {
+        match find(&self.slots, &self.index, tag, mode) {
+            Some((_, entry)) => entry.total(),
+            None => 0,
+        }
+    }
+
+    /// How often the owner has the object in the mode.
+    pub fn owner_count(&self, tag: Tag, mode: Mode, owner: Owner) -> u16
+        ensures count { result ≡ owner_count_of self.now.entries tag mode owner }
+        ensures well_owned { IsWellOwned self.now }
+    {
+        match find(&self.slots, &self.index, tag, mode) {
+            Some((_, entry)) => entry.count(owner),
+            None => 0,
+        }
+    }
+
+    /// The entries, in the order of making.
+    pub fn entries(&self) -> Entries<'_>
+        ensures entries { result ≡ self.now.entries }
+        ensures well_owned { IsWellOwned self.now }
+    {
+        Entries::of(&self.slots)
+    }
+
+    /// Makes room for one more acquire of the object and mode by this owner, which `add` then enters.
+    pub fn reserve(&mut self, tag: Tag, mode: Mode, owner: Owner) -> Result<(), Refusal>
+        ensures ok { OnOk result (IsReserved self.new tag mode owner) }
+
+        // The refusals, in this order.
+        ensures count_full { IsErrOf result Refusal.CountFull ↔ (owner_count_of self.old.entries tag mode owner ≡ max_count) }
+        ensures local_full { IsErrOf result Refusal.LocalFull ↔ ((has_entry self.old.entries tag mode ≡ false) × (length self.old.entries ≡ self.old.max_local)) }
+        ensures no_memory { IsErrOf result Refusal.NoMemory → (has_entry self.old.entries tag mode ≡ false) × (self.old.room ≡ 0) }
+        ensures no_other { IfErr result (λ refusal. (refusal ≡ Refusal.CountFull) ⊎ ((refusal ≡ Refusal.LocalFull) ⊎ (refusal ≡ Refusal.NoMemory))) }
+
+        // What stands after it, whatever the answer.
+        ensures entries { self.new.entries ≡ self.old.entries }
+        ensures room { self.old.room ≤ self.new.room }
+        ensures max_local { self.new.max_local ≡ self.old.max_local }
+        ensures well_owned { IsWellOwned self.new }
+    {
+        match find(&self.slots, &self.index, tag, mode) {
+            Some((_, entry)) => {
+                if entry.count(owner) == u16::MAX {
+                    Err(Refusal::CountFull)
+                } else {
+                    Ok(())
+                }
+            }
+            None => {
+                if self.len as u64 == u64::from(self.max_local) {
+                    Err(Refusal::LocalFull)
+                } else {
+                    self.make_room()
+                }
+            }
+        }
+    }
+
+    /// Makes room for one more entry.
+    fn make_room(&mut self) -> Result<(), Refusal>
+        ensures ok { OnOk result (0 < self.new.room) }
+        ensures err { OnErr result (self.old.room ≡ 0) }
+        ensures no_memory { IsOkUnless result Refusal.NoMemory }
+        ensures entries { self.new.entries ≡ self.old.entries }
+        ensures room { self.old.room ≤ self.new.room }
+        ensures max_local { self.new.max_local ≡ self.old.max_local }
+        ensures well_owned { IsWellOwned self.new }
+    {
+        self.use_slots_again();
+        if self.slots.reserve(1).is_err() {
+            return Err(Refusal::NoMemory);
+        }
+        if reserve_place(&mut self.index).is_err() {
+            return Err(Refusal::NoMemory);
+        }
+        Ok(())
+    }
+
+    /// Where all slots are used up, but the entries of half of them are gone, moves the others together.
+    fn use_slots_again(&mut self)
+        ensures entries { self.new.entries ≡ self.old.entries }
+        ensures room { self.old.room ≤ self.new.room }
+        ensures max_local { self.new.max_local ≡ self.old.max_local }
+    {
+        if self.slots.len() == self.slots.capacity() && self.len <= self.slots.len() / 2 {
+            compact(&mut self.slots, &mut self.index);
+            self.progress = Progress::start();
+        }
+    }
+
+    /// Enters an acquire for which room was reserved (`GrantLockLocal` in lock.c).
+    pub fn add(&mut self, tag: Tag, mode: Mode, owner: Owner) -> Acquired
+        requires { IsReserved self.old tag mode owner }
+        ensures answer { result ≡ acquired_as self.old.entries tag mode }
+        ensures entries { self.new.entries ≡ with_one_more self.old.entries tag mode owner }
+        ensures room { self.old.room ≤ self.new.room + 1 }
+        ensures max_local { self.new.max_local ≡ self.old.max_local }
+        ensures well_owned { IsWellOwned self.new }
+    {
+        match find(&self.slots, &self.index, tag, mode) {
+            Some((place, entry)) => {
+                self.slots[place] = Some(entry.raised(owner));
+                self.progress = self.progress.back_to(place);
+                Acquired::AlreadyHeld
+            }
+            None => {
+                let place = self.slots.len();
+                push_entry(
+                    &mut self.slots,
+                    &mut self.index,
+                    Entry::new(tag, mode, owner),
+                );
+                self.len += 1;
+                self.progress = self.progress.back_to(place);
+                Acquired::Granted
+            }
+        }
+    }
+
+    /// Takes one count of this owner back (`LockRelease` in lock.c, where it touches the local lock
+    /// alone).
+    pub fn drop_one(&mut self, tag: Tag, mode: Mode, owner: Owner) -> Result<Unlocked, Refusal>
+        ensures not_held { IsErrOf result Refusal.NotHeld ↔ (owner_count_of self.old.entries tag mode owner ≡ 0) }
+        ensures no_other { IsOkUnless result Refusal.NotHeld }
+        ensures answer { IfOk result (λ answer. (answer ≡ Unlocked.StillHeld) ↔ (0 < total_of self.new.entries tag mode)) }
+        ensures entries { OnOk result (self.new.entries ≡ with_one_less self.old.entries tag mode owner) }
+        ensures refused { OnErr result (self.new ≡ self.old) }
+        ensures room { self.old.room ≤ self.new.room }
+        ensures max_local { self.new.max_local ≡ self.old.max_local }
+        ensures well_owned { IsWellOwned self.new }
+    {
+        let Some((place, entry)) = find(&self.slots, &self.index, tag, mode) else {
+            return Err(Refusal::NotHeld);
+        };
+        if entry.count(owner) == 0 {
+            return Err(Refusal::NotHeld);
+        }
+        if entry.total() == 1 {
+            take_out(&mut self.slots, &mut self.index, place, entry);
+            self.len -= 1;
+            Ok(Unlocked::Released)
+        } else {
+            self.slots[place] = Some(entry.lowered(owner));
+            Ok(Unlocked::StillHeld)
+        }
+    }
+
+    /// Goes on with an end: gives the next object and mode, in the order of making, that the end takes
+    /// away, or `None` once there is no other (the loop of `LockReleaseAll` in lock.c).
+    pub fn end_next(&mut self, end: End) -> Option<(Tag, Mode)>
+        ensures entries { self.new.entries ≡ with_next_ended end self.old.entries }
+
+        // Called until `None`, it gives just what the end takes away, and leaves what outlives it.
+        ensures next { IfSome result (λ key. ended_by end self.old.entries ≡ key ∷ ended_by end self.new.entries) }
+        ensures last { IfNone result (ended_by end self.old.entries ≡ []) }
+        ensures left { IfNone result (self.new.entries ≡ left_by end self.old.entries) }
+        ensures outlives { left_by end self.new.entries ≡ left_by end self.old.entries }
+
+        ensures room { self.old.room ≤ self.new.room }
+        ensures max_local { self.new.max_local ≡ self.old.max_local }
+        ensures well_owned { IsWellOwned self.new }
+    {
+        let from = self.progress.reached(end).min(self.slots.len());
+        let place = settle(&mut self.slots, end, from);
+        self.progress = self.progress.with_reached(end, place);
+        if place == self.slots.len() {
+            return None;
+        }
+        let entry = self.slots[place]?;
+        take_out(&mut self.slots, &mut self.index, place, entry);
+        self.len -= 1;
+        Some((entry.tag, entry.mode))
+    }
+}
+
+#[cfg(test)]
+mod tests;

@@ -1,0 +1,152 @@
+use Rattle.std.proofs.Common.{◌≡◌, ℕ, ◌+◌, ◌<◌, ◌≤◌, Bool, true, false, not, ◌&&◌, ◌||◌, List, [], ◌∷◌, ◌++◌, take, length, get_or, ◌==◌, arith, refl, sym, ap, ◌∙◌, inl, inr}
+use Rattle.std.specs.Prelude.{filter, count_by, if◌then◌else◌}
+use Rattle.std.specs.List.{list_any}
+use Rattle.std.proofs.lemmas.Bool.{cases_Bool, false≢true}
+use Rattle.std.proofs.lemmas.List.Folds.{list_any-append}
+use Rattle.std.proofs.lemmas.List.Sums.{sum_by-cons, sum_by-append}
+use Rattle.std.proofs.Math.Bool.{or-true, or-false, or_comm}
+use Rattle.std.proofs.lemmas.Map.Views.{any-filter_same}
+use Rattle.modes_core.specs.declared.modes.Mode.{Mode}
+use Rattle.modes_core.specs.declared.tags.Tag.{Tag}
+use Rattle.lock_model.specs.declared.request.Request.{Request}
+use Rattle.lock_model.specs.Request.{is_request_of, is_request_on}
+use Rattle.lock_model.specs.Content.{set_hold}
+use Rattle.lock_model.specs.PartView.{holds_in}
+use Rattle.modes_core.specs.Mode.{mode_eq}
+use Rattle.modes_core.specs.Tag.{tag_eq}
+use Rattle.modes_core.proofs.Laws.{both_true}
+use Rattle.std.proofs.lemmas.List.{take_more}
+use Rattle.lock_model.specs.PlainPart.{EachOnce}
+use Rattle.lock_model.proofs.Same.{same_triple, SameTriple-from, same_triple-comm, set_hold-here, set_hold-else}
+
+-- A list with one hold more at its end has one hold more.
+push_at :
+    (xs : List Request) (s : ℕ) (o : Tag) (m : Mode) (s' : ℕ) (o' : Tag) (m' : Mode) →
+    holds_in (xs ++ record { session = s; tag = o; mode = m } ∷ []) s' o' m' ≡ set_hold (holds_in xs) s o m true s' o' m'
+push_at xs s o m s' o' m' =
+    list_any-append (λ hold. is_request_of hold s' o' m') xs (record { session = s; tag = o; mode = m } ∷ []) ∙
+    elim (cases_Bool (same_triple s' o' m' s o m)) [
+      | inl alike ↦
+          let same = SameTriple-from s' o' m' s o m alike in
+          rw (alike, or-true) (rw (same.session, same.tag, same.mode) (sym (set_hold-here (holds_in xs) s o m true)))
+      | inr apart ↦ rw (apart, or-false) (sym (set_hold-else (holds_in xs) s o m true s' o' m' apart))
+    ]
+
+pub add_hold-push :
+    (xs : List Request) (s : ℕ) (o : Tag) (m : Mode) → holds_in (xs ++ record { session = s; tag = o; mode = m } ∷ []) ≡ set_hold (holds_in xs) s o m true
+add_hold-push xs s o m = λ i s' o' m'. push_at xs s o m s' o' m' i
+
+-- A list without the hold has one hold less.
+filter_at :
+    (xs : List Request) (s : ℕ) (o : Tag) (m : Mode) (s' : ℕ) (o' : Tag) (m' : Mode) →
+    holds_in (filter (λ hold. not (is_request_of hold s o m)) xs) s' o' m' ≡ set_hold (holds_in xs) s o m false s' o' m'
+filter_at xs s o m s' o' m' =
+    elim (cases_Bool (same_triple s' o' m' s o m)) [
+      | inl alike ↦
+          let same = SameTriple-from s' o' m' s o m alike in
+          rw (same.session, same.tag, same.mode) (
+          any-filter_same (λ hold. is_request_of hold s o m) (λ hold. not (is_request_of hold s o m)) false (λ hold is. ap not is) xs ∙
+          sym (set_hold-here (holds_in xs) s o m false)
+          )
+      | inr apart ↦
+          any-filter_same (λ hold. is_request_of hold s' o' m') (λ hold. not (is_request_of hold s o m)) true (other apart) xs ∙
+          sym (set_hold-else (holds_in xs) s o m false s' o' m' apart)
+    ] where
+      other : same_triple s' o' m' s o m ≡ false → (hold : Request) → is_request_of hold s' o' m' ≡ true → not (is_request_of hold s o m) ≡ true
+      other apart hold is =
+          let same = SameTriple-from s' o' m' hold.session hold.tag hold.mode is in
+          let not_it : is_request_of hold s o m ≡ false =
+          same_triple-comm s o m hold.session hold.tag hold.mode ∙ rw (← same.session, ← same.tag, ← same.mode) apart in
+          ap not not_it
+
+pub remove_hold-filter :
+    (xs : List Request) (s : ℕ) (o : Tag) (m : Mode) → holds_in (filter (λ hold. not (is_request_of hold s o m)) xs) ≡ set_hold (holds_in xs) s o m false
+remove_hold-filter xs s o m = λ i s' o' m'. filter_at xs s o m s' o' m' i
+
+-- An element more at the front counts where it passes.
+pub count_by-cons : {X : Type 0} (test : X → Bool) (x : X) (xs : List X) → count_by test (x ∷ xs) ≡ (if test x then 1 else 0) + count_by test xs
+count_by-cons test x xs = sum_by-cons (λ y. if test y then 1 else 0) x xs
+
+-- A filter leaves no element more often than it was there.
+pub count_by-filter : {X : Type 0} (test p : X → Bool) (xs : List X) → count_by test (filter p xs) ≤ count_by test xs
+count_by-filter test p [] = omega arith
+count_by-filter test p (x ∷ xs) =
+    let less : count_by test (filter p xs) ≤ count_by test xs = count_by-filter test p xs in
+    rw (count_by-cons test x xs) (
+    elim (cases_Bool (p x)) [
+      | inl pass ↦ rw (pass, count_by-cons test x (filter p xs)) (omega arith)
+      | inr fail ↦ rw fail (omega arith)
+    ]
+    )
+
+-- Where no element passes a test, none is counted.
+pub count_by-none : {X : Type 0} (test : X → Bool) (xs : List X) → list_any test xs ≡ false → count_by test xs ≡ 0
+count_by-none test [] none = refl
+count_by-none test (x ∷ xs) none =
+    rw (count_by-cons test x xs) (
+    elim (cases_Bool (test x)) [
+      | inl pass ↦ absurd (false≢true (sym none ∙ ap (λ b. b || list_any test xs) pass))
+      | inr fail ↦ rw (fail, count_by-none test xs (sym (ap (λ b. b || list_any test xs) fail) ∙ none)) refl
+    ]
+    )
+
+pub count_by-append : {X : Type 0} (test : X → Bool) (xs ys : List X) → count_by test (xs ++ ys) ≡ count_by test xs + count_by test ys
+count_by-append test xs ys = sum_by-append (λ x. if test x then 1 else 0) xs ys
+
+-- A hold that the list lacks may be added.
+pub EachOnce-push : (xs : List Request) (r : Request) → EachOnce xs → holds_in xs r.session r.tag r.mode ≡ false → EachOnce (xs ++ r ∷ [])
+EachOnce-push xs r once absent s o m =
+    rw (count_by-append (λ hold. is_request_of hold s o m) xs (r ∷ [])) (
+    elim (cases_Bool (is_request_of r s o m)) [
+      | inl is ↦
+          let same = SameTriple-from s o m r.session r.tag r.mode is in
+          let none : count_by (λ hold. is_request_of hold s o m) xs ≡ 0 =
+          count_by-none (λ hold. is_request_of hold s o m) xs (rw (same.session, same.tag, same.mode) absent) in
+          rw (none, count_by-cons (λ hold. is_request_of hold s o m) r [], is) (omega arith)
+      | inr other ↦ let before : count_by (λ hold. is_request_of hold s o m) xs ≤ 1 = once s o m in rw (count_by-cons (λ hold. is_request_of hold s o m) r [], other) (omega arith)
+    ]
+    )
+
+-- A filter keeps each hold once.
+pub EachOnce-filter : (p : Request → Bool) (xs : List Request) → EachOnce xs → EachOnce (filter p xs)
+EachOnce-filter p xs once s o m =
+    let before : count_by (λ hold. is_request_of hold s o m) xs ≤ 1 = once s o m in
+    let less : count_by (λ hold. is_request_of hold s o m) (filter p xs) ≤ count_by (λ hold. is_request_of hold s o m) xs =
+    count_by-filter (λ hold. is_request_of hold s o m) p xs in
+    omega arith
+
+-- What a list lacks, it lacks after a filter.
+pub absent-filter : (test p : Request → Bool) (xs : List Request) → list_any test xs ≡ false → list_any test (filter p xs) ≡ false
+absent-filter test p [] absent = refl
+absent-filter test p (x ∷ xs) absent =
+    elim (cases_Bool (test x)) [
+      | inl pass ↦ absurd (false≢true (sym absent ∙ ap (λ b. b || list_any test xs) pass))
+      | inr fail ↦
+          let rest : list_any test (filter p xs) ≡ false = absent-filter test p xs (sym (ap (λ b. b || list_any test xs) fail) ∙ absent) in
+          elim (cases_Bool (p x)) [ inl kept ↦ rw (kept, fail) rest | inr dropped ↦ rw dropped rest ]
+    ]
+
+-- The first i + 1 elements of a list end with the one at i.
+pub take_one_more : {X : Type 0} (xs : List X) (i : ℕ) (x : X) → i < length xs → x ≡ get_or xs i x → take (i + 1) xs ≡ take i xs ++ x ∷ []
+take_one_more xs i x within is = take_more xs i x within ∙ ap (λ y. take i xs ++ y ∷ []) (sym is)
+
+-- The modes that a session holds an object in, as the list grows by one request.
+pub held-take :
+    (xs : List Request) (r : Request) (s : ℕ) (o : Tag) (modes : Mode → Bool) → modes ≡ holds_in xs s o → is_request_on r s o ≡ true →
+    (λ m. mode_eq m r.mode || modes m) ≡ holds_in (xs ++ r ∷ []) s o
+held-take xs r s o modes so_far is = λ i m. at_mode m i where
+  at_mode : (m : Mode) → (mode_eq m r.mode || modes m) ≡ holds_in (xs ++ r ∷ []) s o m
+  at_mode m =
+      let both = both_true (s == r.session) (tag_eq o r.tag) is in
+      rw (so_far, list_any-append (λ hold. is_request_of hold s o m) xs (r ∷ []), both.0, both.1, or-false) (or_comm (mode_eq m r.mode) (holds_in xs s o m))
+
+pub held-skip : (xs : List Request) (r : Request) (s : ℕ) (o : Tag) → is_request_on r s o ≡ false → holds_in xs s o ≡ holds_in (xs ++ r ∷ []) s o
+held-skip xs r s o is_not = λ i m. at_mode m i where
+  not_it : (a b c : Bool) → (a && b) ≡ false → (a && (b && c)) ≡ false
+  not_it true true c e = absurd (false≢true (sym e))
+  not_it true false c e = refl
+  not_it false b c e = refl
+
+  at_mode : (m : Mode) → holds_in xs s o m ≡ holds_in (xs ++ r ∷ []) s o m
+  at_mode m =
+      rw (list_any-append (λ hold. is_request_of hold s o m) xs (r ∷ []), not_it (s == r.session) (tag_eq o r.tag) (mode_eq m r.mode) is_not) (sym (or-false (holds_in xs s o m)))

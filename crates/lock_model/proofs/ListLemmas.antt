@@ -1,0 +1,64 @@
+use Rattle.std.proofs.Common.{◌≡◌, ℕ, ◌+◌, ◌<◌, ◌≤◌, Bool, true, false, cond, ◌||◌, List, [], ◌∷◌, length, get_or, Some, None, ltb, refl, sym, ap, ◌∙◌, inl, inr, arith, suc}
+use Rattle.std.specs.List.{list_any, count_by, position, position_or_len}
+use Rattle.std.proofs.lemmas.Bool.{cases_Bool, false≢true, cond-true, cond-false, false_from_ne_true, both_ways, ltb-false}
+use Rattle.std.proofs.lemmas.List.Sums.{sum_by-cons, fails_before_first}
+
+-- A test that some element passes finds one.
+pub any_found : {X : Type 0} (p : X → Bool) (xs : List X) → list_any p xs ≡ true → (i : ℕ) × (x : X) × (i < length xs) × ((d : X) → get_or xs i d ≡ x) × (p x ≡ true)
+any_found p [] any = absurd (false≢true any)
+any_found {X} p (x ∷ xs) any =
+    elim (cases_Bool (p x)) [
+      | inl pass ↦ (0, x, omega arith, λ d. refl, pass)
+      | inr fail ↦ later (any_found p xs (ap (λ b. b || list_any p xs) (sym fail) ∙ any))
+    ] where
+      later : ((i : ℕ) × (y : X) × (i < length xs) × ((d : X) → get_or xs i d ≡ y) × (p y ≡ true)) → (i : ℕ) × (y : X) × (i < length (x ∷ xs)) × ((d : X) → get_or (x ∷ xs) i d ≡ y) × (p y ≡ true)
+      later found = (suc found.0, found.1, omega (arith, found.2), found.3, found.4)
+
+-- What passes one test and so another.
+pub any_weaker : {X : Type 0} (p q : X → Bool) (xs : List X) → ((x : X) → p x ≡ true → q x ≡ true) → list_any p xs ≡ true → list_any q xs ≡ true
+any_weaker p q [] weaker any = absurd (false≢true any)
+any_weaker p q (x ∷ xs) weaker any =
+    elim (cases_Bool (p x)) [
+      | inl pass ↦ ap (λ b. b || list_any q xs) (weaker x pass)
+      | inr fail ↦ or_right (q x) (list_any q xs) (any_weaker p q xs weaker (ap (λ b. b || list_any p xs) (sym fail) ∙ any))
+    ] where
+      or_right : (a b : Bool) → b ≡ true → (a || b) ≡ true
+      or_right true b e = refl
+      or_right false b e = e
+
+-- A count goes element by element.
+count_by-cons : {X : Type 0} (p : X → Bool) (x : X) (xs : List X) → count_by p (x ∷ xs) ≡ cond (p x) 1 0 + count_by p xs
+count_by-cons p x xs = sum_by-cons (λ y. cond (p y) 1 0) x xs
+
+-- Some element passes exactly where more than none are counted.
+pub any-counted : {X : Type 0} (p : X → Bool) (xs : List X) → list_any p xs ≡ true → 0 < count_by p xs
+any-counted p [] any = absurd (false≢true any)
+any-counted p (x ∷ xs) any =
+    elim (cases_Bool (p x)) [
+      | inl pass ↦ let one : ◌≡◌ {A = ℕ} (cond (p x) 1 0) 1 = cond-true (p x) 1 0 pass in let sum = count_by-cons p x xs in omega arith
+      | inr fail ↦ let more : 0 < count_by p xs = any-counted p xs (ap (λ b. b || list_any p xs) (sym fail) ∙ any) in let sum = count_by-cons p x xs in omega arith
+    ]
+
+pub counted-any : {X : Type 0} (p : X → Bool) (xs : List X) → 0 < count_by p xs → list_any p xs ≡ true
+counted-any p [] more = absurd (omega arith)
+counted-any p (x ∷ xs) more =
+    elim (cases_Bool (p x)) [
+      | inl pass ↦ ap (λ b. b || list_any p xs) pass
+      | inr fail ↦
+          let none : ◌≡◌ {A = ℕ} (cond (p x) 1 0) 0 = cond-false (p x) 1 0 fail in
+          let sum = count_by-cons p x xs in
+          let rest : 0 < count_by p xs = omega arith in
+          ap (λ b. b || list_any p xs) fail ∙ counted-any p xs rest
+    ]
+
+-- Where there is no first place that passes, none passes.
+pub position-none : {X : Type 0} (p : X → Bool) (xs : List X) → position p xs ≡ None → list_any p xs ≡ false
+position-none {X} p xs none =
+    elim (cases_Bool (ltb (position_or_len p xs) (length xs))) [
+      | inl found ↦ let some : position p xs ≡ Some (position_or_len p xs) = cond-true (ltb (position_or_len p xs) (length xs)) (Some (position_or_len p xs)) None found in absurd (cc)
+      | inr past ↦ false_from_ne_true (list_any p xs) (λ any.
+          let at = any_found p xs any in
+          let last : length xs ≤ position_or_len p xs = ltb-false (position_or_len p xs) (length xs) past in
+          let within : at.0 < length xs = at.2 in
+          both_ways (p at.1) (ap p (sym (at.3 at.1)) ∙ fails_before_first p xs at.0 at.1 (omega arith)) at.4)
+    ]

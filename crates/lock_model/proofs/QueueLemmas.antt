@@ -1,0 +1,46 @@
+use Rattle.std.proofs.Common.{◌≡◌, ℕ, false, List, [], Option, Some, None, refl, sym, ap, subst, inl, inr}
+use Rattle.modes_core.specs.declared.modes.Mode.{Mode}
+use Rattle.modes_core.specs.declared.tags.Tag.{Tag}
+use Rattle.lock_model.specs.Content.{Wait, Content}
+use Rattle.lock_model.specs.Clash.{NoConflictingHolder, Clash, ClashIs, ClashAfterWaiters, first_waiter}
+use Rattle.std.proofs.lemmas.Bool.{MatchBool-at_false}
+use Rattle.lock_model.specs.Moves.{WakesFor}
+use Rattle.lock_model.specs.Queue.{some_awaits_conflict, Wakes, Place, Last, Before, AtOnce, Deadlock, Granted, PlaceIs, answer_of_place, WaitingAnswer, WaitingAnswerAt}
+
+-- Where a request clashes with nothing, no holder is in its way.
+no_clash-no_holder : (waiter : Option Wait) (c : Content) (s : ℕ) (t : Tag) (m : Mode) → ClashAfterWaiters waiter c s t m None → NoConflictingHolder c.holds s t m
+no_clash-no_holder None c s t m none = none
+no_clash-no_holder (Some w) c s t m e = absurd (cc)
+
+-- A place at once is free beside the holders.
+at_once-no_holder : (c : Content) (s : ℕ) (t : Tag) (m : Mode) → PlaceIs c s t m (c.holds s t) AtOnce → NoConflictingHolder c.holds s t m
+at_once-no_holder c s t m (inl last) = let e = last.1 in absurd (cc)
+at_once-no_holder c s t m (inr found) = found.4.1.beside_holders
+
+granted-at_once : (place : Place) → Granted ≡ answer_of_place place → place ≡ AtOnce
+granted-at_once Last e = absurd (cc)
+granted-at_once (Before n) e = absurd (cc)
+granted-at_once AtOnce e = refl
+granted-at_once (Deadlock k) e = absurd (cc)
+
+-- What is granted conflicts with no other session's hold.
+pub granted-no_holder : (c : Content) (s : ℕ) (t : Tag) (m : Mode) → WaitingAnswer c s t m Granted → NoConflictingHolder c.holds s t m
+granted-no_holder c s t m answer = at answer.0 answer.1 answer.2 where
+  at : (clash : Option Clash) → ClashIs c s t m clash → WaitingAnswerAt clash c s t m Granted → NoConflictingHolder c.holds s t m
+  at None is e = no_clash-no_holder (first_waiter (c.waits t) m) c s t m is
+  at (Some clash) is found = at_once-no_holder c s t m (rw (granted-at_once found.0 found.2) at found.1)
+
+-- Where nobody waits nobody is woken.
+pub WakesFor-empty : (m : Mode) (before : Content) (t : Tag) (granted : List Wait) (after : Content) → before.waits t ≡ [] → WakesFor m before t granted after → after ≡ before
+WakesFor-empty m before t granted after empty wakes =
+    let none : some_awaits_conflict (before.waits t) m ≡ false = ap (λ waits. some_awaits_conflict waits m) empty in
+    (MatchBool-at_false (Wakes before t granted after) ((granted ≡ []) × (after ≡ before)) none wakes).1
+
+pub WakesFor-none : (m : Mode) (before : Content) (t : Tag) → before.waits t ≡ [] → WakesFor m before t [] before
+WakesFor-none m before t empty =
+    let none : some_awaits_conflict (before.waits t) m ≡ false = ap (λ waits. some_awaits_conflict waits m) empty in
+    rw none (refl, refl)
+
+-- Where nobody waits and no holder is in its way, a request is granted.
+pub no_holder-granted : (c : Content) (s : ℕ) (t : Tag) (m : Mode) → c.waits t ≡ [] → NoConflictingHolder c.holds s t m → WaitingAnswer c s t m Granted
+no_holder-granted c s t m empty free = (None, subst (λ waiter. ClashAfterWaiters waiter c s t m None) (sym (ap (λ waits. first_waiter waits m) empty)) free, refl)

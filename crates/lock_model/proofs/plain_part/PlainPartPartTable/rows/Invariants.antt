@@ -1,0 +1,11 @@
+use Rattle.std.proofs.Common.{◌≡◌, ◌+◌, ◌-◌, ◌≤◌, take, ◌++◌, vec_len, vec_capacity, length}
+use Rattle.std.specs.Prelude.{map}
+use Rattle.lock_model.specs.PartView.{row_of}
+use Rattle.lock_model.proofs.plain_part.PlainPartPartTable.rows.Given as goal
+
+abbrev pub invariant-loop-hold : goal.invariant-loop-hold
+invariant-loop-hold l =
+    record {
+      appended : l.rows.items ≡ l.fn.rows.items ++ map row_of (take l.hold-index l.hold-items);
+      room : vec_len l.rows + (length l.hold-items - l.hold-index) ≤ vec_capacity l.rows;
+    }

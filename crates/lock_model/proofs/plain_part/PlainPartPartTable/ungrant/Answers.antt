@@ -1,0 +1,26 @@
+use Rattle.std.proofs.Common.{◌≡◌, Bool, not, [], arith, rules}
+use Rattle.std.specs.Prelude.{filter}
+use Rattle.lock_model.specs.Request.{is_request_of}
+use Rattle.lock_model.specs.declared.request.Request.{Request}
+use Rattle.lock_model.proofs.HoldLists.{EachOnce-filter, remove_hold-filter, absent-filter}
+use Rattle.std.proofs.lemmas.Fn.{filter_same}
+use Rattle.lock_model.proofs.plain_part.PlainPartPartTable.ungrant.Goals as goal
+
+pub invariant_of-self : goal.invariant_of-self
+invariant_of-self c =
+    let stays : Request → Bool = λ hold. not (is_request_of hold c.args.session c.args.tag c.args.mode) in
+    let kept : c.retain.new.self.items ≡ filter stays c.self.inside.holds.items =
+    filter_same _ stays _ (λ x b q called. (search rules, search rules)) _ _ c.retain.ensures.filtered in
+    record {
+      each_once = rw kept (EachOnce-filter stays c.self.inside.holds.items c.self.invariant.each_once);
+      begun_is_new = λ x is. rw kept (absent-filter (λ hold. is_request_of hold x.session x.tag x.mode) stays c.self.inside.holds.items (c.self.invariant.begun_is_new x is));
+      begun_has_room = λ x is. omega (arith, c.self.invariant.begun_has_room x is, c.retain.ensures.bound, c.retain.ensures.capacity);
+    }
+
+pub returns-clause-content : goal.returns-clause-content
+returns-clause-content c =
+    let stays : Request → Bool = λ hold. not (is_request_of hold c.args.session c.args.tag c.args.mode) in
+    let kept : c.retain.new.self.items ≡ filter stays c.self.inside.holds.items =
+    filter_same _ stays _ (λ x b q called. (search rules, search rules)) _ _ c.retain.ensures.filtered in
+    rw (kept, ← c.self.view_is)
+    (λ i. record { holds = remove_hold-filter c.self.inside.holds.items c.args.session c.args.tag c.args.mode i; waits = λ _. [] })

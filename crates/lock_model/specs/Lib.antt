@@ -1,0 +1,15 @@
+pub mod Put
+pub mod Content
+pub mod Clash
+pub mod Request
+pub mod Listing
+pub mod PartView
+pub mod PlainPart
+pub mod Queue
+pub mod Moves
+pub mod LightweightWord
+pub mod World
+pub mod Happens
+pub mod Safe
+pub mod Shows
+pub mod Plain

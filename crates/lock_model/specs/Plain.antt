@@ -1,0 +1,70 @@
+use Rattle.std.specs.Prelude.{◌≡◌, ℕ, ◌<◌, List, map, filter, slice_index_or}
+use Rattle.std.specs.Ordering.{nat_cmp, on}
+use Rattle.std.specs.Cmp.Lexicographic.{slice_cmp}
+use Rattle.std.specs.List.Sorted.{IsSortedByKey}
+use Rattle.modes_core.specs.declared.tags.Tag.{Tag}
+use Rattle.modes_core.specs.ModeSet.{set_has}
+use Rattle.modes_core.specs.Tag.{tag_eq, numbers_of, partition_of}
+use Rattle.lock_model.specs.declared.events.Word.{Word}
+use Rattle.lock_model.specs.declared.events.Word.TheVariants.{Partition, Fast, Database, Slot, Wait, Strong, Sleep}
+use Rattle.lock_model.specs.declared.machine.plain.Hold.{Hold}
+use Rattle.lock_model.specs.declared.machine.plain.QueuedWait.{QueuedWait}
+use Rattle.lock_model.specs.declared.machine.plain.Plain.{Plain}
+use Rattle.lock_model.specs.Content.{Holds}
+use Rattle.lock_model.specs.Content as content
+use Rattle.lock_model.specs.LightweightWord.{free_word}
+use Rattle.lock_model.specs.World.{World, Words}
+use Rattle.lock_model.specs.Shows.{ListsHolds, AreInTable}
+
+-- There is such a word.
+abbrev pub WordExists : Word → Type 0
+WordExists (Partition p) = p < 16
+WordExists (Fast session) = Unit {0}
+WordExists (Database session) = Unit {0}
+WordExists (Slot session place) = place < 16
+WordExists (Wait session) = Unit {0}
+WordExists (Strong index) = index < 1024
+WordExists (Sleep session) = Unit {0}
+
+-- what a word shows in the World
+abbrev pub word_in : Words → Word → ℕ
+word_in words (Partition p) = words.partition p
+word_in words (Fast session) = words.fast session
+word_in words (Database session) = words.database session
+word_in words (Slot session place) = words.slot session place
+word_in words (Wait session) = words.wait session
+word_in words (Strong index) = words.strong index
+word_in words (Sleep session) = words.sleep session
+
+-- what the answer of a run says: its holds, its waits, and what each word shows
+abbrev pub holds_of : Plain → List Hold
+holds_of plain = plain.holds.items
+
+abbrev pub waits_of : Plain → List QueuedWait
+waits_of plain = plain.waits.items
+
+abbrev pub word_of : Plain → Word → ℕ
+word_of plain (Partition p) = slice_index_or plain.partitions p free_word
+word_of plain (Fast session) = free_word
+word_of plain (Database session) = 0
+word_of plain (Slot session place) = 0
+word_of plain (Wait session) = 0
+word_of plain (Strong index) = 0
+word_of plain (Sleep session) = 0
+
+-- the wait that an entry of the list of waits is
+abbrev pub wait_of : QueuedWait → content.Wait
+wait_of queued = record { session = queued.session; mode = queued.mode; held = set_has queued.held }
+
+-- all holds of the contents
+abbrev pub table_holds : World → Holds
+table_holds w session tag mode = (w.contents.now (partition_of tag)).holds session tag mode
+
+-- The answer of a run says what the World has: each hold of a content once, each object's waits in the order of its
+-- queue, the waits in the order of their tags, and what each word shows.
+pub record IsPlainOf (plain : Plain) (w : World) : Type 0 where
+  pub holds : ListsHolds (holds_of plain) (table_holds w)
+  pub in_table : AreInTable (holds_of plain)
+  pub waits : (tag : Tag) → map wait_of (filter (λ queued. tag_eq queued.tag tag) (waits_of plain)) ≡ (w.contents.now (partition_of tag)).waits tag
+  pub waits_by_tag : IsSortedByKey (λ queued. queued.tag) (on numbers_of (slice_cmp nat_cmp)) (waits_of plain)
+  pub words : (word : Word) → WordExists word → word_of plain word ≡ word_in w.words word

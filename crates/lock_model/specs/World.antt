@@ -1,0 +1,89 @@
+use Rattle.std.specs.Prelude.{ℕ, ◌==◌, Bool, false, List, [], Option, None}
+use Rattle.lock_model.specs.Put.{put}
+use Rattle.lock_model.specs.Content.{Holds, Content, empty_content}
+use Rattle.lock_model.specs.LightweightWord.{free_word}
+
+-- The World is all that there is between two atomic steps: what each word shows, each content wherever it is, what each
+-- session has by its own account, and which session numbers are in use.
+
+-- What the words of the shared table show, a field for each range of words.
+pub record Words : Type 0 where
+  -- the lightweight lock of each partition
+  pub partition : ℕ → ℕ
+  -- the lightweight lock of each session's fast-path slots
+  pub fast : ℕ → ℕ
+  -- the database of each session
+  pub database : ℕ → ℕ
+  -- each session's fast-path slots
+  pub slot : ℕ → ℕ → ℕ
+  -- each session's wait word
+  pub wait : ℕ → ℕ
+  -- the strong lock counters
+  pub strong : ℕ → ℕ
+  -- each session's sleep word
+  pub sleep : ℕ → ℕ
+
+-- A partition's content in a session's hand: whose hand it is, and the content as it was taken.
+pub record Hand : Type 0 where
+  pub holder : ℕ
+  pub taken : Content
+
+-- The contents of the partitions.
+pub record Contents : Type 0 where
+  -- the content as it is now, at home or, as its holder has recorded it, in hand
+  pub now : ℕ → Content
+  -- nothing where the content is at home
+  pub hand : ℕ → Option Hand
+
+-- What a session has seen and done, in the order of its steps.
+pub data TraceEntry : Type 0 where
+  -- it took the partition with this content
+  Took : (partition : ℕ) → (taken : Content) → TraceEntry
+  -- it put the partition back: the content taken, and the content put
+  Episode : (partition : ℕ) → (taken : Content) → (put_back : Content) → TraceEntry
+
+-- What each session has by its own account.
+pub record Sessions : Type 0 where
+  -- its own holds
+  pub own : Holds
+  -- the partition words that it holds exclusively
+  pub holds_partition : ℕ → ℕ → Bool
+  pub trace : ℕ → List TraceEntry
+
+-- The session numbers.
+pub record Numbers : Type 0 where
+  -- how many numbers there are
+  pub limit : ℕ
+  -- the numbers below this one have been given out, and it is the next
+  pub issued : ℕ
+  -- the numbers given out and not closed
+  pub live : ℕ → Bool
+  -- the session that keeps this one apart, if any
+  pub kept_by : ℕ → Option ℕ
+
+pub record World : Type 0 where
+  pub words : Words
+  pub contents : Contents
+  pub sessions : Sessions
+  pub numbers : Numbers
+
+-- a function of numbers, changed at one of them
+abbrev pub set_at : {A : Type 0} → (ℕ → A) → ℕ → A → ℕ → A
+set_at f k a = put (λ i j. i == j) f k a
+
+-- The World before the first step: all is empty, and only release-ok is set, in each lightweight word.
+abbrev pub opening : ℕ → World
+opening limit = record {
+  words = record {
+    partition = λ _. free_word;
+    fast = λ _. free_word;
+    database = λ _. 0;
+    slot = λ _ _. 0;
+    wait = λ _. 0;
+    strong = λ _. 0;
+    sleep = λ _. 0;
+  };
+  contents = record { now = λ _. empty_content; hand = λ _. None };
+  sessions = record { own = λ _ _ _. false; holds_partition = λ _ _. false; trace = λ _. [] };
+  numbers = record { limit = limit; issued = 0; live = λ _. false; kept_by = λ _. None };
+}

@@ -1,0 +1,57 @@
+use modes_core::{Mode, SessionId, Tag};
+
+/// A word of the shared table. Every atomic step is on one word.
+#[derive(Clone, Copy, Debug, PartialEq, Eq)]
+pub enum Word {
+    /// The lightweight lock of a partition, 0 to 15 (`LockHashPartitionLockByIndex` in lock.h).
+    Partition(u8),
+    /// The lightweight lock of a session's fast-path slots (`fpInfoLock` in proc.h).
+    Fast(SessionId),
+    /// The database of a session (`databaseId` in proc.h).
+    Database(SessionId),
+    /// A fast-path slot of a session, 0 to 15, with its relation and three bits for modes (`fpRelId`
+    /// and `fpLockBits` in proc.h).
+    Slot(SessionId, u8),
+    /// Whether a session waits, and whether it was asked to stop waiting (`waitStatus` in proc.h).
+    Wait(SessionId),
+    /// A counter of strong locks, 0 to 1023 (`FastPathStrongRelationLocks` in lock.c).
+    Strong(u16),
+    /// Whether a session sleeps for a lightweight lock (`lwWaiting` in proc.h).
+    Sleep(SessionId),
+}
+
+/// What a session does to a partition's content between taking it and putting it back.
+#[derive(Clone, Copy, Debug, PartialEq, Eq)]
+pub enum Move {
+    /// Nothing.
+    Keep,
+    /// It adds a hold of its own (`GrantLock` in lock.c).
+    Grant { tag: Tag, mode: Mode },
+    /// It takes a hold of its own away, and wakes who may go then (`UnGrantLock` and `CleanUpLock` in
+    /// lock.c).
+    Release { tag: Tag, mode: Mode },
+}
+
+/// One atomic step.
+#[derive(Clone, Copy, Debug, PartialEq, Eq)]
+pub enum Step {
+    /// Take a lightweight lock exclusively, by a compare-exchange; the content of a partition comes
+    /// with its word (`LWLockAcquire` in lwlock.c).
+    TakeExclusive { word: Word },
+    /// Put a lightweight lock that is held exclusively, by a fetch-and-subtract; the content of a
+    /// partition goes home with its word, after one move (`LWLockRelease` in lwlock.c).
+    PutExclusive { word: Word, done: Move },
+    /// Split a seat: a session number is issued, or a session that was kept apart goes on by itself
+    /// (`InitProcess` in proc.c).
+    SplitSeat,
+    /// Join a seat: another session keeps this one apart, or with no joiner the session is closed
+    /// (`ProcKill` in proc.c).
+    JoinSeat { joiner: Option<SessionId> },
+}
+
+/// One atomic step of one session.
+#[derive(Clone, Copy, Debug, PartialEq, Eq)]
+pub struct Event {
+    pub session: SessionId,
+    pub step: Step,
+}

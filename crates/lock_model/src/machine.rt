@@ -1,0 +1,33 @@
+//! The plain machine: events on a World, and the laws of every run.
+
+ghost use Rattle.std.specs.Prelude.{IfOk};
+ghost use Rattle.std.specs.List.Sorted.{IsSorted};
+ghost use Rattle.lock_model.specs.World.{World, opening};
+ghost use Rattle.lock_model.specs.Happens.{Runs};
+ghost use Rattle.lock_model.specs.Safe.{Safe};
+ghost use Rattle.lock_model.specs.Plain.{IsPlainOf, holds_of};
+
+pub mod laws;
+mod listed;
+mod plain;
+mod state;
+#[cfg(test)]
+mod tests;
+
+use crate::{Event, NoMemory};
+pub use plain::{Hold, Plain, QueuedWait, Spot};
+use state::Machine;
+use std::alloc::Global;
+
+/// Runs the events of up to 64 sessions from the opening World, one after another. An event that is not
+/// lawful where it comes is skipped. The World after them, and each one on the way, is safe.
+pub fn run_events(alloc: Global, events: &[Event]) -> Result<Plain, NoMemory>
+    ensures ran { IfOk result (λ plain. (w : World) × Runs (opening 64) events.now w × Safe w × IsPlainOf plain w) }
+    ensures in_order { IfOk result (λ plain. IsSorted ⟦<Hold as Ord>⟧.cmp (holds_of plain)) }
+{
+    let mut machine = Machine::new(alloc);
+    for event in events {
+        machine.step(*event)?;
+    }
+    Ok(machine.into_plain(alloc))
+}

@@ -1,0 +1,110 @@
+ghost use Rattle.std.specs.Prelude.{◌≡◌};
+ghost use Rattle.modes_core.specs.Conflict.{conflict};
+
+use crate::Word;
+use modes_core::{Mode, ModeSet, SessionId, Tag, conflicts};
+
+/// Where a hold stands.
+#[derive(Clone, Copy, Debug, PartialEq, Eq, PartialOrd, Ord)]
+pub enum Spot {
+    /// In a fast-path slot of its session.
+    Slot(u8),
+    /// In the lock table.
+    Table,
+}
+
+/// A hold. Holds are ordered by session, tag and mode.
+#[derive(Clone, Copy, Debug, PartialEq, Eq, PartialOrd, Ord)]
+pub struct Hold {
+    pub session: SessionId,
+    pub tag: Tag,
+    pub mode: Mode,
+    pub spot: Spot,
+}
+
+impl Hold {
+    ghost use Rattle.std.specs.Prelude.{◌≡◌};
+    ghost use Rattle.lock_model.specs.Shows.{is_hold, stands_in_the_way};
+
+    /// Whether it is the session's hold on the object in the mode.
+    pub fn is(&self, session: SessionId, tag: Tag, mode: Mode) -> bool
+        ensures { result ≡ is_hold session tag mode self.now }
+    {
+        self.session == session && self.tag == tag && self.mode == mode
+    }
+
+    /// Whether it is another session's hold on the object in a mode that conflicts with the mode.
+    pub fn stands_in_the_way(&self, session: SessionId, tag: Tag, mode: Mode) -> bool
+        ensures { result ≡ stands_in_the_way session tag mode self.now }
+    {
+        self.session != session && self.tag == tag && are_in_conflict(mode, self.mode)
+    }
+}
+
+/// Whether two modes conflict.
+fn are_in_conflict(mode: Mode, other: Mode) -> bool
+    ensures { result ≡ conflict mode other }
+{
+    conflicts(mode).has(other)
+}
+
+/// A wait in an object's queue, with the modes that its session held when it joined.
+#[derive(Clone, Copy, Debug, PartialEq, Eq)]
+pub struct QueuedWait {
+    pub session: SessionId,
+    pub tag: Tag,
+    pub mode: Mode,
+    pub held: ModeSet,
+}
+
+/// What a run of events leads to, as plain lists.
+#[derive(Debug, Drop)]
+pub struct Plain {
+    pub(crate) holds: Vec<Hold>,
+    pub(crate) waits: Vec<QueuedWait>,
+    pub(crate) partitions: [u32; 16],
+}
+
+impl Plain {
+    ghost use Rattle.std.specs.Prelude.{◌<◌};
+    ghost use Rattle.lock_model.specs.declared.events.Word.TheVariants.{Strong};
+    ghost use Rattle.lock_model.specs.Plain.{WordExists, holds_of, waits_of, word_of};
+
+    /// The holds, by session, tag and mode.
+    pub fn holds(&self) -> &[Hold]
+        ensures { result.now ≡ holds_of self.now }
+    {
+        self.holds.as_slice()
+    }
+
+    /// The waits, by tag, and those of one object in the order of its queue.
+    pub fn waits(&self) -> &[QueuedWait]
+        ensures { result.now ≡ waits_of self.now }
+    {
+        self.waits.as_slice()
+    }
+
+    /// What a strong lock counter shows.
+    pub fn counter(&self, index: u16) -> u64
+        requires { index < 1024 }
+        ensures { result ≡ word_of self.now (Strong index) }
+    {
+        self.word(Word::Strong(index))
+    }
+
+    /// What a word shows.
+    pub fn word(&self, word: Word) -> u64
+        requires { WordExists word }
+        ensures { result ≡ word_of self.now word }
+    {
+        match word {
+            Word::Partition(partition) => u64::from(self.partitions[usize::from(partition)]),
+            Word::Fast(_) => 0x2000_0000,
+            Word::Database(_) => 0,
+            Word::Slot(_, _) => 0,
+            Word::Wait(_) => 0,
+            Word::Strong(_) => 0,
+            Word::Sleep(_) => 0,
+        }
+    }
+}

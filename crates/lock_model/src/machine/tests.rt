@@ -1,0 +1,285 @@
+use super::{Spot, run_events};
+use crate::{Event, Move, Step, Word};
+use modes_core::{Mode, SessionId, Tag};
+use std::process::Abort;
+use std::test::Fail;
+
+fn session(rt: &impl Abort, number: u8) -> SessionId {
+    SessionId::new(number).expect(rt, "a session number")
+}
+
+fn opens(session: SessionId) -> Event {
+    Event {
+        session,
+        step: Step::SplitSeat,
+    }
+}
+
+fn closes(session: SessionId) -> Event {
+    Event {
+        session,
+        step: Step::JoinSeat { joiner: None },
+    }
+}
+
+fn is_kept(session: SessionId, joiner: SessionId) -> Event {
+    Event {
+        session,
+        step: Step::JoinSeat {
+            joiner: Some(joiner),
+        },
+    }
+}
+
+fn takes(session: SessionId, partition: u8) -> Event {
+    Event {
+        session,
+        step: Step::TakeExclusive {
+            word: Word::Partition(partition),
+        },
+    }
+}
+
+fn puts(session: SessionId, partition: u8, done: Move) -> Event {
+    Event {
+        session,
+        step: Step::PutExclusive {
+            word: Word::Partition(partition),
+            done,
+        },
+    }
+}
+
+/// An object of partition 15.
+fn object() -> Tag {
+    Tag::object(5, 1259, 16384, 0)
+}
+
+fn grant(mode: Mode) -> Move {
+    Move::Grant {
+        tag: object(),
+        mode,
+    }
+}
+
+fn release(mode: Mode) -> Move {
+    Move::Release {
+        tag: object(),
+        mode,
+    }
+}
+
+#[test]
+fn a_conflicting_grant_is_skipped(rt: HostRuntime) -> Result<(), Fail> {
+    let a = session(&rt, 0);
+    let b = session(&rt, 1);
+    let events = [
+        opens(a),
+        opens(b),
+        takes(a, 15),
+        puts(a, 15, grant(Mode::Exclusive)),
+        takes(b, 15),
+        puts(b, 15, grant(Mode::RowShare)),
+        puts(b, 15, Move::Keep),
+    ];
+    let plain = run_events(rt.alloc(), &events[..6])?;
+    assert_eq!(rt; plain.holds().len(), 1);
+    let hold = plain.holds()[0];
+    assert_eq!(rt; hold.session, a);
+    assert_eq!(rt; hold.tag, object());
+    assert_eq!(rt; hold.mode, Mode::Exclusive);
+    assert_eq!(rt; hold.spot, Spot::Table);
+    assert_eq!(rt; plain.word(Word::Partition(15)), 0x2100_0000);
+    let plain = run_events(rt.alloc(), &events)?;
+    assert_eq!(rt; plain.holds().len(), 1);
+    assert_eq!(rt; plain.word(Word::Partition(15)), 0x2000_0000);
+    Ok(())
+}
+
+#[test]
+fn no_event_leaves_the_opening_world(rt: HostRuntime) -> Result<(), Fail> {
+    let a = session(&rt, 0);
+    let plain = run_events(rt.alloc(), &[])?;
+    assert_eq!(rt; plain.holds().len(), 0);
+    assert_eq!(rt; plain.waits().len(), 0);
+    for index in 0..1024u16 {
+        assert_eq!(rt; plain.counter(index), 0);
+    }
+    for partition in 0..16u8 {
+        assert_eq!(rt; plain.word(Word::Partition(partition)), 0x2000_0000);
+    }
+    assert_eq!(rt; plain.word(Word::Fast(a)), 0x2000_0000);
+    assert_eq!(rt; plain.word(Word::Database(a)), 0);
+    assert_eq!(rt; plain.word(Word::Slot(a, 15)), 0);
+    assert_eq!(rt; plain.word(Word::Wait(a)), 0);
+    assert_eq!(rt; plain.word(Word::Sleep(a)), 0);
+    Ok(())
+}
+
+/// Runs the events after sessions 0 and 1 are open, and looks at the number of holds and at word 15.
+fn leads_to<R: Abort + AllocGlobal>(
+    rt: &R,
+    more: &[Event],
+    holds: usize,
+    word: u64,
+) -> Result<(), Fail> {
+    let mut events = Vec::new(rt.alloc());
+    events.push(opens(session(rt, 0)))?;
+    events.push(opens(session(rt, 1)))?;
+    events.extend_from_slice(more)?;
+    let plain = run_events(rt.alloc(), events.as_slice())?;
+    assert_eq!(rt; plain.holds().len(), holds);
+    assert_eq!(rt; plain.word(Word::Partition(15)), word);
+    Ok(())
+}
+
+const FREE: u64 = 0x2000_0000;
+
+const HELD: u64 = 0x2100_0000;
+
+#[test]
+fn partitions_are_taken_and_put(rt: HostRuntime) -> Result<(), Fail> {
+    let (a, b, c) = (session(&rt, 0), session(&rt, 1), session(&rt, 2));
+    let share = grant(Mode::Share);
+    let elsewhere = Move::Grant {
+        tag: Tag::relation(5, 16384),
+        mode: Mode::Share,
+    };
+    leads_to(&rt, &[takes(a, 15)], 0, HELD)?;
+    leads_to(&rt, &[takes(a, 15), puts(a, 15, Move::Keep)], 0, FREE)?;
+    leads_to(&rt, &[takes(a, 15), puts(a, 15, share)], 1, FREE)?;
+    // It is taken twice, and one put is enough.
+    leads_to(
+        &rt,
+        &[takes(a, 15), takes(b, 15), puts(a, 15, share)],
+        1,
+        FREE,
+    )?;
+    // Another session puts it.
+    leads_to(&rt, &[takes(a, 15), puts(b, 15, share)], 0, HELD)?;
+    // Nobody took it.
+    leads_to(&rt, &[puts(a, 15, share)], 0, FREE)?;
+    // The object lies in partition 12.
+    leads_to(&rt, &[takes(a, 15), puts(a, 15, elsewhere)], 0, HELD)?;
+    leads_to(
+        &rt,
+        &[takes(a, 15), puts(a, 15, release(Mode::Share))],
+        0,
+        HELD,
+    )?;
+    // There is no such partition.
+    leads_to(&rt, &[takes(a, 16), takes(a, 255)], 0, FREE)?;
+    // The session is not open.
+    leads_to(&rt, &[takes(c, 15)], 0, FREE)
+}
+
+#[test]
+fn holds_come_and_go(rt: HostRuntime) -> Result<(), Fail> {
+    let (a, b) = (session(&rt, 0), session(&rt, 1));
+    let share = [takes(a, 15), puts(a, 15, grant(Mode::Share))];
+    let again = |event: Event| [share[0], share[1], share[0], event];
+    let other = |event: Event| [share[0], share[1], takes(b, 15), event];
+    leads_to(&rt, &again(share[1]), 1, HELD)?;
+    leads_to(
+        &rt,
+        &again(puts(a, 15, grant(Mode::AccessExclusive))),
+        2,
+        FREE,
+    )?;
+    leads_to(&rt, &again(puts(a, 15, release(Mode::Share))), 0, FREE)?;
+    leads_to(&rt, &again(puts(a, 15, release(Mode::RowShare))), 1, HELD)?;
+    leads_to(&rt, &other(puts(b, 15, grant(Mode::RowShare))), 2, FREE)?;
+    leads_to(&rt, &other(puts(b, 15, grant(Mode::Share))), 2, FREE)?;
+    leads_to(&rt, &other(puts(b, 15, grant(Mode::RowExclusive))), 1, HELD)?;
+    leads_to(&rt, &other(puts(b, 15, release(Mode::Share))), 1, HELD)?;
+    // A session with a hold, or with a word, is not closed.
+    leads_to(&rt, &[share[0], share[1], closes(a), takes(a, 15)], 1, HELD)?;
+    leads_to(&rt, &[share[0], closes(a), share[1]], 1, FREE)
+}
+
+#[test]
+fn sessions_open_and_close(rt: HostRuntime) -> Result<(), Fail> {
+    let (a, b) = (session(&rt, 0), session(&rt, 1));
+    let (c, d) = (session(&rt, 2), session(&rt, 3));
+    leads_to(&rt, &[closes(a), takes(a, 15)], 0, FREE)?;
+    // Its number does not come back.
+    leads_to(&rt, &[closes(a), opens(a), takes(a, 15)], 0, FREE)?;
+    leads_to(&rt, &[closes(a), opens(c), takes(c, 15)], 0, HELD)?;
+    // It is not the next one.
+    leads_to(&rt, &[opens(d), takes(d, 15)], 0, FREE)?;
+    leads_to(
+        &rt,
+        &[opens(b), closes(b), closes(b), takes(b, 15)],
+        0,
+        FREE,
+    )
+}
+
+#[test]
+fn sessions_are_kept_apart(rt: HostRuntime) -> Result<(), Fail> {
+    let (a, b, c) = (session(&rt, 0), session(&rt, 1), session(&rt, 2));
+    leads_to(&rt, &[is_kept(a, b), takes(a, 15)], 0, FREE)?;
+    leads_to(&rt, &[is_kept(a, b), opens(a), takes(a, 15)], 0, HELD)?;
+    leads_to(
+        &rt,
+        &[is_kept(a, b), opens(a), is_kept(a, b), takes(a, 15)],
+        0,
+        FREE,
+    )?;
+    // By itself, by a session that is not open, by one that is kept apart.
+    leads_to(&rt, &[is_kept(a, a), takes(a, 15)], 0, HELD)?;
+    leads_to(&rt, &[is_kept(a, c), takes(a, 15)], 0, HELD)?;
+    leads_to(&rt, &[is_kept(a, b), is_kept(b, a), takes(b, 15)], 0, HELD)?;
+    // With a word held.
+    leads_to(&rt, &[takes(a, 14), is_kept(a, b), takes(a, 15)], 0, HELD)?;
+    // Neither of the two is closed.
+    leads_to(&rt, &[is_kept(a, b), closes(b), takes(b, 15)], 0, HELD)?;
+    leads_to(
+        &rt,
+        &[is_kept(a, b), closes(a), opens(a), takes(a, 15)],
+        0,
+        HELD,
+    )
+}
+
+#[test]
+fn a_long_run(rt: HostRuntime) -> Result<(), Fail> {
+    let mut events = Vec::new(rt.alloc());
+    for number in 0..64u8 {
+        events.push(opens(session(&rt, number)))?;
+    }
+    for round in 0..2000u32 {
+        let number = (round % 64) as u8;
+        let tag = Tag::relation(5, 16384 + round % 4);
+        let partition = tag.partition();
+        let done = match round % 3 {
+            0 => Move::Grant {
+                tag,
+                mode: Mode::RowShare,
+            },
+            1 => Move::Grant {
+                tag,
+                mode: Mode::Share,
+            },
+            _ => Move::Release {
+                tag,
+                mode: Mode::RowShare,
+            },
+        };
+        events.push(takes(session(&rt, number), partition))?;
+        events.push(puts(session(&rt, number), partition, done))?;
+        events.push(puts(session(&rt, number), partition, Move::Keep))?;
+    }
+    let plain = run_events(rt.alloc(), events.as_slice())?;
+    let holds = plain.holds();
+    for place in 1..holds.len() {
+        assert!(rt; holds[place - 1] < holds[place]);
+    }
+    for partition in 0..16u8 {
+        assert_eq!(rt; plain.word(Word::Partition(partition)), FREE);
+    }
+    // Session k meets relation k modulo 4 alone, in all three rounds, over and over; the last round of
+    // each decides whether its RowShareLock is there, and no one else's holds are in the way.
+    assert!(rt; holds.len() >= 64);
+    Ok(())
+}

@@ -1,0 +1,64 @@
+ghost use Rattle.std.specs.Prelude.{◌≡◌, false, true, Option, Some, None, OnOk, OnErr};
+ghost use Rattle.modes_core.specs.ModeSet.{set_has};
+ghost use Rattle.lock_model.specs.Content.{Content, add_hold, remove_hold};
+ghost use Rattle.lock_model.specs.Clash.{HolderInTheWay};
+ghost use Rattle.lock_model.specs.Listing.{AppendsListing};
+ghost use Rattle.lock_model.specs.declared.request.Request.{Request};
+
+use crate::no_memory::NoMemory;
+use crate::request::Request;
+use crate::rows::TableRow;
+use modes_core::{Mode, ModeSet, SessionId, Tag};
+
+/// One partition of the lock table, however it keeps its holds. Contracts see its `content`, and the
+/// request that is begun in it.
+///
+/// A request is made in two steps: `begin` takes all the memory that it can need, and `grant` or
+/// `withdraw`, which ends it, takes none.
+pub trait PartTable {
+    ghost content: { Self → Content };
+
+    ghost begun: { Self → Option Request };
+
+    /// Makes room and records for one request (`SetupLockInTable` in lock.c). After a refusal the part
+    /// is as before.
+    fn begin(&mut self, session: SessionId, tag: Tag, mode: Mode) -> Result<(), NoMemory>
+        requires new { (content self.old).holds session tag mode ≡ false }
+        requires none_begun { begun self.old ≡ None }
+        ensures content { content self.new ≡ content self.old }
+        ensures ok { OnOk result (begun self.new ≡ Some (record { session = session; tag = tag; mode = mode })) }
+        ensures err { OnErr result (begun self.new ≡ None) };
+
+    /// Gives the begun request up (`CleanUpLock` in lock.c).
+    fn withdraw(&mut self, session: SessionId, tag: Tag, mode: Mode)
+        requires begun { begun self.old ≡ Some (record { session = session; tag = tag; mode = mode }) }
+        ensures content { content self.new ≡ content self.old }
+        ensures ended { begun self.new ≡ None };
+
+    /// Makes the begun request a hold (`GrantLock` in lock.c).
+    fn grant(&mut self, session: SessionId, tag: Tag, mode: Mode)
+        requires begun { begun self.old ≡ Some (record { session = session; tag = tag; mode = mode }) }
+        ensures content { content self.new ≡ add_hold (content self.old) session tag mode }
+        ensures ended { begun self.new ≡ None };
+
+    /// Takes a hold out (`UnGrantLock` in lock.c).
+    fn ungrant(&mut self, session: SessionId, tag: Tag, mode: Mode)
+        requires held { (content self.old).holds session tag mode ≡ true }
+        ensures content { content self.new ≡ remove_hold (content self.old) session tag mode }
+        ensures begun { begun self.new ≡ begun self.old };
+
+    /// The modes that the session holds the object in (`holdMask` of `PROCLOCK` in lock.h).
+    fn held(&self, session: SessionId, tag: Tag) -> ModeSet
+        ensures { set_has result ≡ (content self.now).holds session tag };
+
+    /// The lowest-numbered other session that holds the object in a conflicting mode, with its lowest
+    /// such mode (`LockCheckConflicts` in lock.c).
+    fn conflict_of(&self, session: SessionId, tag: Tag, mode: Mode) -> Option<(SessionId, Mode)>
+        ensures { HolderInTheWay (content self.now).holds session tag mode result };
+
+    /// Appends the content's rows in the listing's order (`GetLockStatusData` in lock.c). After a
+    /// refusal the list is as before.
+    fn rows(&self, rows: &mut Vec<TableRow>) -> Result<(), NoMemory>
+        ensures ok { OnOk result (AppendsListing (content self.now) rows.old.items rows.new.items) }
+        ensures err { OnErr result (rows.new.items ≡ rows.old.items) };
+}

@@ -1,0 +1,130 @@
+ghost use Rattle.std.specs.Prelude.{◌≡◌, IfOk};
+ghost use Rattle.lock_model.specs.Content.{empty_content};
+ghost use Rattle.lock_model.specs.Clash.{lower_holder_of};
+
+use crate::no_memory::NoMemory;
+use crate::part_table::PartTable;
+use crate::request::Request;
+use crate::rows::{TableRow, sort_rows};
+use modes_core::{Mode, ModeSet, SessionId, Tag, conflicts};
+use std::alloc::Global;
+use std::marker::Model;
+
+/// The plain keeper of a partition: a list of its holds. Each call looks through the whole list; it
+/// serves the slow machine, the tests and one thread.
+#[derive(Drop)]
+pub struct PlainPart {
+    holds: Vec<Request>,
+    begun: Option<Request>,
+}
+
+impl Model for PlainPart {
+    ghost use Rattle.lock_model.specs.PartView.{PartView};
+
+    ghost Value = { PartView };
+
+    ghost use Rattle.lock_model.specs.PlainPart.{view_of, IsPlainPart};
+
+    ghost view = { view_of };
+
+    ghost invariant = { IsPlainPart };
+}
+
+impl PlainPart {
+    ghost use Rattle.lock_model.specs.PartView.{content_of};
+    ghost use Rattle.std.specs.Prelude.{◌≡◌, None};
+    ghost use Rattle.lock_model.specs.Content.{empty_content};
+
+    /// A part with nothing in it, which grows by this allocator.
+    pub fn new(alloc: Global) -> Self
+        ensures content { content_of result ≡ empty_content }
+        ensures begun { result.begun ≡ None }
+    {
+        PlainPart {
+            holds: Vec::new(alloc),
+            begun: None,
+        }
+    }
+}
+
+impl PartTable for PlainPart {
+    ghost use Rattle.lock_model.specs.PartView.{content_of};
+
+    ghost content = { content_of };
+
+    ghost begun = { λ part. part.begun };
+
+    fn begin(&mut self, session: SessionId, tag: Tag, mode: Mode) -> Result<(), NoMemory> {
+        self.holds.reserve(1)?;
+        self.begun = Some(Request { session, tag, mode });
+        Ok(())
+    }
+
+    fn withdraw(&mut self, _session: SessionId, _tag: Tag, _mode: Mode) {
+        self.begun = None;
+    }
+
+    fn grant(&mut self, session: SessionId, tag: Tag, mode: Mode) {
+        self.begun = None;
+        self.holds.push_reserved(Request { session, tag, mode });
+    }
+
+    fn ungrant(&mut self, session: SessionId, tag: Tag, mode: Mode) {
+        self.holds.retain(|hold| !hold.is_of(session, tag, mode));
+    }
+
+    fn held(&self, session: SessionId, tag: Tag) -> ModeSet {
+        let mut modes = ModeSet::empty();
+        for hold in &self.holds {
+            if hold.is_on(session, tag) {
+                modes = modes.with(hold.mode);
+            }
+        }
+        modes
+    }
+
+    fn conflict_of(&self, session: SessionId, tag: Tag, mode: Mode) -> Option<(SessionId, Mode)> {
+        let conflicting = conflicts(mode);
+        let mut lowest = None;
+        for hold in &self.holds {
+            if hold.is_in_the_way(session, tag, conflicting) {
+                lowest = Some(lower_holder(lowest, hold.session, hold.mode));
+            }
+        }
+        lowest
+    }
+
+    fn rows(&self, rows: &mut Vec<TableRow>) -> Result<(), NoMemory> {
+        let before = rows.len();
+        rows.reserve(self.holds.len())?;
+        for hold in &self.holds {
+            rows.push_reserved(TableRow {
+                session: hold.session,
+                tag: hold.tag,
+                mode: hold.mode,
+                granted: true,
+            });
+        }
+        sort_rows(&mut rows[before..]);
+        Ok(())
+    }
+}
+
+/// The lower of two holders, by session and then by mode.
+fn lower_holder(
+    lowest: Option<(SessionId, Mode)>,
+    session: SessionId,
+    mode: Mode,
+) -> (SessionId, Mode)
+    ensures { result ≡ lower_holder_of lowest session mode }
+{
+    if let Some((other, its)) = lowest {
+        if other < session {
+            return (other, its);
+        }
+        if other == session && its.number() <= mode.number() {
+            return (other, its);
+        }
+    }
+    (session, mode)
+}

@@ -1,0 +1,10 @@
+mod AcquireLemmas
+mod DeskLemmas
+mod EndLemmas
+mod Entries
+mod Gathering
+mod Known
+mod ListLemmas
+mod NameLemmas
+mod TextBytes
+mod WordLemmas

@@ -1,0 +1,55 @@
+use Rattle.std.specs.Prelude.{ℕ, ◌==◌, ◌||◌, ◌&&◌, nat_le, Bool, if◌then◌else◌, List, [], ◌∷◌, length, map, filter, Option, Some, None, codes}
+use Rattle.std.specs.Str.{bytes_eq}
+use Rattle.std.specs.List.{list_all, slice_split}
+use Rattle.std.specs.Char.{is_ascii_digit}
+use Rattle.std.specs.Str.Parse.{digits_value}
+use Rattle.modes_core.specs.declared.sessions.Owner.{Owner}
+use Rattle.modes_core.specs.declared.sessions.Owner.TheVariants.{Session}
+use Rattle.modes_core.specs.declared.tags.Tag.{Tag}
+use Rattle.modes_core.specs.declared.tags.Tag.TheVariants.{Relation, Object}
+
+-- a space or a tab
+abbrev pub is_blank : ℕ → Bool
+is_blank b = (b == 32) || (b == 9)
+
+-- whether there is something between two blanks
+abbrev pub is_word : List ℕ → Bool
+is_word part = nat_le 1 (length part)
+
+-- the words of a line: what stands between its blanks, where it is not empty
+abbrev pub words_of : List ℕ → List (List ℕ)
+words_of line = filter is_word (slice_split is_blank line)
+
+-- a small letter, a digit or an underscore
+abbrev pub is_name_byte : ℕ → Bool
+is_name_byte b = (nat_le 97 b && nat_le b 122) || ((nat_le 48 b && nat_le b 57) || (b == 95))
+
+-- 1 to 16 of these
+abbrev pub is_name : List ℕ → Bool
+is_name word = nat_le 1 (length word) && (nat_le (length word) 16 && list_all is_name_byte word)
+
+-- 1 to 10 decimal digits
+abbrev pub is_short_numeral : List ℕ → Bool
+is_short_numeral word = nat_le 1 (length word) && (nat_le (length word) 10 && list_all is_ascii_digit word)
+
+-- the number that a word is, where it is 1 to 10 decimal digits and at most 4294967295
+abbrev pub number_of : List ℕ → Option ℕ
+number_of word = if is_short_numeral word && nat_le (digits_value 10 word) 4294967295 then Some (digits_value 10 word) else None
+
+-- the byte between the numbers of a tag
+abbrev pub is_slash : ℕ → Bool
+is_slash b = b == 47
+
+-- Two numbers are a relation, four an object whose sub-object is at most 65535.
+abbrev pub tag_of_numbers : List (Option ℕ) → Option Tag
+tag_of_numbers (Some database ∷ Some relation ∷ []) = Some (Relation database relation)
+tag_of_numbers (Some database ∷ Some class ∷ Some object ∷ Some sub_object ∷ []) = if nat_le sub_object 65535 then Some (Object database class object sub_object) else None
+tag_of_numbers _ = None
+
+-- the tag that a word is, by the numbers between its slashes
+abbrev pub tag_of : List ℕ → Option Tag
+tag_of word = tag_of_numbers (map number_of (slice_split is_slash word))
+
+-- the owner that a word names
+abbrev pub owner_of : List ℕ → Option Owner
+owner_of word = if bytes_eq word (codes "session") then Some Session else None

@@ -1,0 +1,55 @@
+//! The words of the command line.
+ghost use Rattle.std.specs.Prelude.{◌≤◌, IfOk};
+
+use crate::desk::Config;
+use clap::{Arg, ArgMatches, Command, Error, value_parser};
+use std::alloc::{AllocError, Global};
+
+/// How many sessions a script may open, where the command line doesn't say.
+const SESSIONS: &str = "8";
+
+/// How many local entries a session may have, where the command line doesn't say.
+const MAX_LOCAL: &str = "1024";
+
+/// The command line: `run [--sessions N] [--max-local M]`.
+fn command<'a>(alloc: Global) -> Result<Command<'a>, AllocError> {
+    let sessions = Arg::new(alloc, "sessions")
+        .long("sessions")
+        .value_name("N")
+        .help("How many sessions the script may open")
+        .value_parser(value_parser!(u32).range(1..=64))
+        .default_value(SESSIONS);
+    let max_local = Arg::new(alloc, "max-local")
+        .long("max-local")
+        .value_name("M")
+        .help("How many different locks a session may have")
+        .value_parser(value_parser!(u32).range(1..=65536))
+        .default_value(MAX_LOCAL);
+    let run = Command::new(alloc, "run")
+        .about("Run the script on standard input")
+        .arg(sessions)?
+        .arg(max_local)?;
+    Command::new(alloc, "lock_scenario")
+        .about("Run scripts against PostgreSQL's lock manager")
+        .subcommand_required(true)
+        .subcommand(run)
+}
+
+/// The configuration that the words ask for. Refused words and a call for help are an error.
+pub fn parse_arguments<'a>(alloc: Global, words: &'a [String]) -> Result<Config, Error>
+    ensures sessions { IfOk result (λ config. (1 ≤ config.sessions) × (config.sessions ≤ 64)) }
+    ensures max_local { IfOk result (λ config. (1 ≤ config.max_local) × (config.max_local ≤ 65536)) }
+{
+    let matches = command(alloc)?.try_get_matches_from(words)?;
+    let (sessions, max_local) = match matches.subcommand() {
+        Some((_, run)) => (
+            run.get_one::<u32>("sessions").unwrap_or(8),
+            run.get_one::<u32>("max-local").unwrap_or(1024),
+        ),
+        None => (8, 1024),
+    };
+    Ok(Config {
+        sessions: sessions.clamp(1, 64),
+        max_local: max_local.clamp(1, 65_536),
+    })
+}

@@ -1,0 +1,54 @@
+ghost use Rattle.std.specs.Prelude.{◌≡◌, false, true, None, [], IfErr, OnOk, OnErr};
+ghost use Rattle.lock_model.specs.Content.{add_hold, remove_hold};
+ghost use Rattle.lock_model.specs.Clash.{ClashIs};
+ghost use Rattle.lock_scenario.specs.Decide.{RefusedFor};
+
+use lock_model::PartTable;
+use modes_core::{How, Mode, Refusal, SessionId, Tag};
+
+/// Decides a conditional request for a mode that the session doesn't hold (`LockAcquireExtended` in
+/// lock.c with `dontWait`): it is granted where it clashes with nothing, and else refused with what
+/// it clashes with.
+pub fn decide<P: PartTable>(
+    part: &mut P,
+    session: SessionId,
+    tag: Tag,
+    mode: Mode,
+) -> Result<(), Refusal>
+    requires new { (P.content part.old).holds session tag mode ≡ false }
+    requires nobody_waits { (P.content part.old).waits tag ≡ [] }
+    requires none_begun { P.begun part.old ≡ None }
+
+    ensures granted { OnOk result (ClashIs (P.content part.old) session tag mode None) }
+    ensures hold { OnOk result (P.content part.new ≡ add_hold (P.content part.old) session tag mode) }
+    ensures refused { IfErr result (RefusedFor (P.content part.old) session tag mode) }
+    ensures unchanged { OnErr result (P.content part.new ≡ P.content part.old) }
+    ensures ended { P.begun part.new ≡ None }
+{
+    if part.begin(session, tag, mode).is_err() {
+        return Err(Refusal::NoMemory);
+    }
+    match part.conflict_of(session, tag, mode) {
+        None => {
+            part.grant(session, tag, mode);
+            Ok(())
+        }
+        Some((other, its)) => {
+            part.withdraw(session, tag, mode);
+            Err(Refusal::Conflict {
+                session: other,
+                mode: its,
+                how: How::Held,
+            })
+        }
+    }
+}
+
+/// Takes a hold of the session out (`LockRelease` in lock.c). Nobody waits yet, so nobody is woken.
+pub fn release<P: PartTable>(part: &mut P, session: SessionId, tag: Tag, mode: Mode)
+    requires { (P.content part.old).holds session tag mode ≡ true }
+    ensures content { P.content part.new ≡ remove_hold (P.content part.old) session tag mode }
+    ensures begun { P.begun part.new ≡ P.begun part.old }
+{
+    part.ungrant(session, tag, mode);
+}

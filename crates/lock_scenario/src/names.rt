@@ -1,0 +1,114 @@
+//! The names under which sessions were opened.
+ghost use Rattle.std.specs.Prelude.{◌≡◌, ◌≢◌, ◌<◌, ◌↔◌, ◌⊎◌, [], ◌∷◌, ◌++◌, true, false, length, slice_get, Some, IfSome, IfNone, IsTrue, All};
+ghost use Rattle.std.specs.List.{HoldsAt};
+ghost use Rattle.std.specs.Option.{option_map};
+ghost use Rattle.lock_scenario.specs.Names.{GoesBy, closed};
+
+use arrayvec::{ArrayString, ArrayVec};
+use modes_core::SessionId;
+
+/// A session's name.
+pub type Name = ArrayString<16>;
+
+/// A session that was opened: its name, and whether it is open still.
+#[derive(Clone, Copy, Default)]
+pub struct Opened {
+    pub name: Name,
+    pub is_open: bool,
+}
+
+impl Opened {
+    /// Whether this is the open session of the name.
+    fn goes_by(&self, name: &Name) -> bool
+        ensures { IsTrue result ↔ GoesBy name.now.bytes self.now }
+    {
+        self.is_open && self.name.as_str() == name.as_str()
+    }
+}
+
+/// The sessions that were opened, in the order of opening: a session's number is its place.
+#[derive(Drop)]
+pub struct Names {
+    pub opened: ArrayVec<Opened, 64>,
+}
+
+impl Names {
+    /// No names.
+    pub fn new() -> Self
+        ensures { result.opened.items ≡ [] }
+    {
+        Names {
+            opened: ArrayVec::new(),
+        }
+    }
+
+    /// The open session of this name, if there is one.
+    pub fn session(&self, name: &Name) -> Option<SessionId>
+        ensures found { IfSome result (HoldsAt (GoesBy name.now.bytes) self.now.opened.items) }
+        ensures within { IfSome result (λ session. session < length self.now.opened.items) }
+        ensures unknown { IfNone result (All (λ other. GoesBy name.now.bytes other → ⊥) self.now.opened.items) }
+    {
+        for (place, other) in self.opened.as_slice().iter().enumerate() {
+            if other.goes_by(name) {
+                return SessionId::new(place as u8);
+            }
+        }
+        None
+    }
+
+    /// The name under which this session was opened, if it was.
+    pub fn name(&self, session: SessionId) -> Option<Name>
+        ensures { result ≡ option_map (λ opened. opened.name) (slice_get self.now.opened.items session) }
+    {
+        self.opened
+            .as_slice()
+            .get(usize::from(session.number()))
+            .map(|opened| opened.name)
+    }
+
+    /// Keeps the name of the session that was opened last.
+    pub fn push(&mut self, name: Name)
+        requires { length self.old.opened.items < 64 }
+        ensures { self.new.opened.items ≡ self.old.opened.items ++ record { name = name; is_open = true } ∷ [] }
+    {
+        self.opened.push(Opened {
+            name,
+            is_open: true,
+        });
+    }
+
+    /// Frees the name of a session that was closed. Its number stays taken.
+    pub fn forget(&mut self, session: SessionId)
+        requires { session < length self.old.opened.items }
+        ensures forgotten { self.new.opened.items ≡ closed self.old.opened.items session }
+        ensures number { length self.new.opened.items ≡ length self.old.opened.items }
+    {
+        self.opened.as_mut_slice()[usize::from(session.number())].is_open = false;
+    }
+
+    /// The open session whose name is the first one in the order of bytes, if any is open.
+    pub fn first(&self) -> Option<SessionId>
+        ensures found { IfSome result (HoldsAt (λ other. other.is_open ≡ true) self.now.opened.items) }
+        ensures within { IfSome result (λ session. session < length self.now.opened.items) }
+        ensures none_open { IfNone result (All (λ other. other.is_open ≡ false) self.now.opened.items) }
+    {
+        let mut first: Option<(u8, Name)> = None;
+        for (place, other) in self.opened.as_slice().iter().enumerate() {
+            if other.is_open {
+                first = Some(earlier(first, place as u8, other.name));
+            }
+        }
+        let (place, _) = first?;
+        SessionId::new(place)
+    }
+}
+
+/// Of two sessions the one whose name is earlier in the order of bytes.
+fn earlier(first: Option<(u8, Name)>, place: u8, name: Name) -> (u8, Name)
+    ensures { (result ≡ (place, name)) ⊎ (first ≡ Some result) }
+{
+    match first {
+        Some(first) if first.1 <= name => first,
+        _ => (place, name),
+    }
+}

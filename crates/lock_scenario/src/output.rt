@@ -1,0 +1,178 @@
+//! What the lines of a script print.
+use crate::desk::{Listing, SlotRow};
+use crate::faults::Fault;
+use crate::names::{Name, Names};
+use local_locks::{Acquired, End, Unlocked};
+use lock_model::TableRow;
+use modes_core::{How, Mode, Refusal, SessionId, Tag};
+use std::io::{self, Write};
+
+/// The printed answers of a script. Each line goes to the writer at once, and `flush` passes them on.
+#[derive(Drop)]
+pub struct Output<W: Write + Drop> {
+    writer: W,
+}
+
+/// A writer's error is a fault of the script.
+fn written(outcome: io::Result<()>) -> Result<(), Fault> {
+    outcome.map_err(|_| Fault::WriteFailed)
+}
+
+/// The text of a refusal that names nothing.
+fn refusal_text(refusal: Refusal) -> &'static str {
+    match refusal {
+        Refusal::Conflict { .. } => "conflict",
+        Refusal::NoMemory => "no memory",
+        Refusal::LocalFull => "local table full",
+        Refusal::CountFull => "count full",
+        Refusal::SimpleDeadlock { .. } => "simple deadlock",
+        Refusal::Cancelled => "cancelled",
+        Refusal::NotHeld => "not held",
+        Refusal::Busy => "busy",
+        Refusal::SlotsFull => "slots full",
+        Refusal::StrongCounted => "strong lock counted",
+        Refusal::NotEligible => "not eligible",
+        Refusal::NoMoreSessions => "no more sessions",
+        Refusal::BadConfig => "bad config",
+    }
+}
+
+/// The name of a session that a row or a refusal tells of. All of them were opened under a name.
+fn name_of(names: &Names, session: SessionId) -> Name {
+    names.name(session).unwrap_or(Name::new())
+}
+
+impl<W: Write + Drop> Output<W> {
+    /// Output to this writer.
+    pub fn new(writer: W) -> Self {
+        Output { writer }
+    }
+
+    /// Passes on what was printed.
+    pub fn flush(&mut self) -> Result<(), Fault> {
+        written(self.writer.flush())
+    }
+
+    /// A session was opened.
+    pub fn opened(&mut self, name: &Name, session: SessionId, database: u32) -> Result<(), Fault> {
+        written(writeln!(self.writer, "{name}: session {session} database {database}"))
+    }
+
+    /// A lock was acquired.
+    pub fn acquired(&mut self, name: &Name, acquired: Acquired) -> Result<(), Fault> {
+        let text = match acquired {
+            Acquired::Granted => "granted",
+            Acquired::AlreadyHeld => "already held",
+        };
+        written(writeln!(self.writer, "{name}: {text}"))
+    }
+
+    /// A lock was given back.
+    pub fn unlocked(&mut self, name: &Name, unlocked: Unlocked) -> Result<(), Fault> {
+        let text = match unlocked {
+            Unlocked::Released => "released",
+            Unlocked::StillHeld => "still held",
+        };
+        written(writeln!(self.writer, "{name}: {text}"))
+    }
+
+    /// A transaction or a session ended in this way.
+    pub fn ended(&mut self, name: &Name, end: End) -> Result<(), Fault> {
+        let text = match end {
+            End::Commit => "committed",
+            End::Abort => "aborted",
+            End::Close => "closed",
+        };
+        written(writeln!(self.writer, "{name}: {text}"))
+    }
+
+    /// How often a lock is held for each owner.
+    pub fn owned(&mut self, name: &Name, transaction: u16, session: u16) -> Result<(), Fault> {
+        written(writeln!(
+            self.writer,
+            "{name}: transaction {transaction} session {session}"
+        ))
+    }
+
+    /// A lock that was to be given back isn't held.
+    pub fn not_owned(&mut self, name: &Name, mode: Mode) -> Result<(), Fault> {
+        written(writeln!(self.writer, "{name}: you don't own a lock of type {mode}"))
+    }
+
+    /// A call was refused.
+    pub fn refused(&mut self, names: &Names, name: &Name, refusal: Refusal) -> Result<(), Fault> {
+        let number = refusal.number();
+        match &refusal {
+            Refusal::Conflict { session, mode, how } => {
+                let other = name_of(names, *session);
+                self.conflict(name, &other, *mode, *how)
+            }
+            Refusal::SimpleDeadlock { session } => {
+                let other = name_of(names, *session);
+                written(writeln!(
+                    self.writer,
+                    "{name}: refused {number} simple deadlock {other}"
+                ))
+            }
+            _ => {
+                let text = refusal_text(refusal);
+                written(writeln!(self.writer, "{name}: refused {number} {text}"))
+            }
+        }
+    }
+
+    /// A request met a hold or a wait of another session.
+    fn conflict(&mut self, name: &Name, other: &Name, mode: Mode, how: How) -> Result<(), Fault> {
+        let how = match how {
+            How::Held => "held",
+            How::Awaited => "awaited",
+        };
+        written(writeln!(
+            self.writer,
+            "{name}: refused 1 conflict {other} {mode} {how}"
+        ))
+    }
+
+    /// All locks: a line for each row, and then their number.
+    pub fn listing(&mut self, names: &Names, listing: &Listing) -> Result<(), Fault> {
+        for row in &listing.fast {
+            self.slot_row(names, row)?;
+        }
+        for row in &listing.table {
+            self.table_row(names, row)?;
+        }
+        let rows = listing.fast.len() as u128 + listing.table.len() as u128;
+        written(writeln!(self.writer, "rows {rows}"))
+    }
+
+    /// A lock in a slot.
+    fn slot_row(&mut self, names: &Names, row: &SlotRow) -> Result<(), Fault> {
+        let name = name_of(names, row.session);
+        let SlotRow {
+            slot,
+            tag,
+            mode,
+            ..
+        } = *row;
+        written(writeln!(self.writer, "fast {name} {slot} {tag} {mode}"))
+    }
+
+    /// A lock in the table.
+    fn table_row(&mut self, names: &Names, row: &TableRow) -> Result<(), Fault> {
+        let name = name_of(names, row.session);
+        let how = if row.granted { "granted" } else { "awaited" };
+        let TableRow { tag, mode, .. } = *row;
+        written(writeln!(self.writer, "table {name} {tag} {mode} {how}"))
+    }
+
+    /// The hash of an object, with its partition and its strong lock counter.
+    pub fn hash(&mut self, tag: Tag) -> Result<(), Fault> {
+        let hash = tag.hash();
+        let partition = tag.partition();
+        let strong = tag.strong_index();
+        written(writeln!(
+            self.writer,
+            "hash {hash} partition {partition} strong {strong}"
+        ))
+    }
+}

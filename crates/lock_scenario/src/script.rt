@@ -1,0 +1,169 @@
+//! Scripts: a line is read, run and answered before the next one is read.
+ghost use Rattle.std.specs.Prelude.{◌≡◌, ◌≤◌, ◌<◌, false, length, All};
+ghost use Rattle.lock_scenario.specs.Desk.{issued_of};
+ghost use Rattle.lock_scenario.specs.Command.{Addresses};
+
+use crate::command::{Command, Speaker, Target, parse};
+use crate::desk::{Config, Desk};
+use crate::faults::Fault;
+use crate::lines::LineReader;
+use crate::names::{Name, Names};
+use crate::output::Output;
+use local_locks::End;
+use modes_core::{Owner, Refusal};
+use std::io::{Read, Write};
+
+/// Runs the script that the reader gives against a lock manager of its own, and writes what each line
+/// prints before the next line is read. It ends with the input, or with the first fault, and then the
+/// sessions that are open are closed in silence.
+pub fn run_script<H: AllocGlobal, R: Read + Drop, W: Write + Drop>(
+    rt: &H,
+    reader: R,
+    writer: W,
+    config: Config,
+) -> Result<(), Fault>
+    requires sessions { (1 ≤ config.sessions) × (config.sessions ≤ 64) }
+    requires max_local { (1 ≤ config.max_local) × (config.max_local ≤ 65536) }
+{
+    let desk = Desk::new(rt.alloc(), config).map_err(|_| Fault::NoMemory)?;
+    let mut scene = Scene {
+        desk,
+        names: Names::new(),
+        output: Output::new(writer),
+    };
+    let ended = scene.run_lines(reader);
+    scene.close_all();
+    ended
+}
+
+/// What the lines of a script act on.
+#[derive(Drop)]
+struct Scene<W: Write + Drop> {
+    desk: Desk,
+    names: Names,
+    output: Output<W>,
+    ghost all_named: { length names.opened.items ≡ issued_of desk },
+}
+
+impl<W: Write + Drop> Scene<W> {
+    /// Runs the lines of the reader, to its end or to the first fault.
+    fn run_lines<R: Read + Drop>(&mut self, reader: R) -> Result<(), Fault> {
+        let mut lines = LineReader::new(reader);
+        for _ in 0..u64::MAX {
+            let Some(line) = lines.next_line()? else {
+                break;
+            };
+            let command = parse(line.as_str(), &self.names).map_err(|what| Fault::BadLine {
+                line: lines.number,
+                what,
+            })?;
+            if let Some(command) = command {
+                self.run(command)?;
+            }
+        }
+        Ok(())
+    }
+
+    /// Closes the sessions that are open, in the byte order of their names.
+    fn close_all(&mut self)
+        ensures { All (λ opened. opened.is_open ≡ false) self.new.names.opened.items }
+    {
+        'sessions: while let Some(session) = self.names.first() {
+            self.desk.close(session);
+            self.names.forget(session);
+        }
+    }
+
+    /// Runs a command, and passes on what it prints.
+    fn run(&mut self, command: Command) -> Result<(), Fault>
+        requires { Addresses (length self.old.names.opened.items) command }
+    {
+        match command {
+            Command::Session { name, database } => self.open(name, database)?,
+            Command::Try(target, owner) => self.try_lock(target, owner)?,
+            Command::Unlock(target, owner) => self.unlock(target, owner)?,
+            Command::Commit(speaker) => self.commit(speaker)?,
+            Command::Abort(speaker) => self.abort(speaker)?,
+            Command::Owned(target) => self.owned(target)?,
+            Command::List(speaker) => self.list(speaker)?,
+            Command::Hash(tag) => self.output.hash(tag)?,
+            Command::Close(speaker) => self.close(speaker)?,
+        }
+        self.output.flush()
+    }
+
+    fn open(&mut self, name: Name, database: u32) -> Result<(), Fault> {
+        match self.desk.session(database) {
+            Ok(session) => {
+                self.names.push(name);
+                self.output.opened(&name, session, database)
+            }
+            Err(refusal) => self.output.refused(&self.names, &name, refusal),
+        }
+    }
+
+    fn try_lock(&mut self, target: Target, owner: Owner) -> Result<(), Fault>
+        requires { target.speaker.session < length self.old.names.opened.items }
+    {
+        let Speaker { name, session } = target.speaker;
+        match self.desk.try_lock(session, target.tag, target.mode, owner) {
+            Ok(acquired) => self.output.acquired(&name, acquired),
+            Err(refusal) => self.output.refused(&self.names, &name, refusal),
+        }
+    }
+
+    fn unlock(&mut self, target: Target, owner: Owner) -> Result<(), Fault>
+        requires { target.speaker.session < length self.old.names.opened.items }
+    {
+        let Speaker { name, session } = target.speaker;
+        match self.desk.unlock(session, target.tag, target.mode, owner) {
+            Ok(unlocked) => self.output.unlocked(&name, unlocked),
+            Err(Refusal::NotHeld) => self.output.not_owned(&name, target.mode),
+            Err(refusal) => self.output.refused(&self.names, &name, refusal),
+        }
+    }
+
+    fn commit(&mut self, speaker: Speaker) -> Result<(), Fault>
+        requires { speaker.session < length self.old.names.opened.items }
+    {
+        self.desk.commit(speaker.session);
+        self.output.ended(&speaker.name, End::Commit)
+    }
+
+    fn abort(&mut self, speaker: Speaker) -> Result<(), Fault>
+        requires { speaker.session < length self.old.names.opened.items }
+    {
+        self.desk.abort(speaker.session);
+        self.output.ended(&speaker.name, End::Abort)
+    }
+
+    fn close(&mut self, speaker: Speaker) -> Result<(), Fault>
+        requires { speaker.session < length self.old.names.opened.items }
+    {
+        self.desk.close(speaker.session);
+        self.names.forget(speaker.session);
+        self.output.ended(&speaker.name, End::Close)
+    }
+
+    fn owned(&mut self, target: Target) -> Result<(), Fault>
+        requires { target.speaker.session < length self.old.names.opened.items }
+    {
+        let Target { speaker, tag, mode } = target;
+        let transaction = self
+            .desk
+            .owner_count(speaker.session, tag, mode, Owner::Transaction);
+        let session = self
+            .desk
+            .owner_count(speaker.session, tag, mode, Owner::Session);
+        self.output.owned(&speaker.name, transaction, session)
+    }
+
+    fn list(&mut self, speaker: Speaker) -> Result<(), Fault>
+        requires { speaker.session < length self.old.names.opened.items }
+    {
+        match self.desk.list(speaker.session) {
+            Ok(listing) => self.output.listing(&self.names, &listing),
+            Err(refusal) => self.output.refused(&self.names, &speaker.name, refusal),
+        }
+    }
+}

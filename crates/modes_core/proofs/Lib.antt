@@ -1,0 +1,3 @@
+mod Masks
+pub mod Laws
+pub mod Equality

@@ -1,0 +1,5 @@
+use Rattle.modes_core.proofs.Laws.{conflict_comm}
+use Rattle.modes_core.proofs.mode_sets.conflict_is_symmetric.Goals as goal
+
+pub returns : goal.returns
+returns c = conflict_comm

@@ -1,0 +1,6 @@
+pub mod Mode
+pub mod Conflict
+pub mod ModeSet
+pub mod Tag
+pub mod Refusal
+pub mod TagOrder

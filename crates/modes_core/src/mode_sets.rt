@@ -1,0 +1,103 @@
+ghost use Rattle.std.specs.Prelude.{◌≡◌, ◌≤◌, ◌||◌, ◌&&◌, not, ℕ, true, false};
+ghost use Rattle.std.specs.List.{list_any};
+ghost use Rattle.modes_core.specs.Mode.{mode_eq, number_of};
+ghost use Rattle.modes_core.specs.Conflict.{conflict};
+ghost use Rattle.modes_core.specs.ModeSet.{set_has, all_modes, IsModeMask};
+
+use crate::Mode;
+use std::marker::Model;
+
+/// A set of lock modes (`LOCKMASK` in lockdefs.h): bit `1 << number` stands for a mode. Contracts see
+/// the mask, and read it by `set_has`.
+#[derive(Clone, Copy, Debug, PartialEq, Eq, Hash)]
+pub struct ModeSet {
+    mask: u16,
+}
+
+impl Model for ModeSet {
+    ghost Value = { ℕ };
+
+    ghost view = { λ set. set.mask };
+
+    ghost invariant = { λ set. IsModeMask set.mask };
+
+    ghost inverse = { λ mask. record { mask = mask } };
+}
+
+impl ModeSet {
+    /// The set of no mode.
+    pub fn empty() -> Self
+        ensures { set_has result ≡ λ _. false }
+    {
+        ModeSet { mask: 0 }
+    }
+
+    /// The set with this mode in it.
+    pub fn with(self, mode: Mode) -> Self
+        ensures { set_has result ≡ λ other. mode_eq other mode || set_has self other }
+    {
+        ModeSet {
+            mask: self.mask | 1 << mode.number(),
+        }
+    }
+
+    /// The set with this mode out of it.
+    pub fn without(self, mode: Mode) -> Self
+        ensures { set_has result ≡ λ other. not (mode_eq other mode) && set_has self other }
+    {
+        ModeSet {
+            mask: self.mask & !(1 << mode.number()),
+        }
+    }
+
+    /// Whether the mode is in the set.
+    pub fn has(self, mode: Mode) -> bool
+        ensures { result ≡ set_has self mode }
+    {
+        self.mask & (1 << mode.number()) != 0
+    }
+
+    /// Whether some mode is in both sets.
+    pub fn meets(self, other: Self) -> bool
+        ensures { result ≡ list_any (λ mode. set_has self mode && set_has other mode) all_modes }
+    {
+        self.mask & other.mask != 0
+    }
+
+    /// The mask, in which bit `1 << number` is set for each mode of the set.
+    pub fn mask(self) -> u16
+        ensures value { result ≡ self }
+        ensures modes_alone { IsModeMask result }
+    {
+        self.mask
+    }
+}
+
+/// The law that conflict goes both ways.
+pub fn conflict_is_symmetric()
+    ensures { (mode other : _) → conflict mode other ≡ conflict other mode }
+{}
+
+/// The law on which the fast path stands: the modes 1 to 3, which slots may have, conflict with none but
+/// the modes from 5 on, which are counted.
+pub fn slot_modes_conflict_with_counted_ones()
+    ensures { (mode other : _) → number_of mode ≤ 3 → conflict mode other ≡ true → 5 ≤ number_of other }
+{}
+
+/// The modes that this mode conflicts with (`LockConflicts` in lock.c).
+pub fn conflicts(mode: Mode) -> ModeSet
+    ensures { set_has result ≡ conflict mode }
+{
+    ModeSet {
+        mask: match mode {
+            Mode::AccessShare => 0x100,
+            Mode::RowShare => 0x180,
+            Mode::RowExclusive => 0x1E0,
+            Mode::ShareUpdateExclusive => 0x1F0,
+            Mode::Share => 0x1D8,
+            Mode::ShareRowExclusive => 0x1F8,
+            Mode::Exclusive => 0x1FC,
+            Mode::AccessExclusive => 0x1FE,
+        },
+    }
+}

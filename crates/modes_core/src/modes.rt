@@ -1,0 +1,105 @@
+ghost use Rattle.std.specs.Prelude.{◌≡◌, ◌≢◌, IfSome, IfNone, Some};
+ghost use Rattle.modes_core.specs.Mode.{number_of, name_of, mode_eq};
+
+use std::fmt;
+
+/// A lock mode, weakest first (`AccessShareLock` to `AccessExclusiveLock` in lockdefs.h).
+#[derive(Clone, Copy, Debug, PartialEq, Eq, PartialOrd, Ord, Hash)]
+pub enum Mode {
+    AccessShare = 1,
+    RowShare = 2,
+    RowExclusive = 3,
+    ShareUpdateExclusive = 4,
+    Share = 5,
+    ShareRowExclusive = 6,
+    Exclusive = 7,
+    AccessExclusive = 8,
+}
+
+impl Mode {
+    /// The modes in the order of their numbers.
+    pub const ALL: [Mode; 8] = [
+        Mode::AccessShare,
+        Mode::RowShare,
+        Mode::RowExclusive,
+        Mode::ShareUpdateExclusive,
+        Mode::Share,
+        Mode::ShareRowExclusive,
+        Mode::Exclusive,
+        Mode::AccessExclusive,
+    ];
+
+    /// Whether both modes are the same one: `==`, in the word that contracts use.
+    pub fn is_same(self, other: Self) -> bool
+        ensures { result ≡ mode_eq self other }
+    {
+        self.number() == other.number()
+    }
+
+    /// PostgreSQL's number of the mode, 1 to 8.
+    pub fn number(self) -> u8
+        ensures { result ≡ number_of self }
+    {
+        self as u8
+    }
+
+    /// The mode with this number, or `None` where the number is not 1 to 8.
+    pub fn from_number(number: u8) -> Option<Mode>
+        ensures found { IfSome result (λ mode. number_of mode ≡ number) }
+        ensures unknown { IfNone result ((mode : _) → number_of mode ≢ number) }
+    {
+        match number {
+            1 => Some(Mode::AccessShare),
+            2 => Some(Mode::RowShare),
+            3 => Some(Mode::RowExclusive),
+            4 => Some(Mode::ShareUpdateExclusive),
+            5 => Some(Mode::Share),
+            6 => Some(Mode::ShareRowExclusive),
+            7 => Some(Mode::Exclusive),
+            8 => Some(Mode::AccessExclusive),
+            _ => None,
+        }
+    }
+
+    /// PostgreSQL's name of the mode, as `AccessShareLock` (`lock_mode_names` in lock.c).
+    pub fn name(self) -> &'static str
+        ensures { result.now ≡ name_of self }
+    {
+        match self {
+            Mode::AccessShare => "AccessShareLock",
+            Mode::RowShare => "RowShareLock",
+            Mode::RowExclusive => "RowExclusiveLock",
+            Mode::ShareUpdateExclusive => "ShareUpdateExclusiveLock",
+            Mode::Share => "ShareLock",
+            Mode::ShareRowExclusive => "ShareRowExclusiveLock",
+            Mode::Exclusive => "ExclusiveLock",
+            Mode::AccessExclusive => "AccessExclusiveLock",
+        }
+    }
+
+    /// The mode with exactly this name, or `None`.
+    pub fn from_name(name: &str) -> Option<Mode>
+        ensures found { IfSome result (λ mode. name_of mode ≡ name.now) }
+        ensures unknown { IfNone result ((mode : _) → name_of mode ≢ name.now) }
+    {
+        match name {
+            "AccessShareLock" => Some(Mode::AccessShare),
+            "RowShareLock" => Some(Mode::RowShare),
+            "RowExclusiveLock" => Some(Mode::RowExclusive),
+            "ShareUpdateExclusiveLock" => Some(Mode::ShareUpdateExclusive),
+            "ShareLock" => Some(Mode::Share),
+            "ShareRowExclusiveLock" => Some(Mode::ShareRowExclusive),
+            "ExclusiveLock" => Some(Mode::Exclusive),
+            "AccessExclusiveLock" => Some(Mode::AccessExclusive),
+            _ => None,
+        }
+    }
+}
+
+impl fmt::Display for Mode {
+    ghost output = { λ mode. Some (name_of mode) };
+
+    fn fmt<W: fmt::Write>(&self, f: &mut fmt::Formatter<W>) -> fmt::Result {
+        write!(f, "{}", self.name())
+    }
+}

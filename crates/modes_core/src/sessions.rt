@@ -1,0 +1,60 @@
+ghost use Rattle.std.specs.Prelude.{◌≡◌, ◌<◌, ◌↔◌, ℕ, IsSome, IfSome, Some};
+ghost use Rattle.modes_core.specs.declared.sessions.TheConstants.{SESSIONS};
+
+use std::fmt;
+use std::marker::Model;
+
+/// How many sessions a lock manager can open over its life.
+pub const SESSIONS: u8 = 64;
+
+/// The number of a session, 0 to 63, given in the order of opening. Contracts see the number.
+#[derive(Clone, Copy, Debug, PartialEq, Eq, PartialOrd, Ord, Hash)]
+pub struct SessionId {
+    number: u8,
+}
+
+impl Model for SessionId {
+    ghost Value = { ℕ };
+
+    ghost view = { λ id. id.number };
+
+    ghost invariant = { λ id. id.number < 64 };
+
+    ghost inverse = { λ number. record { number = number } };
+}
+
+impl SessionId {
+    /// The session with this number, or `None` where the number is not below 64.
+    pub fn new(number: u8) -> Option<Self>
+        ensures valid { IsSome result ↔ (number < 64) }
+        ensures value { IfSome result (λ id. id ≡ number) }
+    {
+        if number < SESSIONS {
+            Some(SessionId { number })
+        } else {
+            None
+        }
+    }
+
+    /// The session's number.
+    pub fn number(self) -> u8
+        ensures value { result ≡ self }
+        ensures within { result < 64 }
+    {
+        self.number
+    }
+}
+
+impl fmt::Display for SessionId {
+    fn fmt<W: fmt::Write>(&self, f: &mut fmt::Formatter<W>) -> fmt::Result {
+        write!(f, "{}", self.number())
+    }
+}
+
+/// Whose a lock is (`ResourceOwner` in resowner.h): the transaction's, which ends with it, or the
+/// session's, which outlives a commit.
+#[derive(Clone, Copy, Debug, PartialEq, Eq, Hash)]
+pub enum Owner {
+    Session,
+    Transaction,
+}

@@ -1,0 +1,171 @@
+ghost use Rattle.std.specs.Prelude.{◌≡◌, ◌<◌, ◌%◌, ◌^◌, ℕ, refl};
+ghost use Rattle.std.proofs.Common.{rules};
+ghost use Rattle.std.specs.Cmp.{partial_order_from_agreeing_total};
+ghost use Rattle.std.specs.Cmp.Rules.{comparing};
+ghost use Rattle.std.specs.Ordering.{nat_cmp, on, as_partial_cmp};
+ghost use Rattle.std.specs.Cmp.Lexicographic.{slice_cmp, on_texts};
+ghost use Rattle.modes_core.specs.Tag.{numbers_of, hash_of, is_eligible_for, is_strong_on, tag_eq};
+ghost use Rattle.modes_core.specs.TagOrder.{same_tag-by_numbers};
+
+use crate::Mode;
+use std::cmp::Ordering;
+use std::fmt;
+
+/// How many partitions the lock table has (`NUM_LOCK_PARTITIONS` in lwlock.h).
+pub const PARTITIONS: u32 = 16;
+
+/// How many strong lock counters there are (`FAST_PATH_STRONG_LOCK_HASH_PARTITIONS` in lock.c).
+pub const STRONG_COUNTERS: u32 = 1024;
+
+/// What a lock is on (`LOCKTAG` in lock.h). The variants have the default lock method.
+#[derive(Clone, Copy, Debug, PartialEq, Eq, Hash)]
+pub enum Tag {
+    /// A table or an index (`LOCKTAG_RELATION`).
+    Relation {
+        database: u32,
+        relation: u32,
+    },
+    /// Any other object of a catalogue (`LOCKTAG_OBJECT`).
+    Object {
+        database: u32,
+        class: u32,
+        object: u32,
+        sub_object: u16,
+    },
+}
+
+impl Tag {
+    /// The tag of a relation (`SET_LOCKTAG_RELATION` in lock.h).
+    pub fn relation(database: u32, relation: u32) -> Self
+        ensures { result ≡ Tag.Relation database relation }
+    {
+        Tag::Relation { database, relation }
+    }
+
+    /// The tag of an object (`SET_LOCKTAG_OBJECT` in lock.h).
+    pub fn object(database: u32, class: u32, object: u32, sub_object: u16) -> Self
+        ensures { result ≡ Tag.Object database class object sub_object }
+    {
+        Tag::Object {
+            database,
+            class,
+            object,
+            sub_object,
+        }
+    }
+
+    /// Whether both tags are the same one: `==`, in the word that contracts use.
+    pub fn is_same(self, other: Self) -> bool
+        ensures { result ≡ tag_eq self other }
+    {
+        self == other
+    }
+
+    /// The six numbers of `LOCKTAG`: field1 to field4, the type and the lock method.
+    pub fn numbers(self) -> [u32; 6]
+        ensures { result ≡ numbers_of self }
+    {
+        match self {
+            Tag::Relation { database, relation } => [database, relation, 0, 0, 0, 1],
+            Tag::Object {
+                database,
+                class,
+                object,
+                sub_object,
+            } => [database, class, object, u32::from(sub_object), 8, 1],
+        }
+    }
+
+    /// The tag's hash, in place of `LockTagHashCode` of lock.c: its six numbers, each step multiplied
+    /// by 31 modulo 2^32.
+    pub fn hash(self) -> u32
+        ensures { result ≡ hash_of self }
+    {
+        let [field1, field2, field3, field4, kind, method] = self.numbers();
+        let mix = |hash: u32, number: u32| hash.wrapping_mul(31).wrapping_add(number);
+        mix(
+            mix(mix(mix(mix(field1, field2), field3), field4), kind),
+            method,
+        )
+    }
+
+    /// The partition of the lock table that the object lies in, 0 to 15 (`LockHashPartition` in lock.h).
+    pub fn partition(self) -> u8
+        ensures value { result ≡ hash_of self % 16 }
+        ensures within { result < 16 }
+    {
+        (self.hash() % PARTITIONS) as u8
+    }
+
+    /// The strong lock counter of the object, 0 to 1023 (`FastPathStrongLockHashPartition` in lock.c).
+    pub fn strong_index(self) -> u16
+        ensures value { result ≡ hash_of self % 1024 }
+        ensures within { result < 1024 }
+    {
+        (self.hash() % STRONG_COUNTERS) as u16
+    }
+}
+
+/// Tags are ordered by their six numbers, the first one first.
+impl Ord for Tag {
+    ghost cmp = { on numbers_of (slice_cmp nat_cmp) };
+
+    ghost total = { Prim.search (comparing, rules) };
+
+    ghost matches_partial_cmp = { Prim.search (comparing, rules) };
+
+    ghost matches_eq = { same_tag-by_numbers _ (λ _ _ _ _. refl) (λ _ _ _ _ _ _ _ _. refl) (λ _ _ _ _ _ _. refl) (λ _ _ _ _ _ _. refl) };
+
+    fn cmp(&self, other: &Tag) -> Ordering {
+        self.numbers().cmp(&other.numbers())
+    }
+}
+
+impl PartialOrd for Tag {
+    ghost partial_cmp = { as_partial_cmp (on numbers_of (slice_cmp nat_cmp)) };
+
+    ghost laws = { partial_order_from_agreeing_total (on numbers_of (slice_cmp nat_cmp)) (on_texts numbers_of) (λ _ _. refl) (same_tag-by_numbers _ (λ _ _ _ _. refl) (λ _ _ _ _ _ _ _ _. refl) (λ _ _ _ _ _ _. refl) (λ _ _ _ _ _ _. refl)) };
+
+    fn partial_cmp(&self, other: &Tag) -> Option<Ordering> {
+        Some(self.cmp(other))
+    }
+}
+
+/// A tag is written as scripts write it: `DB/REL`, or `DB/CLASS/OBJ/SUB`.
+impl fmt::Display for Tag {
+    fn fmt<W: fmt::Write>(&self, f: &mut fmt::Formatter<W>) -> fmt::Result {
+        match self {
+            Tag::Relation { database, relation } => write!(f, "{database}/{relation}"),
+            Tag::Object {
+                database,
+                class,
+                object,
+                sub_object,
+            } => write!(f, "{database}/{class}/{object}/{sub_object}"),
+        }
+    }
+}
+
+/// Whether a session of this database may take the mode by the fast path (`EligibleForRelationFastPath`
+/// in lock.c): a relation of its own database, which is not 0, and a mode that conflicts with none
+/// of its kind, 1 to 3.
+pub fn is_eligible(database: u32, tag: Tag, mode: Mode) -> bool
+    ensures { result ≡ is_eligible_for database tag mode }
+{
+    match tag {
+        Tag::Relation { database: own, .. } => own == database && own != 0 && mode.number() <= 3,
+        Tag::Object { .. } => false,
+    }
+}
+
+/// Whether the mode on this object conflicts with locks that may be in fast-path slots
+/// (`ConflictsWithRelationFastPath` in lock.c): a relation of a database other than 0, and a mode of 5
+/// or more.
+pub fn is_strong(tag: Tag, mode: Mode) -> bool
+    ensures { result ≡ is_strong_on tag mode }
+{
+    match tag {
+        Tag::Relation { database, .. } => database != 0 && mode.number() >= 5,
+        Tag::Object { .. } => false,
+    }
+}

@@ -1,0 +1,105 @@
+use crate::{How, Mode, ModeSet, Refusal, SessionId, Tag, conflicts, is_eligible, is_strong};
+use std::test::Fail;
+
+// The numbers, names and masks are those of PostgreSQL's lockdefs.h and lock.c.
+#[test]
+fn modes_have_their_numbers_names_and_conflicts(rt: HostRuntime) -> Result<(), Fail> {
+    let table = [
+        (1, "AccessShareLock", 0x100),
+        (2, "RowShareLock", 0x180),
+        (3, "RowExclusiveLock", 0x1E0),
+        (4, "ShareUpdateExclusiveLock", 0x1F0),
+        (5, "ShareLock", 0x1D8),
+        (6, "ShareRowExclusiveLock", 0x1F8),
+        (7, "ExclusiveLock", 0x1FC),
+        (8, "AccessExclusiveLock", 0x1FE),
+    ];
+    for (number, name, mask) in table {
+        let mode = Mode::from_number(number).ok_or("no such number")?;
+        assert_eq!(rt; mode.number(), number);
+        assert_eq!(rt; mode.name(), name);
+        assert_eq!(rt; Mode::from_name(name), Some(mode));
+        assert_eq!(rt; conflicts(mode).mask(), mask, "the conflicts of {name}");
+        assert!(rt; mode.to_string(rt.alloc())?.as_str() == name);
+    }
+    assert_eq!(rt; Mode::from_number(0), None);
+    assert_eq!(rt; Mode::from_number(9), None);
+    assert_eq!(rt; Mode::from_name("ShareLocks"), None);
+    Ok(())
+}
+
+#[test]
+fn sets_have_what_was_put_in(rt: HostRuntime) {
+    let set = ModeSet::empty()
+        .with(Mode::Share)
+        .with(Mode::AccessShare)
+        .without(Mode::Share);
+    assert!(rt; set.has(Mode::AccessShare));
+    assert!(rt; !set.has(Mode::Share));
+    assert!(rt; set.meets(conflicts(Mode::AccessExclusive)));
+    assert!(rt; !set.meets(conflicts(Mode::Exclusive)));
+}
+
+// The hashes are worked examples of the rule, not this code's answers.
+#[test]
+fn tags_have_their_hashes_and_texts(rt: HostRuntime) -> Result<(), Fail> {
+    let table = [
+        (Tag::relation(5, 16384), 2389211932, 12, 796, "5/16384"),
+        (Tag::relation(5, 17408), 3334897436, 12, 796, "5/17408"),
+        (Tag::relation(0, 1262), 1165483503, 15, 495, "0/1262"),
+        (
+            Tag::relation(4294967295, 4294967295),
+            4265414625,
+            1,
+            993,
+            "4294967295/4294967295",
+        ),
+        (
+            Tag::object(5, 1259, 16384, 0),
+            1793954687,
+            15,
+            895,
+            "5/1259/16384/0",
+        ),
+    ];
+    for (tag, hash, partition, strong, text) in table {
+        assert_eq!(rt; tag.hash(), hash, "the hash of {text}");
+        assert_eq!(rt; tag.partition(), partition);
+        assert_eq!(rt; tag.strong_index(), strong);
+        assert!(rt; tag.to_string(rt.alloc())?.as_str() == text);
+        assert!(rt; tag.is_same(tag));
+    }
+    assert!(rt; Tag::object(5, 1, 2, 3) < Tag::relation(5, 2));
+    assert!(rt; Tag::relation(5, 16384) < Tag::object(5, 16384, 0, 0));
+    Ok(())
+}
+
+#[test]
+fn the_fast_path_has_its_modes(rt: HostRuntime) {
+    let relation = Tag::relation(5, 16384);
+    let object = Tag::object(5, 1259, 16384, 0);
+    assert!(rt; is_eligible(5, relation, Mode::RowExclusive));
+    assert!(rt; !is_eligible(5, relation, Mode::ShareUpdateExclusive));
+    assert!(rt; !is_eligible(6, relation, Mode::AccessShare));
+    assert!(rt; !is_eligible(0, Tag::relation(0, 1262), Mode::AccessShare));
+    assert!(rt; !is_eligible(5, object, Mode::AccessShare));
+    assert!(rt; is_strong(relation, Mode::Share));
+    assert!(rt; !is_strong(relation, Mode::ShareUpdateExclusive));
+    assert!(rt; !is_strong(object, Mode::AccessExclusive));
+}
+
+#[test]
+fn sessions_and_refusals_have_numbers(rt: HostRuntime) -> Result<(), Fail> {
+    let session = SessionId::new(63).ok_or("no session 63")?;
+    assert_eq!(rt; session.number(), 63);
+    assert_eq!(rt; SessionId::new(64), None);
+    let conflict = Refusal::Conflict {
+        session,
+        mode: Mode::Share,
+        how: How::Held,
+    };
+    assert_eq!(rt; conflict.number(), 1);
+    assert_eq!(rt; Refusal::BadConfig.number(), 13);
+    assert!(rt; conflict.to_string(rt.alloc())?.as_str() == "conflict: session 63 has ShareLock");
+    Ok(())
+}
