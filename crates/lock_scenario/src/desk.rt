@@ -101,6 +101,7 @@ impl Desk {
         ensures same_contents { result ≡ Ok Acquired.AlreadyHeld → contents_of self.new ≡ contents_of self.old }
         ensures unchanged { OnErr result (IsUnchanged self.old self.new) }
         ensures sessions { issued_of self.new ≡ issued_of self.old }
+        ensures limit { self.new.limit ≡ self.old.limit }
         ensures max_local { self.new.max_local ≡ self.old.max_local }
     {
         let part = &mut self.parts[usize::from(tag.partition())];
@@ -129,6 +130,7 @@ impl Desk {
         ensures same_contents { result ≡ Ok Unlocked.StillHeld → contents_of self.new ≡ contents_of self.old }
         ensures unchanged { OnErr result (IsUnchanged self.old self.new) }
         ensures sessions { issued_of self.new ≡ issued_of self.old }
+        ensures limit { self.new.limit ≡ self.old.limit }
         ensures max_local { self.new.max_local ≡ self.old.max_local }
     {
         let part = &mut self.parts[usize::from(tag.partition())];

@@ -1,4 +1,5 @@
 //! Scripts with what they print, as the language says.
+use crate::arguments::parse_arguments;
 use crate::desk::{Config, Desk};
 use crate::faults::{Defect, Fault};
 use crate::script::run_script;
@@ -88,6 +89,45 @@ fn expect_run(
             printed.as_bytes(),
             "the output of {script:?}"
         );
+    }
+    Ok(())
+}
+
+#[test]
+fn reads_its_own_words(rt: HostRuntime) -> Result<(), Fail> {
+    let alloc = rt.alloc();
+    for (line, expected) in [
+        ("lock_scenario run", Some((8, 1024))),
+        ("lock_scenario run --sessions 1", Some((1, 1024))),
+        ("lock_scenario run --sessions=64", Some((64, 1024))),
+        ("lock_scenario run --max-local 1", Some((8, 1))),
+        (
+            "lock_scenario run --max-local 65536 --sessions 2",
+            Some((2, 65_536)),
+        ),
+        ("lock_scenario", None),
+        ("lock_scenario hammer", None),
+        ("lock_scenario run --sessions 0", None),
+        ("lock_scenario run --sessions 65", None),
+        ("lock_scenario run --sessions x", None),
+        ("lock_scenario run --sessions 1 --sessions 2", None),
+        ("lock_scenario run --max-local 0", None),
+        ("lock_scenario run --max-local 65537", None),
+        ("lock_scenario run --slot-groups 1", None),
+        ("lock_scenario run more", None),
+    ] {
+        let mut words = Vec::new(alloc);
+        for word in line.split(' ') {
+            words.push(String::from_str(alloc, word)?)?;
+        }
+        let config = match parse_arguments(alloc, words.as_slice()) {
+            Ok(config) => Some((config.sessions, config.max_local)),
+            Err(error) => {
+                assert_eq!(rt; error.exit_code(), 2, "the status of {line:?}");
+                None
+            }
+        };
+        assert!(rt; config == expected, "the configuration of {line:?}");
     }
     Ok(())
 }
