@@ -5,6 +5,7 @@ mod Entries
 mod Gathering
 mod Known
 mod ListLemmas
+mod NameOrder
 mod NameLemmas
 mod TextBytes
 mod WordLemmas

@@ -1,4 +1,4 @@
-use Rattle.std.specs.Prelude.{◌≡◌, ℕ, ◌<◌, ◌≤◌, ◌&&◌, nat_le, Bool, true, List, [], ◌∷◌, length, None, slice_index_or}
+use Rattle.std.specs.Prelude.{◌≡◌, ℕ, ◌<◌, ◌≤◌, ◌&&◌, nat_le, Bool, true, List, [], ◌∷◌, length, map, None, slice_index_or}
 use Rattle.modes_core.specs.declared.modes.Mode.{Mode}
 use Rattle.modes_core.specs.declared.tags.Tag.{Tag}
 use Rattle.modes_core.specs.Tag.{partition_of}
@@ -22,6 +22,10 @@ pub record DeskView : Type 0 where
 -- how many sessions have been opened
 abbrev pub issued_of : DeskView → ℕ
 issued_of desk = length desk.sessions
+
+-- the database of each session, in the order of opening
+abbrev pub databases_of : DeskView → List ℕ
+databases_of desk = map (λ session. session.database) desk.sessions
 
 -- a session with nothing
 abbrev pub no_session : DeskSession

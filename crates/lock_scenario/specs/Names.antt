@@ -1,9 +1,20 @@
-use Rattle.std.specs.Prelude.{◌≡◌, ℕ, true, false, List, [], ◌∷◌, suc, zero}
+use Rattle.std.specs.Prelude.{◌≡◌, ◌≢◌, ℕ, true, false, List, [], ◌∷◌, suc, zero, All}
+use Rattle.std.specs.declared.cmp.Ordering.TheVariants.{Greater}
+use Rattle.std.specs.Ordering.{nat_cmp}
+use Rattle.std.specs.Cmp.Lexicographic.{slice_cmp}
 use Rattle.lock_scenario.specs.declared.names.Opened.{Opened}
 
 -- the session is open under the name of these bytes
 abbrev pub GoesBy : List ℕ → Opened → Type 0
 GoesBy name opened = (opened.is_open ≡ true) × (opened.name.bytes ≡ name)
+
+-- the one name does not come after the other in the order of bytes
+abbrev pub NotAfter : List ℕ → List ℕ → Type 0
+NotAfter name other = slice_cmp nat_cmp name other ≢ Greater
+
+-- The session is open, and no open session of the list has a name that comes before its name.
+abbrev pub IsFirstOf : List Opened → Opened → Type 0
+IsFirstOf sessions opened = (opened.is_open ≡ true) × All (λ other. other.is_open ≡ true → NotAfter opened.name.bytes other.name.bytes) sessions
 
 -- the sessions after this one was closed
 abbrev pub closed : List Opened → ℕ → List Opened

@@ -72,7 +72,7 @@ impl Model for Desk {
 }
 
 impl Desk {
-    ghost use Rattle.lock_scenario.specs.Desk.{issued_of, entries_of, contents_of, whole_of, released_all, is_in_range, IsNew, IsUnchanged};
+    ghost use Rattle.lock_scenario.specs.Desk.{issued_of, databases_of, entries_of, contents_of, whole_of, released_all, is_in_range, IsNew, IsUnchanged};
     ghost use Rattle.lock_scenario.specs.Decide.{RefusedFor};
 
     /// Takes a mode on an object for an owner, or refuses at once where it clashes (`LockAcquire` in
@@ -259,6 +259,7 @@ impl Desk {
     pub fn session(&mut self, database: u32) -> Result<SessionId, Refusal>
         ensures number { IfOk result (λ id. id ≡ issued_of self.old) }
         ensures opened { OnOk result (issued_of self.new ≡ issued_of self.old + 1) }
+        ensures database { OnOk result (databases_of self.new ≡ databases_of self.old ++ database ∷ []) }
         ensures no_more { IsErrOf result Refusal.NoMoreSessions ↔ (issued_of self.old ≡ self.old.limit) }
         ensures no_other { issued_of self.old < self.old.limit → IsOkUnless result Refusal.NoMemory }
         ensures same_number { OnErr result (issued_of self.new ≡ issued_of self.old) }

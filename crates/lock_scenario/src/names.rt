@@ -2,7 +2,7 @@
 ghost use Rattle.std.specs.Prelude.{◌≡◌, ◌≢◌, ◌<◌, ◌↔◌, ◌⊎◌, [], ◌∷◌, ◌++◌, true, false, length, slice_get, Some, IfSome, IfNone, IsTrue, All};
 ghost use Rattle.std.specs.List.{HoldsAt};
 ghost use Rattle.std.specs.Option.{option_map};
-ghost use Rattle.lock_scenario.specs.Names.{GoesBy, closed};
+ghost use Rattle.lock_scenario.specs.Names.{GoesBy, IsFirstOf, NotAfter, closed};
 
 use arrayvec::{ArrayString, ArrayVec};
 use modes_core::SessionId;
@@ -88,7 +88,7 @@ impl Names {
 
     /// The open session whose name is the first one in the order of bytes, if any is open.
     pub fn first(&self) -> Option<SessionId>
-        ensures found { IfSome result (HoldsAt (λ other. other.is_open ≡ true) self.now.opened.items) }
+        ensures found { IfSome result (HoldsAt (IsFirstOf self.now.opened.items) self.now.opened.items) }
         ensures within { IfSome result (λ session. session < length self.now.opened.items) }
         ensures none_open { IfNone result (All (λ other. other.is_open ≡ false) self.now.opened.items) }
     {
@@ -105,7 +105,9 @@ impl Names {
 
 /// Of two sessions the one whose name is earlier in the order of bytes.
 fn earlier(first: Option<(u8, Name)>, place: u8, name: Name) -> (u8, Name)
-    ensures { (result ≡ (place, name)) ⊎ (first ≡ Some result) }
+    ensures one_of_both { (result ≡ (place, name)) ⊎ (first ≡ Some result) }
+    ensures not_after { NotAfter result.1.bytes name.bytes }
+    ensures not_after_first { IfSome first (λ other. NotAfter result.1.bytes other.1.bytes) }
 {
     match first {
         Some(first) if first.1 <= name => first,

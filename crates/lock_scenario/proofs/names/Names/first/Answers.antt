@@ -10,11 +10,11 @@ loop-place-preserved c =
       | then-other w ↦ rw w.first-is (record {
         found =
             found-open c.as_slice-other-items.result.now c.loop-place.place c.other-item.result c.loop-place.first w.earlier.result c.other-item.is within w.if-other.true
-            c.loop-place.invariant.found w.earlier.ensures;
+            c.loop-place.invariant.found c.loop-place.invariant.none_open w.earlier.ensures.one_of_both w.earlier.ensures.not_after w.earlier.ensures.not_after_first;
         none_open = tt;
       })
       | else-other w ↦ rw w.first-is (record {
-        found = found-later c.as_slice-other-items.result.now c.loop-place.place c.loop-place.first c.loop-place.invariant.found;
+        found = found-later c.as_slice-other-items.result.now c.loop-place.place c.other-item.result c.loop-place.first c.other-item.is within w.if-other.false c.loop-place.invariant.found;
         none_open =
             none-later c.as_slice-other-items.result.now c.loop-place.place c.other-item.result c.loop-place.first c.other-item.is within w.if-other.false c.loop-place.invariant.none_open;
       })
