@@ -6,7 +6,7 @@ use Rattle.std.proofs.Math.Seq.{take-append_seam}
 use Rattle.std.proofs.lemmas.List.{get_or_default, length-set}
 use Rattle.arrayvec.specs.declared.array_string.ArrayString.{ArrayString}
 use Rattle.lock_scenario.specs.declared.names.Opened.{Opened}
-use Rattle.lock_scenario.specs.Names.{NotAfter, IsFirstOf, closed}
+use Rattle.lock_scenario.specs.Names.{NotAfter, closed}
 use Rattle.lock_scenario.proofs.NameOrder.{NotAfter-trans}
 use Rattle.std.proofs.lemmas.Bool.{false≢true}
 use Rattle.std.specs.Str.{bytes_eq}
@@ -51,6 +51,7 @@ found-open items i x first after at within opened before none which not_after_x 
 } where
   here : (d : Opened) → get_or items i d ≡ x
   here d = sym (at ∙ get_or_default items i x d within)
+
   place : (after ≡ (i, x.name)) ⊎ (first ≡ Some after) → (after.0 < i + 1) × ((d : Opened) → (get_or items after.0 d).is_open ≡ true)
   place (inl e) =
       let it : after.0 ≡ i = ap (λ (found : ℕ × ArrayString 16). found.0) e in
@@ -58,10 +59,12 @@ found-open items i x first after at within opened before none which not_after_x 
   place (inr e) =
       let it : FirstBelow items i after = subst (λ (o : Option (ℕ × ArrayString 16)). IfSome o (FirstBelow items i)) e before in
       (omega (arith, it.below), it.is_open)
+
   name : (after ≡ (i, x.name)) ⊎ (first ≡ Some after) → (d : Opened) → (get_or items after.0 d).name ≡ after.1
   name (inl e) = λ d.
       ap (λ (found : ℕ × ArrayString 16). (get_or items found.0 d).name) e ∙ ap (λ (one : Opened). one.name) (here d) ∙ sym (ap (λ (found : ℕ × ArrayString 16). found.1) e)
   name (inr e) = (subst (λ (o : Option (ℕ × ArrayString 16)). IfSome o (FirstBelow items i)) e before).name
+
   below :
       (first : Option (ℕ × ArrayString 16)) → IfSome first (FirstBelow items i) → IfNone first (NoneOpenBelow items i) → IfSome first (λ other. NotAfter after.1.bytes other.1.bytes) →
       (k : ℕ) (d : Opened) → k < i → (get_or items k d).is_open ≡ true → NotAfter after.1.bytes (get_or items k d).name.bytes

@@ -30,5 +30,5 @@ NotAfter-trans x y z = go (slice_cmp nat_cmp x y) (slice_cmp nat_cmp y z) refl r
   go Less Less e f n m = less-not_greater (slice_cmp nat_cmp x z) (nat_list_cmp_total.trans x y z e f)
   go Less Equal e f n m =
       let same : slice_cmp nat_cmp x z ≡ slice_cmp nat_cmp x y =
-        nat_list_cmp_total.antisymm x z ∙ ap ordering_reverse (sym (nat_list_cmp_total.congr y z x f)) ∙ sym (nat_list_cmp_total.antisymm x y) in
+      nat_list_cmp_total.antisymm x z ∙ ap ordering_reverse (sym (nat_list_cmp_total.congr y z x f)) ∙ sym (nat_list_cmp_total.antisymm x y) in
       less-not_greater (slice_cmp nat_cmp x z) (same ∙ e)

@@ -61,7 +61,7 @@ pub struct LineReader<R: Read> {
 impl<R: Read> LineReader<R> {
     /// The lines of this reader.
     pub fn new(reader: R) -> Self
-        ensures unread { result.source ≡ R.remaining reader }
+        ensures unread { result.source.left ≡ R.remaining reader }
         ensures none_read { result.number ≡ 0 }
     {
         LineReader {
@@ -73,10 +73,10 @@ impl<R: Read> LineReader<R> {
     /// The next line, or `None` at the end of the input. What stands behind the last line feed is a line
     /// only if it is not empty. After an error nothing more is to be read.
     pub fn next_line(&mut self) -> Result<Option<Line>, Fault>
-        ensures reads { IfSome self.old.source (λ unread. Reads result self.old.number
+        ensures reads { IfSome self.old.source.left (λ unread. Reads result self.old.number
             (reading_of self.old.number unread)) }
-        ensures rest { OnOk result (IfSome self.old.source (λ unread.
-            self.new.source ≡ Some (after_line unread))) }
+        ensures rest { OnOk result (IfSome self.old.source.left (λ unread.
+            self.new.source.left ≡ Some (after_line unread))) }
         ensures number { IfOk result (λ line.
             self.new.number ≡ self.old.number + (if is_some line then 1 else 0)) }
     {
@@ -114,10 +114,10 @@ fn gather<R: Read>(
     first: u8,
 ) -> Result<Option<ArrayVec<u8, MOST_BYTES>>, Fault>
     ensures line { IfOk result (λ found. IfSome found (λ line.
-        CutsLine (prepend_known (first ∷ []) source.old) source.new line.items)) }
+        CutsLine (prepend_known (first ∷ []) source.old.left) source.new.left line.items)) }
     ensures short { IfOk result (λ found. IfSome found (λ line. length line.items ≤ 1024)) }
     ensures too_long { IfOk result (λ found. IfNone found
-        (HasLongLine (prepend_known (first ∷ []) source.old))) }
+        (HasLongLine (prepend_known (first ∷ []) source.old.left))) }
     ensures err { IfErr result (λ fault. fault ≡ ReadFailed) }
 {
     let mut line = ArrayVec::new();

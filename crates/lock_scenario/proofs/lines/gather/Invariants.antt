@@ -5,6 +5,6 @@ use Rattle.lock_scenario.proofs.lines.gather.Given as goal
 
 abbrev pub invariant-loop-at : goal.invariant-loop-at
 invariant-loop-at g l = record {
-  gathers : Gathers (prepend_known (l.first ∷ []) l.initial.source) l.source l.line.items l.next;
+  gathers : Gathers (prepend_known (l.first ∷ []) l.initial.source.left) l.source.left l.line.items l.next;
   as_long : length l.line.items ≡ l.at;
 }
