@@ -10,6 +10,7 @@ pub mod plain_part;
 pub mod queue_laws;
 pub mod request;
 pub mod rows;
+pub mod waits;
 
 pub use events::{Event, Move, Step, Word};
 pub use machine::{Hold, Plain, QueuedWait, Spot, run_events};
@@ -18,3 +19,4 @@ pub use part_table::PartTable;
 pub use plain_part::PlainPart;
 pub use request::Request;
 pub use rows::TableRow;
+pub use waits::{Waiter, Woken};
