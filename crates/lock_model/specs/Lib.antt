@@ -4,6 +4,7 @@ pub mod Clash
 pub mod Request
 pub mod Listing
 pub mod PartView
+pub mod PartWaits
 pub mod PlainPart
 pub mod Queue
 pub mod Moves

@@ -6,6 +6,7 @@ pub mod events;
 pub mod machine;
 pub mod no_memory;
 pub mod part_table;
+pub mod part_waits;
 pub mod plain_part;
 pub mod queue_laws;
 pub mod request;

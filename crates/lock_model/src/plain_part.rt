@@ -4,17 +4,19 @@ ghost use Rattle.lock_model.specs.Clash.{lower_holder_of};
 
 use crate::no_memory::NoMemory;
 use crate::part_table::PartTable;
+use crate::part_waits::PartWait;
 use crate::request::Request;
 use crate::rows::{TableRow, sort_rows};
 use modes_core::{Mode, ModeSet, SessionId, Tag, conflicts};
 use std::alloc::Global;
 use std::marker::Model;
 
-/// The plain keeper of a partition: a list of its holds. Each call looks through the whole list; it
-/// serves the slow machine, the tests and one thread.
+/// The plain keeper of a partition: a list of its holds, and one of the waits of all its objects. Each
+/// call looks through the whole list; it serves the slow machine, the tests and one thread.
 #[derive(Drop)]
 pub struct PlainPart {
     holds: Vec<Request>,
+    waits: Vec<PartWait>,
     begun: Option<Request>,
 }
 
@@ -42,6 +44,7 @@ impl PlainPart {
     {
         PlainPart {
             holds: Vec::new(alloc),
+            waits: Vec::new(alloc),
             begun: None,
         }
     }
@@ -55,7 +58,8 @@ impl PartTable for PlainPart {
     ghost begun = { λ part. part.begun };
 
     fn begin(&mut self, session: SessionId, tag: Tag, mode: Mode) -> Result<(), NoMemory> {
-        self.holds.reserve(1)?;
+        self.holds.reserve(self.waits.len() + 1)?;
+        self.waits.reserve(1)?;
         self.begun = Some(Request { session, tag, mode });
         Ok(())
     }
@@ -96,7 +100,7 @@ impl PartTable for PlainPart {
 
     fn rows(&self, rows: &mut Vec<TableRow>) -> Result<(), NoMemory> {
         let before = rows.len();
-        rows.reserve(self.holds.len())?;
+        rows.reserve(self.holds.len() + self.waits.len())?;
         for hold in &self.holds {
             rows.push_reserved(TableRow {
                 session: hold.session,
@@ -104,6 +108,9 @@ impl PartTable for PlainPart {
                 mode: hold.mode,
                 granted: true,
             });
+        }
+        for wait in &self.waits {
+            rows.push_reserved(wait.row());
         }
         sort_rows(&mut rows[before..]);
         Ok(())
