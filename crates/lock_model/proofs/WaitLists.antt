@@ -1,6 +1,6 @@
-use Rattle.std.proofs.Common.{◌≡◌, ℕ, ◌+◌, ◌<◌, ◌≤◌, Bool, true, false, not, ◌&&◌, ◌||◌, ◌==◌, List, [], ◌∷◌, ◌++◌, take, drop, length, get_or, Option, Some, None, arith, refl, sym, ap, ◌∙◌, inl, inr}
+use Rattle.std.proofs.Common.{◌≡◌, ℕ, ◌+◌, ◌<◌, ◌≤◌, Bool, true, false, not, ◌&&◌, ◌||◌, ◌==◌, List, [], ◌∷◌, ◌++◌, take, drop, length, get_or, Option, Some, None, arith, refl, sym, ap, ◌∙◌, subst, inl, inr}
 use Rattle.std.specs.Prelude.{map, filter, find, count_by, option_map, slice_get, if◌then◌else◌}
-use Rattle.std.specs.List.{list_any}
+use Rattle.std.specs.List.{list_any, insert}
 use Rattle.std.proofs.lemmas.Bool.{cases_Bool, false≢true, false_from_ne_true, eqb-true, eq-eqb}
 use Rattle.std.proofs.lemmas.List.{map-append, take_at, drop_at, take-append-drop, drop_more, get_or_at, length-append}
 use Rattle.std.proofs.lemmas.Option.{slice_get-get_or}
@@ -294,3 +294,21 @@ OneWaitEach-join xs w ys absent each s o =
           let none : ◌≡◌ {A = ℕ} (if is_request_on (request_of w) s o then 1 else 0) 0 = rw other refl in
           omega (arith, each s o)
     ]
+
+-- The same at an index of a list.
+pub times_in-join :
+    (hs : List Request) (ws : List PartWait) (i : ℕ) (w : PartWait) → times_in hs ws w.waiter.session w.tag w.waiter.mode ≡ 0 → EachOnce hs ws → EachOnce hs (insert ws i w)
+times_in-join hs ws i w new once =
+    one_more_once (times_in hs ws) (times_in hs (insert ws i w)) (request_of w) new
+    (λ s o m. times_in-wait hs (take i ws) (drop i ws) w s o m ∙ ap (λ xs. times_in hs xs s o m + (if is_request_of (request_of w) s o m then 1 else 0)) (take-append-drop i ws)) once
+
+pub OneWaitEach-insert : (ws : List PartWait) (i : ℕ) (w : PartWait) → waits_there (waits_in ws w.tag) w.waiter.session ≡ false → OneWaitEach ws → OneWaitEach (insert ws i w)
+OneWaitEach-insert ws i w absent each =
+    OneWaitEach-join (take i ws) w (drop i ws)
+    (ap (λ xs. waits_there (waits_in xs w.tag) w.waiter.session) (take-append-drop i ws) ∙ absent) (subst OneWaitEach (sym (take-append-drop i ws)) each)
+
+pub waits-inserted : (ws : List PartWait) (i : ℕ) (w : PartWait) (place : ℕ) → length (waits_in (take i ws) w.tag) ≡ place →
+    waits_in (insert ws i w) ≡ put tag_eq (waits_in ws) w.tag (take place (waits_in ws w.tag) ++ wait_of w.waiter ∷ drop place (waits_in ws w.tag))
+waits-inserted ws i w place before =
+    waits-joined (take i ws) w (drop i ws) place before
+    ∙ ap (λ xs. put tag_eq (waits_in xs) w.tag (take place (waits_in xs w.tag) ++ wait_of w.waiter ∷ drop place (waits_in xs w.tag))) (take-append-drop i ws)

@@ -1,8 +1,8 @@
-use Rattle.std.proofs.Common.{◌≡◌, ◌≢◌, ℕ, ◌+◌, ◌<◌, ◌≤◌, Bool, true, false, not, ◌&&◌, ◌||◌, ◌==◌, List, [], ◌∷◌, ◌++◌, length, arith, refl, sym, ap, ◌∙◌, subst, inl, inr, append_assoc, eqb}
+use Rattle.std.proofs.Common.{◌≡◌, ◌≢◌, ℕ, ◌+◌, ◌<◌, ◌≤◌, Bool, true, false, not, ◌&&◌, ◌||◌, ◌==◌, List, [], ◌∷◌, ◌++◌, length, take, drop, get_or, suc, add-one, arith, refl, sym, ap, ◌∙◌, subst, inl, inr, append_assoc, eqb}
 use Rattle.std.specs.Prelude.{map, count_by, if◌then◌else◌}
-use Rattle.std.specs.List.{list_any, IsDistinct, AllByRecursion}
+use Rattle.std.specs.List.{list_any, remove, IsDistinct, AllByRecursion}
 use Rattle.std.proofs.lemmas.Bool.{cases_Bool, false≢true, false_from_ne_true, both_ways, eqb-true, eq-eqb}
-use Rattle.std.proofs.lemmas.List.{append-nil, map-append, length-map}
+use Rattle.std.proofs.lemmas.List.{append-nil, map-append, length-map, take_at, drop_at, take_all, drop_all, drop_more, length-take-le}
 use Rattle.std.proofs.lemmas.List.Folds.{list_any-append, list_any_at}
 use Rattle.std.proofs.lemmas.Map.Steps.{length-le_from_distinct_below}
 use Rattle.modes_core.specs.declared.modes.Mode.{Mode}
@@ -23,7 +23,7 @@ use Rattle.lock_model.specs.Queue.{IsFree, SplitsBehind, hold_all, Wakes, some_a
 use Rattle.lock_model.proofs.PutLemmas.{put_here, put_else}
 use Rattle.lock_model.proofs.Same.{SameTriple-from, same_triple-refl}
 use Rattle.lock_model.proofs.ListLemmas.{any_found, any_weaker, any-counted}
-use Rattle.lock_model.proofs.HoldLists.{add_hold-push, count_by-cons, count_by-append}
+use Rattle.lock_model.proofs.HoldLists.{add_hold-push, count_by-cons, count_by-append, take_one_more}
 use Rattle.lock_model.proofs.ListingLemmas.{count_by-map}
 use Rattle.lock_model.proofs.Holders.{in_the_way-from, InTheWay-from}
 use Rattle.lock_model.proofs.WaitLists.{any-kept, waits_in-append, waits_in-on, waits_in-off, waits_in-push_on, waits_in-without, count_by-insert, times_in-hold, times_in-wait}
@@ -284,3 +284,44 @@ woken_fit hs0 ws0 t hs done todo woken so_far =
       any-map : (s : ℕ) (ones : List (ℕ × Mode)) → list_any (eqb s) (map (λ (one : ℕ × Mode). one.0) ones) ≡ list_any (λ (one : ℕ × Mode). s == one.0) ones
       any-map s [] = refl
       any-map s (one ∷ ones) = ap (λ b. eqb s one.0 || b) (any-map s ones)
+
+-- The same at a place of the list.
+pub Waking-stay_at :
+    (hs0 : List Request) (ws0 : List PartWait) (t : Tag) (hs : List Request) (ws : List PartWait) (i : ℕ) (w : PartWait) (woken : List (ℕ × Mode)) →
+    i < length ws → w ≡ get_or ws i w → goes_now hs (take i ws) w t ≡ false →
+    Waking hs0 ws0 t hs (take i ws) (drop i ws) woken → Waking hs0 ws0 t hs (take (i + 1) ws) (drop (i + 1) ws) woken
+Waking-stay_at hs0 ws0 t hs ws i w woken within is stays so_far =
+    subst (λ done. Waking hs0 ws0 t hs done (drop (i + 1) ws) woken) (sym (take_one_more ws i w within is))
+    (Waking-stay hs0 ws0 t hs (take i ws) w (drop (i + 1) ws) woken stays
+    (subst (λ todo. Waking hs0 ws0 t hs (take i ws) todo woken) (drop_more ws i w within ∙ ap (λ v. v ∷ drop (i + 1) ws) (sym is)) so_far))
+
+pub Waking-go_at :
+    (hs0 : List Request) (ws0 : List PartWait) (t : Tag) (hs : List Request) (ws : List PartWait) (i : ℕ) (w : PartWait) (woken : List (ℕ × Mode)) →
+    i < length ws → w ≡ get_or ws i w → goes_now hs (take i ws) w t ≡ true → w.waiter.session < 64 → Waking hs0 ws0 t hs (take i ws) (drop i ws) woken →
+    Waking hs0 ws0 t (hs ++ request_of w ∷ []) (take i (remove ws i)) (drop i (remove ws i)) (woken ++ (w.waiter.session, w.waiter.mode) ∷ [])
+Waking-go_at hs0 ws0 t hs ws i w woken within is goes small so_far =
+    let front : length (take i ws) ≡ i = length-take-le i ws (omega arith) in
+    let done : take i (remove ws i) ≡ take i ws = take_at (take i ws) (drop (suc i) ws) i front in
+    let todo : drop i (remove ws i) ≡ drop (i + 1) ws = drop_at (take i ws) (drop (suc i) ws) i front ∙ ap (λ n. drop n ws) (sym (add-one i)) in
+    rw (done, todo)
+    (Waking-go hs0 ws0 t hs (take i ws) w (drop (i + 1) ws) woken goes small
+    (subst (λ rest. Waking hs0 ws0 t hs (take i ws) rest woken) (drop_more ws i w within ∙ ap (λ v. v ∷ drop (i + 1) ws) (sym is)) so_far))
+
+pub Waking-end_at :
+    (hs0 : List Request) (ws0 : List PartWait) (t : Tag) (hs : List Request) (ws : List PartWait) (i : ℕ) (woken : List (ℕ × Mode)) →
+    length ws ≤ i → Waking hs0 ws0 t hs (take i ws) (drop i ws) woken → Waking hs0 ws0 t hs ws [] woken
+Waking-end_at hs0 ws0 t hs ws i woken past so_far =
+    subst (λ todo. Waking hs0 ws0 t hs ws todo woken) (drop_all i ws past)
+    (subst (λ done. Waking hs0 ws0 t hs done (drop i ws) woken) (take_all i ws past) so_far)
+
+-- The two lists have the same requests at the end as at first, and each session one wait at most on an object.
+pub same_requests-end :
+    (hs0 : List Request) (ws0 : List PartWait) (t : Tag) (hs : List Request) (ws : List PartWait) (woken : List (ℕ × Mode)) →
+    Waking hs0 ws0 t hs ws [] woken → (s : ℕ) (o : Tag) (m : Mode) → times_in hs ws s o m ≡ times_in hs0 ws0 s o m
+same_requests-end hs0 ws0 t hs ws woken all s o m = ap (λ xs. times_in hs xs s o m) (sym (append-nil ws)) ∙ all.same_requests s o m
+
+pub one_wait_each-end :
+    (hs0 : List Request) (ws0 : List PartWait) (t : Tag) (hs : List Request) (ws : List PartWait) (woken : List (ℕ × Mode)) →
+    OneWaitEach ws0 → Waking hs0 ws0 t hs ws [] woken → OneWaitEach ws
+one_wait_each-end hs0 ws0 t hs ws woken each all =
+    subst OneWaitEach (append-nil ws) (λ s o. let fewer : count_by (λ wait. is_request_on (request_of wait) s o) (ws ++ []) ≤ count_by (λ wait. is_request_on (request_of wait) s o) ws0 = all.no_more_waits s o in omega (arith, each s o))

@@ -38,9 +38,13 @@ EachOnce holds waits = (session : ℕ) (tag : Tag) (mode : Mode) → times_in ho
 abbrev pub OneWaitEach : List PartWait → Type 0
 OneWaitEach waits = (session : ℕ) (tag : Tag) → count_by (λ wait. is_request_on (request_of wait) session tag) waits ≤ 1
 
+-- whether the wait is on the object, for one of the modes
+abbrev pub awaits_one_of : PartWait → Tag → (Mode → Bool) → Bool
+awaits_one_of wait tag modes = tag_eq tag wait.tag && modes wait.waiter.mode
+
 -- whether the wait is on the object, and free to go beside these holds and behind these waits
 abbrev pub goes_now : List Request → List PartWait → PartWait → Tag → Bool
 goes_now holds ahead wait tag =
     tag_eq tag wait.tag
     && (not (list_any (λ hold. is_in_the_way_of hold wait.waiter.session tag (conflict wait.waiter.mode)) holds)
-    && not (list_any (λ other. tag_eq tag other.tag && conflict wait.waiter.mode other.waiter.mode) ahead))
+    && not (list_any (λ other. awaits_one_of other tag (conflict wait.waiter.mode)) ahead))

@@ -60,31 +60,31 @@ pub trait PartTable {
     fn conflict_of(&self, session: SessionId, tag: Tag, mode: Mode) -> Option<(SessionId, Mode)>
         ensures { HolderInTheWay (content self.now).holds session tag mode result };
 
-//    /// The wait at this place of the object's queue, counted from the front.
-//    fn waiter(&self, tag: Tag, place: usize) -> Option<Waiter>
-//        ensures { option_map wait_of result ≡ slice_get ((content self.now).waits tag) place };
+    /// The wait at this place of the object's queue, counted from the front.
+    fn waiter(&self, tag: Tag, place: usize) -> Option<Waiter>
+        ensures { option_map wait_of result ≡ slice_get ((content self.now).waits tag) place };
 
-//    /// Makes the begun request a wait before the one at this place, with the modes that the session holds
-//    /// now (`JoinWaitQueue`, in version 16 a part of `ProcSleep` in proc.c).
-//    fn join(&mut self, session: SessionId, tag: Tag, mode: Mode, place: usize)
-//        requires begun { begun self.old ≡ Some (record { session = session; tag = tag; mode = mode }) }
-//        requires no_wait { waits_there ((content self.old).waits tag) session ≡ false }
-//        requires place { place ≤ length ((content self.old).waits tag) }
-//        ensures content { content self.new ≡ add_wait (content self.old) session tag mode (Before place) }
-//        ensures ended { begun self.new ≡ None };
+    /// Makes the begun request a wait before the one at this place, with the modes that the session holds
+    /// now (`JoinWaitQueue`, in version 16 a part of `ProcSleep` in proc.c).
+    fn join(&mut self, session: SessionId, tag: Tag, mode: Mode, place: usize)
+        requires begun { begun self.old ≡ Some (record { session = session; tag = tag; mode = mode }) }
+        requires no_wait { waits_there ((content self.old).waits tag) session ≡ false }
+        requires place { place ≤ length ((content self.old).waits tag) }
+        ensures content { content self.new ≡ add_wait (content self.old) session tag mode (Before place) }
+        ensures ended { begun self.new ≡ None };
 
-//    /// Takes the session's wait out of the object's queue (`RemoveFromWaitQueue` in lock.c), and says for
-//    /// which mode it was.
-//    fn leave(&mut self, session: SessionId, tag: Tag) -> Option<Mode>
-//        ensures mode { result ≡ option_map (λ wait. wait.mode) (wait_in ((content self.old).waits tag) session) }
-//        ensures content { content self.new ≡ remove_wait (content self.old) session tag }
-//        ensures begun { begun self.new ≡ begun self.old };
+    /// Takes the session's wait out of the object's queue (`RemoveFromWaitQueue` in lock.c), and says for
+    /// which mode it was.
+    fn leave(&mut self, session: SessionId, tag: Tag) -> Option<Mode>
+        ensures mode { result ≡ option_map (λ wait. wait.mode) (wait_in ((content self.old).waits tag) session) }
+        ensures content { content self.new ≡ remove_wait (content self.old) session tag }
+        ensures begun { begun self.new ≡ begun self.old };
 
-//    /// Grants each wait of the object's queue that is free to go, and says whose they are
-//    /// (`ProcLockWakeup` in proc.c).
-//    fn wake(&mut self, tag: Tag) -> Woken
-//        ensures woken { (granted : List Wait) × Wakes (content self.old) tag granted (content self.new) × (result.items ≡ map whose_and_mode granted) }
-//        ensures begun { begun self.new ≡ begun self.old };
+    /// Grants each wait of the object's queue that is free to go, and says whose they are
+    /// (`ProcLockWakeup` in proc.c).
+    fn wake(&mut self, tag: Tag) -> Woken
+        ensures woken { (granted : List Wait) × Wakes (content self.old) tag granted (content self.new) × (result.items ≡ map whose_and_mode granted) }
+        ensures begun { begun self.new ≡ begun self.old };
 
     /// Appends the content's rows in the listing's order (`GetLockStatusData` in lock.c). After a
     /// refusal the list is as before.

@@ -4,9 +4,10 @@ ghost use Rattle.lock_model.specs.Clash.{lower_holder_of};
 
 use crate::no_memory::NoMemory;
 use crate::part_table::PartTable;
-use crate::part_waits::PartWait;
+use crate::part_waits::{PartWait, awaited_mode, index_of_place, wake_in, waiter_at};
 use crate::request::Request;
 use crate::rows::{TableRow, sort_rows};
+use crate::waits::{Waiter, Woken};
 use modes_core::{Mode, ModeSet, SessionId, Tag, conflicts};
 use std::alloc::Global;
 use std::marker::Model;
@@ -96,6 +97,35 @@ impl PartTable for PlainPart {
             }
         }
         lowest
+    }
+
+    fn waiter(&self, tag: Tag, place: usize) -> Option<Waiter> {
+        waiter_at(self.waits.as_slice(), tag, place)
+    }
+
+    fn join(&mut self, session: SessionId, tag: Tag, mode: Mode, place: usize) {
+        let held = self.held(session, tag);
+        let index = index_of_place(self.waits.as_slice(), tag, place);
+        self.begun = None;
+        let waiter = Waiter {
+            session,
+            mode,
+            held,
+        };
+        match self.waits.insert(index, PartWait { tag, waiter }) {
+            Ok(()) => {}
+            Err(_) => unreachable!(),
+        }
+    }
+
+    fn leave(&mut self, session: SessionId, tag: Tag) -> Option<Mode> {
+        let mode = awaited_mode(self.waits.as_slice(), session, tag);
+        self.waits.retain(|wait| !wait.is_on(session, tag));
+        mode
+    }
+
+    fn wake(&mut self, tag: Tag) -> Woken {
+        wake_in(&mut self.holds, &mut self.waits, tag)
     }
 
     fn rows(&self, rows: &mut Vec<TableRow>) -> Result<(), NoMemory> {
