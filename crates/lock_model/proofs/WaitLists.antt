@@ -241,7 +241,7 @@ waits-left ws s t = λ i o. at o i where
   there o other wait on =
       let same : o ≡ wait.tag = tag_eq-same o wait.tag on in
       let off : tag_eq t wait.tag ≡ false = false_from_ne_true (tag_eq t wait.tag) (λ it.
-          false≢true (sym other ∙ ap (λ x. tag_eq x t) same ∙ ap (λ x. tag_eq x t) (sym (tag_eq-same t wait.tag it)) ∙ tag_eq-refl t)) in
+      false≢true (sym other ∙ ap (λ x. tag_eq x t) same ∙ ap (λ x. tag_eq x t) (sym (tag_eq-same t wait.tag it)) ∙ tag_eq-refl t)) in
       ap not (sym (is_its s t wait) ∙ ap (λ b. b && (wait.waiter.session == s)) off)
 
   at : (o : Tag) → waits_in (filter stays ws) o ≡ put tag_eq (waits_in ws) t (queue_without (waits_in ws t) s) o

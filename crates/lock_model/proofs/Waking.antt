@@ -90,7 +90,7 @@ pub record Waking (hs0 : List Request) (ws0 : List PartWait) (t : Tag) (hs : Lis
   pub holds : holds_in hs ≡ hold_all (holds_in hs0) t granted
   pub others : (o : Tag) → tag_eq o t ≡ false → waits_in (done ++ todo) o ≡ waits_in ws0 o
   pub queue : (more left : List Wait) → SplitsBehind (waits_in done t) (holds_in hs) t (waits_in todo t) more left
-    → SplitsBehind [] (holds_in hs0) t (waits_in ws0 t) (granted ++ more) (waits_in done t ++ left)
+      → SplitsBehind [] (holds_in hs0) t (waits_in ws0 t) (granted ++ more) (waits_in done t ++ left)
   pub same_requests : (s : ℕ) (o : Tag) (m : Mode) → times_in hs (done ++ todo) s o m ≡ times_in hs0 ws0 s o m
   pub no_more_waits : (s : ℕ) (o : Tag) → count_by (λ wait. is_request_on (request_of wait) s o) (done ++ todo) ≤ count_by (λ wait. is_request_on (request_of wait) s o) ws0
   pub each_session : (s : ℕ) → count_by (λ one. s == one.0) woken + count_by (λ wait. is_request_on (request_of wait) s t) (done ++ todo) ≤ 1

@@ -1,6 +1,6 @@
 //! The waits of a partition, in one list. The queue of an object is the sub-list of its own.
 
-ghost use Rattle.std.specs.Prelude.{◌≡◌, ◌≤◌, ◌<◌, ◌+◌, ℕ, List, length, take, map, find, option_map, slice_get, vec_len, vec_capacity};
+ghost use Rattle.std.specs.Prelude.{◌≡◌, ◌≤◌, ◌<◌, ◌+◌, ℕ, List, not, length, take, map, filter, find, option_map, slice_get, vec_len, vec_capacity};
 ghost use Rattle.std.specs.List.{list_any};
 ghost use Rattle.modes_core.specs.declared.modes.Mode.{Mode};
 ghost use Rattle.modes_core.specs.declared.tags.Tag.{Tag};
@@ -50,10 +50,11 @@ impl PartWait {
     pub fn row(&self) -> TableRow
         ensures { result ≡ awaited_row_of self.now }
     {
+        let Request { session, tag, mode } = self.request();
         TableRow {
-            session: self.waiter.session,
-            tag: self.tag,
-            mode: self.waiter.mode,
+            session,
+            tag,
+            mode,
             granted: false,
         }
     }
@@ -103,6 +104,15 @@ pub fn awaited_mode(waits: &[PartWait], session: SessionId, tag: Tag) -> Option<
         .iter()
         .find(|wait| wait.is_on(session, tag))
         .map(|wait| wait.waiter.mode)
+}
+
+/// Takes the session's wait on the object out.
+pub fn take_out(waits: &mut Vec<PartWait>, session: SessionId, tag: Tag)
+    ensures items { waits.new.items ≡ filter (λ wait. not (is_request_on (request_of wait) session tag)) waits.old.items }
+    ensures len { vec_len waits.new ≤ vec_len waits.old }
+    ensures capacity { vec_capacity waits.new ≡ vec_capacity waits.old }
+{
+    waits.retain(|wait| !wait.is_on(session, tag));
 }
 
 /// The index in the list before which a new wait stands at this place of the object's queue.

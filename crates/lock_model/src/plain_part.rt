@@ -4,13 +4,16 @@ ghost use Rattle.lock_model.specs.Clash.{lower_holder_of};
 
 use crate::no_memory::NoMemory;
 use crate::part_table::PartTable;
-use crate::part_waits::{PartWait, awaited_mode, index_of_place, wake_in, waiter_at};
+use crate::part_waits::{PartWait, awaited_mode, index_of_place, take_out, waiter_at, wake_in};
 use crate::request::Request;
 use crate::rows::{TableRow, sort_rows};
 use crate::waits::{Waiter, Woken};
 use modes_core::{Mode, ModeSet, SessionId, Tag, conflicts};
 use std::alloc::Global;
 use std::marker::Model;
+
+#[cfg(test)]
+mod tests;
 
 /// The plain keeper of a partition: a list of its holds, and one of the waits of all its objects. Each
 /// call looks through the whole list; it serves the slow machine, the tests and one thread.
@@ -120,7 +123,7 @@ impl PartTable for PlainPart {
 
     fn leave(&mut self, session: SessionId, tag: Tag) -> Option<Mode> {
         let mode = awaited_mode(self.waits.as_slice(), session, tag);
-        self.waits.retain(|wait| !wait.is_on(session, tag));
+        take_out(&mut self.waits, session, tag);
         mode
     }
 

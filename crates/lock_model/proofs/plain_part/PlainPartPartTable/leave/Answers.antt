@@ -1,10 +1,8 @@
-use Rattle.std.proofs.Common.{◌≡◌, ◌≤◌, ◌∙◌, Bool, not, ap, sym, arith, rules}
-use Rattle.std.specs.Prelude.{filter}
-use Rattle.std.proofs.lemmas.Fn.{filter_same}
+use Rattle.std.proofs.Common.{◌≡◌, ◌≤◌, ◌∙◌, Bool, not, arith}
 use Rattle.lock_model.specs.Request.{is_request_on}
 use Rattle.lock_model.specs.declared.part_waits.PartWait.{PartWait}
 use Rattle.lock_model.specs.PartView.{holds_in}
-use Rattle.lock_model.specs.PartWaits.{request_of, times_in}
+use Rattle.lock_model.specs.PartWaits.{request_of}
 use Rattle.lock_model.proofs.HoldLists.{count_by-filter}
 use Rattle.lock_model.proofs.WaitLists.{times_in-fewer_waits, awaited-mode, waits-left}
 use Rattle.lock_model.proofs.plain_part.PlainPartPartTable.leave.Goals as goal
@@ -12,16 +10,16 @@ use Rattle.lock_model.proofs.plain_part.PlainPartPartTable.leave.Goals as goal
 pub invariant_of-self : goal.invariant_of-self
 invariant_of-self c =
     let stays : PartWait → Bool = λ wait. not (is_request_on (request_of wait) c.args.session c.args.tag) in
-    let kept : c.retain.new.self.items ≡ filter stays c.self.inside.waits.items =
-    filter_same _ stays _ (λ x b q called. (search rules, search rules)) _ _ c.retain.ensures.filtered in
     let fewer = times_in-fewer_waits stays c.self.inside.holds.items c.self.inside.waits.items in
     record {
-      each_once = rw kept (λ s o m. omega (arith, fewer s o m, c.self.invariant.each_once s o m));
-      one_wait_each = rw kept (λ s o. omega (arith, count_by-filter (λ wait. is_request_on (request_of wait) s o) stays c.self.inside.waits.items, c.self.invariant.one_wait_each s o));
-      begun_is_new = λ x is. rw kept (omega (arith, fewer x.session x.tag x.mode, c.self.invariant.begun_is_new x is));
-      room = omega (arith, c.self.invariant.room, c.retain.ensures.bound);
-      begun_has_room = λ x is. omega (arith, c.self.invariant.begun_has_room x is, c.retain.ensures.bound);
-      begun_may_wait = λ x is. omega (arith, c.self.invariant.begun_may_wait x is, c.retain.ensures.bound, c.retain.ensures.capacity);
+      each_once = rw c.take_out.ensures.items (λ s o m. omega (arith, fewer s o m, c.self.invariant.each_once s o m));
+      one_wait_each =
+          rw c.take_out.ensures.items
+          (λ s o. omega (arith, count_by-filter (λ wait. is_request_on (request_of wait) s o) stays c.self.inside.waits.items, c.self.invariant.one_wait_each s o));
+      begun_is_new = λ x is. rw c.take_out.ensures.items (omega (arith, fewer x.session x.tag x.mode, c.self.invariant.begun_is_new x is));
+      room = omega (arith, c.self.invariant.room, c.take_out.ensures.len);
+      begun_has_room = λ x is. omega (arith, c.self.invariant.begun_has_room x is, c.take_out.ensures.len);
+      begun_may_wait = λ x is. omega (arith, c.self.invariant.begun_may_wait x is, c.take_out.ensures.len, c.take_out.ensures.capacity);
     }
 
 pub returns-clause-mode : goal.returns-clause-mode
@@ -31,8 +29,5 @@ returns-clause-mode c =
 
 pub returns-clause-content : goal.returns-clause-content
 returns-clause-content c =
-    let stays : PartWait → Bool = λ wait. not (is_request_on (request_of wait) c.args.session c.args.tag) in
-    let kept : c.retain.new.self.items ≡ filter stays c.self.inside.waits.items =
-    filter_same _ stays _ (λ x b q called. (search rules, search rules)) _ _ c.retain.ensures.filtered in
-    rw (kept, ← c.self.view_is)
+    rw (c.take_out.ensures.items, ← c.self.view_is)
     (λ i. record { holds = holds_in c.self.inside.holds.items; waits = waits-left c.self.inside.waits.items c.args.session c.args.tag i })
