@@ -1,4 +1,4 @@
-use Rattle.std.proofs.Common.{◌≡◌, ◌≢◌, ℕ, ◌+◌, ◌<◌, ◌≤◌, Bool, true, false, not, ◌&&◌, ◌||◌, ◌==◌, List, [], ◌∷◌, ◌++◌, length, take, drop, get_or, suc, add-one, arith, refl, sym, ap, ◌∙◌, subst, inl, inr, append_assoc, eqb}
+use Rattle.std.proofs.Common.{◌≡◌, ℕ, ◌+◌, ◌<◌, ◌≤◌, Bool, true, false, not, ◌&&◌, ◌||◌, ◌==◌, List, [], ◌∷◌, ◌++◌, length, take, drop, get_or, suc, add-one, arith, refl, sym, ap, ◌∙◌, subst, inl, inr, append_assoc, eqb}
 use Rattle.std.specs.Prelude.{map, count_by, if◌then◌else◌}
 use Rattle.std.specs.List.{list_any, remove, IsDistinct, AllByRecursion}
 use Rattle.std.proofs.lemmas.Bool.{cases_Bool, false≢true, false_from_ne_true, both_ways, eqb-true, eq-eqb}
@@ -9,7 +9,7 @@ use Rattle.modes_core.specs.declared.modes.Mode.{Mode}
 use Rattle.modes_core.specs.declared.tags.Tag.{Tag}
 use Rattle.modes_core.specs.Tag.{tag_eq}
 use Rattle.modes_core.specs.Conflict.{conflict}
-use Rattle.modes_core.proofs.Laws.{both_true, tag_eq-same, tag_eq-refl}
+use Rattle.modes_core.proofs.Laws.{both_true, tag_eq-same}
 use Rattle.lock_model.specs.declared.request.Request.{Request}
 use Rattle.lock_model.specs.declared.part_waits.PartWait.{PartWait}
 use Rattle.lock_model.specs.Request.{is_request_of, is_request_on, is_in_the_way_of}
@@ -19,14 +19,14 @@ use Rattle.lock_model.specs.Put.{put}
 use Rattle.lock_model.specs.Waiter.{wait_of, whose_and_mode}
 use Rattle.lock_model.specs.PartView.{holds_in, content_in}
 use Rattle.lock_model.specs.PartWaits.{request_of, waits_in, times_in, OneWaitEach, goes_now}
-use Rattle.lock_model.specs.Queue.{IsFree, SplitsBehind, hold_all, Wakes, some_awaits_conflict}
+use Rattle.lock_model.specs.Queue.{IsFree, SplitsBehind, hold_all, Wakes}
 use Rattle.lock_model.proofs.PutLemmas.{put_here, put_else}
 use Rattle.lock_model.proofs.Same.{SameTriple-from, same_triple-refl}
 use Rattle.lock_model.proofs.ListLemmas.{any_found, any_weaker, any-counted}
 use Rattle.lock_model.proofs.HoldLists.{add_hold-push, count_by-cons, count_by-append, take_one_more}
 use Rattle.lock_model.proofs.ListingLemmas.{count_by-map}
 use Rattle.lock_model.proofs.Holders.{in_the_way-from, InTheWay-from}
-use Rattle.lock_model.proofs.WaitLists.{any-kept, waits_in-append, waits_in-on, waits_in-off, waits_in-push_on, waits_in-without, count_by-insert, times_in-hold, times_in-wait}
+use Rattle.lock_model.proofs.WaitLists.{any-kept, waits_in-on, waits_in-off, waits_in-push_on, waits_in-without, count_by-insert, times_in-hold, times_in-wait}
 
 -- Whether some hold of a list is in the way says whether there is a conflicting holder.
 no_holder-from : (hs : List Request) (s : ℕ) (t : Tag) (m : Mode) → list_any (λ hold. is_in_the_way_of hold s t (conflict m)) hs ≡ false → NoConflictingHolder (holds_in hs) s t m

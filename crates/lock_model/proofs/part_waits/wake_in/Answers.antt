@@ -1,9 +1,6 @@
-use Rattle.std.proofs.Common.{◌≡◌, ◌+◌, ◌<◌, ◌≤◌, ◌++◌, ◌∷◌, [], List, length, ap, subst, sym, ◌∙◌, arith, rules}
+use Rattle.std.proofs.Common.{◌<◌, ◌≤◌, length, ap, sym, ◌∙◌, arith, rules}
 use Rattle.std.proofs.lemmas.List.{length_push}
-use Rattle.modes_core.specs.declared.modes.Mode.{Mode}
-use Rattle.lock_model.specs.declared.part_waits.PartWait.{PartWait}
-use Rattle.lock_model.specs.PartWaits.{times_in, goes_now, OneWaitEach}
-use Rattle.lock_model.proofs.Waking.{Waking, Waking-start, Waking-stay_at, Waking-go_at, Waking-end_at, Waking-end, woken_fit, same_requests-end, one_wait_each-end}
+use Rattle.lock_model.proofs.Waking.{Waking-start, Waking-stay_at, Waking-go_at, Waking-end_at, Waking-end, woken_fit, same_requests-end, one_wait_each-end}
 use Rattle.lock_model.proofs.part_waits.wake_in.Goals as goal
 
 pub loop-place-init : goal.loop-place-init

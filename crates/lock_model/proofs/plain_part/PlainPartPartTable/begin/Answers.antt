@@ -1,7 +1,5 @@
 use Rattle.std.proofs.Common.{◌≡◌, ap, arith}
-use Rattle.lock_model.specs.PartView.{content_of}
 use Rattle.lock_model.specs.PartWaits.{times_in}
-use Rattle.lock_model.specs.Queue.{awaits_mode}
 use Rattle.lock_model.proofs.Options.{ForSome-some}
 use Rattle.lock_model.proofs.WaitLists.{times_in-none}
 use Rattle.lock_model.proofs.plain_part.PlainPartPartTable.begin.Goals as goal

@@ -1,14 +1,11 @@
-use Rattle.std.proofs.Common.{◌≡◌, ◌<◌, ◌≤◌, ◌+◌, ◌++◌, ◌∷◌, ap, sym, ◌∙◌, take, drop, length, add-one, vec_len, vec_capacity, List, Bool, arith, refl}
-use Rattle.std.proofs.lemmas.List.{take-append-drop}
-use Rattle.lock_model.specs.declared.request.Request.{Request}
+use Rattle.std.proofs.Common.{◌≡◌, ◌<◌, ◌+◌, ◌++◌, ◌∷◌, ap, sym, ◌∙◌, take, drop, length, vec_len, vec_capacity, List, Bool, arith}
 use Rattle.lock_model.specs.declared.part_waits.PartWait.{PartWait}
 use Rattle.lock_model.specs.PartView.{PartView, holds_in}
 use Rattle.lock_model.specs.Put.{put}
 use Rattle.modes_core.specs.declared.modes.Mode.{Mode}
 use Rattle.modes_core.specs.ModeSet.{set_has}
 use Rattle.modes_core.specs.Tag.{tag_eq}
-use Rattle.lock_model.specs.PartWaits.{waits_in, times_in, request_of, OneWaitEach}
-use Rattle.lock_model.specs.Queue.{waits_there}
+use Rattle.lock_model.specs.PartWaits.{waits_in, times_in}
 use Rattle.lock_model.proofs.WaitLists.{times_in-join, OneWaitEach-insert, waits-inserted}
 use Rattle.lock_model.proofs.Options.{ForSome-none}
 use Rattle.lock_model.proofs.plain_part.PlainPartPartTable.join.Goals as goal

@@ -1,4 +1,4 @@
-use Rattle.std.proofs.Common.{◌≡◌, ◌≤◌, ◌∙◌, Bool, not, arith}
+use Rattle.std.proofs.Common.{◌∙◌, Bool, not, arith}
 use Rattle.lock_model.specs.Request.{is_request_on}
 use Rattle.lock_model.specs.declared.part_waits.PartWait.{PartWait}
 use Rattle.lock_model.specs.PartView.{holds_in}

@@ -1,8 +1,8 @@
-use Rattle.std.proofs.Common.{◌≡◌, ◌≤◌, Bool, not, arith, rules}
+use Rattle.std.proofs.Common.{◌≡◌, Bool, not, arith, rules}
 use Rattle.std.specs.Prelude.{filter}
 use Rattle.lock_model.specs.Request.{is_request_of}
 use Rattle.lock_model.specs.declared.request.Request.{Request}
-use Rattle.lock_model.specs.PartWaits.{times_in, waits_in}
+use Rattle.lock_model.specs.PartWaits.{waits_in}
 use Rattle.lock_model.proofs.HoldLists.{remove_hold-filter}
 use Rattle.lock_model.proofs.WaitLists.{times_in-fewer_holds}
 use Rattle.std.proofs.lemmas.Fn.{filter_same}

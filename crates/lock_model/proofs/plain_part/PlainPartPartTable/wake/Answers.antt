@@ -1,4 +1,4 @@
-use Rattle.std.proofs.Common.{◌≡◌, ◌≤◌, ◌∙◌, arith}
+use Rattle.std.proofs.Common.{◌∙◌, arith}
 use Rattle.lock_model.proofs.plain_part.PlainPartPartTable.wake.Goals as goal
 
 pub invariant_of-self : goal.invariant_of-self

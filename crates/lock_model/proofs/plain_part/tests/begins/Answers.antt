@@ -1,6 +1,4 @@
-use Rattle.std.proofs.Common.{◌≡◌, ◌∙◌, ℕ, Bool, true, false, not, List, sym, ap, ◌==◌, ◌&&◌, inl, inr}
-use Rattle.std.specs.Prelude.{filter}
-use Rattle.std.specs.List.{list_any}
+use Rattle.std.proofs.Common.{◌≡◌, ◌∙◌, ℕ, false, not, List, sym, ap, ◌==◌, ◌&&◌}
 use Rattle.std.proofs.lemmas.Bool.{false_from_ne_true, both_ways}
 use Rattle.std.proofs.lemmas.Map.Views.{any-filter_same}
 use Rattle.modes_core.specs.declared.modes.Mode.{Mode}
@@ -9,7 +7,7 @@ use Rattle.modes_core.specs.Mode.{mode_eq}
 use Rattle.modes_core.specs.Tag.{tag_eq}
 use Rattle.modes_core.proofs.Laws.{both_true, tag_eq-refl}
 use Rattle.lock_model.specs.Content.{Wait, Content}
-use Rattle.lock_model.specs.PartView.{PartView, content_of}
+use Rattle.lock_model.specs.PartView.{content_of}
 use Rattle.lock_model.specs.Queue.{waits_there, awaits_mode, queue_without, remove_wait}
 use Rattle.lock_model.proofs.PutLemmas.{put_here}
 use Rattle.lock_model.proofs.ListLemmas.{any_weaker}

@@ -1,4 +1,4 @@
-use Rattle.std.proofs.Common.{◌≡◌, ◌∙◌, sym, ap}
+use Rattle.std.proofs.Common.{◌∙◌, sym, ap}
 use Rattle.lock_model.proofs.plain_part.tests.releases.Goals as goal
 
 pub ungrant-requires : goal.ungrant-requires
