@@ -16,7 +16,6 @@ use Rattle.modes_core.specs.Mode.{mode_eq}
 use Rattle.modes_core.specs.Tag.{tag_eq}
 use Rattle.modes_core.proofs.Laws.{both_true}
 use Rattle.std.proofs.lemmas.List.{take_more}
-use Rattle.lock_model.specs.PlainPart.{EachOnce}
 use Rattle.lock_model.proofs.Same.{same_triple, SameTriple-from, same_triple-comm, set_hold-here, set_hold-else}
 
 -- A list with one hold more at its end has one hold more.
@@ -92,39 +91,6 @@ count_by-none test (x ∷ xs) none =
 
 pub count_by-append : {X : Type 0} (test : X → Bool) (xs ys : List X) → count_by test (xs ++ ys) ≡ count_by test xs + count_by test ys
 count_by-append test xs ys = sum_by-append (λ x. if test x then 1 else 0) xs ys
-
--- A hold that the list lacks may be added.
-pub EachOnce-push : (xs : List Request) (r : Request) → EachOnce xs → holds_in xs r.session r.tag r.mode ≡ false → EachOnce (xs ++ r ∷ [])
-EachOnce-push xs r once absent s o m =
-    rw (count_by-append (λ hold. is_request_of hold s o m) xs (r ∷ [])) (
-    elim (cases_Bool (is_request_of r s o m)) [
-      | inl is ↦
-          let same = SameTriple-from s o m r.session r.tag r.mode is in
-          let none : count_by (λ hold. is_request_of hold s o m) xs ≡ 0 =
-          count_by-none (λ hold. is_request_of hold s o m) xs (rw (same.session, same.tag, same.mode) absent) in
-          rw (none, count_by-cons (λ hold. is_request_of hold s o m) r [], is) (omega arith)
-      | inr other ↦ let before : count_by (λ hold. is_request_of hold s o m) xs ≤ 1 = once s o m in rw (count_by-cons (λ hold. is_request_of hold s o m) r [], other) (omega arith)
-    ]
-    )
-
--- A filter keeps each hold once.
-pub EachOnce-filter : (p : Request → Bool) (xs : List Request) → EachOnce xs → EachOnce (filter p xs)
-EachOnce-filter p xs once s o m =
-    let before : count_by (λ hold. is_request_of hold s o m) xs ≤ 1 = once s o m in
-    let less : count_by (λ hold. is_request_of hold s o m) (filter p xs) ≤ count_by (λ hold. is_request_of hold s o m) xs =
-    count_by-filter (λ hold. is_request_of hold s o m) p xs in
-    omega arith
-
--- What a list lacks, it lacks after a filter.
-pub absent-filter : (test p : Request → Bool) (xs : List Request) → list_any test xs ≡ false → list_any test (filter p xs) ≡ false
-absent-filter test p [] absent = refl
-absent-filter test p (x ∷ xs) absent =
-    elim (cases_Bool (test x)) [
-      | inl pass ↦ absurd (false≢true (sym absent ∙ ap (λ b. b || list_any test xs) pass))
-      | inr fail ↦
-          let rest : list_any test (filter p xs) ≡ false = absent-filter test p xs (sym (ap (λ b. b || list_any test xs) fail) ∙ absent) in
-          elim (cases_Bool (p x)) [ inl kept ↦ rw (kept, fail) rest | inr dropped ↦ rw dropped rest ]
-    ]
 
 -- The first i + 1 elements of a list end with the one at i.
 pub take_one_more : {X : Type 0} (xs : List X) (i : ℕ) (x : X) → i < length xs → x ≡ get_or xs i x → take (i + 1) xs ≡ take i xs ++ x ∷ []

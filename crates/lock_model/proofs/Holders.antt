@@ -41,12 +41,12 @@ has_last xs r =
     rw (same_triple-refl r.session r.tag r.mode, or-true) refl
 
 -- What it means that a request is in the way.
-record InTheWay (r : Request) (s : ℕ) (o : Tag) (m : Mode) : Type 0 where
-  another : r.session ≢ s
-  tag : o ≡ r.tag
-  conflicting : conflict m r.mode ≡ true
+pub record InTheWay (r : Request) (s : ℕ) (o : Tag) (m : Mode) : Type 0 where
+  pub another : r.session ≢ s
+  pub tag : o ≡ r.tag
+  pub conflicting : conflict m r.mode ≡ true
 
-InTheWay-from : (r : Request) (s : ℕ) (o : Tag) (m : Mode) → is_in_the_way_of r s o (conflict m) ≡ true → InTheWay r s o m
+pub InTheWay-from : (r : Request) (s : ℕ) (o : Tag) (m : Mode) → is_in_the_way_of r s o (conflict m) ≡ true → InTheWay r s o m
 InTheWay-from r s o m is =
     let a = both_true _ _ is in
     let b = both_true _ _ a.1 in
@@ -56,7 +56,7 @@ InTheWay-from r s o m is =
       conflicting = b.1;
     }
 
-in_the_way-from : (r : Request) (s : ℕ) (o : Tag) (m : Mode) → r.session ≢ s → o ≡ r.tag → conflict m r.mode ≡ true → is_in_the_way_of r s o (conflict m) ≡ true
+pub in_the_way-from : (r : Request) (s : ℕ) (o : Tag) (m : Mode) → r.session ≢ s → o ≡ r.tag → conflict m r.mode ≡ true → is_in_the_way_of r s o (conflict m) ≡ true
 in_the_way-from r s o m another tag conflicting =
     let different : (s == r.session) ≡ false = ne_eqb s r.session (λ e. another (sym e)) in
     rw (different, tag, tag_eq-refl r.tag, conflicting) refl

@@ -1,5 +1,7 @@
 pub mod Same
 mod HoldLists
+mod WaitLists
+pub mod Waking
 mod Holders
 mod Options
 mod ListingLemmas

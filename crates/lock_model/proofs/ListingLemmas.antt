@@ -1,4 +1,5 @@
 use Rattle.std.proofs.Common.{◌≡◌, ℕ, ◌+◌, ◌-◌, ◌<◌, ◌≤◌, Bool, true, false, List, [], ◌∷◌, ◌++◌, length, take, drop, get_or, arith, refl, sym, ap, ◌∙◌, inl, inr}
+use Rattle.std.specs.List.{list_any}
 use Rattle.std.specs.Prelude.{map, count_by, if◌then◌else◌, IsSorted, IsPermutation}
 use Rattle.std.proofs.Math.Bool.{and-true, and-false}
 use Rattle.std.proofs.lemmas.Bool.{cases_Bool}
@@ -11,54 +12,79 @@ use borrow.Rule.Slice.PartMut.{put_mid, mid_of}
 use Rattle.lock_model.specs.declared.request.Request.{Request}
 use Rattle.lock_model.specs.declared.rows.TableRow.{TableRow}
 use Rattle.lock_model.specs.Request.{is_request_of}
-use Rattle.lock_model.specs.PartView.{holds_in, row_of}
-use Rattle.lock_model.specs.PlainPart.{EachOnce}
+use Rattle.lock_model.specs.declared.part_waits.PartWait.{PartWait}
+use Rattle.lock_model.specs.PartView.{content_in, row_of}
+use Rattle.lock_model.specs.PartWaits.{EachOnce, times_in, request_of, awaited_row_of}
 use Rattle.lock_model.specs.Listing.{row_eq, has_row, row_cmp, IsListing}
-use Rattle.lock_model.proofs.HoldLists.{count_by-cons, count_by-none}
+use Rattle.lock_model.proofs.HoldLists.{count_by-cons, count_by-none, count_by-append}
+use Rattle.lock_model.proofs.WaitLists.{awaits-in}
 use Rattle.lock_model.proofs.ListLemmas.{any-counted}
 
-count_by-map : {X Y : Type 0} (p : Y → Bool) (f : X → Y) (xs : List X) → count_by p (map f xs) ≡ count_by (λ x. p (f x)) xs
+pub count_by-map : {X Y : Type 0} (p : Y → Bool) (f : X → Y) (xs : List X) → count_by p (map f xs) ≡ count_by (λ x. p (f x)) xs
 count_by-map p f [] = refl
 count_by-map p f (x ∷ xs) = rw (count_by-cons p (f x) (map f xs), count_by-cons (λ y. p (f y)) x xs, count_by-map p f xs) refl
 
 count_by-same : {X : Type 0} (p q : X → Bool) (xs : List X) → ((x : X) → p x ≡ q x) → count_by p xs ≡ count_by q xs
 count_by-same p q xs same = λ i. count_by (λ x. same x i) xs
 
--- The rows of a list of holds, in the listing's order, are the listing of what it holds.
-pub IsListing-holds :
-    (xs : List Request) (rows : List TableRow) → EachOnce xs → IsSorted row_cmp rows → IsPermutation (map row_of xs) rows →
-    IsListing (record { holds = holds_in xs; waits = λ _. [] }) rows
-IsListing-holds xs rows once sorted moved = record { in_order = sorted; each_once = at_row } where
-  counted : (row : TableRow) → count_by (row_eq row) rows ≡ count_by (λ hold. row_eq row (row_of hold)) xs
-  counted row = sum_by-IsPermutation (λ other. if row_eq row other then 1 else 0) (map row_of xs) rows moved ∙ count_by-map (row_eq row) row_of xs
+-- What is there at most once is counted once or not at all.
+once_or_not : {X : Type 0} (p : X → Bool) (xs : List X) → count_by p xs ≤ 1 → count_by p xs ≡ (if list_any p xs then 1 else 0)
+once_or_not p xs at_most =
+    elim (cases_Bool (list_any p xs)) [
+      | inl some ↦ let at_least : 0 < count_by p xs = any-counted p xs some in rw some (omega arith)
+      | inr none ↦ rw none (count_by-none p xs none)
+    ]
 
-  same : (row : TableRow) → row.granted ≡ true → (hold : Request) → row_eq row (row_of hold) ≡ is_request_of hold row.session row.tag row.mode
-  same row granted hold = rw (granted, and-true) refl
+-- No element passes a test that each fails.
+count_by-failing : {X : Type 0} (p : X → Bool) (xs : List X) → ((x : X) → p x ≡ false) → count_by p xs ≡ 0
+count_by-failing p xs fails = count_by-none p xs (list_any_none p xs (λ k d within. fails (get_or xs k d)))
 
-  other : (row : TableRow) → row.granted ≡ false → (hold : Request) → row_eq row (row_of hold) ≡ false
-  other row awaited hold = rw (awaited, and-false, and-false, and-false) refl
+-- The rows of the holds and of the waits, in the listing's order, are the listing of what they stand for.
+pub IsListing-lists :
+    (hs : List Request) (ws : List PartWait) (rows : List TableRow) → EachOnce hs ws → IsSorted row_cmp rows →
+    IsPermutation (map row_of hs ++ map awaited_row_of ws) rows → IsListing (content_in hs ws) rows
+IsListing-lists hs ws rows once sorted moved = record { in_order = sorted; each_once = at_row } where
+  of_holds : TableRow → ℕ
+  of_holds row = count_by (λ hold. row_eq row (row_of hold)) hs
 
-  held_once : (row : TableRow) → count_by (λ hold. is_request_of hold row.session row.tag row.mode) xs ≡ (if holds_in xs row.session row.tag row.mode then 1 else 0)
-  held_once row =
-      elim (cases_Bool (holds_in xs row.session row.tag row.mode)) [
-        | inl held ↦
-            let at_most : count_by (λ hold. is_request_of hold row.session row.tag row.mode) xs ≤ 1 = once row.session row.tag row.mode in
-            let at_least : 0 < count_by (λ hold. is_request_of hold row.session row.tag row.mode) xs =
-            any-counted (λ hold. is_request_of hold row.session row.tag row.mode) xs held in
-            rw held (omega arith)
-        | inr not_held ↦ rw not_held (count_by-none (λ hold. is_request_of hold row.session row.tag row.mode) xs not_held)
-      ]
+  of_waits : TableRow → ℕ
+  of_waits row = count_by (λ wait. row_eq row (awaited_row_of wait)) ws
 
-  at_row : (row : TableRow) → count_by (row_eq row) rows ≡ (if has_row (record { holds = holds_in xs; waits = λ _. [] }) row then 1 else 0)
+  counted : (row : TableRow) → count_by (row_eq row) rows ≡ of_holds row + of_waits row
+  counted row =
+      sum_by-IsPermutation (λ other. if row_eq row other then 1 else 0) (map row_of hs ++ map awaited_row_of ws) rows moved
+      ∙ count_by-append (row_eq row) (map row_of hs) (map awaited_row_of ws)
+      ∙ rw (count_by-map (row_eq row) row_of hs, count_by-map (row_eq row) awaited_row_of ws) refl
+
+  at_granted : (row : TableRow) → row.granted ≡ true → of_holds row + of_waits row ≡ (if has_row (content_in hs ws) row then 1 else 0)
+  at_granted row granted =
+      let held : of_holds row ≡ count_by (λ hold. is_request_of hold row.session row.tag row.mode) hs =
+      count_by-same (λ hold. row_eq row (row_of hold)) (λ hold. is_request_of hold row.session row.tag row.mode) hs (λ hold. rw (granted, and-true) refl) in
+      let awaited : of_waits row ≡ 0 =
+      count_by-failing (λ wait. row_eq row (awaited_row_of wait)) ws (λ wait. rw (granted, and-false, and-false, and-false) refl) in
+      let total : times_in hs ws row.session row.tag row.mode ≤ 1 = once row.session row.tag row.mode in
+      let at_most : count_by (λ hold. is_request_of hold row.session row.tag row.mode) hs ≤ 1 = omega arith in
+      let sum : of_holds row + of_waits row ≡ count_by (λ hold. is_request_of hold row.session row.tag row.mode) hs = omega arith in
+      sum ∙ once_or_not (λ hold. is_request_of hold row.session row.tag row.mode) hs at_most ∙ rw granted refl
+
+  at_awaited : (row : TableRow) → row.granted ≡ false → of_holds row + of_waits row ≡ (if has_row (content_in hs ws) row then 1 else 0)
+  at_awaited row waits =
+      let held : of_holds row ≡ 0 =
+      count_by-failing (λ hold. row_eq row (row_of hold)) hs (λ hold. rw (waits, and-false, and-false, and-false) refl) in
+      let awaited : of_waits row ≡ count_by (λ wait. is_request_of (request_of wait) row.session row.tag row.mode) ws =
+      count_by-same (λ wait. row_eq row (awaited_row_of wait)) (λ wait. is_request_of (request_of wait) row.session row.tag row.mode) ws (λ wait. rw (waits, and-true) refl) in
+      let total : times_in hs ws row.session row.tag row.mode ≤ 1 = once row.session row.tag row.mode in
+      let at_most : count_by (λ wait. is_request_of (request_of wait) row.session row.tag row.mode) ws ≤ 1 = omega arith in
+      let sum : of_holds row + of_waits row ≡ count_by (λ wait. is_request_of (request_of wait) row.session row.tag row.mode) ws = omega arith in
+      sum ∙ once_or_not (λ wait. is_request_of (request_of wait) row.session row.tag row.mode) ws at_most
+      ∙ rw waits (ap (λ b. if b then 1 else 0) (sym (awaits-in ws row.session row.tag row.mode)))
+
+  at_row : (row : TableRow) → count_by (row_eq row) rows ≡ (if has_row (content_in hs ws) row then 1 else 0)
   at_row row =
       counted row ∙
       elim (cases_Bool row.granted) [
-        | inl granted ↦
-            count_by-same (λ hold. row_eq row (row_of hold)) (λ hold. is_request_of hold row.session row.tag row.mode) xs (same row granted) ∙ rw granted (held_once row)
-        | inr awaited ↦
-            count_by-none (λ hold. row_eq row (row_of hold)) xs
-            (list_any_none (λ hold. row_eq row (row_of hold)) xs (λ k d within. other row awaited (get_or xs k d))) ∙
-            sym (rw awaited refl)
+        | inl granted ↦ at_granted row granted
+        | inr awaited ↦ at_awaited row awaited
       ]
 
 -- What a list holds after its end was sorted: `old` was there before, and `added` was sorted.

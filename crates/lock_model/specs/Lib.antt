@@ -4,10 +4,12 @@ pub mod Clash
 pub mod Request
 pub mod Listing
 pub mod PartView
+pub mod PartWaits
 pub mod PlainPart
 pub mod Queue
 pub mod Moves
 pub mod LightweightWord
+pub mod Waiter
 pub mod World
 pub mod Happens
 pub mod Safe

@@ -1,21 +1,18 @@
-use Rattle.std.specs.Prelude.{◌≡◌, ℕ, ◌<◌, ◌≤◌, false, List, count_by, vec_len, vec_capacity}
+use Rattle.std.specs.Prelude.{◌≡◌, ◌<◌, ◌≤◌, ◌+◌, vec_len, vec_capacity}
 use Rattle.std.specs.Option.{ForSome}
-use Rattle.modes_core.specs.declared.modes.Mode.{Mode}
-use Rattle.modes_core.specs.declared.tags.Tag.{Tag}
-use Rattle.lock_model.specs.declared.request.Request.{Request}
 use Rattle.lock_model.specs.declared.plain_part.PlainPart.TheInside.{Inside}
-use Rattle.lock_model.specs.Request.{is_request_of}
-use Rattle.lock_model.specs.PartView.{PartView, holds_in}
+use Rattle.lock_model.specs.PartView.{PartView}
+use Rattle.lock_model.specs.PartWaits.{EachOnce, OneWaitEach, times_in}
 
 abbrev pub view_of : Inside → PartView
-view_of part = record { holds = part.holds.items; begun = part.begun }
+view_of part = record { holds = part.holds.items; waits = part.waits.items; begun = part.begun }
 
--- a list names no hold twice
-abbrev pub EachOnce : List Request → Type 0
-EachOnce holds = (session : ℕ) (tag : Tag) (mode : Mode) → count_by (λ hold. is_request_of hold session tag mode) holds ≤ 1
-
--- each hold is listed once, and a begun request is none of them and has room
+-- Each request is held or awaited once at most, a session waits once at most on an object, and a begun request is new.
+-- There is room for the hold that each wait becomes, and for the begun request in either list.
 pub record IsPlainPart (part : Inside) : Type 0 where
-  pub each_once : EachOnce part.holds.items
-  pub begun_is_new : ForSome part.begun (λ request. holds_in part.holds.items request.session request.tag request.mode ≡ false)
-  pub begun_has_room : ForSome part.begun (λ _. vec_len part.holds < vec_capacity part.holds)
+  pub each_once : EachOnce part.holds.items part.waits.items
+  pub one_wait_each : OneWaitEach part.waits.items
+  pub begun_is_new : ForSome part.begun (λ request. times_in part.holds.items part.waits.items request.session request.tag request.mode ≡ 0)
+  pub room : vec_len part.holds + vec_len part.waits ≤ vec_capacity part.holds
+  pub begun_has_room : ForSome part.begun (λ _. vec_len part.holds + vec_len part.waits < vec_capacity part.holds)
+  pub begun_may_wait : ForSome part.begun (λ _. vec_len part.waits < vec_capacity part.waits)

@@ -1,9 +1,10 @@
-use Rattle.std.specs.Prelude.{◌≡◌, ◌≢◌, ◌⊎◌, ℕ, Bool, true, false, ◌&&◌, List, [], ◌∷◌, ◌++◌, length, take, drop, Option, Some, None}
+use Rattle.std.specs.Prelude.{◌≡◌, ◌≢◌, ◌⊎◌, ℕ, Bool, true, false, ◌&&◌, List, [], ◌∷◌, ◌++◌, length, take, drop, find, filter, not, ◌==◌, Option, Some, None}
 use Rattle.std.specs.List.{list_any}
 use Rattle.modes_core.specs.declared.modes.Mode.{Mode}
 use Rattle.modes_core.specs.declared.tags.Tag.{Tag}
 use Rattle.modes_core.specs.Conflict.{conflict}
 use Rattle.modes_core.specs.ModeSet.{all_modes}
+use Rattle.modes_core.specs.Mode.{mode_eq}
 use Rattle.modes_core.specs.Tag.{tag_eq}
 use Rattle.lock_model.specs.Put.{put}
 use Rattle.lock_model.specs.Content.{Holds, Wait, Content, set_hold}
@@ -61,6 +62,41 @@ joined Last wait queue = queue ++ wait ∷ []
 joined (Before place) wait queue = take place queue ++ wait ∷ drop place queue
 joined AtOnce wait queue = queue
 joined (Deadlock other) wait queue = queue
+
+-- A session's wait in a queue.
+
+-- whether the session waits in the queue
+abbrev pub waits_there : List Wait → ℕ → Bool
+waits_there queue session = list_any (λ wait. wait.session == session) queue
+
+-- whether the session waits in the queue for the mode
+abbrev pub awaits_mode : List Wait → ℕ → Mode → Bool
+awaits_mode queue session mode = list_any (λ wait. (wait.session == session) && mode_eq wait.mode mode) queue
+
+-- the session's wait, if it waits in the queue
+abbrev pub wait_in : List Wait → ℕ → Option Wait
+wait_in queue session = find (λ wait. wait.session == session) queue
+
+-- the queue without the session's wait
+abbrev pub queue_without : List Wait → ℕ → List Wait
+queue_without queue session = filter (λ wait. not (wait.session == session)) queue
+
+-- the content with another queue for the object
+abbrev pub with_queue : Content → Tag → List Wait → Content
+with_queue content tag queue = record { holds = content.holds; waits = put tag_eq content.waits tag queue }
+
+-- the wait that a request becomes when it joins: with the modes of the object that its session holds then
+abbrev pub joining_wait : Content → ℕ → Tag → Mode → Wait
+joining_wait content session tag mode = record { session = session; mode = mode; held = content.holds session tag }
+
+-- the content with one wait more, at its place
+abbrev pub add_wait : Content → ℕ → Tag → Mode → Place → Content
+add_wait content session tag mode place =
+    with_queue content tag (joined place (joining_wait content session tag mode) (content.waits tag))
+
+-- the content with the session's wait on the object gone
+abbrev pub remove_wait : Content → ℕ → Tag → Content
+remove_wait content session tag = with_queue content tag (queue_without (content.waits tag) session)
 
 -- What a request is answered.
 

@@ -6,10 +6,12 @@ pub mod events;
 pub mod machine;
 pub mod no_memory;
 pub mod part_table;
+pub mod part_waits;
 pub mod plain_part;
 pub mod queue_laws;
 pub mod request;
 pub mod rows;
+pub mod waits;
 
 pub use events::{Event, Move, Step, Word};
 pub use machine::{Hold, Plain, QueuedWait, Spot, run_events};
@@ -18,3 +20,4 @@ pub use part_table::PartTable;
 pub use plain_part::PlainPart;
 pub use request::Request;
 pub use rows::TableRow;
+pub use waits::{Waiter, Woken};

@@ -1,20 +1,23 @@
-ghost use Rattle.std.specs.Prelude.{◌≡◌, false, true, Option, Some, None, OnOk, OnErr};
+ghost use Rattle.std.specs.Prelude.{◌≡◌, ◌≤◌, false, true, List, length, map, slice_get, Option, Some, None, option_map, OnOk, OnErr};
 ghost use Rattle.modes_core.specs.ModeSet.{set_has};
-ghost use Rattle.lock_model.specs.Content.{Content, add_hold, remove_hold};
+ghost use Rattle.lock_model.specs.Content.{Wait, Content, add_hold, remove_hold};
 ghost use Rattle.lock_model.specs.Clash.{HolderInTheWay};
 ghost use Rattle.lock_model.specs.Listing.{AppendsListing};
+ghost use Rattle.lock_model.specs.Queue.{Before, Wakes, awaits_mode, waits_there, wait_in, add_wait, remove_wait};
+ghost use Rattle.lock_model.specs.Waiter.{wait_of, whose_and_mode};
 ghost use Rattle.lock_model.specs.declared.request.Request.{Request};
 
 use crate::no_memory::NoMemory;
 use crate::request::Request;
 use crate::rows::TableRow;
+use crate::waits::{Waiter, Woken};
 use modes_core::{Mode, ModeSet, SessionId, Tag};
 
-/// One partition of the lock table, however it keeps its holds. Contracts see its `content`, and the
+/// One partition of the lock table, however it keeps its holds and wait queues. Contracts see its `content`, and the
 /// request that is begun in it.
 ///
-/// A request is made in two steps: `begin` takes all the memory that it can need, and `grant` or
-/// `withdraw`, which ends it, takes none.
+/// A request is made in two steps: `begin` takes all the memory that it can need, as a wait and as the
+/// hold that it becomes; `grant`, `join` or `withdraw`, which ends it, takes none.
 pub trait PartTable {
     ghost content: { Self → Content };
 
@@ -24,6 +27,7 @@ pub trait PartTable {
     /// is as before.
     fn begin(&mut self, session: SessionId, tag: Tag, mode: Mode) -> Result<(), NoMemory>
         requires new { (content self.old).holds session tag mode ≡ false }
+        requires not_awaited { awaits_mode ((content self.old).waits tag) session mode ≡ false }
         requires none_begun { begun self.old ≡ None }
         ensures content { content self.new ≡ content self.old }
         ensures ok { OnOk result (begun self.new ≡ Some (record { session = session; tag = tag; mode = mode })) }
@@ -55,6 +59,32 @@ pub trait PartTable {
     /// such mode (`LockCheckConflicts` in lock.c).
     fn conflict_of(&self, session: SessionId, tag: Tag, mode: Mode) -> Option<(SessionId, Mode)>
         ensures { HolderInTheWay (content self.now).holds session tag mode result };
+
+    /// The wait at this place of the object's queue, counted from the front.
+    fn waiter(&self, tag: Tag, place: usize) -> Option<Waiter>
+        ensures { option_map wait_of result ≡ slice_get ((content self.now).waits tag) place };
+
+    /// Makes the begun request a wait before the one at this place, with the modes that the session holds
+    /// now (`JoinWaitQueue`, in version 16 a part of `ProcSleep` in proc.c).
+    fn join(&mut self, session: SessionId, tag: Tag, mode: Mode, place: usize)
+        requires begun { begun self.old ≡ Some (record { session = session; tag = tag; mode = mode }) }
+        requires no_wait { waits_there ((content self.old).waits tag) session ≡ false }
+        requires place { place ≤ length ((content self.old).waits tag) }
+        ensures content { content self.new ≡ add_wait (content self.old) session tag mode (Before place) }
+        ensures ended { begun self.new ≡ None };
+
+    /// Takes the session's wait out of the object's queue (`RemoveFromWaitQueue` in lock.c), and says for
+    /// which mode it was.
+    fn leave(&mut self, session: SessionId, tag: Tag) -> Option<Mode>
+        ensures mode { result ≡ option_map (λ wait. wait.mode) (wait_in ((content self.old).waits tag) session) }
+        ensures content { content self.new ≡ remove_wait (content self.old) session tag }
+        ensures begun { begun self.new ≡ begun self.old };
+
+    /// Grants each wait of the object's queue that is free to go, and says whose they are
+    /// (`ProcLockWakeup` in proc.c).
+    fn wake(&mut self, tag: Tag) -> Woken
+        ensures woken { (granted : List Wait) × Wakes (content self.old) tag granted (content self.new) × (result.items ≡ map whose_and_mode granted) }
+        ensures begun { begun self.new ≡ begun self.old };
 
     /// Appends the content's rows in the listing's order (`GetLockStatusData` in lock.c). After a
     /// refusal the list is as before.

@@ -4,17 +4,23 @@ ghost use Rattle.lock_model.specs.Clash.{lower_holder_of};
 
 use crate::no_memory::NoMemory;
 use crate::part_table::PartTable;
+use crate::part_waits::{PartWait, awaited_mode, index_of_place, take_out, waiter_at, wake_in};
 use crate::request::Request;
 use crate::rows::{TableRow, sort_rows};
+use crate::waits::{Waiter, Woken};
 use modes_core::{Mode, ModeSet, SessionId, Tag, conflicts};
 use std::alloc::Global;
 use std::marker::Model;
 
-/// The plain keeper of a partition: a list of its holds. Each call looks through the whole list; it
-/// serves the slow machine, the tests and one thread.
+#[cfg(test)]
+mod tests;
+
+/// The plain keeper of a partition: a list of its holds, and one of the waits of all its objects. Each
+/// call looks through the whole list; it serves the slow machine, the tests and one thread.
 #[derive(Drop)]
 pub struct PlainPart {
     holds: Vec<Request>,
+    waits: Vec<PartWait>,
     begun: Option<Request>,
 }
 
@@ -42,6 +48,7 @@ impl PlainPart {
     {
         PlainPart {
             holds: Vec::new(alloc),
+            waits: Vec::new(alloc),
             begun: None,
         }
     }
@@ -55,7 +62,8 @@ impl PartTable for PlainPart {
     ghost begun = { λ part. part.begun };
 
     fn begin(&mut self, session: SessionId, tag: Tag, mode: Mode) -> Result<(), NoMemory> {
-        self.holds.reserve(1)?;
+        self.holds.reserve(self.waits.len() + 1)?;
+        self.waits.reserve(1)?;
         self.begun = Some(Request { session, tag, mode });
         Ok(())
     }
@@ -94,9 +102,38 @@ impl PartTable for PlainPart {
         lowest
     }
 
+    fn waiter(&self, tag: Tag, place: usize) -> Option<Waiter> {
+        waiter_at(self.waits.as_slice(), tag, place)
+    }
+
+    fn join(&mut self, session: SessionId, tag: Tag, mode: Mode, place: usize) {
+        let held = self.held(session, tag);
+        let index = index_of_place(self.waits.as_slice(), tag, place);
+        self.begun = None;
+        let waiter = Waiter {
+            session,
+            mode,
+            held,
+        };
+        match self.waits.insert(index, PartWait { tag, waiter }) {
+            Ok(()) => {}
+            Err(_) => unreachable!(),
+        }
+    }
+
+    fn leave(&mut self, session: SessionId, tag: Tag) -> Option<Mode> {
+        let mode = awaited_mode(self.waits.as_slice(), session, tag);
+        take_out(&mut self.waits, session, tag);
+        mode
+    }
+
+    fn wake(&mut self, tag: Tag) -> Woken {
+        wake_in(&mut self.holds, &mut self.waits, tag)
+    }
+
     fn rows(&self, rows: &mut Vec<TableRow>) -> Result<(), NoMemory> {
         let before = rows.len();
-        rows.reserve(self.holds.len())?;
+        rows.reserve(self.holds.len() + self.waits.len())?;
         for hold in &self.holds {
             rows.push_reserved(TableRow {
                 session: hold.session,
@@ -104,6 +141,9 @@ impl PartTable for PlainPart {
                 mode: hold.mode,
                 granted: true,
             });
+        }
+        for wait in &self.waits {
+            rows.push_reserved(wait.row());
         }
         sort_rows(&mut rows[before..]);
         Ok(())

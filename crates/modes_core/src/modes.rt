@@ -3,9 +3,11 @@ ghost use Rattle.modes_core.specs.Mode.{number_of, name_of, mode_eq};
 
 use std::fmt;
 
-/// A lock mode, weakest first (`AccessShareLock` to `AccessExclusiveLock` in lockdefs.h).
-#[derive(Clone, Copy, Debug, PartialEq, Eq, PartialOrd, Ord, Hash)]
+/// A lock mode, weakest first (`AccessShareLock` to `AccessExclusiveLock` in lockdefs.h). The default, the
+/// weakest, is what unused places of bounded lists have.
+#[derive(Clone, Copy, Debug, Default, PartialEq, Eq, PartialOrd, Ord, Hash)]
 pub enum Mode {
+    #[default]
     AccessShare = 1,
     RowShare = 2,
     RowExclusive = 3,

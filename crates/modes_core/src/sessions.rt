@@ -7,8 +7,9 @@ use std::marker::Model;
 /// How many sessions a lock manager can open over its life.
 pub const SESSIONS: u8 = 64;
 
-/// The number of a session, 0 to 63, given in the order of opening. Contracts see the number.
-#[derive(Clone, Copy, Debug, PartialEq, Eq, PartialOrd, Ord, Hash)]
+/// The number of a session, 0 to 63, given in the order of opening. Contracts see the number. The
+/// default, 0, is what unused places of bounded lists have.
+#[derive(Clone, Copy, Debug, Default, PartialEq, Eq, PartialOrd, Ord, Hash)]
 pub struct SessionId {
     number: u8,
 }

@@ -1,0 +1,17 @@
+ghost use Rattle.modes_core.specs.ModeSet.{set_has};
+
+use arrayvec::ArrayVec;
+use modes_core::{Mode, ModeSet, SessionId};
+
+/// A wait in the queue of an object (`PGPROC` with its `waitLockMode` and `heldLocks` in proc.h): who
+/// waits, for which mode, and the modes of the object that it held when it joined.
+#[derive(Clone, Copy, Debug, PartialEq, Eq)]
+pub struct Waiter {
+    pub session: SessionId,
+    pub mode: Mode,
+    pub held: ModeSet,
+}
+
+/// Those whom a wakeup granted, with their modes, in the order of granting. There are at most 64
+/// sessions, and each waits once at most.
+pub type Woken = ArrayVec<(SessionId, Mode), 64>;
