@@ -1,0 +1,38 @@
+use Rattle.std.proofs.Common.{◌≡◌, ℕ, Bool, true, false, not, cond, List, [], ◌∷◌, Option, refl, sym, ap, ◌∙◌}
+use Rattle.std.specs.Prelude.{◌==◌, filter, is_some, option_map}
+use Rattle.std.specs.List.{list_any}
+use Rattle.std.proofs.lemmas.Bool.{or_parts}
+use Rattle.modes_core.specs.declared.modes.Mode.{Mode}
+use Rattle.modes_core.specs.declared.tags.Tag.{Tag}
+use Rattle.modes_core.specs.Tag.{tag_eq}
+use Rattle.modes_core.proofs.Laws.{tag_eq-same}
+use Rattle.lock_model.specs.Put.{put}
+use Rattle.lock_model.specs.Content.{Wait, Content}
+use Rattle.lock_model.specs.Queue.{waits_there, wait_in, queue_without, remove_wait}
+use Rattle.wait_queue.proofs.ListLemmas.{is_some-find, is_some-option_map}
+
+-- A session waits in a queue exactly where its wait there has a mode.
+pub waits_there-mode : (queue : List Wait) (session : ℕ) (mode : Option Mode) → mode ≡ option_map (λ wait. wait.mode) (wait_in queue session) → is_some mode ≡ waits_there queue session
+waits_there-mode queue session mode is =
+    ap is_some is ∙ is_some-option_map (λ wait. wait.mode) (wait_in queue session) ∙ is_some-find (λ wait. wait.session == session) queue
+
+-- With none that passes taken out, a list is as before.
+filter-none : {X : Type 0} (p : X → Bool) (xs : List X) → list_any p xs ≡ false → filter (λ x. not (p x)) xs ≡ xs
+filter-none p [] none = refl
+filter-none p (x ∷ xs) none =
+    let parts = or_parts (p x) (list_any p xs) none in
+    ap (λ b. cond (not b) (x ∷ filter (λ y. not (p y)) xs) (filter (λ y. not (p y)) xs)) parts.0 ∙ ap (λ l. x ∷ l) (filter-none p xs parts.1)
+
+-- A function of objects, put to what it is there, is as before.
+put-same : {A : Type 0} (f : Tag → A) (tag : Tag) (a : A) → a ≡ f tag → put tag_eq f tag a ≡ f
+put-same {A} f tag a is = λ i other. at other (tag_eq other tag) refl i where
+  at : (other : Tag) (b : Bool) → tag_eq other tag ≡ b → cond b a (f other) ≡ f other
+  at other true same = is ∙ ap f (sym (tag_eq-same other tag same))
+  at other false differs = refl
+
+-- Where the session has no wait, taking it out changes nothing.
+pub remove_wait-none : (content : Content) (session : ℕ) (tag : Tag) → waits_there (content.waits tag) session ≡ false → remove_wait content session tag ≡ content
+remove_wait-none content session tag none =
+    let same : put tag_eq content.waits tag (queue_without (content.waits tag) session) ≡ content.waits =
+    put-same content.waits tag (queue_without (content.waits tag) session) (filter-none (λ wait. wait.session == session) (content.waits tag) none) in
+    λ i. record { holds = content.holds; waits = same i }

@@ -1,0 +1,4 @@
+pub mod Walk
+pub mod Standing
+pub mod Clash
+pub mod Decide

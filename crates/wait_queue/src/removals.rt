@@ -1,0 +1,40 @@
+ghost use Rattle.std.specs.Prelude.{◌≡◌, not, List, [], map};
+ghost use Rattle.std.specs.Bool.{OnTrue, OnFalse};
+ghost use Rattle.lock_model.specs.Content.{Wait};
+ghost use Rattle.lock_model.specs.Queue.{waits_there, remove_wait, Wakes};
+ghost use Rattle.lock_model.specs.Waiter.{whose_and_mode};
+
+use lock_model::{PartTable, Woken};
+use modes_core::{SessionId, Tag};
+
+/// What became of a wait that was to be taken out.
+#[derive(Debug, Drop)]
+pub struct Removed {
+    /// There was no wait: it had been granted already.
+    pub was_granted: bool,
+    /// Those who were granted since the wait is gone, in order.
+    pub woken: Woken,
+}
+
+/// Takes the session's wait out of the object's queue, if it is still there, and grants the waits that
+/// are free to go then (`RemoveFromWaitQueue` in lock.c, for `LockErrorCleanup` in proc.c).
+pub fn remove_waiter<P: PartTable>(part: &mut P, session: SessionId, tag: Tag) -> Removed
+    ensures found { result.was_granted ≡ not (waits_there ((P.content part.old).waits tag) session) }
+    ensures removed { OnFalse result.was_granted ((granted : List Wait)
+        × Wakes (remove_wait (P.content part.old) session tag) tag granted (P.content part.new)
+        × (result.woken.items ≡ map whose_and_mode granted)) }
+    ensures unchanged { OnTrue result.was_granted (P.content part.new ≡ P.content part.old) }
+    ensures nobody_woken { OnTrue result.was_granted (result.woken.items ≡ []) }
+    ensures begun { P.begun part.new ≡ P.begun part.old }
+{
+    match part.leave(session, tag) {
+        None => Removed {
+            was_granted: true,
+            woken: Woken::new(),
+        },
+        Some(_) => Removed {
+            was_granted: false,
+            woken: part.wake(tag),
+        },
+    }
+}

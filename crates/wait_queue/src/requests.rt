@@ -1,0 +1,132 @@
+ghost use Rattle.std.specs.Prelude.{◌≡◌, ◌≢◌, false, option_map, IfOk, IfErr, OnErr};
+ghost use Rattle.lock_model.specs.Clash.{ClashIs};
+ghost use Rattle.lock_model.specs.Queue.{waits_there};
+ghost use Rattle.wait_queue.specs.Clash.{clash_of, Clashes};
+ghost use Rattle.wait_queue.specs.Decide.{IsDecided, RefusedFor};
+
+use crate::place::{Standing, standing_of};
+use crate::walk::first_against;
+use lock_model::PartTable;
+use modes_core::{How, Mode, Refusal, SessionId, Tag};
+
+/// Whether a request may wait (`dontWait` of `LockAcquireExtended` in lock.c).
+#[derive(Clone, Copy, Debug, PartialEq, Eq)]
+pub enum Kind {
+    /// It is granted or refused.
+    Conditional,
+    /// It is granted, joins the queue, or is refused since it would wait for ever.
+    Waiting,
+}
+
+/// What became of a request that was not refused.
+#[derive(Clone, Copy, Debug, PartialEq, Eq)]
+pub enum Decision {
+    /// It is a hold.
+    Granted,
+    /// It is a wait in the object's queue.
+    Queued,
+}
+
+/// What stands in the way of a request: another session, with its mode.
+#[derive(Clone, Copy)]
+struct Clash {
+    session: SessionId,
+    mode: Mode,
+    how: How,
+}
+
+/// Decides a request for a mode that the session neither holds nor awaits (`LockAcquireExtended` in
+/// lock.c, with `ProcSleep` in proc.c). Where nothing stands in its way it is granted. Else a
+/// conditional one is refused with what stands in its way, and one that may wait is answered by its
+/// place in the queue. After `NoMemory`, as after each refusal, the content is as before.
+pub fn decide<P: PartTable>(
+    part: &mut P,
+    session: SessionId,
+    tag: Tag,
+    mode: Mode,
+    kind: Kind,
+) -> Result<Decision, Refusal>
+    requires new { (P.content part.old).holds session tag mode ≡ false }
+    requires no_wait { waits_there ((P.content part.old).waits tag) session ≡ false }
+    requires none_begun { P.begun part.old ≡ None }
+
+    ensures decided { IfOk result (λ decision.
+        IsDecided kind (P.content part.old) session tag mode decision (P.content part.new)) }
+    ensures refused { IfErr result (RefusedFor kind (P.content part.old) session tag mode) }
+    ensures unchanged { OnErr result (P.content part.new ≡ P.content part.old) }
+    ensures at_once { kind ≡ Kind.Conditional → result ≢ Ok Decision.Queued }
+    ensures ended { P.begun part.new ≡ None }
+{
+    if part.begin(session, tag, mode).is_err() {
+        return Err(Refusal::NoMemory);
+    }
+    let Some(clash) = clash_with(part, session, tag, mode) else {
+        part.grant(session, tag, mode);
+        return Ok(Decision::Granted);
+    };
+    match kind {
+        Kind::Conditional => {
+            part.withdraw(session, tag, mode);
+            Err(Refusal::Conflict {
+                session: clash.session,
+                mode: clash.mode,
+                how: clash.how,
+            })
+        }
+        Kind::Waiting => settle(part, session, tag, mode),
+    }
+}
+
+/// What a request for the mode clashes with, if anything: the first waiter that awaits a conflicting
+/// mode, else the lowest-numbered session that holds one (`LockCheckConflicts` in lock.c, after the
+/// look at `waitMask`).
+fn clash_with<P: PartTable>(part: &P, session: SessionId, tag: Tag, mode: Mode) -> Option<Clash>
+    ensures { ClashIs (P.content part.now) session tag mode (option_map clash_of result) }
+{
+    if let Some(waiter) = first_against(part, tag, mode) {
+        return Some(Clash {
+            session: waiter.session,
+            mode: waiter.mode,
+            how: How::Awaited,
+        });
+    }
+    let (other, its) = part.conflict_of(session, tag, mode)?;
+    Some(Clash {
+        session: other,
+        mode: its,
+        how: How::Held,
+    })
+}
+
+/// Answers a begun request that something stands in the way of, by its place in the queue.
+fn settle<P: PartTable>(
+    part: &mut P,
+    session: SessionId,
+    tag: Tag,
+    mode: Mode,
+) -> Result<Decision, Refusal>
+    requires clashes { Clashes (P.content part.old) session tag mode }
+    requires no_wait { waits_there ((P.content part.old).waits tag) session ≡ false }
+    requires begun { P.begun part.old ≡ Some (record { session = session; tag = tag; mode = mode }) }
+
+    ensures decided { IfOk result (λ decision.
+        IsDecided Kind.Waiting (P.content part.old) session tag mode decision (P.content part.new)) }
+    ensures refused { IfErr result (RefusedFor Kind.Waiting (P.content part.old) session tag mode) }
+    ensures unchanged { OnErr result (P.content part.new ≡ P.content part.old) }
+    ensures ended { P.begun part.new ≡ None }
+{
+    match standing_of(part, session, tag, mode) {
+        Standing::InQueue(place) => {
+            part.join(session, tag, mode, place);
+            Ok(Decision::Queued)
+        }
+        Standing::AtOnce => {
+            part.grant(session, tag, mode);
+            Ok(Decision::Granted)
+        }
+        Standing::Deadlock(other) => {
+            part.withdraw(session, tag, mode);
+            Err(Refusal::SimpleDeadlock { session: other })
+        }
+    }
+}
