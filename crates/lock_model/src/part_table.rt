@@ -62,7 +62,8 @@ pub trait PartTable {
 
     /// The wait at this place of the object's queue, counted from the front.
     fn waiter(&self, tag: Tag, place: usize) -> Option<Waiter>
-        ensures { option_map wait_of result ≡ slice_get ((content self.now).waits tag) place };
+        ensures wait { option_map wait_of result ≡ slice_get ((content self.now).waits tag) place }
+        ensures countable { length ((content self.now).waits tag) ≤ usize.MAX };
 
     /// Makes the begun request a wait before the one at this place, with the modes that the session holds
     /// now (`JoinWaitQueue`, in version 16 a part of `ProcSleep` in proc.c).

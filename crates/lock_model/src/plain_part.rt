@@ -103,6 +103,8 @@ impl PartTable for PlainPart {
     }
 
     fn waiter(&self, tag: Tag, place: usize) -> Option<Waiter> {
+        // No list is longer than a number of its length can say.
+        let _len = self.waits.len();
         waiter_at(self.waits.as_slice(), tag, place)
     }
 
