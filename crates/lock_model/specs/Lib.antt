@@ -8,6 +8,7 @@ pub mod PlainPart
 pub mod Queue
 pub mod Moves
 pub mod LightweightWord
+pub mod WaitWord
 pub mod World
 pub mod Happens
 pub mod Safe

@@ -11,6 +11,7 @@ pub mod laws;
 mod listed;
 mod plain;
 mod state;
+mod waiting;
 #[cfg(test)]
 mod tests;
 
