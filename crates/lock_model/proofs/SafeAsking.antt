@@ -1,6 +1,6 @@
-use Rattle.std.proofs.Common.{◌≡◌, ℕ, List, ◌∷◌, [], ◌++◌, ◌∙◌}
+use Rattle.std.proofs.Common.{◌≡◌, ℕ, List, ◌∙◌}
 use Rattle.lock_model.specs.WaitWord.{wait_state, asked_word}
-use Rattle.lock_model.specs.World.{World, TraceEntry, LoadedWait, set_at}
+use Rattle.lock_model.specs.World.{World, TraceEntry}
 use Rattle.lock_model.specs.Happens.{after_asking, after_loading_wait}
 use Rattle.lock_model.specs.Safe.{Safe}
 use Rattle.lock_model.proofs.PutLemmas.{set_at-each}

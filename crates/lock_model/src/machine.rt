@@ -11,9 +11,9 @@ pub mod laws;
 mod listed;
 mod plain;
 mod state;
-mod waiting;
 #[cfg(test)]
 mod tests;
+mod waiting;
 
 use crate::{Event, NoMemory};
 pub use plain::{Hold, Plain, QueuedWait, Spot};

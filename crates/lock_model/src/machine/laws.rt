@@ -78,7 +78,8 @@ pub fn asking_sets_one_bit()
     ensures sum { (word : ℕ) → asked_word word ≡ (if is_asked word then word else word + 4) }
 {}
 
-/// An event changes what its own session has, and no other session's holds, words and trace.
+/// An event changes what its own session has, and no other session's holds, words held and trace. Of
+/// another session's words it can set the bit that asks it to cancel.
 pub fn others_are_untouched()
     ensures { (w v : World) (event : Event) (other : ℕ) → Happens w event v → other ≢ event.session →
         ((tag : Tag) (mode : Mode) → v.sessions.own other tag mode ≡ w.sessions.own other tag mode)

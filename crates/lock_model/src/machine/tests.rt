@@ -311,7 +311,11 @@ fn a_load_changes_no_word(rt: HostRuntime) -> Result<(), Fail> {
     leads_to_asked(&rt, &[loads(c, 0), loads(c, 4)], &[])?;
     leads_to(&rt, &[takes(a, 15), loads(a, 0)], 0, HELD)?;
     // The session goes on, whatever it loaded.
-    leads_to_asked(&rt, &[loads(a, 1), asks(a, b), loads(a, 0), asks(a, c)], &[b, c])
+    leads_to_asked(
+        &rt,
+        &[loads(a, 1), asks(a, b), loads(a, 0), asks(a, c)],
+        &[b, c],
+    )
 }
 
 #[test]
