@@ -342,7 +342,7 @@ fn a_long_run(rt: HostRuntime) -> Result<(), Fail> {
                 mode: Mode::RowShare,
             },
         };
-        // Sessions 1, 6, 11 and so on ask the one behind them.
+        // Sessions 1, 6, 11 and so on ask the one before them.
         if number % 5 == 1 {
             events.push(asks(session(&rt, number), session(&rt, number - 1)))?;
         }
