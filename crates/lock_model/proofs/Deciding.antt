@@ -102,8 +102,8 @@ pub held-any : (xs : List Hold) (holds : Holds) → ListsHolds xs holds → (p :
 held-any xs holds lists p s t m passes held =
     any_weaker (is_hold s t m) p xs (λ h e. let same = is_hold-same s t m h e in passes h same.0 same.1 same.2) (held-listed xs holds lists s t m held)
 
-module _ (issued : ℕ) (live : List Bool) (kept_by : List (Option ℕ)) (words : List ℕ) (holders : List (Option ℕ)) (holds : List Hold) (w : World)
-    (safe : Safe w) (shows : ShowsParts issued live kept_by words holders holds w) where
+module _ (issued : ℕ) (live : List Bool) (kept_by : List (Option ℕ)) (words wait_words : List ℕ) (holders : List (Option ℕ)) (holds : List Hold) (w : World)
+    (safe : Safe w) (shows : ShowsParts issued live kept_by words wait_words holders holds w) where
   pub steps_from : (s : ℕ) → makes_steps live kept_by s ≡ true → MakesSteps w.numbers s
   steps_from s e =
       let parts = and_parts (get_or live s false) (is_none (get_or kept_by s None)) e in

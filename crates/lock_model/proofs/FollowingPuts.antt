@@ -77,12 +77,12 @@ ListsHolds-remove xs own s t m i d lists within is_it k o n = at (set_hold-at ow
       let goal : ◌≡◌ {A = ℕ} (cond (set_hold own s t m false k o n) 1 0) (cond (own k o n) 1 0) = ap (λ b. cond b 1 0) is in
       omega (arith, sum)
 
-module _ (issued : ℕ) (live : List Bool) (kept_by : List (Option ℕ)) (words : List ℕ) (holders : List (Option ℕ)) (holds : List Hold) (w : World)
-    (safe : Safe w) (shows : ShowsParts issued live kept_by words holders holds w) where
+module _ (issued : ℕ) (live : List Bool) (kept_by : List (Option ℕ)) (words wait_words : List ℕ) (holders : List (Option ℕ)) (holds : List Hold) (w : World)
+    (safe : Safe w) (shows : ShowsParts issued live kept_by words wait_words holders holds w) where
   -- A put of any move that is lawful is followed, once the list of holds has followed it.
   put_home : (s p : ℕ) (done : Move) (content : Content) (after : List Hold) → MayPutPartition w s p done content → p < length words → p < length holders → ListsHolds after (own_after w.sessions.own s done) → AreInTable after
       → (v : World) × Next w (record { session = s; step = PutExclusive (Partition p) done }) v
-      × ShowsParts issued live kept_by (set words p (put_word (get_or words p free_word))) (set holders p None) after v
+      × ShowsParts issued live kept_by (set words p (put_word (get_or words p free_word))) wait_words (set holders p None) after v
   put_home s p done content after may in_words in_holders lists all = (
     after_putting_partition w s p done content,
     inl (content, may, refl),
@@ -93,6 +93,7 @@ module _ (issued : ℕ) (live : List Bool) (kept_by : List (Option ℕ)) (words 
       kept_by_is = shows.kept_by_is;
       word_is = λ q. get_or-set_at words p (put_word (get_or words p free_word)) free_word w.words.partition in_words shows.word_is q
           ∙ ap (λ n. set_at w.words.partition p (put_word n) q) (shows.word_is p);
+      wait_is = shows.wait_is;
       holder_is = holder-set_at holders p None None w.contents.hand in_holders refl shows.holder_is;
       sixteen = length-set holders p None ∙ shows.sixteen;
       holds_are = lists;
@@ -102,26 +103,26 @@ module _ (issued : ℕ) (live : List Bool) (kept_by : List (Option ℕ)) (words 
 
   has_hand : (s p : ℕ) → has_in_hand live kept_by holders s p ≡ true → w.sessions.holds_partition s p ≡ true
   has_hand s p has =
-      sym (in_hand issued live kept_by words holders holds w safe shows s p)
+      sym (in_hand issued live kept_by words wait_words holders holds w safe shows s p)
       ∙ (and_parts (makes_steps live kept_by s) _ (and_parts (nat_lt p 16) _ has).1).1
 
   has_steps : (s p : ℕ) → has_in_hand live kept_by holders s p ≡ true → MakesSteps w.numbers s
-  has_steps s p has = steps_from issued live kept_by words holders holds w safe shows s (and_parts (makes_steps live kept_by s) _ (and_parts (nat_lt p 16) _ has).1).0
+  has_steps s p has = steps_from issued live kept_by words wait_words holders holds w safe shows s (and_parts (makes_steps live kept_by s) _ (and_parts (nat_lt p 16) _ has).1).0
 
   -- A put by a session that hasn't the partition in hand is not lawful.
   pub not_in_hand : (s p : ℕ) (done : Move) → has_in_hand live kept_by holders s p ≡ false → Lawful w (record { session = s; step = PutExclusive (Partition p) done }) → ⊥
   not_in_hand s p done hasn't lawful =
       let may = lawful.1.1 in
-      let there : is_number s (get_or holders p None) ≡ true = in_hand issued live kept_by words holders holds w safe shows s p ∙ may.holding in
+      let there : is_number s (get_or holders p None) ≡ true = in_hand issued live kept_by words wait_words holders holds w safe shows s p ∙ may.holding in
       elim (cases_Bool (makes_steps live kept_by s)) [
         | inl steps ↦ both_ways (has_in_hand live kept_by holders s p) hasn't
             (and_from (nat_lt p 16) _ (lt-ltb p 16 (subst (λ n. p < n) shows.sixteen (placed holders s p there))) (and_from (makes_steps live kept_by s) _ steps there))
-        | inr no_steps ↦ steps_not issued live kept_by words holders holds w safe shows s no_steps may.steps
+        | inr no_steps ↦ steps_not issued live kept_by words wait_words holders holds w safe shows s no_steps may.steps
       ]
 
   pub kept : (s p : ℕ) → has_in_hand live kept_by holders s p ≡ true → p < length words → p < length holders
       → (v : World) × Next w (record { session = s; step = PutExclusive (Partition p) Keep }) v
-      × ShowsParts issued live kept_by (set words p (put_word (get_or words p free_word))) (set holders p None) holds v
+      × ShowsParts issued live kept_by (set words p (put_word (get_or words p free_word))) wait_words (set holders p None) holds v
   kept s p has in_words in_holders =
       put_home s p Keep (w.contents.now p) holds
       (record {
@@ -143,7 +144,7 @@ module _ (issued : ℕ) (live : List Bool) (kept_by : List (Option ℕ)) (words 
 
   pub granted : (s p : ℕ) (t : Tag) (m : Mode) (h : Hold) → h.session ≡ s → h.tag ≡ t → h.mode ≡ m → h.spot ≡ Table → has_in_hand live kept_by holders s p ≡ true → partition_of t ≡ p → list_any (is_hold s t m) holds ≡ false → list_any (stands_in_the_way s t m) holds ≡ false → p < length words → p < length holders
       → (v : World) × Next w (record { session = s; step = PutExclusive (Partition p) (Grant t m) }) v
-      × ShowsParts issued live kept_by (set words p (put_word (get_or words p free_word))) (set holders p None) (holds ++ h ∷ []) v
+      × ShowsParts issued live kept_by (set words p (put_word (get_or words p free_word))) wait_words (set holders p None) (holds ++ h ∷ []) v
   granted s p t m h hs ht hm spot has object not_listed free in_words in_holders =
       put_home s p (Grant t m) (add_hold (w.contents.now p) s t m) (holds ++ h ∷ [])
       (record {
@@ -151,7 +152,7 @@ module _ (issued : ℕ) (live : List Bool) (kept_by : List (Option ℕ)) (words 
         holding = has_hand s p has;
         object = object;
         own = absent;
-        moved = (no_holder-granted (w.contents.now p) s t m (safe.carriers.not_yet.no_wait p t) (free_of_holders s p t m free), refl, refl);
+        moved = (no_holder-granted (w.contents.now p) s t m (safe.carriers.nobody_waits.no_wait p t) (free_of_holders s p t m free), refl, refl);
       }) in_words in_holders
       (subst (λ f. ListsHolds (holds ++ h ∷ []) f) (λ i. set_hold w.sessions.own (hs i) (ht i) (hm i) true)
       (ListsHolds-push holds w.sessions.own h shows.holds_are ((λ i. w.sessions.own (hs i) (ht i) (hm i)) ∙ absent)))
@@ -178,7 +179,7 @@ module _ (issued : ℕ) (live : List Bool) (kept_by : List (Option ℕ)) (words 
 
   pub released : (s p : ℕ) (t : Tag) (m : Mode) (i : ℕ) (d : Hold) → has_in_hand live kept_by holders s p ≡ true → partition_of t ≡ p → i < length holds → d ≡ get_or holds i d → is_hold s t m (get_or holds i d) ≡ true → list_any (is_hold s t m) holds ≡ true → p < length words → p < length holders
       → (v : World) × Next w (record { session = s; step = PutExclusive (Partition p) (Release t m) }) v
-      × ShowsParts issued live kept_by (set words p (put_word (get_or words p free_word))) (set holders p None) (swap_remove holds i d) v
+      × ShowsParts issued live kept_by (set words p (put_word (get_or words p free_word))) wait_words (set holders p None) (swap_remove holds i d) v
   released s p t m i d has object within removed is_it listed in_words in_holders =
       put_home s p (Release t m) (remove_hold (w.contents.now p) s t m) (swap_remove holds i d)
       (record {
@@ -188,7 +189,7 @@ module _ (issued : ℕ) (live : List Bool) (kept_by : List (Option ℕ)) (words 
         own = held;
         moved = (
           ap (λ q. (w.contents.now q).holds s t m) (sym object) ∙ safe.promise.one_place.own_is_there s t m held,
-          WakesFor-none m (remove_hold (w.contents.now p) s t m) t (safe.carriers.not_yet.no_wait p t),
+          WakesFor-none m (remove_hold (w.contents.now p) s t m) t (safe.carriers.nobody_waits.no_wait p t),
         );
       }) in_words in_holders (ListsHolds-remove holds w.sessions.own s t m i d shows.holds_are within is_it)
       (All-tail (λ h. h.spot ≡ Table) d (swap_remove holds i d)

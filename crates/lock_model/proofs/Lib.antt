@@ -8,12 +8,14 @@ mod ListingLemmas
 pub mod PutLemmas
 pub mod HoldLemmas
 pub mod WordLemmas
+pub mod WaitWordLemmas
 pub mod QueueLemmas
 pub mod ShowsHoldersLemmas
 pub mod OnePlaceLemmas
 pub mod SafeTaking
 pub mod SafePutting
 pub mod SafeNumbers
+pub mod SafeAsking
 pub mod SafeRuns
 pub mod OneWorld
 pub mod Untouched
@@ -22,4 +24,5 @@ pub mod ListLemmas
 pub mod Deciding
 pub mod Following
 pub mod FollowingPuts
+pub mod FollowingWaiting
 pub mod QueueLaws

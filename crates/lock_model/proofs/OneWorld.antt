@@ -6,7 +6,7 @@ use Rattle.lock_model.specs.declared.events.Event.{Event}
 use Rattle.lock_model.specs.declared.events.Move.{Move}
 use Rattle.lock_model.specs.declared.events.Move.TheVariants.{Keep, Grant, Release}
 use Rattle.lock_model.specs.declared.events.Step.{Step}
-use Rattle.lock_model.specs.declared.events.Step.TheVariants.{TakeExclusive, PutExclusive, SplitSeat, JoinSeat}
+use Rattle.lock_model.specs.declared.events.Step.TheVariants.{TakeExclusive, PutExclusive, SplitSeat, JoinSeat, AskCancel, LoadWait}
 use Rattle.lock_model.specs.declared.events.Word.{Word}
 use Rattle.lock_model.specs.declared.events.Word.TheVariants.{Partition, Fast, Database, Slot, Wait, Strong, Sleep}
 use Rattle.lock_model.specs.Put.{put}
@@ -88,6 +88,8 @@ one_step w s SplitSeat u v safe (inr one) (inr two) = one.1 ∙ sym two.1
 one_step w s SplitSeat u v safe (inl one) (inr two) = absurd (not_both w s safe one.0 two.0)
 one_step w s SplitSeat u v safe (inr one) (inl two) = absurd (not_both w s safe two.0 one.0)
 one_step w s (JoinSeat joiner) u v safe one two = one_joining w s joiner u v one two
+one_step w s (AskCancel k) u v safe one two = one.1 ∙ sym two.1
+one_step w s (LoadWait n) u v safe one two = one.1 ∙ sym two.1
 
 one_next : (w : World) (event : Event) (u v : World) → Safe w → Next w event u → Next w event v → u ≡ v
 one_next w event u v safe (inl one) (inl two) = one_step w event.session event.step u v safe one two

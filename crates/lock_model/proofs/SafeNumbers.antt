@@ -12,7 +12,7 @@ with_numbers w numbers = record { words = w.words; contents = w.contents; sessio
 pub with_numbers-safe : (w : World) (numbers : Numbers) → Safe w → SpentHaveNothing numbers.live w.sessions.own w.sessions.holds_partition → NumbersAreInOrder numbers → Safe (with_numbers w numbers)
 with_numbers-safe w numbers safe spent order = record {
   promise = record { no_conflict = safe.promise.no_conflict; one_place = safe.promise.one_place; words = safe.promise.words; spent = spent };
-  carriers = record { hands = safe.carriers.hands; numbers = order; not_yet = safe.carriers.not_yet };
+  carriers = record { hands = safe.carriers.hands; numbers = order; nobody_waits = safe.carriers.nobody_waits; not_yet = safe.carriers.not_yet };
 }
 
 -- Issuing a number is safe.

@@ -64,12 +64,14 @@ putting_partition-safe w s p done content safe may = record {
   carriers = record {
     hands = HandsAreHolders-set w.contents.hand holds s p false None nobody safe.carriers.hands;
     numbers = safe.carriers.numbers;
+    nobody_waits = record {
+      no_wait = set_at-each (λ _ c. (tag : Tag) → c.waits tag ≡ []) w.contents.now p content after.no_wait (λ q _. safe.carriers.nobody_waits.no_wait q);
+      no_state = safe.carriers.nobody_waits.no_state;
+    };
     not_yet = record {
-      no_wait = set_at-each (λ _ c. (tag : Tag) → c.waits tag ≡ []) w.contents.now p content after.no_wait (λ q _. safe.carriers.not_yet.no_wait q);
       fast = safe.carriers.not_yet.fast;
       database = safe.carriers.not_yet.database;
       slot = safe.carriers.not_yet.slot;
-      wait = safe.carriers.not_yet.wait;
       strong = safe.carriers.not_yet.strong;
       sleep = safe.carriers.not_yet.sleep;
     };
@@ -79,7 +81,7 @@ putting_partition-safe w s p done content safe may = record {
   holds = w.sessions.holds_partition
 
   after : Moved w.contents.now w.sessions.own p content (own_after w.sessions.own s done)
-  after = moved w.contents.now w.sessions.own p s done content safe.promise.no_conflict safe.promise.one_place (safe.carriers.not_yet.no_wait p) may.object may.moved
+  after = moved w.contents.now w.sessions.own p s done content safe.promise.no_conflict safe.promise.one_place (safe.carriers.nobody_waits.no_wait p) may.object may.moved
 
   no_hold : (k : ℕ) (o : Tag) (n : Mode) → w.numbers.live k ≡ false → own_after w.sessions.own s done k o n ≡ false
   no_hold k o n dead =

@@ -3,7 +3,7 @@ use Rattle.std.proofs.lemmas.Bool.{false≢true}
 use Rattle.lock_model.specs.declared.events.Event.{Event}
 use Rattle.lock_model.specs.declared.events.Move.{Move}
 use Rattle.lock_model.specs.declared.events.Step.{Step}
-use Rattle.lock_model.specs.declared.events.Step.TheVariants.{TakeExclusive, PutExclusive, SplitSeat, JoinSeat}
+use Rattle.lock_model.specs.declared.events.Step.TheVariants.{TakeExclusive, PutExclusive, SplitSeat, JoinSeat, AskCancel, LoadWait}
 use Rattle.lock_model.specs.declared.events.Word.{Word}
 use Rattle.lock_model.specs.declared.events.Word.TheVariants.{Partition, Fast, Database, Slot, Wait, Strong, Sleep}
 use Rattle.lock_model.specs.World.{World, opening}
@@ -12,6 +12,7 @@ use Rattle.lock_model.specs.Safe.{Safe}
 use Rattle.lock_model.proofs.SafeTaking.{taking_partition-safe}
 use Rattle.lock_model.proofs.SafePutting.{putting_partition-safe}
 use Rattle.lock_model.proofs.SafeNumbers.{issuing-safe, going_on-safe, keeping_apart-safe, closing-safe}
+use Rattle.lock_model.proofs.SafeAsking.{asking-safe, loading_wait-safe}
 
 -- The opening World is safe.
 pub opening-safe : (limit : ℕ) → Safe (opening limit)
@@ -38,12 +39,11 @@ opening-safe limit = record {
       within = omega arith;
       kept_is_live = λ k j kept. absurd (cc);
     };
+    nobody_waits = record { no_wait = λ p o. refl; no_state = λ k. refl };
     not_yet = record {
-      no_wait = λ p o. refl;
       fast = λ k. refl;
       database = λ k. refl;
       slot = λ k i. refl;
-      wait = λ k. refl;
       strong = λ i. refl;
       sleep = λ k. refl;
     };
@@ -78,6 +78,8 @@ step-safe w s (PutExclusive word done) v safe h = putting-safe w s word done v s
 step-safe w s SplitSeat v safe (inl h) = subst Safe (sym h.1) (issuing-safe w s safe h.0)
 step-safe w s SplitSeat v safe (inr h) = subst Safe (sym h.1) (going_on-safe w s safe h.0)
 step-safe w s (JoinSeat joiner) v safe h = joining-safe w s joiner v safe h
+step-safe w s (AskCancel k) v safe h = subst Safe (sym h.1) (asking-safe w s k safe)
+step-safe w s (LoadWait n) v safe h = subst Safe (sym h.1) (loading_wait-safe w s n safe)
 
 -- Each event that is lawful leads from a safe World to a safe one.
 pub event-safe : (w : World) (event : Event) (v : World) → Safe w → Happens w event v → Safe v

@@ -26,12 +26,11 @@ taking_partition-safe w s p safe may = record {
   carriers = record {
     hands = HandsAreHolders-set w.contents.hand holds s p true _ hand safe.carriers.hands;
     numbers = safe.carriers.numbers;
+    nobody_waits = safe.carriers.nobody_waits;
     not_yet = record {
-      no_wait = safe.carriers.not_yet.no_wait;
       fast = safe.carriers.not_yet.fast;
       database = safe.carriers.not_yet.database;
       slot = safe.carriers.not_yet.slot;
-      wait = safe.carriers.not_yet.wait;
       strong = safe.carriers.not_yet.strong;
       sleep = safe.carriers.not_yet.sleep;
     };

@@ -32,13 +32,14 @@ get_or-all_one n a k =
     ]
 
 -- The machine as it is made shows the opening World.
-pub opening-shown : (holds : List Hold) → holds ≡ [] → ShowsParts 0 (replicate 64 false) (replicate 64 None) (replicate 16 536870912) (replicate 16 None) holds (opening 64)
+pub opening-shown : (holds : List Hold) → holds ≡ [] → ShowsParts 0 (replicate 64 false) (replicate 64 None) (replicate 16 536870912) (replicate 64 0) (replicate 16 None) holds (opening 64)
 opening-shown holds empty = record {
   limit = refl;
   issued_is = refl;
   live_is = λ k. get_or-all_one 64 false k;
   kept_by_is = λ k. get_or-all_one 64 None k;
   word_is = λ p. get_or-all_one 16 536870912 p;
+  wait_is = λ k. get_or-all_one 64 0 k;
   holder_is = λ p. get_or-all_one 16 None p;
   sixteen = refl;
   holds_are = λ s t m. rw empty refl;
@@ -54,12 +55,12 @@ own_in_table w safe s t m =
     ]
 
 -- What the machine gives in the end is what the World has, its list of holds in any order.
-pub plain-parts : (issued : ℕ) (live : List Bool) (kept_by : List (Option ℕ)) (words : List ℕ) (holders : List (Option ℕ)) (holds : List Hold) (w : World)
-    → Safe w → ShowsParts issued live kept_by words holders holds w → (plain : Plain) → IsPermutation holds (holds_of plain) → waits_of plain ≡ [] → plain.partitions ≡ words → IsPlainOf plain w
-plain-parts issued live kept_by words holders holds w safe shows plain moved empty same = record {
+pub plain-parts : (issued : ℕ) (live : List Bool) (kept_by : List (Option ℕ)) (words wait_words : List ℕ) (holders : List (Option ℕ)) (holds : List Hold) (w : World)
+    → Safe w → ShowsParts issued live kept_by words wait_words holders holds w → (plain : Plain) → IsPermutation holds (holds_of plain) → waits_of plain ≡ [] → plain.partitions ≡ words → plain.wait_words ≡ wait_words → IsPlainOf plain w
+plain-parts issued live kept_by words wait_words holders holds w safe shows plain moved empty same same_waits = record {
   holds = λ s t m. sum_by-IsPermutation (λ h. cond (is_hold s t m h) 1 0) holds (holds_of plain) moved ∙ shows.holds_are s t m ∙ ap (λ b. cond b 1 0) (own_in_table w safe s t m);
   in_table = All-permutation (λ h. h.spot ≡ Table) holds (holds_of plain) moved shows.in_table;
-  waits = λ t. ap (λ list. map wait_of (filter (λ q. tag_eq q.tag t) list)) empty ∙ sym (safe.carriers.not_yet.no_wait (partition_of t) t);
+  waits = λ t. ap (λ list. map wait_of (filter (λ q. tag_eq q.tag t) list)) empty ∙ sym (safe.carriers.nobody_waits.no_wait (partition_of t) t);
   waits_by_tag = subst (λ list. IsSortedByKey (λ queued. queued.tag) (on numbers_of (slice_cmp nat_cmp)) list) (sym empty) (λ k d low high. absurd (omega arith));
   words = word_shown;
 } where
@@ -68,6 +69,6 @@ plain-parts issued live kept_by words holders holds w safe shows plain moved emp
   word_shown (Fast k) exists = sym (safe.carriers.not_yet.fast k)
   word_shown (Database k) exists = sym (safe.carriers.not_yet.database k)
   word_shown (Slot k i) exists = sym (safe.carriers.not_yet.slot k i)
-  word_shown (Wait k) exists = sym (safe.carriers.not_yet.wait k)
+  word_shown (Wait k) exists = ap (λ list. get_or list k 0) same_waits ∙ shows.wait_is k
   word_shown (Strong i) exists = sym (safe.carriers.not_yet.strong i)
   word_shown (Sleep k) exists = sym (safe.carriers.not_yet.sleep k)

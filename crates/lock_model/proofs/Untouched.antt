@@ -4,7 +4,7 @@ use Rattle.modes_core.specs.declared.tags.Tag.{Tag}
 use Rattle.lock_model.specs.declared.events.Event.{Event}
 use Rattle.lock_model.specs.declared.events.Move.{Move}
 use Rattle.lock_model.specs.declared.events.Step.{Step}
-use Rattle.lock_model.specs.declared.events.Step.TheVariants.{TakeExclusive, PutExclusive, SplitSeat, JoinSeat}
+use Rattle.lock_model.specs.declared.events.Step.TheVariants.{TakeExclusive, PutExclusive, SplitSeat, JoinSeat, AskCancel, LoadWait}
 use Rattle.lock_model.specs.declared.events.Word.{Word}
 use Rattle.lock_model.specs.declared.events.Word.TheVariants.{Partition, Fast, Database, Slot, Wait, Strong, Sleep}
 use Rattle.lock_model.specs.World.{World}
@@ -50,6 +50,8 @@ step_by w s (PutExclusive word done) v k other h = putting w s word done v k oth
 step_by w s SplitSeat v k other (inl h) = same k w _ v h.1 (λ t m. refl, λ q. refl, refl)
 step_by w s SplitSeat v k other (inr h) = same k w _ v h.1 (λ t m. refl, λ q. refl, refl)
 step_by w s (JoinSeat joiner) v k other h = joining w s joiner v k h
+step_by w s (AskCancel o) v k other h = same k w _ v h.1 (λ t m. refl, λ q. refl, set_at-else w.sessions.trace s _ k other)
+step_by w s (LoadWait n) v k other h = same k w _ v h.1 (λ t m. refl, λ q. refl, set_at-else w.sessions.trace s _ k other)
 
 -- An event leaves what other sessions have.
 pub untouched : (w v : World) (event : Event) (other : ℕ) → Happens w event v → other ≢ event.session → IsSameOf other w v

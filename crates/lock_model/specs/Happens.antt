@@ -5,13 +5,14 @@ use Rattle.lock_model.specs.declared.events.Event.{Event}
 use Rattle.lock_model.specs.declared.events.Move.{Move}
 use Rattle.lock_model.specs.declared.events.Move.TheVariants.{Keep, Grant, Release}
 use Rattle.lock_model.specs.declared.events.Step.{Step}
-use Rattle.lock_model.specs.declared.events.Step.TheVariants.{TakeExclusive, PutExclusive, SplitSeat, JoinSeat}
+use Rattle.lock_model.specs.declared.events.Step.TheVariants.{TakeExclusive, PutExclusive, SplitSeat, JoinSeat, AskCancel, LoadWait}
 use Rattle.lock_model.specs.declared.events.Word.{Word}
 use Rattle.lock_model.specs.declared.events.Word.TheVariants.{Partition, Fast, Database, Slot, Wait, Strong, Sleep}
 use Rattle.lock_model.specs.Content.{Holds, Content, set_hold}
 use Rattle.lock_model.specs.LightweightWord.{IsHeldByNobody, taken_word, put_word}
+use Rattle.lock_model.specs.WaitWord.{asked_word}
 use Rattle.lock_model.specs.Moves.{Moves, IsInPartition, FitsOwn}
-use Rattle.lock_model.specs.World.{World, Numbers, Hand, Took, Episode, set_at}
+use Rattle.lock_model.specs.World.{World, Numbers, Hand, Took, Episode, AskedToCancel, LoadedWait, set_at}
 
 -- Where each kind of event is lawful, and the World after it.
 
@@ -129,6 +130,30 @@ after_closing w session = record {
   numbers = record (w.numbers) { live = set_at w.numbers.live session false };
 }
 
+-- Asking a session to cancel: any number, issued or not, closed or not, the own too.
+abbrev pub after_asking : World → ℕ → ℕ → World
+after_asking w session other = record {
+  words = record (w.words) { wait = set_at w.words.wait other (asked_word (w.words.wait other)) };
+  contents = w.contents;
+  sessions = record (w.sessions) {
+    trace = set_at w.sessions.trace session (w.sessions.trace session ++ AskedToCancel other (w.words.wait other) ∷ []);
+  };
+  numbers = w.numbers;
+}
+
+-- Loading the own wait word: the value shown is the whole word.
+pub record MayLoadWait (w : World) (session shown : ℕ) : Type 0 where
+  pub steps : MakesSteps w.numbers session
+  pub is_word : shown ≡ w.words.wait session
+
+abbrev pub after_loading_wait : World → ℕ → ℕ → World
+after_loading_wait w session shown = record {
+  words = w.words;
+  contents = w.contents;
+  sessions = record (w.sessions) { trace = set_at w.sessions.trace session (w.sessions.trace session ++ LoadedWait shown ∷ []) };
+  numbers = w.numbers;
+}
+
 -- The step by the session is lawful in the World w, and v is the World after it.
 
 abbrev pub HappensTaking : World → ℕ → Word → World → Type 0
@@ -160,6 +185,8 @@ HappensStep w session (PutExclusive word done) v = HappensPutting w session word
 HappensStep w session SplitSeat v =
     (MayBeIssued w session × (v ≡ after_issuing w session)) ⊎ (MayGoOn w session × (v ≡ after_going_on w session))
 HappensStep w session (JoinSeat joiner) v = HappensJoining w session joiner v
+HappensStep w session (AskCancel other) v = MakesSteps w.numbers session × (v ≡ after_asking w session other)
+HappensStep w session (LoadWait shown) v = MayLoadWait w session shown × (v ≡ after_loading_wait w session shown)
 
 -- The event is lawful in the World w, and v is the World after it.
 abbrev pub Happens : World → Event → World → Type 0

@@ -10,6 +10,7 @@ pub mod Queue
 pub mod Moves
 pub mod LightweightWord
 pub mod Waiter
+pub mod WaitWord
 pub mod World
 pub mod Happens
 pub mod Safe

@@ -48,7 +48,7 @@ word_of plain (Partition p) = slice_index_or plain.partitions p free_word
 word_of plain (Fast session) = free_word
 word_of plain (Database session) = 0
 word_of plain (Slot session place) = 0
-word_of plain (Wait session) = 0
+word_of plain (Wait session) = slice_index_or plain.wait_words session 0
 word_of plain (Strong index) = 0
 word_of plain (Sleep session) = 0
 

@@ -5,6 +5,7 @@ use Rattle.modes_core.specs.Conflict.{conflict}
 use Rattle.modes_core.specs.Tag.{partition_of}
 use Rattle.lock_model.specs.Content.{Holds, Content}
 use Rattle.lock_model.specs.LightweightWord.{free_word, IsHeldExclusively, shared_count}
+use Rattle.lock_model.specs.WaitWord.{wait_state}
 use Rattle.lock_model.specs.World.{World, Words, Hand, Numbers}
 
 -- What holds between any two atomic steps: the promise, and the facts that carry it from one step to the next.
@@ -62,20 +63,24 @@ pub record NumbersAreInOrder (numbers : Numbers) : Type 0 where
   pub within : numbers.issued ≤ numbers.limit
   pub kept_is_live : (session joiner : ℕ) → numbers.kept_by session ≡ Some joiner → numbers.live session ≡ true
 
--- What no event so far changes is as in the opening World: nobody waits, and the other words show nothing.
-pub record NotYetUsed (words : Words) (now : ℕ → Content) : Type 0 where
+-- Nobody waits: each queue is empty, and no wait word shows a wait, though it may show that its session was asked to cancel.
+pub record NobodyWaits (wait : ℕ → ℕ) (now : ℕ → Content) : Type 0 where
   pub no_wait : (p : ℕ) (tag : Tag) → (now p).waits tag ≡ []
+  pub no_state : (session : ℕ) → wait_state (wait session) ≡ 0
+
+-- The words that no event so far changes show what they opened with.
+pub record NotYetUsed (words : Words) : Type 0 where
   pub fast : (session : ℕ) → words.fast session ≡ free_word
   pub database : (session : ℕ) → words.database session ≡ 0
   pub slot : (session place : ℕ) → words.slot session place ≡ 0
-  pub wait : (session : ℕ) → words.wait session ≡ 0
   pub strong : (index : ℕ) → words.strong index ≡ 0
   pub sleep : (session : ℕ) → words.sleep session ≡ 0
 
 pub record Carriers (w : World) : Type 0 where
   pub hands : HandsAreHolders w.contents.hand w.sessions.holds_partition
   pub numbers : NumbersAreInOrder w.numbers
-  pub not_yet : NotYetUsed w.words w.contents.now
+  pub nobody_waits : NobodyWaits w.words.wait w.contents.now
+  pub not_yet : NotYetUsed w.words
 
 pub record Safe (w : World) : Type 0 where
   pub promise : Promise w

@@ -31,19 +31,20 @@ holder_of None = None
 holder_of (Some hand) = Some hand.holder
 
 -- What the machine keeps is what the World has.
-pub record ShowsParts (issued : ℕ) (live : List Bool) (kept_by : List (Option ℕ)) (words : List ℕ) (holders : List (Option ℕ)) (holds : List Hold) (w : World) : Type 0 where
+pub record ShowsParts (issued : ℕ) (live : List Bool) (kept_by : List (Option ℕ)) (words wait_words : List ℕ) (holders : List (Option ℕ)) (holds : List Hold) (w : World) : Type 0 where
   pub limit : w.numbers.limit ≡ 64
   pub issued_is : issued ≡ w.numbers.issued
   pub live_is : (session : ℕ) → slice_index_or live session false ≡ w.numbers.live session
   pub kept_by_is : (session : ℕ) → slice_index_or kept_by session None ≡ w.numbers.kept_by session
   pub word_is : (p : ℕ) → slice_index_or words p free_word ≡ w.words.partition p
+  pub wait_is : (session : ℕ) → slice_index_or wait_words session 0 ≡ w.words.wait session
   pub holder_is : (p : ℕ) → slice_index_or holders p None ≡ holder_of (w.contents.hand p)
   pub sixteen : length holders ≡ 16
   pub holds_are : ListsHolds holds w.sessions.own
   pub in_table : AreInTable holds
 
 abbrev pub Shows : Machine → World → Type 0
-Shows machine w = ShowsParts machine.issued machine.live machine.kept_by machine.words machine.holders machine.holds.items w
+Shows machine w = ShowsParts machine.issued machine.live machine.kept_by machine.words machine.wait_words machine.holders machine.holds.items w
 
 -- whether the session makes steps of its own
 abbrev pub makes_steps : List Bool → List (Option ℕ) → ℕ → Bool

@@ -41,6 +41,10 @@ pub data TraceEntry : Type 0 where
   Took : (partition : ℕ) → (taken : Content) → TraceEntry
   -- it put the partition back: the content taken, and the content put
   Episode : (partition : ℕ) → (taken : Content) → (put_back : Content) → TraceEntry
+  -- it asked the session to cancel, whose wait word showed this before
+  AskedToCancel : (other : ℕ) → (before : ℕ) → TraceEntry
+  -- its own wait word showed this
+  LoadedWait : (shown : ℕ) → TraceEntry
 
 -- What each session has by its own account.
 pub record Sessions : Type 0 where

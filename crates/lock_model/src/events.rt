@@ -47,6 +47,13 @@ pub enum Step {
     /// Join a seat: another session keeps this one apart, or with no joiner the session is closed
     /// (`ProcKill` in proc.c).
     JoinSeat { joiner: Option<SessionId> },
+    /// Ask a session to cancel its wait, by a fetch-or of bit 2 of its wait word: any session number,
+    /// issued or not, closed or not, the own too (`pg_cancel_backend` in signalfuncs.c, which leads to the
+    /// flag `QueryCancelPending` that is looked at while `ProcSleep` waits).
+    AskCancel { other: SessionId },
+    /// Load the own wait word, which shows this value (`waitStatus` in proc.h, as `ProcSleep` in proc.c
+    /// reads it).
+    LoadWait { shown: u8 },
 }
 
 /// One atomic step of one session.

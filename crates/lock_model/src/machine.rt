@@ -13,6 +13,7 @@ mod plain;
 mod state;
 #[cfg(test)]
 mod tests;
+mod waiting;
 
 use crate::{Event, NoMemory};
 pub use plain::{Hold, Plain, QueuedWait, Spot};

@@ -54,6 +54,14 @@ holds-acquire before after old new s tag mode owner (Err refusal) held granted o
     ap (λ (content : Content). content.holds) (other (refused_not_granted refusal)) ∙
     set_hold-same before.holds s tag mode (has_entry new tag mode) (held ∙ ap (λ (entries : List Entry). has_entry entries tag mode) (sym same))
 
+-- It changes no queue.
+pub waits-acquire :
+    (before after : Content) (s : ℕ) (tag : Tag) (mode : Mode) (result : Result Acquired Refusal) →
+    (result ≡ Ok Granted → after ≡ add_hold before s tag mode) → (result ≢ Ok Granted → after ≡ before) → after.waits ≡ before.waits
+waits-acquire before after s tag mode (Ok Granted) granted other = ap (λ (content : Content). content.waits) (granted refl)
+waits-acquire before after s tag mode (Ok AlreadyHeld) granted other = ap (λ (content : Content). content.waits) (other held_not_granted)
+waits-acquire before after s tag mode (Err refusal) granted other = ap (λ (content : Content). content.waits) (other (refused_not_granted refusal))
+
 -- The entries of other objects and modes are as they were.
 pub others-acquire :
     (old new : List Entry) (tag : Tag) (mode : Mode) (owner : Owner) (result : Result Acquired Refusal) →
@@ -84,6 +92,13 @@ holds-give_up before after old new s tag mode owner (Ok StillHeld) held released
 holds-give_up before after old new s tag mode owner (Err refusal) held released other gone still less same =
     ap (λ (content : Content). content.holds) (other (refused_not_released refusal)) ∙
     set_hold-same before.holds s tag mode (has_entry new tag mode) (held ∙ ap (λ (entries : List Entry). has_entry entries tag mode) (sym same))
+
+pub waits-give_up :
+    (before after : Content) (s : ℕ) (tag : Tag) (mode : Mode) (result : Result Unlocked Refusal) →
+    (result ≡ Ok Released → after ≡ remove_hold before s tag mode) → (result ≢ Ok Released → after ≡ before) → after.waits ≡ before.waits
+waits-give_up before after s tag mode (Ok Released) released other = ap (λ (content : Content). content.waits) (released refl)
+waits-give_up before after s tag mode (Ok StillHeld) released other = ap (λ (content : Content). content.waits) (other still_not_released)
+waits-give_up before after s tag mode (Err refusal) released other = ap (λ (content : Content). content.waits) (other (refused_not_released refusal))
 
 pub others-give_up :
     (old new : List Entry) (tag : Tag) (mode : Mode) (owner : Owner) (result : Result Unlocked Refusal) →

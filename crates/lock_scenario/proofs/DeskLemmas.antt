@@ -39,6 +39,7 @@ pub record ChangesOne
   pub partition : p ≡ partition_of tag
   pub session : s < length sessions
   pub none_begun : part.begun ≡ None
+  pub nobody_waits : (content_of part).waits ≡ λ _. []
   pub holds : (content_of part).holds ≡ set_hold (content_in parts p).holds s tag mode there
   pub entries : (t : Tag) (m : Mode) → has_entry it.locals.entries t m ≡ (if same_key t m tag mode then there else has_entry (entries_in sessions s) t m)
   pub well_owned : IsWellOwned it.locals
@@ -106,6 +107,7 @@ IsDesk-change parts sessions limit max_local p s tag mode there part it is chang
     record {
       sixteen = length-set parts p part ∙ is.sixteen;
       none_begun = none_begun;
+      nobody_waits = nobody_waits;
       own_objects = own_objects;
       within = let same : length (slice_set sessions s it) ≡ length sessions = length-set sessions s it in let before : length sessions ≤ limit = is.within in omega arith;
       at_most = is.at_most;
@@ -126,6 +128,13 @@ IsDesk-change parts sessions limit max_local p s tag mode there part it is chang
           elim (cases_eq q p) [
             | inl same ↦ rw (same, get_or-set_same parts p part no_part in_range) change.none_begun
             | inr other ↦ rw (get_or-set_other parts p q part no_part other) (is.none_begun q)
+          ]
+
+      nobody_waits : (q : ℕ) → (content_in (slice_set parts p part) q).waits ≡ λ _. []
+      nobody_waits q =
+          elim (cases_eq q p) [
+            | inl same ↦ rw (same, get_or-set_same parts p part no_part in_range) change.nobody_waits
+            | inr other ↦ rw (get_or-set_other parts p q part no_part other) (is.nobody_waits q)
           ]
 
       in_part : (s' : ℕ) (t : Tag) (m : Mode) → set_hold (content_in parts p).holds s tag mode there s' t m ≡ true → partition_of t ≡ p
@@ -212,6 +221,20 @@ pub none_begun_there :
 none_begun_there parts sessions limit max_local p s session tag part it found =
     ap (λ (view : PartView). view.begun) (in_parts parts sessions limit max_local p s session tag part it found) ∙ found.desk.none_begun p
 
+pub nobody_waits_in :
+    (parts : List PartView) (sessions : List DeskSession) (limit max_local p : ℕ) (tag : Tag) (part : PartView) →
+    IsDesk parts sessions limit max_local → p ≡ partition_of tag → part ≡ get_or parts p part → (content_of part).waits tag ≡ []
+nobody_waits_in parts sessions limit max_local p tag part is partition part_is =
+    let sixteen : length parts ≡ 16 = is.sixteen in
+    let within : p < length parts = rw partition (omega arith) in
+    ap (λ (view : PartView). (content_of view).waits tag) (part_is ∙ get_or_default parts p part no_part within) ∙ (λ i. is.nobody_waits p i tag)
+
+pub nobody_waits_there :
+    (parts : List PartView) (sessions : List DeskSession) (limit max_local : ℕ) (p s session : ℕ) (tag : Tag) (part : PartView) (it : DeskSession) →
+    Finds parts sessions limit max_local p s session tag part it → (content_of part).waits ≡ λ _. []
+nobody_waits_there parts sessions limit max_local p s session tag part it found =
+    ap (λ (view : PartView). (content_of view).waits) (in_parts parts sessions limit max_local p s session tag part it found) ∙ found.desk.nobody_waits p
+
 pub held_there :
     (parts : List PartView) (sessions : List DeskSession) (limit max_local : ℕ) (p s session : ℕ) (tag : Tag) (part : PartView) (it : DeskSession) →
     Finds parts sessions limit max_local p s session tag part it → (mode : Mode) →
@@ -227,11 +250,11 @@ pub IsDesk-after :
     (parts : List PartView) (sessions : List DeskSession) (limit max_local : ℕ) (p s session : ℕ) (tag : Tag) (part : PartView) (it : DeskSession) →
     Finds parts sessions limit max_local p s session tag part it →
     (mode : Mode) (part_after : PartView) (after : DeskSession) →
-    part_after.begun ≡ None → IsWellOwned after.locals → after.locals.max_local ≡ it.locals.max_local →
+    part_after.begun ≡ None → (content_of part_after).waits ≡ (content_of part).waits → IsWellOwned after.locals → after.locals.max_local ≡ it.locals.max_local →
     ((t : Tag) (m : Mode) → same_key t m tag mode ≡ false → has_entry after.locals.entries t m ≡ has_entry it.locals.entries t m) →
     (content_of part_after).holds ≡ set_hold (content_of part).holds session tag mode (has_entry after.locals.entries tag mode) →
     IsDesk (slice_set parts p part_after) (slice_set sessions s after) limit max_local
-IsDesk-after parts sessions limit max_local p s session tag part it found mode part_after after none_begun well_owned same_limit others holds =
+IsDesk-after parts sessions limit max_local p s session tag part it found mode part_after after none_begun same_waits well_owned same_limit others holds =
     let part_is = in_parts parts sessions limit max_local p s session tag part it found in
     let it_is = in_sessions parts sessions limit max_local p s session tag part it found in
     let there = has_entry after.locals.entries tag mode in
@@ -239,6 +262,7 @@ IsDesk-after parts sessions limit max_local p s session tag part it found mode p
       partition = found.partition;
       session = found.opened;
       none_begun = none_begun;
+      nobody_waits = same_waits ∙ nobody_waits_there parts sessions limit max_local p s session tag part it found;
       holds =
           holds ∙ ap (λ (view : PartView). set_hold (content_of view).holds session tag mode there) part_is ∙
           ap (λ (k : ℕ). set_hold (content_in parts p).holds k tag mode there) (sym found.number);
@@ -287,6 +311,7 @@ IsDesk-new parts limit max_local sixteen are at_most some_local most_local =
     record {
       sixteen = sixteen;
       none_begun = are.begun;
+      nobody_waits = λ p. ap (λ (content : Content). content.waits) (are.content p);
       own_objects = λ p session tag mode has. absurd (false≢true (ap (λ (content : Content). content.holds session tag mode) (sym (are.content p)) ∙ has));
       within = omega arith;
       at_most = at_most;
@@ -325,6 +350,7 @@ IsDesk-open parts sessions limit max_local it is room empty well_owned same_limi
     record {
       sixteen = is.sixteen;
       none_begun = is.none_begun;
+      nobody_waits = is.nobody_waits;
       own_objects = is.own_objects;
       within = omega arith;
       at_most = is.at_most;

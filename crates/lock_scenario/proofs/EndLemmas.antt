@@ -125,6 +125,7 @@ IsDesk-same_keys parts sessions limit max_local s it after is opened it_is well_
     record {
       sixteen = is.sixteen;
       none_begun = is.none_begun;
+      nobody_waits = is.nobody_waits;
       own_objects = is.own_objects;
       within = let same : length (slice_set sessions s after) ≡ length sessions = length-set sessions s after in let before : length sessions ≤ limit = is.within in omega arith;
       at_most = is.at_most;

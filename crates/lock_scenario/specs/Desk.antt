@@ -73,11 +73,12 @@ pub record IsUnchanged (old new : DeskView) : Type 0 where
   pub entries : entries_of new ≡ entries_of old
   pub contents : contents_of new ≡ contents_of old
 
--- What a desk keeps true: sixteen partitions, each with holds of its own objects alone and no request begun; no more
+-- What a desk keeps true: sixteen partitions, each with holds of its own objects alone, no wait and no request begun; no more
 -- sessions than may be, each with its entries in order; and a session holds in the contents just what it has entries for.
 pub record IsDesk (parts : List PartView) (sessions : List DeskSession) (limit max_local : ℕ) : Type 0 where
   pub sixteen : length parts ≡ 16
   pub none_begun : (p : ℕ) → (slice_index_or parts p no_part).begun ≡ None
+  pub nobody_waits : (p : ℕ) → (content_in parts p).waits ≡ λ _. []
   pub own_objects : (p session : ℕ) (tag : Tag) (mode : Mode) → (content_in parts p).holds session tag mode ≡ true → partition_of tag ≡ p
   pub within : length sessions ≤ limit
   pub at_most : limit ≤ 64

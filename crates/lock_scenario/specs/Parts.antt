@@ -4,7 +4,7 @@ use Rattle.lock_model.specs.PartView.{PartView, content_of}
 
 -- a partition with nothing in it
 abbrev pub no_part : PartView
-no_part = record { holds = []; begun = None }
+no_part = record { holds = []; waits = []; begun = None }
 
 -- what stands in the partition with this number
 abbrev pub content_in : List PartView → ℕ → Content

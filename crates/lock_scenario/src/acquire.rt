@@ -59,6 +59,7 @@ pub fn give_up<P: PartTable>(
     owner: Owner,
 ) -> Result<Unlocked, Refusal>
     requires held { (P.content part.old).holds session tag mode ≡ has_entry locals.old.entries tag mode }
+    requires nobody_waits { (P.content part.old).waits tag ≡ [] }
 
     ensures not_held { IsErrOf result Refusal.NotHeld ↔ (owner_count_of locals.old.entries tag mode owner ≡ 0) }
     ensures no_other { IsOkUnless result Refusal.NotHeld }

@@ -4,7 +4,8 @@ ghost use Rattle.lock_model.specs.Clash.{ClashIs};
 ghost use Rattle.lock_scenario.specs.Decide.{RefusedFor};
 
 use lock_model::PartTable;
-use modes_core::{How, Mode, Refusal, SessionId, Tag};
+use modes_core::{Mode, Refusal, SessionId, Tag};
+use wait_queue::{Decision, Kind};
 
 /// Decides a conditional request for a mode that the session doesn't hold (`LockAcquireExtended` in
 /// lock.c with `dontWait`): it is granted where it clashes with nothing, and else refused with what
@@ -25,30 +26,18 @@ pub fn decide<P: PartTable>(
     ensures unchanged { OnErr result (P.content part.new ≡ P.content part.old) }
     ensures ended { P.begun part.new ≡ None }
 {
-    if part.begin(session, tag, mode).is_err() {
-        return Err(Refusal::NoMemory);
-    }
-    match part.conflict_of(session, tag, mode) {
-        None => {
-            part.grant(session, tag, mode);
-            Ok(())
-        }
-        Some((other, its)) => {
-            part.withdraw(session, tag, mode);
-            Err(Refusal::Conflict {
-                session: other,
-                mode: its,
-                how: How::Held,
-            })
-        }
+    match wait_queue::decide(part, session, tag, mode, Kind::Conditional)? {
+        Decision::Granted => Ok(()),
+        Decision::Queued => unreachable!(),
     }
 }
 
 /// Takes a hold of the session out (`LockRelease` in lock.c). Nobody waits yet, so nobody is woken.
 pub fn release<P: PartTable>(part: &mut P, session: SessionId, tag: Tag, mode: Mode)
-    requires { (P.content part.old).holds session tag mode ≡ true }
+    requires held { (P.content part.old).holds session tag mode ≡ true }
+    requires nobody_waits { (P.content part.old).waits tag ≡ [] }
     ensures content { P.content part.new ≡ remove_hold (P.content part.old) session tag mode }
     ensures begun { P.begun part.new ≡ P.begun part.old }
 {
-    part.ungrant(session, tag, mode);
+    let _woken = wait_queue::release(part, session, tag, mode);
 }

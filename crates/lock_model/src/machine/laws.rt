@@ -1,13 +1,14 @@
 //! What holds in every World that a list of events leads to. Each function here is a law: its clause is
 //! proved of all lists of events, and its body is empty.
 
-ghost use Rattle.std.specs.Prelude.{◌≡◌, ◌≢◌, ◌↔◌, ◌<◌, ◌≤◌, ℕ, List, true, false};
+ghost use Rattle.std.specs.Prelude.{◌≡◌, ◌≢◌, ◌↔◌, ◌<◌, ◌≤◌, ◌+◌, ℕ, List, true, false, if◌then◌else◌};
 ghost use Rattle.modes_core.specs.declared.modes.Mode.{Mode};
 ghost use Rattle.modes_core.specs.declared.tags.Tag.{Tag};
 ghost use Rattle.modes_core.specs.Conflict.{conflict};
 ghost use Rattle.modes_core.specs.Tag.{partition_of};
 ghost use Rattle.lock_model.specs.declared.events.Event.{Event};
 ghost use Rattle.lock_model.specs.LightweightWord.{IsHeldExclusively};
+ghost use Rattle.lock_model.specs.WaitWord.{wait_state, is_asked, asked_word};
 ghost use Rattle.lock_model.specs.World.{World, opening};
 ghost use Rattle.lock_model.specs.Happens.{Happens, Runs};
 ghost use Rattle.lock_model.specs.Safe.{Safe};
@@ -69,7 +70,16 @@ pub fn spent_sessions_have_nothing()
         (w.sessions.own session tag mode ≡ false) × (w.sessions.holds_partition session p ≡ false) × ((w.contents.now p).holds session tag mode ≡ false) }
 {}
 
-/// An event changes what its own session has, and no other session's holds, words and trace.
+/// Asking a session to cancel sets bit 2 of its wait word, whatever the word is: it is asked from then
+/// on, whether it waits stays as it was, and asking again changes nothing.
+pub fn asking_sets_one_bit()
+    ensures asked { (word : ℕ) → is_asked (asked_word word) ≡ true }
+    ensures same_state { (word : ℕ) → wait_state (asked_word word) ≡ wait_state word }
+    ensures sum { (word : ℕ) → asked_word word ≡ (if is_asked word then word else word + 4) }
+{}
+
+/// An event changes what its own session has, and no other session's holds, words held and trace. Of
+/// another session's words it can set the bit that asks it to cancel.
 pub fn others_are_untouched()
     ensures { (w v : World) (event : Event) (other : ℕ) → Happens w event v → other ≢ event.session →
         ((tag : Tag) (mode : Mode) → v.sessions.own other tag mode ≡ w.sessions.own other tag mode)

@@ -63,6 +63,7 @@ pub struct Plain {
     pub(crate) holds: Vec<Hold>,
     pub(crate) waits: Vec<QueuedWait>,
     pub(crate) partitions: [u32; 16],
+    pub(crate) wait_words: [u8; 64],
 }
 
 impl Plain {
@@ -102,7 +103,7 @@ impl Plain {
             Word::Fast(_) => 0x2000_0000,
             Word::Database(_) => 0,
             Word::Slot(_, _) => 0,
-            Word::Wait(_) => 0,
+            Word::Wait(session) => u64::from(self.wait_words[usize::from(session.number())]),
             Word::Strong(_) => 0,
             Word::Sleep(_) => 0,
         }

@@ -13,6 +13,8 @@ pub struct Machine {
     pub kept_by: [Option<SessionId>; 64],
     /// What each partition's word shows.
     pub words: [u32; 16],
+    /// What each session's wait word shows.
+    pub wait_words: [u8; 64],
     /// Who has each partition in hand.
     pub holders: [Option<SessionId>; 16],
     /// The holds in the contents of all partitions, in no order.
@@ -38,13 +40,14 @@ impl Machine {
             live: [false; 64],
             kept_by: [None; 64],
             words: [0x2000_0000; 16],
+            wait_words: [0; 64],
             holders: [None; 16],
             holds: Vec::new(alloc),
         }
     }
 
     /// Whether the session makes steps of its own: it is live, and no other session keeps it apart.
-    fn makes_steps(&self, session: SessionId) -> bool
+    pub fn makes_steps(&self, session: SessionId) -> bool
         ensures { result ≡ makes_steps self.now.live self.now.kept_by session }
     {
         let index = usize::from(session.number());
@@ -269,8 +272,8 @@ impl Machine {
     pub fn step(&mut self, event: Event) -> Result<(), NoMemory>
         ensures { OnOk result (Follows self.old event.session event.step self.new) }
     {
-        let session = event.session;
-        match event.step {
+        let Event { session, step } = event;
+        match step {
             Step::TakeExclusive { word } => {
                 self.take_exclusive(session, word);
                 Ok(())
@@ -287,6 +290,12 @@ impl Machine {
                 self.join_seat(session, joiner);
                 Ok(())
             }
+            Step::AskCancel { other } => {
+                self.ask_cancel(session, other);
+                Ok(())
+            }
+            // Whether or not the word shows this, nothing changes that the machine keeps.
+            Step::LoadWait { shown: _ } => Ok(()),
         }
     }
 
@@ -300,6 +309,7 @@ impl Machine {
             live: _,
             kept_by: _,
             words,
+            wait_words,
             holders: _,
             mut holds,
         } = self;
@@ -308,6 +318,7 @@ impl Machine {
             holds,
             waits: Vec::new(alloc),
             partitions: words,
+            wait_words,
         }
     }
 }

@@ -50,6 +50,20 @@ fn puts(session: SessionId, partition: u8, done: Move) -> Event {
     }
 }
 
+fn asks(session: SessionId, other: SessionId) -> Event {
+    Event {
+        session,
+        step: Step::AskCancel { other },
+    }
+}
+
+fn loads(session: SessionId, shown: u8) -> Event {
+    Event {
+        session,
+        step: Step::LoadWait { shown },
+    }
+}
+
 /// An object of partition 15.
 fn object() -> Tag {
     Tag::object(5, 1259, 16384, 0)
@@ -242,6 +256,68 @@ fn sessions_are_kept_apart(rt: HostRuntime) -> Result<(), Fail> {
     )
 }
 
+/// Runs the events after sessions 0 and 1 are open, and looks at all wait words: those of the sessions
+/// listed show that they were asked to cancel, and all others show nothing.
+fn leads_to_asked<R: Abort + AllocGlobal>(
+    rt: &R,
+    more: &[Event],
+    asked: &[SessionId],
+) -> Result<(), Fail> {
+    let mut events = Vec::new(rt.alloc());
+    events.push(opens(session(rt, 0)))?;
+    events.push(opens(session(rt, 1)))?;
+    events.extend_from_slice(more)?;
+    let plain = run_events(rt.alloc(), events.as_slice())?;
+    for number in 0..64u8 {
+        let other = session(rt, number);
+        let word = if asked.contains(&other) { 4 } else { 0 };
+        assert_eq!(rt; plain.word(Word::Wait(other)), word);
+    }
+    Ok(())
+}
+
+#[test]
+fn sessions_are_asked_to_cancel(rt: HostRuntime) -> Result<(), Fail> {
+    let (a, b, c) = (session(&rt, 0), session(&rt, 1), session(&rt, 2));
+    let last = session(&rt, 63);
+    leads_to_asked(&rt, &[], &[])?;
+    leads_to_asked(&rt, &[asks(a, b)], &[b])?;
+    // Itself, numbers that are not issued, and one that is closed.
+    leads_to_asked(&rt, &[asks(a, a)], &[a])?;
+    leads_to_asked(&rt, &[asks(a, c), asks(b, last)], &[c, last])?;
+    leads_to_asked(&rt, &[closes(b), asks(a, b)], &[b])?;
+    // Twice, by one session and by two.
+    leads_to_asked(&rt, &[asks(a, b), asks(a, b)], &[b])?;
+    leads_to_asked(&rt, &[asks(a, c), asks(b, c), asks(a, c)], &[c])?;
+    // What was asked stays when the number is issued, and when it is closed.
+    leads_to_asked(&rt, &[asks(a, c), opens(c), closes(c)], &[c])?;
+    // With a partition in hand.
+    leads_to_asked(&rt, &[takes(a, 15), asks(a, b)], &[b])?;
+    leads_to(&rt, &[takes(a, 15), asks(a, b)], 0, HELD)?;
+    // By a session that is not open, is closed, or is kept apart.
+    leads_to_asked(&rt, &[asks(c, a)], &[])?;
+    leads_to_asked(&rt, &[closes(b), asks(b, a)], &[])?;
+    leads_to_asked(&rt, &[is_kept(a, b), asks(a, b)], &[])
+}
+
+#[test]
+fn a_load_changes_no_word(rt: HostRuntime) -> Result<(), Fail> {
+    let (a, b, c) = (session(&rt, 0), session(&rt, 1), session(&rt, 2));
+    // What the word shows, and what it does not.
+    leads_to_asked(&rt, &[loads(a, 0)], &[])?;
+    leads_to_asked(&rt, &[loads(a, 4), loads(a, 255)], &[])?;
+    leads_to_asked(&rt, &[asks(b, a), loads(a, 4), loads(a, 0)], &[a])?;
+    // By a session that is not open.
+    leads_to_asked(&rt, &[loads(c, 0), loads(c, 4)], &[])?;
+    leads_to(&rt, &[takes(a, 15), loads(a, 0)], 0, HELD)?;
+    // The session goes on, whatever it loaded.
+    leads_to_asked(
+        &rt,
+        &[loads(a, 1), asks(a, b), loads(a, 0), asks(a, c)],
+        &[b, c],
+    )
+}
+
 #[test]
 fn a_long_run(rt: HostRuntime) -> Result<(), Fail> {
     let mut events = Vec::new(rt.alloc());
@@ -266,6 +342,11 @@ fn a_long_run(rt: HostRuntime) -> Result<(), Fail> {
                 mode: Mode::RowShare,
             },
         };
+        // Sessions 1, 6, 11 and so on ask the one before them.
+        if number % 5 == 1 {
+            events.push(asks(session(&rt, number), session(&rt, number - 1)))?;
+        }
+        events.push(loads(session(&rt, number), (round % 6) as u8))?;
         events.push(takes(session(&rt, number), partition))?;
         events.push(puts(session(&rt, number), partition, done))?;
         events.push(puts(session(&rt, number), partition, Move::Keep))?;
@@ -277,6 +358,10 @@ fn a_long_run(rt: HostRuntime) -> Result<(), Fail> {
     }
     for partition in 0..16u8 {
         assert_eq!(rt; plain.word(Word::Partition(partition)), FREE);
+    }
+    for number in 0..64u8 {
+        let word = if number % 5 == 0 && number < 61 { 4 } else { 0 };
+        assert_eq!(rt; plain.word(Word::Wait(session(&rt, number))), word);
     }
     // Session k meets relation k modulo 4 alone, in all three rounds, over and over; the last round of
     // each decides whether its RowShareLock is there, and no one else's holds are in the way.

@@ -6,7 +6,7 @@ use Rattle.lock_model.specs.Content.{Content, remove_hold, set_hold}
 use Rattle.lock_model.specs.PartView.{content_of}
 use Rattle.lock_model.specs.World.{set_at}
 use Rattle.lock_scenario.specs.Desk.{DeskView, contents_of}
-use Rattle.lock_scenario.proofs.DeskLemmas.{Finds, IsDesk-after, held_there, none_begun_there, contents_after}
+use Rattle.lock_scenario.proofs.DeskLemmas.{Finds, IsDesk-after, held_there, nobody_waits_in, none_begun_there, contents_after}
 use Rattle.lock_scenario.proofs.EndLemmas.{has_entry-ended, has_entry-after, others-after, has_entry-last, IsDesk-same_keys, owned_there}
 use Rattle.lock_scenario.proofs.desk.Desk.end_one.Goals as goal
 
@@ -60,8 +60,12 @@ invariant_of-self c =
 once : (c : goal.After-self-2-1) → IsDistinct are_of_same c.index_mut.result.now.locals.entries
 once c = (owned_there _ _ _ _ _ _ c.self.invariant.0 (found c).opened c.index_mut.ensures.value).once
 
-pub release-requires : goal.release-requires
-release-requires c =
+pub release-requires-clause-nobody_waits : goal.release-requires-clause-nobody_waits
+release-requires-clause-nobody_waits c =
+    nobody_waits_in _ _ _ _ _ c.in_ok-tag.tag _ c.self.invariant.0 (c.from-2.ensures ∙ c.partition.ensures.value) c.index_mut-part.ensures.value
+
+pub release-requires-clause-held : goal.release-requires-clause-held
+release-requires-clause-held c =
     held_there _ _ _ _ _ _ _ _ _ _ (asked c) c.in_ok-tag.mode ∙
     has_entry-ended c.args.end c.index_mut.result.now.locals.entries (c.in_ok-tag.tag, c.in_ok-tag.mode) (ended_by c.args.end c.end_next.new.self.entries) c.in_ok-tag.ensures.next
 
@@ -70,7 +74,7 @@ invariant_of-self-2 c =
     let gone : has_entry c.end_next.new.self.entries c.in_ok-tag.tag c.in_ok-tag.mode ≡ false =
     has_entry-after c.args.end c.index_mut.result.now.locals.entries c.end_next.new.self.entries c.in_ok-tag.tag c.in_ok-tag.mode (once c) c.in_ok-tag.ensures.next c.in_ok-tag.ensures.entries in (
       IsDesk-after _ _ _ _ _ _ _ _ _ _ (found c) c.in_ok-tag.mode c.release.new.part (record { database = c.index_mut.result.now.database; locals = c.end_next.new.self })
-          (c.release.ensures.begun ∙ none_begun_there _ _ _ _ _ _ _ _ _ _ (found c)) c.in_ok-tag.ensures.well_owned c.in_ok-tag.ensures.max_local
+          (c.release.ensures.begun ∙ none_begun_there _ _ _ _ _ _ _ _ _ _ (found c)) (ap (λ (content : Content). content.waits) c.release.ensures.content) c.in_ok-tag.ensures.well_owned c.in_ok-tag.ensures.max_local
           (others-after c.args.end c.index_mut.result.now.locals.entries c.end_next.new.self.entries c.in_ok-tag.tag c.in_ok-tag.mode (once c) c.in_ok-tag.ensures.next c.in_ok-tag.ensures.entries)
           (ap (λ (content : Content). content.holds) c.release.ensures.content ∙
           ap (λ (there : Bool). set_hold (content_of c.index_mut-part.result.now).holds c.args.session c.in_ok-tag.tag c.in_ok-tag.mode there) (sym gone)),

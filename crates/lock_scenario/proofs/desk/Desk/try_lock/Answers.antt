@@ -4,8 +4,8 @@ use Rattle.lock_model.specs.Content.{add_hold}
 use Rattle.lock_model.specs.PartView.{content_of}
 use Rattle.lock_model.specs.World.{set_at}
 use Rattle.lock_scenario.specs.Desk.{DeskView, contents_of}
-use Rattle.lock_scenario.proofs.DeskLemmas.{Finds, IsDesk-after, held_there, contents_after}
-use Rattle.lock_scenario.proofs.AcquireLemmas.{holds-acquire, others-acquire}
+use Rattle.lock_scenario.proofs.DeskLemmas.{Finds, IsDesk-after, held_there, nobody_waits_in, contents_after}
+use Rattle.lock_scenario.proofs.AcquireLemmas.{holds-acquire, waits-acquire, others-acquire}
 use Rattle.lock_scenario.proofs.desk.Desk.try_lock.Goals as goal
 
 found :
@@ -28,7 +28,9 @@ found c =
 pub invariant_of-self : goal.invariant_of-self
 invariant_of-self c = (
   IsDesk-after _ _ _ _ _ _ _ _ _ _ (found c) c.args.mode c.acquire.new.part (record { database = c.index_mut.result.now.database; locals = c.acquire.new.locals })
-      c.acquire.ensures.none_begun c.acquire.ensures.well_owned c.acquire.ensures.max_local
+      c.acquire.ensures.none_begun
+      (waits-acquire (content_of c.index_mut-part.result.now) (content_of c.acquire.new.part) c.args.session c.args.tag c.args.mode c.acquire.result c.acquire.ensures.hold c.acquire.ensures.same_content)
+      c.acquire.ensures.well_owned c.acquire.ensures.max_local
       (others-acquire c.index_mut.result.now.locals.entries c.acquire.new.locals.entries c.args.tag c.args.mode c.args.owner c.acquire.result c.acquire.ensures.entries c.acquire.ensures.same_entries)
       (holds-acquire (content_of c.index_mut-part.result.now) (content_of c.acquire.new.part) c.index_mut.result.now.locals.entries c.acquire.new.locals.entries c.args.session c.args.tag c.args.mode c.args.owner
       c.acquire.result (held_there _ _ _ _ _ _ _ _ _ _ (found c) c.args.mode) c.acquire.ensures.hold c.acquire.ensures.same_content (λ e. (c.acquire.ensures.already_held.0 e).0) c.acquire.ensures.entries c.acquire.ensures.same_entries),
@@ -39,3 +41,7 @@ pub returns-clause-hold : goal.returns-clause-hold
 returns-clause-hold c is =
     contents_after _ _ _ _ _ _ _ _ _ _ (found c) (λ content. add_hold content c.args.session c.args.tag c.args.mode) c.acquire.new.part (c.acquire.ensures.hold is) ∙
     ap (λ (desk : DeskView). set_at (contents_of desk) (partition_of c.args.tag) (add_hold (contents_of desk (partition_of c.args.tag)) c.args.session c.args.tag c.args.mode)) c.self.view_is
+
+pub acquire-requires-clause-nobody_waits : goal.acquire-requires-clause-nobody_waits
+acquire-requires-clause-nobody_waits c =
+    nobody_waits_in _ _ _ _ _ c.args.tag _ c.self.invariant.0 (c.from.ensures ∙ c.partition.ensures.value) c.index_mut-part.ensures.value

@@ -17,4 +17,4 @@ returns-then-has_in_hand c = λ w safe shows.
     let in_words : c.args.partition < length now.words = omega arith in
     let in_holders : c.args.partition < length now.holders = omega arith in
     let P : Machine → Type 0 = λ m. (v : World) × Next w (record { session = c.args.session; step = PutExclusive (Partition c.args.partition) Keep }) v × Shows m v in
-    subst P (sym c.set_free.ensures) (kept now.issued now.live now.kept_by now.words now.holders now.holds.items w safe shows c.args.session c.args.partition (sym c.if-has_in_hand.ensures) in_words in_holders)
+    subst P (sym c.set_free.ensures) (kept now.issued now.live now.kept_by now.words now.wait_words now.holders now.holds.items w safe shows c.args.session c.args.partition (sym c.if-has_in_hand.ensures) in_words in_holders)

@@ -30,9 +30,9 @@ returns-in-Some c = λ w safe shows.
     let P : Machine → Type 0 = λ m. (v : World) × Next w (record { session = c.args.session; step = PutExclusive (Partition c.args.partition) (Release c.args.tag c.args.mode) }) v × Shows m v in
     subst P (sym c.set_free.ensures)
     (subst (λ list. (v : World) × Next w (record { session = c.args.session; step = PutExclusive (Partition c.args.partition) (Release c.args.tag c.args.mode) }) v
-    × ShowsParts now.issued now.live now.kept_by (set now.words c.args.partition (put_word (get_or now.words c.args.partition free_word))) (set now.holders c.args.partition None) list v)
+    × ShowsParts now.issued now.live now.kept_by (set now.words c.args.partition (put_word (get_or now.words c.args.partition free_word))) now.wait_words (set now.holders c.args.partition None) list v)
     (sym c.swap_remove.ensures.items)
-    (released now.issued now.live now.kept_by now.words now.holders now.holds.items w safe shows c.args.session c.args.partition c.args.tag c.args.mode c.in-Some.place c.swap_remove.result has
+    (released now.issued now.live now.kept_by now.words now.wait_words now.holders now.holds.items w safe shows c.args.session c.args.partition c.args.tag c.args.mode c.in-Some.place c.swap_remove.result has
     (sym c.partition.ensures.value ∙ c.if-partition.false) at.0 c.swap_remove.ensures.value at.1
     (list_any_at (is_hold c.args.session c.args.tag c.args.mode) now.holds.items c.in-Some.place c.swap_remove.result at.0 at.1)
     in_words in_holders))
@@ -40,6 +40,6 @@ returns-in-Some c = λ w safe shows.
 pub returns-in-None : goal.returns-in-None
 returns-in-None c = λ w safe shows.
     let now = c.args.self.now in
-    skipped now.issued now.live now.kept_by now.words now.holders now.holds.items w safe shows c.args.session (PutExclusive (Partition c.args.partition) (Release c.args.tag c.args.mode))
-    (λ lawful. release_absent now.issued now.live now.kept_by now.words now.holders now.holds.items w safe shows c.args.session c.args.partition c.args.tag c.args.mode
+    skipped now.issued now.live now.kept_by now.words now.wait_words now.holders now.holds.items w safe shows c.args.session (PutExclusive (Partition c.args.partition) (Release c.args.tag c.args.mode))
+    (λ lawful. release_absent now.issued now.live now.kept_by now.words now.wait_words now.holders now.holds.items w safe shows c.args.session c.args.partition c.args.tag c.args.mode
     (position-none (is_hold c.args.session c.args.tag c.args.mode) now.holds.items (ap (position (is_hold c.args.session c.args.tag c.args.mode)) (sym c.as_slice.ensures.value) ∙ sym c.in-None.ensures)) lawful)
