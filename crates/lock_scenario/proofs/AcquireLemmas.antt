@@ -1,6 +1,7 @@
 use Rattle.std.proofs.Common.{◌≡◌, ◌≢◌, ℕ, ◌<◌, Bool, true, false, List, Result, Ok, Err, refl, sym, ap, ◌∙◌, arith, inl, inr}
-use Rattle.std.specs.Prelude.{OnOk, OnErr, IsErrOf, All, ◌↔◌, if◌then◌else◌, ◌==◌}
-use Rattle.std.proofs.lemmas.Bool.{cases_Bool, false≢true, cases_lt}
+use Rattle.std.specs.Prelude.{OnOk, OnErr, All, ◌↔◌, if◌then◌else◌, ◌==◌, Option, Some, None, is_some}
+use Rattle.std.specs.Option.{option_map_or}
+use Rattle.std.proofs.lemmas.Bool.{cases_Bool, cases_lt, false≢true}
 use Rattle.modes_core.specs.declared.modes.Mode.{Mode}
 use Rattle.modes_core.specs.declared.tags.Tag.{Tag}
 use Rattle.modes_core.specs.declared.sessions.Owner.{Owner}
@@ -11,28 +12,22 @@ use Rattle.local_locks.specs.declared.answers.Acquired.{Acquired}
 use Rattle.local_locks.specs.declared.answers.Acquired.TheVariants.{Granted, AlreadyHeld}
 use Rattle.local_locks.specs.declared.answers.Unlocked.{Unlocked}
 use Rattle.local_locks.specs.declared.answers.Unlocked.TheVariants.{Released, StillHeld}
-use Rattle.local_locks.specs.Owned.{has_entry, total_of, owner_count_of, with_one_more, with_one_less, IsCounted}
-use Rattle.lock_model.specs.Content.{Content, set_hold, add_hold, remove_hold}
-use Rattle.lock_scenario.proofs.Entries.{same_key, same_key-refl, has_entry-none, has_entry-some, has_entry-with_one_more, has_entry-with_one_less}
+use Rattle.local_locks.specs.Owned.{has_entry, entry_of, count_for, total_of, owner_count_of, with_one_more, with_one_less, IsCounted}
+use Rattle.lock_model.specs.Content.{Content, set_hold, add_hold}
+use Rattle.lock_model.specs.Clash.{Clash, ClashIs}
+use Rattle.lock_model.specs.Queue.{ConditionalAnswer, ConditionalAnswerAt}
+use Rattle.lock_model.specs.Queue as answer
+use Rattle.lock_scenario.proofs.Entries.{same_key, same_key-refl, same_key-from, has_entry-none, has_entry-some, has_entry-with_one_more, has_entry-with_one_less}
 use Rattle.lock_scenario.proofs.DeskLemmas.{set_hold-same}
 
 abbrev Acquires : Type 0
 Acquires = Result Acquired Refusal
-
-abbrev Releases : Type 0
-Releases = Result Unlocked Refusal
 
 held_not_granted : (let it : Acquires = Ok AlreadyHeld in it) ≢ Ok Granted
 held_not_granted e = cc
 
 refused_not_granted : (refusal : Refusal) → (let it : Acquires = Err refusal in it) ≢ Ok Granted
 refused_not_granted refusal e = cc
-
-still_not_released : (let it : Releases = Ok StillHeld in it) ≢ Ok Released
-still_not_released e = cc
-
-refused_not_released : (refusal : Refusal) → (let it : Releases = Err refusal in it) ≢ Ok Released
-refused_not_released refusal e = cc
 
 -- After an acquire, whatever its answer, the session holds the mode just where it has an entry.
 pub holds-acquire :
@@ -54,14 +49,6 @@ holds-acquire before after old new s tag mode owner (Err refusal) held granted o
     ap (λ (content : Content). content.holds) (other (refused_not_granted refusal)) ∙
     set_hold-same before.holds s tag mode (has_entry new tag mode) (held ∙ ap (λ (entries : List Entry). has_entry entries tag mode) (sym same))
 
--- It changes no queue.
-pub waits-acquire :
-    (before after : Content) (s : ℕ) (tag : Tag) (mode : Mode) (result : Result Acquired Refusal) →
-    (result ≡ Ok Granted → after ≡ add_hold before s tag mode) → (result ≢ Ok Granted → after ≡ before) → after.waits ≡ before.waits
-waits-acquire before after s tag mode (Ok Granted) granted other = ap (λ (content : Content). content.waits) (granted refl)
-waits-acquire before after s tag mode (Ok AlreadyHeld) granted other = ap (λ (content : Content). content.waits) (other held_not_granted)
-waits-acquire before after s tag mode (Err refusal) granted other = ap (λ (content : Content). content.waits) (other (refused_not_granted refusal))
-
 -- The entries of other objects and modes are as they were.
 pub others-acquire :
     (old new : List Entry) (tag : Tag) (mode : Mode) (owner : Owner) (result : Result Acquired Refusal) →
@@ -71,66 +58,74 @@ others-acquire old new tag mode owner (Ok answer) more same t m apart =
     ap (λ (entries : List Entry). has_entry entries t m) more ∙ has_entry-with_one_more old tag mode owner t m ∙ rw apart refl
 others-acquire old new tag mode owner (Err refusal) more same t m apart = ap (λ (entries : List Entry). has_entry entries t m) same
 
--- The same after a release.
-pub holds-give_up :
-    (before after : Content) (old new : List Entry) (s : ℕ) (tag : Tag) (mode : Mode) (owner : Owner) (result : Result Unlocked Refusal) →
-    before.holds s tag mode ≡ has_entry old tag mode →
-    (result ≡ Ok Released → after ≡ remove_hold before s tag mode) → (result ≢ Ok Released → after ≡ before) →
-    (result ≡ Ok Released → has_entry new tag mode ≡ false) → (result ≡ Ok StillHeld → has_entry new tag mode ≡ true) →
-    OnOk result (new ≡ with_one_less old tag mode owner) → OnErr result (new ≡ old) →
-    after.holds ≡ set_hold before.holds s tag mode (has_entry new tag mode)
-holds-give_up before after old new s tag mode owner (Ok Released) held released other gone still less same =
-    ap (λ (content : Content). content.holds) (released refl) ∙ rw (gone refl) refl
-holds-give_up before after old new s tag mode owner (Ok StillHeld) held released other gone still less same =
-    let after_it : has_entry new tag mode ≡ (if total_of old tag mode == 1 then false else has_entry old tag mode) =
-    ap (λ (entries : List Entry). has_entry entries tag mode) less ∙ has_entry-with_one_less old tag mode owner tag mode ∙ rw (same_key-refl tag mode) refl in
-    ap (λ (content : Content). content.holds) (other still_not_released) ∙
-    set_hold-same before.holds s tag mode (has_entry new tag mode) (held ∙ elim (cases_Bool (total_of old tag mode == 1)) [
-      | inl last ↦ absurd (false≢true (sym (ap (λ (b : Bool). if b then false else has_entry old tag mode) last) ∙ sym after_it ∙ still refl))
-      | inr more ↦ sym (after_it ∙ ap (λ (b : Bool). if b then false else has_entry old tag mode) more)
-    ])
-holds-give_up before after old new s tag mode owner (Err refusal) held released other gone still less same =
-    ap (λ (content : Content). content.holds) (other (refused_not_released refusal)) ∙
-    set_hold-same before.holds s tag mode (has_entry new tag mode) (held ∙ ap (λ (entries : List Entry). has_entry entries tag mode) (sym same))
+-- The queues are as they were.
+pub queues-acquire : (before after : Content) (s : ℕ) (tag : Tag) (mode : Mode) (result : Result Acquired Refusal) →
+    (result ≡ Ok Granted → after ≡ add_hold before s tag mode) → (result ≢ Ok Granted → after ≡ before) → after.waits ≡ before.waits
+queues-acquire before after s tag mode (Ok Granted) granted other = ap (λ (content : Content). content.waits) (granted refl)
+queues-acquire before after s tag mode (Ok AlreadyHeld) granted other = ap (λ (content : Content). content.waits) (other held_not_granted)
+queues-acquire before after s tag mode (Err refusal) granted other = ap (λ (content : Content). content.waits) (other (refused_not_granted refusal))
 
-pub waits-give_up :
-    (before after : Content) (s : ℕ) (tag : Tag) (mode : Mode) (result : Result Unlocked Refusal) →
-    (result ≡ Ok Released → after ≡ remove_hold before s tag mode) → (result ≢ Ok Released → after ≡ before) → after.waits ≡ before.waits
-waits-give_up before after s tag mode (Ok Released) released other = ap (λ (content : Content). content.waits) (released refl)
-waits-give_up before after s tag mode (Ok StillHeld) released other = ap (λ (content : Content). content.waits) (other still_not_released)
-waits-give_up before after s tag mode (Err refusal) released other = ap (λ (content : Content). content.waits) (other (refused_not_released refusal))
+-- What is granted at once clashes with nothing.
+pub granted-clash : (content : Content) (s : ℕ) (tag : Tag) (mode : Mode) → ConditionalAnswer content s tag mode answer.Granted → ClashIs content s tag mode None
+granted-clash content s tag mode found = at found.0 found.1 found.2 where
+  at : (clash : Option Clash) → ClashIs content s tag mode clash → ConditionalAnswerAt clash answer.Granted → ClashIs content s tag mode None
+  at None is granted = is
+  at (Some clash) is granted = absurd (cc)
 
+-- After a release the entries of other objects and modes are as they were,
 pub others-give_up :
-    (old new : List Entry) (tag : Tag) (mode : Mode) (owner : Owner) (result : Result Unlocked Refusal) →
-    OnOk result (new ≡ with_one_less old tag mode owner) → OnErr result (new ≡ old) →
+    (old new : List Entry) (tag : Tag) (mode : Mode) (owner : Owner) → new ≡ with_one_less old tag mode owner →
     (t : Tag) (m : Mode) → same_key t m tag mode ≡ false → has_entry new t m ≡ has_entry old t m
-others-give_up old new tag mode owner (Ok answer) less same t m apart =
+others-give_up old new tag mode owner less t m apart =
     ap (λ (entries : List Entry). has_entry entries t m) less ∙ has_entry-with_one_less old tag mode owner t m ∙ rw apart refl
-others-give_up old new tag mode owner (Err refusal) less same t m apart = ap (λ (entries : List Entry). has_entry entries t m) same
 
--- A release that gave the mode up leaves no entry, and one that did not leaves one.
-pub gone-released :
-    (old new : List Entry) (tag : Tag) (mode : Mode) (owner : Owner) (result : Releases) →
-    (IsErrOf result NotHeld ↔ (owner_count_of old tag mode owner ≡ 0)) →
-    ((result ≡ Ok StillHeld) ↔ ((0 < owner_count_of old tag mode owner) × (0 < total_of new tag mode))) →
-    All IsCounted new → result ≡ Ok Released → has_entry new tag mode ≡ false
-gone-released old new tag mode owner result not_held still_held counted released =
-    elim (cases_lt 0 (total_of new tag mode)) [
-      | inl some ↦
-          elim (cases_lt 0 (owner_count_of old tag mode owner)) [
-            | inl owned ↦ absurd (released_not_still (sym released ∙ still_held.1 (owned, some)))
-            | inr none ↦ let no_count : owner_count_of old tag mode owner ≡ 0 = omega arith in absurd (released_not_refused (sym released ∙ not_held.1 no_count))
-          ]
-      | inr none ↦ has_entry-none new tag mode counted (omega arith)
+-- and that of the very one too where counts are left.
+pub keys-still_held :
+    (old new : List Entry) (tag : Tag) (mode : Mode) (owner : Owner) → new ≡ with_one_less old tag mode owner → 0 < total_of new tag mode →
+    (t : Tag) (m : Mode) → has_entry new t m ≡ has_entry old t m
+keys-still_held old new tag mode owner less some t m =
+    elim (cases_Bool (same_key t m tag mode)) [
+      | inl alike ↦
+          let same = same_key-from t m tag mode alike in
+          ap (λ (o : Tag). has_entry new o m) same.0 ∙ ap (has_entry new tag) same.1 ∙ very ∙ sym (ap (λ (o : Tag). has_entry old o m) same.0 ∙ ap (has_entry old tag) same.1)
+      | inr apart ↦ others-give_up old new tag mode owner less t m apart
     ] where
-      released_not_still : (let it : Releases = Ok Released in it) ≢ Ok StillHeld
-      released_not_still e = cc
+      after_it : has_entry new tag mode ≡ (if total_of old tag mode == 1 then false else has_entry old tag mode)
+      after_it = ap (λ (entries : List Entry). has_entry entries tag mode) less ∙ has_entry-with_one_less old tag mode owner tag mode ∙ rw (same_key-refl tag mode) refl
 
-      released_not_refused : (let it : Releases = Ok Released in it) ≢ Err NotHeld
-      released_not_refused e = cc
+      very : has_entry new tag mode ≡ has_entry old tag mode
+      very =
+          elim (cases_Bool (total_of old tag mode == 1)) [
+            | inl last ↦ absurd (false≢true (sym (after_it ∙ ap (λ (b : Bool). if b then false else has_entry old tag mode) last) ∙ has_entry-some new tag mode some))
+            | inr more ↦ after_it ∙ ap (λ (b : Bool). if b then false else has_entry old tag mode) more
+          ]
 
-pub kept-still_held :
-    (old new : List Entry) (tag : Tag) (mode : Mode) (owner : Owner) (result : Releases) →
-    ((result ≡ Ok StillHeld) ↔ ((0 < owner_count_of old tag mode owner) × (0 < total_of new tag mode))) →
-    result ≡ Ok StillHeld → has_entry new tag mode ≡ true
-kept-still_held old new tag mode owner result still_held is = has_entry-some new tag mode (still_held.0 is).1
+-- What has a count has an entry.
+pub owned-entry : (entries : List Entry) (tag : Tag) (mode : Mode) (owner : Owner) → owner_count_of entries tag mode owner ≢ 0 → has_entry entries tag mode ≡ true
+owned-entry entries tag mode owner some = at (entry_of entries tag mode) some where
+  at : (found : Option Entry) → option_map_or (count_for owner) found 0 ≢ 0 → is_some found ≡ true
+  at None none = absurd (none refl)
+  at (Some entry) some = refl
+
+-- A release that was not the last left no count of it; which it was, its answer says.
+pub gone-released : (entries : List Entry) (tag : Tag) (mode : Mode) (result : Unlocked) → ((result ≡ StillHeld) ↔ (0 < total_of entries tag mode)) → All IsCounted entries →
+    result ≡ Released → has_entry entries tag mode ≡ false
+gone-released entries tag mode result answer counted released =
+    elim (cases_lt 0 (total_of entries tag mode)) [
+      | inl some ↦ absurd (other (sym released ∙ answer.1 some))
+      | inr none ↦ has_entry-none entries tag mode counted (omega arith)
+    ] where
+      other : (let it : Unlocked = Released in it) ≢ StillHeld
+      other e = cc
+
+pub none-released : (entries : List Entry) (tag : Tag) (mode : Mode) (result : Unlocked) → ((result ≡ StillHeld) ↔ (0 < total_of entries tag mode)) →
+    result ≡ Released → 0 < total_of entries tag mode → ⊥
+none-released entries tag mode result answer released some = other (sym released ∙ answer.1 some) where
+  other : (let it : Unlocked = Released in it) ≢ StillHeld
+  other e = cc
+
+pub still_not_released : (let it : Result Unlocked Refusal = Ok Released in it) ≢ Ok StillHeld
+still_not_released e = cc
+
+pub ok_not_refused : (answer : Unlocked) → (let it : Result Unlocked Refusal = Ok answer in it) ≢ Err NotHeld
+ok_not_refused answer e = cc

@@ -1,22 +1,23 @@
-use Rattle.std.proofs.Common.{◌≡◌, ℕ, ◌<◌, ◌≤◌, true, false, ◌==◌, List, [], ◌∷◌, length, get_or, arith, refl, sym, ap, subst, ◌∙◌, inl, inr, slice_set, slice_index_or}
+use Rattle.std.proofs.Common.{◌≡◌, ℕ, ◌<◌, true, false, ◌==◌, ◌||◌, List, [], ◌∷◌, length, get_or, arith, refl, sym, ap, subst, ◌∙◌, inl, inr}
 use Rattle.std.specs.Prelude.{if◌then◌else◌}
 use Rattle.std.specs.List.{AllByRecursion, IsDistinct}
-use Rattle.std.proofs.lemmas.Bool.{cases_Bool, cases_eq, eq-eqb, false≢true}
-use Rattle.std.proofs.lemmas.List.{get_or-set_same, get_or-set_other, get_or_default, length-set}
+use Rattle.std.proofs.lemmas.Bool.{cases_Bool, eq-eqb, false≢true}
+use Rattle.std.proofs.lemmas.List.{get_or_default}
 use Rattle.modes_core.specs.declared.modes.Mode.{Mode}
 use Rattle.modes_core.specs.declared.tags.Tag.{Tag}
 use Rattle.local_locks.specs.declared.records.Entry.{Entry}
 use Rattle.local_locks.specs.declared.ends.End.{End}
 use Rattle.local_locks.specs.declared.ends.End.TheVariants.{Commit, Abort, Close}
 use Rattle.modes_core.specs.Tag.{partition_of}
-use Rattle.local_locks.specs.Owned.{IsWellOwned, is_of, has_entry, are_of_same, is_ended, after_end, ended_by, left_by, with_next_ended}
+use Rattle.local_locks.specs.Owned.{is_of, has_entry, are_of_same, is_ended, after_end, ended_by, left_by, with_next_ended}
 use Rattle.local_locks.proofs.EndLaws.{left_by-next}
-use Rattle.lock_model.specs.Content.{Content, remove_hold}
 use Rattle.lock_model.specs.PartView.{PartView, content_of}
-use Rattle.lock_scenario.specs.declared.desk.DeskSession.{DeskSession}
+use Rattle.lock_scenario.specs.declared.sessions.DeskSession.{DeskSession}
 use Rattle.lock_scenario.specs.Parts.{no_part, content_in}
 use Rattle.lock_model.specs.World.{set_at}
-use Rattle.lock_scenario.specs.Desk.{no_session, entries_in, released_all, IsDesk}
+use Rattle.lock_scenario.specs.Sessions.{entries_in, waits_in, is_pending}
+use Rattle.lock_scenario.specs.Waiting.{Shared, Releases, ReleasesAll}
+use Rattle.lock_scenario.specs.Desk.{IsDesk}
 use Rattle.lock_scenario.proofs.Entries.{same_key, same_key-from, same_key-refl, same_key-comm}
 
 -- ---- which objects and modes have an entry, after a step of an end
@@ -112,66 +113,6 @@ has_entry-last end (entry ∷ entries) none t m =
           ])
     ]
 
--- ---- a step of an end on a desk
-
--- Where a session's entries keep their objects and modes, a desk stays one.
-pub IsDesk-same_keys :
-    (parts : List PartView) (sessions : List DeskSession) (limit max_local s : ℕ) (it after : DeskSession) →
-    IsDesk parts sessions limit max_local → s < length sessions → it ≡ get_or sessions s it →
-    IsWellOwned after.locals → after.locals.max_local ≡ it.locals.max_local →
-    ((t : Tag) (m : Mode) → has_entry after.locals.entries t m ≡ has_entry it.locals.entries t m) →
-    IsDesk parts (slice_set sessions s after) limit max_local
-IsDesk-same_keys parts sessions limit max_local s it after is opened it_is well_owned same_limit keys =
-    record {
-      sixteen = is.sixteen;
-      none_begun = is.none_begun;
-      nobody_waits = is.nobody_waits;
-      own_objects = is.own_objects;
-      within = let same : length (slice_set sessions s after) ≡ length sessions = length-set sessions s after in let before : length sessions ≤ limit = is.within in omega arith;
-      at_most = is.at_most;
-      some_local = is.some_local;
-      most_local = is.most_local;
-      well_owned = owned_at;
-      same_limit = limit_at;
-      held = λ session tag mode. is.held session tag mode ∙ sym (keys_at session tag mode);
-    } where
-      there : it ≡ get_or sessions s no_session
-      there = it_is ∙ get_or_default sessions s it no_session opened
-
-      here : (k : ℕ) → k ≡ s → slice_index_or (slice_set sessions s after) k no_session ≡ after
-      here k same = rw same (get_or-set_same sessions s after no_session opened)
-
-      owned_at : (k : ℕ) → k < length (slice_set sessions s after) → IsWellOwned (slice_index_or (slice_set sessions s after) k no_session).locals
-      owned_at k below =
-          elim (cases_eq k s) [
-            | inl same ↦ rw (same, get_or-set_same sessions s after no_session opened) well_owned
-            | inr other ↦ rw (get_or-set_other sessions s k after no_session other) (is.well_owned k (rw (length-set sessions s after) at below))
-          ]
-
-      limit_at : (k : ℕ) → k < length (slice_set sessions s after) → (slice_index_or (slice_set sessions s after) k no_session).locals.max_local ≡ max_local
-      limit_at k below =
-          elim (cases_eq k s) [
-            | inl same ↦
-                ap (λ (one : DeskSession). one.locals.max_local) (here k same) ∙ same_limit ∙ ap (λ (one : DeskSession). one.locals.max_local) there ∙ is.same_limit s opened
-            | inr other ↦ rw (get_or-set_other sessions s k after no_session other) (is.same_limit k (rw (length-set sessions s after) at below))
-          ]
-
-      keys_at : (k : ℕ) (t : Tag) (m : Mode) → has_entry (entries_in (slice_set sessions s after) k) t m ≡ has_entry (entries_in sessions k) t m
-      keys_at k t m =
-          elim (cases_eq k s) [
-            | inl same ↦
-                ap (λ (one : DeskSession). has_entry one.locals.entries t m) (here k same) ∙ keys t m ∙ ap (λ (one : DeskSession). has_entry one.locals.entries t m) there ∙
-                ap (λ (j : ℕ). has_entry (entries_in sessions j) t m) (sym same)
-            | inr other ↦ ap (λ (one : DeskSession). has_entry one.locals.entries t m) (get_or-set_other sessions s k after no_session other)
-          ]
-
--- The entries of an opened session are in order.
-pub owned_there :
-    (parts : List PartView) (sessions : List DeskSession) (limit max_local s : ℕ) (it : DeskSession) →
-    IsDesk parts sessions limit max_local → s < length sessions → it ≡ get_or sessions s it → IsWellOwned it.locals
-owned_there parts sessions limit max_local s it is opened it_is =
-    subst (λ (one : DeskSession). IsWellOwned one.locals) (sym (it_is ∙ get_or_default sessions s it no_session opened)) (is.well_owned s opened)
-
 -- ---- a whole end, step by step
 
 set_at-here : {A : Type 0} (f : ℕ → A) (k : ℕ) (a : A) → set_at f k a k ≡ a
@@ -193,18 +134,17 @@ left-step end entries after session step =
     ap (λ (es : List Entry). set_at entries session es) (left_by-next end (entries session))
     )
 
--- and so do the contents once all that it takes away is released.
+-- and what is released after the step, with what the step released, is all.
 pub released-step :
-    (end : End) (entries after : ℕ → List Entry) (contents contents_after : ℕ → Content) (session : ℕ) (key : Tag × Mode) →
+    (end : End) (entries after : ℕ → List Entry) (before between last : Shared) (session : ℕ) (key : Tag × Mode) →
     after ≡ set_at entries session (with_next_ended end (entries session)) →
     ended_by end (entries session) ≡ key ∷ ended_by end (with_next_ended end (entries session)) →
-    contents_after ≡ set_at contents (partition_of key.0) (remove_hold (contents (partition_of key.0)) session key.0 key.1) →
-    released_all contents_after session (ended_by end (after session)) ≡ released_all contents session (ended_by end (entries session))
-released-step end entries after contents contents_after session key step next released =
-    ap (λ (cs : ℕ → Content). released_all cs session (ended_by end (after session))) released ∙
-    ap (λ (es : ℕ → List Entry). released_all (set_at contents (partition_of key.0) (remove_hold (contents (partition_of key.0)) session key.0 key.1)) session (ended_by end (es session))) step ∙
-    ap (λ (es : List Entry). released_all (set_at contents (partition_of key.0) (remove_hold (contents (partition_of key.0)) session key.0 key.1)) session (ended_by end es)) (set_at-here entries session (with_next_ended end (entries session))) ∙
-    ap (λ (keys : List (Tag × Mode)). released_all contents session keys) (sym next)
+    Releases before session key.0 key.1 between → ReleasesAll between session (ended_by end (after session)) last →
+    ReleasesAll before session (ended_by end (entries session)) last
+released-step end entries after before between last session key step next released rest =
+    let now : after session ≡ with_next_ended end (entries session) = ap (λ (es : ℕ → List Entry). es session) step ∙ set_at-here entries session (with_next_ended end (entries session)) in
+    subst (λ (keys : List (Tag × Mode)). ReleasesAll before session keys last) (sym next)
+    (between, released, subst (λ (es : List Entry). ReleasesAll between session (ended_by end es) last) now rest)
 
 -- There is less left to take away.
 pub fewer-step :
@@ -217,13 +157,13 @@ fewer-step end entries after session key step next =
 
 -- ---- what a session holds
 
--- In an object's partition a session holds what it has entries for.
+-- In an object's partition a session holds what it has entries for, and what it was granted and has not taken over.
 pub held_modes :
     (parts : List PartView) (sessions : List DeskSession) (limit max_local p session : ℕ) (tag : Tag) (part : PartView) →
     IsDesk parts sessions limit max_local → p ≡ partition_of tag → part ≡ get_or parts p part →
-    (content_of part).holds session tag ≡ (λ mode. has_entry (entries_in sessions session) tag mode)
+    (content_of part).holds session tag ≡ (λ mode. has_entry (entries_in sessions session) tag mode || is_pending (waits_in sessions session) tag mode)
 held_modes parts sessions limit max_local p session tag part is partition part_is =
     let sixteen : length parts ≡ 16 = is.sixteen in
     let within : p < length parts = rw partition (omega arith) in
     ap (λ (view : PartView). (content_of view).holds session tag) (part_is ∙ get_or_default parts p part no_part within) ∙
-    ap (λ (q : ℕ). (content_in parts q).holds session tag) partition ∙ (λ i mode. is.held session tag mode i)
+    ap (λ (q : ℕ). (content_in parts q).holds session tag) partition ∙ (λ i mode. (is.agrees.on_object tag).held session mode i)

@@ -1,11 +1,17 @@
 mod AcquireLemmas
+mod Agreement
+mod AskLemmas
+mod CancelLemmas
 mod DeskLemmas
 mod EndLemmas
 mod Entries
 mod Gathering
+mod JoinLemmas
 mod Known
 mod ListLemmas
+mod Marking
 mod NameOrder
 mod NameLemmas
+mod StartLemmas
 mod TextBytes
 mod WordLemmas

@@ -1,5 +1,6 @@
 use Rattle.std.proofs.Common.{◌≡◌, ◌≢◌, ℕ, ◌+◌, ◌<◌, Bool, true, false, nat_lt, ◌&&◌, ◌==◌, List, [], ◌++◌, length, get_or, subst, arith, refl, sym, ap, ◌∙◌, inl, inr}
 use Rattle.std.specs.Prelude.{count_by, if◌then◌else◌, IsSorted, IsPermutation}
+use Rattle.std.specs.List.{list_any}
 use Rattle.std.proofs.lemmas.Bool.{cases_Bool, cases_eq, false≢true}
 use Rattle.std.proofs.lemmas.Bool.Decides.{nat_tests}
 use Rattle.std.proofs.lemmas.List.{get_or_default}
@@ -7,11 +8,10 @@ use Rattle.std.proofs.lemmas.List.Sums.{sum_by-append}
 use Rattle.std.proofs.lemmas.List.Sorted.{sum_by-IsPermutation}
 use Rattle.modes_core.specs.declared.modes.Mode.{Mode}
 use Rattle.modes_core.specs.declared.tags.Tag.{Tag}
+use Rattle.modes_core.specs.Mode.{mode_eq}
 use Rattle.modes_core.specs.Tag.{partition_of}
 use Rattle.lock_model.specs.declared.rows.TableRow.{TableRow}
-use Rattle.modes_core.specs.Mode.{mode_eq}
-use Rattle.std.specs.List.{list_any}
-use Rattle.lock_model.specs.Content.{Wait, Content}
+use Rattle.lock_model.specs.Content.{Content}
 use Rattle.lock_model.specs.PartView.{PartView, content_of}
 use Rattle.lock_model.specs.Listing.{row_eq, has_row, row_cmp, IsListing, AppendsListing}
 use Rattle.lock_scenario.specs.Parts.{no_part, content_in}
@@ -25,11 +25,10 @@ Lists parts past rows =
 count_by-append : {X : Type 0} (p : X → Bool) (xs ys : List X) → count_by p (xs ++ ys) ≡ count_by p xs + count_by p ys
 count_by-append p xs ys = sum_by-append (λ x. if p x then 1 else 0) xs ys
 
--- A partition has holds of its own objects alone, and no wait.
-abbrev pub OwnObjects : List PartView → Type 0
-OwnObjects parts =
-    ((p session : ℕ) (tag : Tag) (mode : Mode) → (content_in parts p).holds session tag mode ≡ true → partition_of tag ≡ p)
-    × ((p : ℕ) → (content_in parts p).waits ≡ λ _. [])
+-- A partition has rows of its own objects alone.
+pub record OwnObjects (parts : List PartView) : Type 0 where
+  pub own_holds : (p session : ℕ) (tag : Tag) (mode : Mode) → (content_in parts p).holds session tag mode ≡ true → partition_of tag ≡ p
+  pub own_waits : (p : ℕ) (tag : Tag) → partition_of tag ≢ p → (content_in parts p).waits tag ≡ []
 
 no_foreign : (parts : List PartView) → OwnObjects parts → (p : ℕ) (row : TableRow) → partition_of row.tag ≢ p → has_row (content_in parts p) row ≡ false
 no_foreign parts own p row other =
@@ -38,11 +37,11 @@ no_foreign parts own p row other =
       | inr not ↦ not
     ] where
       by_kind : (granted : Bool) → row.granted ≡ granted → has_row (content_in parts p) row ≡ true → ⊥
-      by_kind true is has = other (own.0 p row.session row.tag row.mode (sym (rw is refl) ∙ has))
+      by_kind true is has = other (own.own_holds p row.session row.tag row.mode (sym (rw is refl) ∙ has))
       by_kind false is has =
-          let none : has_row (content_in parts p) row ≡ false =
-          rw is (ap (λ (waits : Tag → List Wait). list_any (λ w. (w.session == row.session) && mode_eq w.mode row.mode) (waits row.tag)) (own.1 p)) in
-          false≢true (sym none ∙ has)
+          let nowhere : list_any (λ w. (w.session == row.session) && mode_eq w.mode row.mode) ((content_in parts p).waits row.tag) ≡ false =
+          ap (list_any (λ w. (w.session == row.session) && mode_eq w.mode row.mode)) (own.own_waits p row.tag other) in
+          false≢true (sym nowhere ∙ (sym (rw is refl) ∙ has))
 
 -- One more partition is listed.
 pub Lists-more :

@@ -1,15 +1,21 @@
-use Rattle.std.specs.Prelude.{◌≡◌, ℕ, ◌<◌, ◌≤◌, ◌&&◌, nat_le, Bool, true, List, [], ◌∷◌, length, map, None, slice_index_or}
-use Rattle.modes_core.specs.declared.modes.Mode.{Mode}
-use Rattle.modes_core.specs.declared.tags.Tag.{Tag}
+use Rattle.std.specs.Prelude.{◌≡◌, ℕ, ◌<◌, ◌≤◌, ◌&&◌, nat_le, Bool, false, List, [], length, map, Option, None, Some, IfSome, slice_index_or, if◌then◌else◌}
 use Rattle.modes_core.specs.Tag.{partition_of}
 use Rattle.local_locks.specs.declared.records.Entry.{Entry}
-use Rattle.local_locks.specs.Owned.{has_entry, IsWellOwned}
-use Rattle.lock_model.specs.Content.{Content, empty_content, remove_hold}
+use Rattle.local_locks.specs.Owned.{Owned, has_entry, IsWellOwned, IsReserved}
+use Rattle.lock_model.specs.Content.{Content, empty_content}
 use Rattle.lock_model.specs.PartView.{PartView}
-use Rattle.lock_model.specs.World.{set_at}
 use Rattle.lock_scenario.specs.Parts.{no_part, content_in}
-use Rattle.lock_scenario.specs.declared.desk.DeskSession.{DeskSession}
+use Rattle.lock_scenario.specs.Sessions.{session_at, entries_in, waits_in, as_asked}
+use Rattle.lock_scenario.specs.Waiting.{Agrees, Shared}
+use Rattle.lock_scenario.specs.declared.sessions.OwnWait.{OwnWait}
+use Rattle.lock_scenario.specs.declared.sessions.DeskSession.{DeskSession}
 use Rattle.lock_scenario.specs.declared.desk.Config.{Config}
+use Rattle.lock_scenario.specs.declared.desk.Cancelled.{Cancelled}
+use Rattle.lock_scenario.specs.declared.desk.Cancelled.TheVariants.{Removed, WasGranted}
+use Rattle.lock_scenario.specs.declared.desk.Asked.{Asked}
+use Rattle.lock_scenario.specs.declared.desk.Asked.TheVariants.{Waiting, NotWaiting}
+use Rattle.lock_scenario.specs.declared.desk.Polled.{Polled}
+use Rattle.lock_scenario.specs.declared.desk.Polled.TheVariants.{Granted, Still, CancelAsked}
 
 -- What contracts see of a `Desk`: its partitions, its sessions in the order of opening, and how many sessions and local
 -- entries there may be.
@@ -27,14 +33,6 @@ issued_of desk = length desk.sessions
 abbrev pub databases_of : DeskView → List ℕ
 databases_of desk = map (λ session. session.database) desk.sessions
 
--- a session with nothing
-abbrev pub no_session : DeskSession
-no_session = record { database = 0; locals = record { entries = []; room = 0; max_local = 0 } }
-
--- the entries of the session with this number, in the order of making; a session that is not opened has none
-abbrev pub entries_in : List DeskSession → ℕ → List Entry
-entries_in sessions session = (slice_index_or sessions session no_session).locals.entries
-
 -- the content of each partition
 abbrev pub contents_of : DeskView → ℕ → Content
 contents_of desk = content_in desk.parts
@@ -43,11 +41,31 @@ contents_of desk = content_in desk.parts
 abbrev pub entries_of : DeskView → ℕ → List Entry
 entries_of desk = entries_in desk.sessions
 
--- the contents with these holds of the session taken out, one after another
-abbrev pub released_all : (ℕ → Content) → ℕ → List (Tag × Mode) → ℕ → Content
-released_all contents session [] = contents
-released_all contents session (key ∷ keys) =
-    released_all (set_at contents (partition_of key.0) (remove_hold (contents (partition_of key.0)) session key.0 key.1)) session keys
+-- the wait of each session, if it waits
+abbrev pub wait_of : DeskView → ℕ → Option OwnWait
+wait_of desk = waits_in desk.sessions
+
+-- what the sessions share
+abbrev pub shared_of : DeskView → Shared
+shared_of desk = record { contents = contents_of desk; waits = wait_of desk }
+
+-- what a session finds when it looks at its wait
+abbrev pub polled_as : OwnWait → Polled
+polled_as wait = if wait.is_granted then Granted else (if wait.cancel_asked then CancelAsked else Still)
+
+-- what a session that is asked to cancel was doing
+abbrev pub asked_as : Option OwnWait → Asked
+asked_as None = NotWaiting
+asked_as (Some wait) = if wait.is_granted then NotWaiting else Waiting
+
+-- its wait after it was asked
+abbrev pub after_asking : Option OwnWait → Option OwnWait
+after_asking None = None
+after_asking (Some wait) = Some (if wait.is_granted then wait else as_asked wait)
+
+-- what becomes of a wait that is cancelled
+abbrev pub cancelled_as : OwnWait → Cancelled
+cancelled_as wait = if wait.is_granted then WasGranted else Removed
 
 -- all partitions as one content: what each object's partition has on it
 abbrev pub whole_of : (ℕ → Content) → Content
@@ -64,26 +82,36 @@ is_in_range config = nat_le 1 config.sessions && (nat_le config.sessions 64 && (
 pub record IsNew (desk : DeskView) (config : Config) : Type 0 where
   pub no_session_yet : issued_of desk ≡ 0
   pub nothing_owned : entries_of desk ≡ λ _. []
+  pub nobody_waits : wait_of desk ≡ λ _. None
   pub nothing_held : contents_of desk ≡ λ _. empty_content
   pub limit : desk.limit ≡ config.sessions
   pub max_local : desk.max_local ≡ config.max_local
 
--- A desk's entries and contents are as before.
+-- A desk's entries, waits and contents are as before.
 pub record IsUnchanged (old new : DeskView) : Type 0 where
   pub entries : entries_of new ≡ entries_of old
+  pub waits : wait_of new ≡ wait_of old
   pub contents : contents_of new ≡ contents_of old
 
--- What a desk keeps true: sixteen partitions, each with holds of its own objects alone, no wait and no request begun; no more
--- sessions than may be, each with its entries in order; and a session holds in the contents just what it has entries for.
+-- There is room for the entry that the wait is for, and none is there yet.
+pub record IsReadyFor (locals : Owned) (wait : OwnWait) : Type 0 where
+  pub reserved : IsReserved locals wait.tag wait.mode wait.owner
+  pub new : has_entry locals.entries wait.tag wait.mode ≡ false
+
+-- What each opened session keeps true: its entries are in order, and while it waits there is room for what it awaits.
+pub record IsInOrder (max_local : ℕ) (session : DeskSession) : Type 0 where
+  pub well_owned : IsWellOwned session.locals
+  pub same_limit : session.locals.max_local ≡ max_local
+  pub ready : IfSome session.wait (IsReadyFor session.locals)
+
+-- What a desk keeps true: sixteen partitions with no request begun; no more sessions than may be, each in order; and the
+-- partitions have just what the sessions have entries and waits for.
 pub record IsDesk (parts : List PartView) (sessions : List DeskSession) (limit max_local : ℕ) : Type 0 where
   pub sixteen : length parts ≡ 16
   pub none_begun : (p : ℕ) → (slice_index_or parts p no_part).begun ≡ None
-  pub nobody_waits : (p : ℕ) → (content_in parts p).waits ≡ λ _. []
-  pub own_objects : (p session : ℕ) (tag : Tag) (mode : Mode) → (content_in parts p).holds session tag mode ≡ true → partition_of tag ≡ p
   pub within : length sessions ≤ limit
   pub at_most : limit ≤ 64
   pub some_local : 1 ≤ max_local
   pub most_local : max_local ≤ 65536
-  pub well_owned : (session : ℕ) → session < length sessions → IsWellOwned (slice_index_or sessions session no_session).locals
-  pub same_limit : (session : ℕ) → session < length sessions → (slice_index_or sessions session no_session).locals.max_local ≡ max_local
-  pub held : (session : ℕ) (tag : Tag) (mode : Mode) → (content_in parts (partition_of tag)).holds session tag mode ≡ has_entry (entries_in sessions session) tag mode
+  pub in_order : (session : ℕ) → session < length sessions → IsInOrder max_local (session_at sessions session)
+  pub agrees : Agrees (content_in parts) (entries_in sessions) (waits_in sessions)

@@ -1,9 +1,11 @@
 pub mod Bytes
 pub mod Command
-pub mod Decide
 pub mod Desk
 pub mod Fault
 pub mod Lines
 pub mod Names
 pub mod Parts
+pub mod Sessions
+pub mod Started
+pub mod Waiting
 pub mod Words

@@ -1,7 +1,9 @@
 //! The commands of the script language, and the parse of their words.
 ghost use Rattle.std.specs.Prelude.{◌≡◌, ◌<◌, length, IfOk, IfSome};
-ghost use Rattle.lock_scenario.specs.Command.{Addresses};
+ghost use Rattle.lock_scenario.specs.Command.{Addresses, MayAct};
+ghost use Rattle.lock_scenario.specs.Desk.{issued_of};
 
+use crate::desk::Desk;
 use crate::faults::Defect;
 use crate::names::{Name, Names};
 use crate::words::{parse_name, parse_number, parse_owner, parse_tag, split_words};
@@ -29,6 +31,8 @@ pub enum Command {
     Session { name: Name, database: u32 },
     /// `try NAME TAG MODE OWNER`
     Try(Target, Owner),
+    /// `lock NAME TAG MODE OWNER`
+    Lock(Target, Owner),
     /// `unlock NAME TAG MODE OWNER`
     Unlock(Target, Owner),
     /// `commit NAME`
@@ -37,6 +41,10 @@ pub enum Command {
     Abort(Speaker),
     /// `owned NAME TAG MODE`
     Owned(Target),
+    /// `waiters NAME TAG MODE`
+    Waiters(Target),
+    /// `cancel BY NAME`
+    Cancel(Speaker, Speaker),
     /// `list NAME`
     List(Speaker),
     /// `hash TAG`
@@ -46,8 +54,9 @@ pub enum Command {
 }
 
 /// What the line asks for, or `None` of a line with no word and of a comment.
-pub fn parse(line: &str, names: &Names) -> Result<Option<Command>, Defect>
-    ensures { IfOk result (λ command. IfSome command (Addresses (length names.now.opened.items))) }
+pub fn parse(line: &str, names: &Names, desk: &Desk) -> Result<Option<Command>, Defect>
+    requires { length names.now.opened.items ≡ issued_of desk.now }
+    ensures { IfOk result (λ command. IfSome command (Addresses desk.now)) }
 {
     let words = split_words(line);
     let Some((verb, words)) = words.as_slice().split_first() else {
@@ -56,31 +65,48 @@ pub fn parse(line: &str, names: &Names) -> Result<Option<Command>, Defect>
     if verb.starts_with('#') {
         return Ok(None);
     }
-    let command = match *verb {
-        "session" => parse_session(words, names)?,
+    parse_command(*verb, words, names, desk).map(Some)
+}
+
+/// The command of this first word and the words behind it.
+fn parse_command(verb: &str, words: &[&str], names: &Names, desk: &Desk) -> Result<Command, Defect>
+    requires { length names.now.opened.items ≡ issued_of desk.now }
+    ensures { IfOk result (Addresses desk.now) }
+{
+    match verb {
+        "session" => {
+            let (name, database) = parse_session(words, names)?;
+            Ok(Command::Session { name, database })
+        }
         "try" => {
-            let (target, owner) = parse_owned_target(words, names)?;
-            Command::Try(target, owner)
+            let (target, owner) = parse_owned_target(words, names, desk)?;
+            Ok(Command::Try(target, owner))
+        }
+        "lock" => {
+            let (target, owner) = parse_owned_target(words, names, desk)?;
+            Ok(Command::Lock(target, owner))
         }
         "unlock" => {
-            let (target, owner) = parse_owned_target(words, names)?;
-            Command::Unlock(target, owner)
+            let (target, owner) = parse_owned_target(words, names, desk)?;
+            Ok(Command::Unlock(target, owner))
         }
-        "commit" => Command::Commit(parse_lone_speaker(words, names)?),
-        "abort" => Command::Abort(parse_lone_speaker(words, names)?),
-        "owned" => parse_owned(words, names)?,
-        "list" => Command::List(parse_lone_speaker(words, names)?),
-        "hash" => parse_hash(words)?,
-        "close" => Command::Close(parse_lone_speaker(words, names)?),
-        _ => return Err(Defect::UnknownCommand),
-    };
-    Ok(Some(command))
+        "cancel" => {
+            let (by, other) = parse_cancel(words, names, desk)?;
+            Ok(Command::Cancel(by, other))
+        }
+        "commit" => Ok(Command::Commit(parse_lone_speaker(words, names, desk)?)),
+        "abort" => Ok(Command::Abort(parse_lone_speaker(words, names, desk)?)),
+        "owned" => Ok(Command::Owned(parse_lone_target(words, names, desk)?)),
+        "waiters" => Ok(Command::Waiters(parse_lone_target(words, names, desk)?)),
+        "list" => Ok(Command::List(parse_lone_speaker(words, names, desk)?)),
+        "hash" => Ok(Command::Hash(parse_hash(words)?)),
+        "close" => Ok(Command::Close(parse_lone_speaker(words, names, desk)?)),
+        _ => Err(Defect::UnknownCommand),
+    }
 }
 
 /// The words behind `session`.
-fn parse_session(words: &[&str], names: &Names) -> Result<Command, Defect>
-    ensures { IfOk result (Addresses (length names.now.opened.items)) }
-{
+fn parse_session(words: &[&str], names: &Names) -> Result<(Name, u32), Defect> {
     let [name, database] = words else {
         return Err(Defect::WrongNumberOfWords);
     };
@@ -89,20 +115,21 @@ fn parse_session(words: &[&str], names: &Names) -> Result<Command, Defect>
         return Err(Defect::SessionExists);
     }
     let database = parse_number(database).ok_or(Defect::BadNumber)?;
-    Ok(Command::Session { name, database })
+    Ok((name, database))
 }
 
-/// The words behind `try` and `unlock`. Where there is no fourth one the owner is the transaction.
-fn parse_owned_target(words: &[&str], names: &Names) -> Result<(Target, Owner), Defect>
-    ensures { IfOk result (λ parsed. parsed.0.speaker.session < length names.now.opened.items) }
+/// The words behind `try`, `lock` and `unlock`. Where there is no fourth one the owner is the transaction.
+fn parse_owned_target(words: &[&str], names: &Names, desk: &Desk) -> Result<(Target, Owner), Defect>
+    requires { length names.now.opened.items ≡ issued_of desk.now }
+    ensures { IfOk result (λ parsed. MayAct desk.now parsed.0.speaker.session) }
 {
     match words {
         [name, tag, mode] => {
-            let target = parse_target(name, tag, mode, names)?;
+            let target = parse_target(name, tag, mode, names, desk)?;
             Ok((target, Owner::Transaction))
         }
         [name, tag, mode, owner] => {
-            let target = parse_target(name, tag, mode, names)?;
+            let target = parse_target(name, tag, mode, names, desk)?;
             let owner = parse_owner(owner).ok_or(Defect::BadOwner)?;
             Ok((target, owner))
         }
@@ -110,49 +137,80 @@ fn parse_owned_target(words: &[&str], names: &Names) -> Result<(Target, Owner), 
     }
 }
 
-/// The words behind `owned`.
-fn parse_owned(words: &[&str], names: &Names) -> Result<Command, Defect>
-    ensures { IfOk result (Addresses (length names.now.opened.items)) }
+/// The words behind `owned` and `waiters`.
+fn parse_lone_target(words: &[&str], names: &Names, desk: &Desk) -> Result<Target, Defect>
+    requires { length names.now.opened.items ≡ issued_of desk.now }
+    ensures { IfOk result (λ target. MayAct desk.now target.speaker.session) }
 {
     let [name, tag, mode] = words else {
         return Err(Defect::WrongNumberOfWords);
     };
-    Ok(Command::Owned(parse_target(name, tag, mode, names)?))
+    parse_target(name, tag, mode, names, desk)
 }
 
 /// Which lock three words are about, and whose.
-fn parse_target(name: &str, tag: &str, mode: &str, names: &Names) -> Result<Target, Defect>
-    ensures { IfOk result (λ target. target.speaker.session < length names.now.opened.items) }
+fn parse_target(
+    name: &str,
+    tag: &str,
+    mode: &str,
+    names: &Names,
+    desk: &Desk,
+) -> Result<Target, Defect>
+    requires { length names.now.opened.items ≡ issued_of desk.now }
+    ensures { IfOk result (λ target. MayAct desk.now target.speaker.session) }
 {
-    let speaker = parse_speaker(name, names)?;
+    let speaker = parse_speaker(name, names, desk)?;
     let tag = parse_tag(tag).ok_or(Defect::BadObject)?;
     let mode = Mode::from_name(mode).ok_or(Defect::BadMode)?;
     Ok(Target { speaker, tag, mode })
 }
 
 /// The word behind a command that takes a session's name alone.
-fn parse_lone_speaker(words: &[&str], names: &Names) -> Result<Speaker, Defect>
-    ensures { IfOk result (λ speaker. speaker.session < length names.now.opened.items) }
+fn parse_lone_speaker(words: &[&str], names: &Names, desk: &Desk) -> Result<Speaker, Defect>
+    requires { length names.now.opened.items ≡ issued_of desk.now }
+    ensures { IfOk result (λ speaker. MayAct desk.now speaker.session) }
 {
     let [name] = words else {
         return Err(Defect::WrongNumberOfWords);
     };
-    parse_speaker(name, names)
+    parse_speaker(name, names, desk)
 }
 
 /// The word behind `hash`.
-fn parse_hash(words: &[&str]) -> Result<Command, Defect>
-    ensures { IfOk result (Addresses 0) }
-{
+fn parse_hash(words: &[&str]) -> Result<Tag, Defect> {
     let [tag] = words else {
         return Err(Defect::WrongNumberOfWords);
     };
-    let tag = parse_tag(tag).ok_or(Defect::BadObject)?;
-    Ok(Command::Hash(tag))
+    parse_tag(tag).ok_or(Defect::BadObject)
 }
 
-/// The session that a word names.
-fn parse_speaker(name: &str, names: &Names) -> Result<Speaker, Defect>
+/// The words behind `cancel`: who asks, and the session that is asked, which may wait.
+fn parse_cancel(words: &[&str], names: &Names, desk: &Desk) -> Result<(Speaker, Speaker), Defect>
+    requires { length names.now.opened.items ≡ issued_of desk.now }
+    ensures { IfOk result (λ parsed. MayAct desk.now parsed.0.session) }
+{
+    let [by, other] = words else {
+        return Err(Defect::WrongNumberOfWords);
+    };
+    let by = parse_speaker(by, names, desk)?;
+    let other = parse_opened(other, names)?;
+    Ok((by, other))
+}
+
+/// The session that a word names. It may not wait.
+fn parse_speaker(name: &str, names: &Names, desk: &Desk) -> Result<Speaker, Defect>
+    requires { length names.now.opened.items ≡ issued_of desk.now }
+    ensures { IfOk result (λ speaker. MayAct desk.now speaker.session) }
+{
+    let speaker = parse_opened(name, names)?;
+    if desk.is_waiting(speaker.session) {
+        return Err(Defect::SessionWaits);
+    }
+    Ok(speaker)
+}
+
+/// The session that a word names, whether it waits or not.
+fn parse_opened(name: &str, names: &Names) -> Result<Speaker, Defect>
     ensures { IfOk result (λ speaker. speaker.session < length names.now.opened.items) }
 {
     let name = parse_name(name).ok_or(Defect::BadName)?;

@@ -1,15 +1,21 @@
-ghost use Rattle.std.specs.Prelude.{◌≡◌, ◌≢◌, ◌+◌, ◌<◌, ◌≤◌, ◌↔◌, ℕ, [], ◌∷◌, ◌++◌, Some, None, true, false, length, IfSome, IfNone, IsErrOf, IsOkUnless, IfOk, IfErr, OnOk, OnErr};
+ghost use Rattle.std.specs.Prelude.{◌≡◌, ◌≢◌, ◌+◌, ◌<◌, ◌≤◌, ◌↔◌, ◌||◌, ℕ, [], ◌∷◌, ◌++◌, Some, None, true, false, length, is_some, IsSome, IfSome, IfNone, IsErrOf, IsOkUnless, IfOk, IfErr, OnOk, OnErr};
 ghost use Rattle.local_locks.specs.Owned.{has_entry, owner_count_of, total_of, with_one_more, with_one_less, with_next_ended, ended_by, left_by, max_count};
 ghost use Rattle.modes_core.specs.ModeSet.{set_has};
 ghost use Rattle.modes_core.specs.Tag.{partition_of};
-ghost use Rattle.lock_model.specs.Content.{add_hold, remove_hold, empty_content};
+ghost use Rattle.lock_model.specs.Content.{add_hold};
 ghost use Rattle.lock_model.specs.Clash.{ClashIs};
 ghost use Rattle.lock_model.specs.Listing.{IsListing};
+ghost use Rattle.lock_model.specs.Queue.{some_awaits_conflict};
 ghost use Rattle.lock_model.specs.World.{set_at};
 ghost use Rattle.lock_scenario.specs.Parts.{AreEmpty};
+ghost use Rattle.lock_scenario.specs.Sessions.{is_pending};
+ghost use Rattle.lock_scenario.specs.Started.{IsStarted, entries_started, wait_started};
+ghost use Rattle.lock_scenario.specs.Waiting.{Releases, ReleasesAll, Leaves};
 
-use crate::acquire::{acquire, give_up};
-use crate::decide::release;
+pub use crate::acquire::Started;
+use crate::acquire::{acquire, request};
+use crate::give_up::{leave_queue, release_hold};
+pub use crate::sessions::{DeskSession, OwnWait};
 use local_locks::{Acquired, End, LocalTable, Unlocked};
 use lock_model::rows::sort_rows;
 use lock_model::{PartTable, PlainPart, TableRow};
@@ -17,6 +23,7 @@ use modes_core::tags::PARTITIONS;
 use modes_core::{Mode, ModeSet, Owner, Refusal, SessionId, Tag};
 use std::alloc::Global;
 use std::marker::Model;
+use wait_queue::{Kind, awaited_in_conflict};
 
 /// How many sessions a desk may open, and how many local entries each may have.
 #[derive(Clone, Copy, Debug, PartialEq, Eq)]
@@ -25,6 +32,35 @@ pub struct Config {
     pub sessions: u32,
     /// 1 to 65,536.
     pub max_local: u32,
+}
+
+/// What became of a wait that was cancelled.
+#[derive(Clone, Copy, Debug, PartialEq, Eq)]
+pub enum Cancelled {
+    /// It is out of the queue.
+    Removed,
+    /// It had been granted, and the session keeps the mode.
+    WasGranted,
+}
+
+/// What a session that waits finds when it looks.
+#[derive(Clone, Copy, Debug, PartialEq, Eq)]
+pub enum Polled {
+    /// Its wait was granted, and has ended.
+    Granted,
+    /// It waits still.
+    Still,
+    /// It waits still, and was asked to cancel.
+    CancelAsked,
+}
+
+/// What an asked session was doing.
+#[derive(Clone, Copy, Debug, PartialEq, Eq)]
+pub enum Asked {
+    /// It waits, and finds that it was asked when it looks.
+    Waiting,
+    /// It doesn't wait, or was granted what it waits for. Nothing has changed.
+    NotWaiting,
 }
 
 /// A hold in a fast-path slot.
@@ -41,13 +77,6 @@ pub struct SlotRow {
 pub struct Listing {
     pub fast: Vec<SlotRow>,
     pub table: Vec<TableRow>,
-}
-
-/// An opened session: the database that it is in, and what it owns.
-#[derive(Drop)]
-pub struct DeskSession {
-    pub database: u32,
-    pub locals: LocalTable,
 }
 
 /// The lock manager of one thread: sixteen partitions, and the sessions with their local lock tables.
@@ -72,8 +101,8 @@ impl Model for Desk {
 }
 
 impl Desk {
-    ghost use Rattle.lock_scenario.specs.Desk.{issued_of, databases_of, entries_of, contents_of, whole_of, released_all, is_in_range, IsNew, IsUnchanged};
-    ghost use Rattle.lock_scenario.specs.Decide.{RefusedFor};
+    ghost use Rattle.lock_scenario.specs.Desk.{issued_of, databases_of, entries_of, wait_of, contents_of, shared_of, polled_as, cancelled_as, asked_as, after_asking, whole_of, is_in_range, IsNew, IsUnchanged};
+    ghost use Rattle.wait_queue.specs.Decide.{RefusedFor};
 
     /// Takes a mode on an object for an owner, or refuses at once where it clashes (`LockAcquire` in
     /// lock.c with `dontWait`). After a refusal nothing has changed.
@@ -85,6 +114,7 @@ impl Desk {
         owner: Owner,
     ) -> Result<Acquired, Refusal>
         requires issued { session < issued_of self.old }
+        requires not_waiting { wait_of self.old session ≡ None }
 
         // What the session has already is counted once more, whatever others hold.
         ensures already_held { (result ≡ Ok Acquired.AlreadyHeld) ↔ ((has_entry (entries_of self.old session) tag mode ≡ true) × (owner_count_of (entries_of self.old session) tag mode owner < max_count)) }
@@ -93,12 +123,13 @@ impl Desk {
         // A new mode: by its clash in the object's partition.
         ensures local_full { IsErrOf result Refusal.LocalFull ↔ ((has_entry (entries_of self.old session) tag mode ≡ false) × (length (entries_of self.old session) ≡ self.old.max_local)) }
         ensures granted { result ≡ Ok Acquired.Granted → ClashIs (contents_of self.old (partition_of tag)) session tag mode None }
-        ensures refused { IfErr result (λ refusal. refusal ≢ Refusal.CountFull → refusal ≢ Refusal.LocalFull → RefusedFor (contents_of self.old (partition_of tag)) session tag mode refusal) }
+        ensures refused { IfErr result (λ refusal. refusal ≢ Refusal.CountFull → refusal ≢ Refusal.LocalFull → RefusedFor Kind.Conditional (contents_of self.old (partition_of tag)) session tag mode refusal) }
 
         // What stands after it.
         ensures entries { OnOk result (entries_of self.new ≡ set_at (entries_of self.old) session (with_one_more (entries_of self.old session) tag mode owner)) }
         ensures hold { result ≡ Ok Acquired.Granted → contents_of self.new ≡ set_at (contents_of self.old) (partition_of tag) (add_hold (contents_of self.old (partition_of tag)) session tag mode) }
         ensures same_contents { result ≡ Ok Acquired.AlreadyHeld → contents_of self.new ≡ contents_of self.old }
+        ensures waits { wait_of self.new ≡ wait_of self.old }
         ensures unchanged { OnErr result (IsUnchanged self.old self.new) }
         ensures sessions { issued_of self.new ≡ issued_of self.old }
         ensures limit { self.new.limit ≡ self.old.limit }
@@ -107,6 +138,104 @@ impl Desk {
         let part = &mut self.parts[usize::from(tag.partition())];
         let locals = &mut self.sessions[usize::from(session.number())].locals;
         acquire(part, locals, session, tag, mode, owner)
+    }
+
+    /// Takes a mode on an object for an owner as `try_lock` does, but where something is in the way the
+    /// session waits (`LockAcquire` in lock.c, with `ProcSleep` in proc.c). After a refusal nothing has
+    /// changed.
+    pub fn start(
+        &mut self,
+        session: SessionId,
+        tag: Tag,
+        mode: Mode,
+        owner: Owner,
+    ) -> Result<Started, Refusal>
+        requires issued { session < issued_of self.old }
+        requires not_waiting { wait_of self.old session ≡ None }
+
+        // What the session has already is counted once more, whatever others hold.
+        ensures already_held { (result ≡ Ok Started.AlreadyHeld) ↔ ((has_entry (entries_of self.old session) tag mode ≡ true) × (owner_count_of (entries_of self.old session) tag mode owner < max_count)) }
+        ensures count_full { IsErrOf result Refusal.CountFull ↔ (owner_count_of (entries_of self.old session) tag mode owner ≡ max_count) }
+
+        // A new mode: by its clash in the object's partition, and its place there.
+        ensures local_full { IsErrOf result Refusal.LocalFull ↔ ((has_entry (entries_of self.old session) tag mode ≡ false) × (length (entries_of self.old session) ≡ self.old.max_local)) }
+        ensures decided { IfOk result (IsStarted (contents_of self.old (partition_of tag)) session tag mode (contents_of self.new (partition_of tag))) }
+        ensures refused { IfErr result (λ refusal. refusal ≢ Refusal.CountFull → refusal ≢ Refusal.LocalFull → RefusedFor Kind.Waiting (contents_of self.old (partition_of tag)) session tag mode refusal) }
+
+        // What stands after it.
+        ensures other_contents { (p : ℕ) → p ≢ partition_of tag → contents_of self.new p ≡ contents_of self.old p }
+        ensures entries { IfOk result (λ started. entries_of self.new ≡ set_at (entries_of self.old) session (entries_started started (entries_of self.old session) tag mode owner)) }
+        ensures waits { IfOk result (λ started. wait_of self.new ≡ set_at (wait_of self.old) session (wait_started started tag mode owner)) }
+        ensures unchanged { OnErr result (IsUnchanged self.old self.new) }
+        ensures sessions { issued_of self.new ≡ issued_of self.old }
+        ensures limit { self.new.limit ≡ self.old.limit }
+        ensures max_local { self.new.max_local ≡ self.old.max_local }
+    {
+        let part = &mut self.parts[usize::from(tag.partition())];
+        let own = &mut self.sessions[usize::from(session.number())];
+        let started = request(part, &mut own.locals, session, tag, mode, owner)?;
+        own.wait = started.wait_for(tag, mode, owner);
+        Ok(started)
+    }
+
+    /// Looks at the session's wait. Where it was granted the wait ends, and what it awaited is entered
+    /// among what the session owns (`LockAcquireExtended` in lock.c after `WaitOnLock`).
+    pub fn poll(&mut self, session: SessionId) -> Polled
+        requires issued { session < issued_of self.old }
+        requires waits { IsSome (wait_of self.old session) }
+
+        ensures answer { IfSome (wait_of self.old session) (λ wait. result ≡ polled_as wait) }
+        ensures ended { result ≡ Polled.Granted → wait_of self.new ≡ set_at (wait_of self.old) session None }
+        ensures entered { result ≡ Polled.Granted → IfSome (wait_of self.old session) (λ wait.
+            entries_of self.new ≡ set_at (entries_of self.old) session (with_one_more (entries_of self.old session) wait.tag wait.mode wait.owner)) }
+        ensures same_waits { result ≢ Polled.Granted → wait_of self.new ≡ wait_of self.old }
+        ensures same_entries { result ≢ Polled.Granted → entries_of self.new ≡ entries_of self.old }
+        ensures contents { contents_of self.new ≡ contents_of self.old }
+        ensures sessions { issued_of self.new ≡ issued_of self.old }
+        ensures limit { self.new.limit ≡ self.old.limit }
+        ensures max_local { self.new.max_local ≡ self.old.max_local }
+    {
+        let own = &mut self.sessions[usize::from(session.number())];
+        let wait = own.wait.unwrap();
+        if !wait.is_granted {
+            return if wait.cancel_asked {
+                Polled::CancelAsked
+            } else {
+                Polled::Still
+            };
+        }
+        own.locals.add(wait.tag, wait.mode, wait.owner);
+        own.wait = None;
+        Polled::Granted
+    }
+
+    /// Ends the session's wait: it is taken out of the queue, or, where it was granted already, the grant
+    /// is kept (`LockErrorCleanup` in proc.c).
+    pub fn cancel(&mut self, session: SessionId) -> Cancelled
+        requires issued { session < issued_of self.old }
+        requires waits { IsSome (wait_of self.old session) }
+
+        ensures answer { IfSome (wait_of self.old session) (λ wait. result ≡ cancelled_as wait) }
+        ensures ended { wait_of self.new session ≡ None }
+        ensures removed { result ≡ Cancelled.Removed → IfSome (wait_of self.old session) (λ wait. Leaves (shared_of self.old) session wait.tag (shared_of self.new)) }
+        ensures same_entries { result ≡ Cancelled.Removed → entries_of self.new ≡ entries_of self.old }
+        ensures kept { result ≡ Cancelled.WasGranted → IfSome (wait_of self.old session) (λ wait.
+            entries_of self.new ≡ set_at (entries_of self.old) session (with_one_more (entries_of self.old session) wait.tag wait.mode wait.owner)) }
+        ensures same_contents { result ≡ Cancelled.WasGranted → contents_of self.new ≡ contents_of self.old }
+        ensures same_waits { result ≡ Cancelled.WasGranted → wait_of self.new ≡ set_at (wait_of self.old) session None }
+        ensures sessions { issued_of self.new ≡ issued_of self.old }
+        ensures limit { self.new.limit ≡ self.old.limit }
+        ensures max_local { self.new.max_local ≡ self.old.max_local }
+    {
+        let own = &mut self.sessions[usize::from(session.number())];
+        let wait = own.wait.unwrap();
+        own.wait = None;
+        if wait.is_granted {
+            own.locals.add(wait.tag, wait.mode, wait.owner);
+            return Cancelled::WasGranted;
+        }
+        leave_queue(&mut self.parts, &mut self.sessions, session, wait.tag);
+        Cancelled::Removed
     }
 
     /// Gives one count of an owner back, and with the last one the hold (`LockRelease` in lock.c). After
@@ -119,6 +248,7 @@ impl Desk {
         owner: Owner,
     ) -> Result<Unlocked, Refusal>
         requires issued { session < issued_of self.old }
+        requires not_waiting { wait_of self.old session ≡ None }
 
         ensures not_held { IsErrOf result Refusal.NotHeld ↔ (owner_count_of (entries_of self.old session) tag mode owner ≡ 0) }
         ensures no_other { IsOkUnless result Refusal.NotHeld }
@@ -126,22 +256,74 @@ impl Desk {
 
         // What stands after it.
         ensures entries { OnOk result (entries_of self.new ≡ set_at (entries_of self.old) session (with_one_less (entries_of self.old session) tag mode owner)) }
-        ensures released { result ≡ Ok Unlocked.Released → contents_of self.new ≡ set_at (contents_of self.old) (partition_of tag) (remove_hold (contents_of self.old (partition_of tag)) session tag mode) }
-        ensures same_contents { result ≡ Ok Unlocked.StillHeld → contents_of self.new ≡ contents_of self.old }
+        ensures released { result ≡ Ok Unlocked.Released → Releases (shared_of self.old) session tag mode (shared_of self.new) }
+        ensures same_shared { result ≡ Ok Unlocked.StillHeld → shared_of self.new ≡ shared_of self.old }
         ensures unchanged { OnErr result (IsUnchanged self.old self.new) }
         ensures sessions { issued_of self.new ≡ issued_of self.old }
         ensures limit { self.new.limit ≡ self.old.limit }
         ensures max_local { self.new.max_local ≡ self.old.max_local }
     {
-        let part = &mut self.parts[usize::from(tag.partition())];
         let locals = &mut self.sessions[usize::from(session.number())].locals;
-        give_up(part, locals, session, tag, mode, owner)
+        let answer = locals.drop_one(tag, mode, owner)?;
+        match answer {
+            Unlocked::StillHeld => Ok(Unlocked::StillHeld),
+            Unlocked::Released => {
+                release_hold(&mut self.parts, &mut self.sessions, session, tag, mode);
+                Ok(Unlocked::Released)
+            }
+        }
+    }
+
+    /// Asks a session to stop waiting (`pg_cancel_backend`, for a backend that sleeps in `ProcSleep` in
+    /// proc.c). One that doesn't wait, or was granted what it waits for, is not asked.
+    pub fn ask_cancel(&mut self, _session: SessionId, other: SessionId) -> Asked
+        requires issued { _session < issued_of self.old }
+        requires not_waiting { wait_of self.old _session ≡ None }
+
+        ensures answer { result ≡ asked_as (wait_of self.old other) }
+        ensures waits { wait_of self.new ≡ set_at (wait_of self.old) other (after_asking (wait_of self.old other)) }
+        ensures entries { entries_of self.new ≡ entries_of self.old }
+        ensures contents { contents_of self.new ≡ contents_of self.old }
+        ensures sessions { issued_of self.new ≡ issued_of self.old }
+        ensures limit { self.new.limit ≡ self.old.limit }
+        ensures max_local { self.new.max_local ≡ self.old.max_local }
+    {
+        let number = usize::from(other.number());
+        if number >= self.sessions.len() {
+            return Asked::NotWaiting;
+        }
+        let asked = &mut self.sessions[number];
+        let Some(wait) = asked.wait else {
+            return Asked::NotWaiting;
+        };
+        if wait.is_granted {
+            return Asked::NotWaiting;
+        }
+        asked.wait = Some(wait.asked_to_cancel());
+        Asked::Waiting
+    }
+
+    /// Whether somebody awaits the object in a mode that conflicts with this one, which the session has
+    /// (`LockHasWaiters` in lock.c).
+    pub fn has_waiters(&self, session: SessionId, tag: Tag, mode: Mode) -> Result<bool, Refusal>
+        requires issued { session < issued_of self.now }
+        requires not_waiting { wait_of self.now session ≡ None }
+        ensures answer { IfOk result (λ is_awaited. is_awaited ≡ some_awaits_conflict ((contents_of self.now (partition_of tag)).waits tag) mode) }
+        ensures not_held { IsErrOf result Refusal.NotHeld ↔ (total_of (entries_of self.now session) tag mode ≡ 0) }
+        ensures no_other { IsOkUnless result Refusal.NotHeld }
+    {
+        let locals = &self.sessions[usize::from(session.number())].locals;
+        if locals.total(tag, mode) == 0 {
+            return Err(Refusal::NotHeld);
+        }
+        let part = &self.parts[usize::from(tag.partition())];
+        Ok(awaited_in_conflict(part, tag, mode))
     }
 
     /// The modes that the session has the object in (`holdMask` of `PROCLOCK` in lock.h).
     pub fn held(&self, session: SessionId, tag: Tag) -> ModeSet
         requires issued { session < issued_of self.now }
-        ensures { set_has result ≡ (λ mode. has_entry (entries_of self.now session) tag mode) }
+        ensures { set_has result ≡ (λ mode. has_entry (entries_of self.now session) tag mode || is_pending (wait_of self.now session) tag mode) }
     {
         self.parts[usize::from(tag.partition())].held(session, tag)
     }
@@ -161,8 +343,9 @@ impl Desk {
     /// lock.c without `allLocks`).
     pub fn commit(&mut self, session: SessionId)
         requires issued { session < issued_of self.old }
+        requires not_waiting { wait_of self.old session ≡ None }
         ensures entries { entries_of self.new ≡ set_at (entries_of self.old) session (left_by End.Commit (entries_of self.old session)) }
-        ensures contents { contents_of self.new ≡ released_all (contents_of self.old) session (ended_by End.Commit (entries_of self.old session)) }
+        ensures released { ReleasesAll (shared_of self.old) session (ended_by End.Commit (entries_of self.old session)) (shared_of self.new) }
         ensures sessions { issued_of self.new ≡ issued_of self.old }
         ensures limit { self.new.limit ≡ self.old.limit }
         ensures max_local { self.new.max_local ≡ self.old.max_local }
@@ -174,8 +357,9 @@ impl Desk {
     /// (`LockReleaseAll` in lock.c with `allLocks`).
     pub fn abort(&mut self, session: SessionId)
         requires issued { session < issued_of self.old }
+        requires not_waiting { wait_of self.old session ≡ None }
         ensures entries { entries_of self.new ≡ set_at (entries_of self.old) session (left_by End.Abort (entries_of self.old session)) }
-        ensures contents { contents_of self.new ≡ released_all (contents_of self.old) session (ended_by End.Abort (entries_of self.old session)) }
+        ensures released { ReleasesAll (shared_of self.old) session (ended_by End.Abort (entries_of self.old session)) (shared_of self.new) }
         ensures sessions { issued_of self.new ≡ issued_of self.old }
         ensures limit { self.new.limit ≡ self.old.limit }
         ensures max_local { self.new.max_local ≡ self.old.max_local }
@@ -187,8 +371,9 @@ impl Desk {
     /// number is not issued again.
     pub fn close(&mut self, session: SessionId)
         requires issued { session < issued_of self.old }
+        requires not_waiting { wait_of self.old session ≡ None }
         ensures entries { entries_of self.new ≡ set_at (entries_of self.old) session (left_by End.Close (entries_of self.old session)) }
-        ensures contents { contents_of self.new ≡ released_all (contents_of self.old) session (ended_by End.Close (entries_of self.old session)) }
+        ensures released { ReleasesAll (shared_of self.old) session (ended_by End.Close (entries_of self.old session)) (shared_of self.new) }
         ensures sessions { issued_of self.new ≡ issued_of self.old }
         ensures limit { self.new.limit ≡ self.old.limit }
         ensures max_local { self.new.max_local ≡ self.old.max_local }
@@ -196,11 +381,20 @@ impl Desk {
         self.end_all(session, End::Close);
     }
 
+    /// Whether the session waits.
+    pub fn is_waiting(&self, session: SessionId) -> bool
+        requires issued { session < issued_of self.now }
+        ensures { result ≡ is_some (wait_of self.now session) }
+    {
+        self.sessions[usize::from(session.number())].wait.is_some()
+    }
+
     /// Brings an end to its end, one entry after another.
     fn end_all(&mut self, session: SessionId, end: End)
         requires issued { session < issued_of self.old }
+        requires not_waiting { wait_of self.old session ≡ None }
         ensures entries { entries_of self.new ≡ set_at (entries_of self.old) session (left_by end (entries_of self.old session)) }
-        ensures contents { contents_of self.new ≡ released_all (contents_of self.old) session (ended_by end (entries_of self.old session)) }
+        ensures released { ReleasesAll (shared_of self.old) session (ended_by end (entries_of self.old session)) (shared_of self.new) }
         ensures sessions { issued_of self.new ≡ issued_of self.old }
         ensures limit { self.new.limit ≡ self.old.limit }
         ensures max_local { self.new.max_local ≡ self.old.max_local }
@@ -211,20 +405,21 @@ impl Desk {
     /// One step of an end: releases the first hold that the end takes away, and says which it was.
     fn end_one(&mut self, session: SessionId, end: End) -> Option<(Tag, Mode)>
         requires issued { session < issued_of self.old }
+        requires not_waiting { wait_of self.old session ≡ None }
         ensures entries { entries_of self.new ≡ set_at (entries_of self.old) session (with_next_ended end (entries_of self.old session)) }
         ensures next { IfSome result (λ key. ended_by end (entries_of self.old session) ≡ key ∷ ended_by end (with_next_ended end (entries_of self.old session))) }
-        ensures released { IfSome result (λ key. contents_of self.new ≡ set_at (contents_of self.old) (partition_of key.0) (remove_hold (contents_of self.old (partition_of key.0)) session key.0 key.1)) }
+        ensures released { IfSome result (λ key. Releases (shared_of self.old) session key.0 key.1 (shared_of self.new)) }
         ensures last { IfNone result (ended_by end (entries_of self.old session) ≡ []) }
         ensures left { IfNone result (with_next_ended end (entries_of self.old session) ≡ left_by end (entries_of self.old session)) }
-        ensures same_contents { IfNone result (contents_of self.new ≡ contents_of self.old) }
+        ensures same_shared { IfNone result (shared_of self.new ≡ shared_of self.old) }
+        ensures not_waiting { wait_of self.new session ≡ None }
         ensures sessions { issued_of self.new ≡ issued_of self.old }
         ensures limit { self.new.limit ≡ self.old.limit }
         ensures max_local { self.new.max_local ≡ self.old.max_local }
     {
         let locals = &mut self.sessions[usize::from(session.number())].locals;
         let (tag, mode) = locals.end_next(end)?;
-        let part = &mut self.parts[usize::from(tag.partition())];
-        release(part, session, tag, mode);
+        release_hold(&mut self.parts, &mut self.sessions, session, tag, mode);
         Some((tag, mode))
     }
 
@@ -272,8 +467,11 @@ impl Desk {
             return Err(Refusal::NoMoreSessions);
         }
         let locals = LocalTable::new(self.alloc, self.max_local)?;
-        self.sessions
-            .push_reserved(DeskSession { database, locals });
+        self.sessions.push_reserved(DeskSession {
+            database,
+            locals,
+            wait: None,
+        });
         Ok(SessionId::new(number as u8).unwrap())
     }
 

@@ -23,6 +23,8 @@ pub enum Defect {
     SessionExists,
     #[error("no such session")]
     NoSuchSession,
+    #[error("session waits")]
+    SessionWaits,
     #[error("bad number")]
     BadNumber,
     #[error("bad object")]

@@ -5,13 +5,14 @@ mod acquire;
 pub mod arguments;
 pub mod bytes;
 pub mod command;
-mod decide;
 pub mod desk;
 pub mod faults;
+mod give_up;
 pub mod lines;
 pub mod names;
 pub mod output;
 pub mod script;
+pub mod sessions;
 pub mod words;
 
 use arguments::parse_arguments;

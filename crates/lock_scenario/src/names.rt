@@ -24,6 +24,14 @@ impl Opened {
     {
         self.is_open && self.name.as_str() == name.as_str()
     }
+
+    /// Whether this is an open session whose name comes after the last one, if there is one.
+    fn comes_after(&self, last: Option<Name>) -> bool {
+        match last {
+            Some(last) => self.is_open && last < self.name,
+            None => self.is_open,
+        }
+    }
 }
 
 /// The sessions that were opened, in the order of opening: a session's number is its place.
@@ -100,6 +108,21 @@ impl Names {
         }
         let (place, _) = first?;
         SessionId::new(place)
+    }
+
+    /// The open session whose name comes next after this one in the order of bytes, or first where there
+    /// is no last one.
+    pub fn next(&self, last: Option<Name>) -> Option<(Name, SessionId)>
+        ensures within { IfSome result (λ found. found.1 < length self.now.opened.items) }
+    {
+        let mut next: Option<(u8, Name)> = None;
+        for (place, other) in self.opened.as_slice().iter().enumerate() {
+            if other.comes_after(last) {
+                next = Some(earlier(next, place as u8, other.name));
+            }
+        }
+        let (place, name) = next?;
+        Some((name, SessionId::new(place)?))
     }
 }
 

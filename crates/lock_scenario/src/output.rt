@@ -1,5 +1,5 @@
 //! What the lines of a script print.
-use crate::desk::{Listing, SlotRow};
+use crate::desk::{Asked, Listing, SlotRow, Started};
 use crate::faults::Fault;
 use crate::names::{Name, Names};
 use local_locks::{Acquired, End, Unlocked};
@@ -65,6 +65,40 @@ impl<W: Write + Drop> Output<W> {
             Acquired::AlreadyHeld => "already held",
         };
         written(writeln!(self.writer, "{name}: {text}"))
+    }
+
+    /// A request that may wait was answered.
+    pub fn started(&mut self, name: &Name, started: Started) -> Result<(), Fault> {
+        let text = match started {
+            Started::Granted => "granted",
+            Started::AlreadyHeld => "already held",
+            Started::Queued => "waits",
+        };
+        written(writeln!(self.writer, "{name}: {text}"))
+    }
+
+    /// A session that waited has its lock.
+    pub fn granted_after_waiting(&mut self, name: &Name) -> Result<(), Fault> {
+        written(writeln!(self.writer, "{name}: granted after waiting"))
+    }
+
+    /// A wait was cancelled.
+    pub fn cancelled(&mut self, name: &Name) -> Result<(), Fault> {
+        written(writeln!(self.writer, "{name}: cancelled"))
+    }
+
+    /// A session asked another one to stop waiting.
+    pub fn asked(&mut self, name: &Name, other: &Name, asked: Asked) -> Result<(), Fault> {
+        match asked {
+            Asked::Waiting => written(writeln!(self.writer, "{name}: asked {other}")),
+            Asked::NotWaiting => written(writeln!(self.writer, "{other} isn't waiting")),
+        }
+    }
+
+    /// Whether somebody waits for what a session holds.
+    pub fn waiters(&mut self, name: &Name, is_awaited: bool) -> Result<(), Fault> {
+        let text = if is_awaited { "yes" } else { "no" };
+        written(writeln!(self.writer, "{name}: waiters {text}"))
     }
 
     /// A lock was given back.

@@ -1,16 +1,17 @@
 //! Scripts: a line is read, run and answered before the next one is read.
-ghost use Rattle.std.specs.Prelude.{◌≡◌, ◌≤◌, ◌<◌, false, length, All};
-ghost use Rattle.lock_scenario.specs.Desk.{issued_of};
-ghost use Rattle.lock_scenario.specs.Command.{Addresses};
+ghost use Rattle.std.specs.Prelude.{◌≡◌, ◌≤◌, ◌<◌, false, length, All, IsSome};
+ghost use Rattle.lock_scenario.specs.Desk.{issued_of, wait_of};
+ghost use Rattle.lock_scenario.specs.Command.{Addresses, MayAct};
 
 use crate::command::{Command, Speaker, Target, parse};
-use crate::desk::{Config, Desk};
+use crate::desk::{Cancelled, Config, Desk, Polled};
 use crate::faults::Fault;
 use crate::lines::LineReader;
 use crate::names::{Name, Names};
 use crate::output::Output;
 use local_locks::End;
-use modes_core::{Owner, Refusal};
+use modes_core::sessions::SESSIONS;
+use modes_core::{Owner, Refusal, SessionId};
 use std::io::{Read, Write};
 
 /// Runs the script that the reader gives against a lock manager of its own, and writes what each line
@@ -53,10 +54,12 @@ impl<W: Write + Drop> Scene<W> {
             let Some(line) = lines.next_line()? else {
                 break;
             };
-            let command = parse(line.as_str(), &self.names).map_err(|what| Fault::BadLine {
-                line: lines.number,
-                what,
-            })?;
+            let command = parse(line.as_str(), &self.names, &self.desk).map_err(
+                |what| Fault::BadLine {
+                    line: lines.number,
+                    what,
+                },
+            )?;
             if let Some(command) = command {
                 self.run(command)?;
             }
@@ -64,32 +67,93 @@ impl<W: Write + Drop> Scene<W> {
         Ok(())
     }
 
-    /// Closes the sessions that are open, in the byte order of their names.
+    /// Closes the sessions that are open, in the byte order of their names. The waits of those that wait
+    /// are cancelled.
     fn close_all(&mut self)
         ensures { All (λ opened. opened.is_open ≡ false) self.new.names.opened.items }
     {
         'sessions: while let Some(session) = self.names.first() {
+            if self.desk.is_waiting(session) {
+                self.desk.cancel(session);
+            }
             self.desk.close(session);
             self.names.forget(session);
         }
     }
 
-    /// Runs a command, and passes on what it prints.
+    /// Runs a command and then polls those who wait, and passes on what both print.
     fn run(&mut self, command: Command) -> Result<(), Fault>
-        requires { Addresses (length self.old.names.opened.items) command }
+        requires { Addresses self.old.desk command }
+    {
+        self.act(command)?;
+        self.poll_all()?;
+        self.output.flush()
+    }
+
+    /// Runs a command.
+    fn act(&mut self, command: Command) -> Result<(), Fault>
+        requires { Addresses self.old.desk command }
     {
         match command {
-            Command::Session { name, database } => self.open(name, database)?,
-            Command::Try(target, owner) => self.try_lock(target, owner)?,
-            Command::Unlock(target, owner) => self.unlock(target, owner)?,
-            Command::Commit(speaker) => self.commit(speaker)?,
-            Command::Abort(speaker) => self.abort(speaker)?,
-            Command::Owned(target) => self.owned(target)?,
-            Command::List(speaker) => self.list(speaker)?,
-            Command::Hash(tag) => self.output.hash(tag)?,
-            Command::Close(speaker) => self.close(speaker)?,
+            Command::Session { name, database } => self.open(name, database),
+            Command::Try(target, owner) => self.try_lock(target, owner),
+            Command::Lock(target, owner) => self.lock(target, owner),
+            Command::Unlock(target, owner) => self.unlock(target, owner),
+            Command::Commit(speaker) => self.commit(speaker),
+            Command::Abort(speaker) => self.abort(speaker),
+            Command::Owned(target) => self.owned(target),
+            Command::Waiters(target) => self.waiters(target),
+            Command::Cancel(by, other) => self.cancel(by, other),
+            Command::List(speaker) => self.list(speaker),
+            Command::Hash(tag) => self.output.hash(tag),
+            Command::Close(speaker) => self.close(speaker),
         }
-        self.output.flush()
+    }
+
+    /// Polls those who wait, pass by pass, until a pass finds none that goes on. A pass in which one goes
+    /// on leaves fewer who wait, so there is no pass after the 64th.
+    fn poll_all(&mut self) -> Result<(), Fault> {
+        for _ in 0..=SESSIONS {
+            if !self.poll_each()? {
+                break;
+            }
+        }
+        Ok(())
+    }
+
+    /// Polls each session that waits, in the byte order of their names, and answers whether one went on.
+    fn poll_each(&mut self) -> Result<bool, Fault> {
+        let mut went_on = false;
+        let mut last = None;
+        for _ in 0..SESSIONS {
+            let Some((name, session)) = self.names.next(last) else {
+                break;
+            };
+            if self.desk.is_waiting(session) {
+                if self.poll(&name, session)? {
+                    went_on = true;
+                }
+            }
+            last = Some(name);
+        }
+        Ok(went_on)
+    }
+
+    /// Polls a session that waits, carries a cancel out that was asked, and answers whether the session
+    /// goes on.
+    fn poll(&mut self, name: &Name, session: SessionId) -> Result<bool, Fault>
+        requires opened { session < length self.old.names.opened.items }
+        requires waits { IsSome (wait_of self.old.desk session) }
+    {
+        match self.desk.poll(session) {
+            Polled::Still => return Ok(false),
+            Polled::Granted => self.output.granted_after_waiting(name)?,
+            Polled::CancelAsked => match self.desk.cancel(session) {
+                Cancelled::Removed => self.output.cancelled(name)?,
+                Cancelled::WasGranted => self.output.granted_after_waiting(name)?,
+            },
+        }
+        Ok(true)
     }
 
     fn open(&mut self, name: Name, database: u32) -> Result<(), Fault> {
@@ -103,7 +167,7 @@ impl<W: Write + Drop> Scene<W> {
     }
 
     fn try_lock(&mut self, target: Target, owner: Owner) -> Result<(), Fault>
-        requires { target.speaker.session < length self.old.names.opened.items }
+        requires { MayAct self.old.desk target.speaker.session }
     {
         let Speaker { name, session } = target.speaker;
         match self.desk.try_lock(session, target.tag, target.mode, owner) {
@@ -112,8 +176,35 @@ impl<W: Write + Drop> Scene<W> {
         }
     }
 
+    fn lock(&mut self, target: Target, owner: Owner) -> Result<(), Fault>
+        requires { MayAct self.old.desk target.speaker.session }
+    {
+        let Speaker { name, session } = target.speaker;
+        match self.desk.start(session, target.tag, target.mode, owner) {
+            Ok(started) => self.output.started(&name, started),
+            Err(refusal) => self.output.refused(&self.names, &name, refusal),
+        }
+    }
+
+    fn waiters(&mut self, target: Target) -> Result<(), Fault>
+        requires { MayAct self.old.desk target.speaker.session }
+    {
+        let Speaker { name, session } = target.speaker;
+        match self.desk.has_waiters(session, target.tag, target.mode) {
+            Ok(is_awaited) => self.output.waiters(&name, is_awaited),
+            Err(_) => self.output.not_owned(&name, target.mode),
+        }
+    }
+
+    fn cancel(&mut self, by: Speaker, other: Speaker) -> Result<(), Fault>
+        requires { MayAct self.old.desk by.session }
+    {
+        let asked = self.desk.ask_cancel(by.session, other.session);
+        self.output.asked(&by.name, &other.name, asked)
+    }
+
     fn unlock(&mut self, target: Target, owner: Owner) -> Result<(), Fault>
-        requires { target.speaker.session < length self.old.names.opened.items }
+        requires { MayAct self.old.desk target.speaker.session }
     {
         let Speaker { name, session } = target.speaker;
         match self.desk.unlock(session, target.tag, target.mode, owner) {
@@ -124,21 +215,21 @@ impl<W: Write + Drop> Scene<W> {
     }
 
     fn commit(&mut self, speaker: Speaker) -> Result<(), Fault>
-        requires { speaker.session < length self.old.names.opened.items }
+        requires { MayAct self.old.desk speaker.session }
     {
         self.desk.commit(speaker.session);
         self.output.ended(&speaker.name, End::Commit)
     }
 
     fn abort(&mut self, speaker: Speaker) -> Result<(), Fault>
-        requires { speaker.session < length self.old.names.opened.items }
+        requires { MayAct self.old.desk speaker.session }
     {
         self.desk.abort(speaker.session);
         self.output.ended(&speaker.name, End::Abort)
     }
 
     fn close(&mut self, speaker: Speaker) -> Result<(), Fault>
-        requires { speaker.session < length self.old.names.opened.items }
+        requires { MayAct self.old.desk speaker.session }
     {
         self.desk.close(speaker.session);
         self.names.forget(speaker.session);
@@ -146,7 +237,7 @@ impl<W: Write + Drop> Scene<W> {
     }
 
     fn owned(&mut self, target: Target) -> Result<(), Fault>
-        requires { target.speaker.session < length self.old.names.opened.items }
+        requires { MayAct self.old.desk target.speaker.session }
     {
         let Target { speaker, tag, mode } = target;
         let transaction = self
@@ -159,7 +250,7 @@ impl<W: Write + Drop> Scene<W> {
     }
 
     fn list(&mut self, speaker: Speaker) -> Result<(), Fault>
-        requires { speaker.session < length self.old.names.opened.items }
+        requires { MayAct self.old.desk speaker.session }
     {
         match self.desk.list(speaker.session) {
             Ok(listing) => self.output.listing(&self.names, &listing),

@@ -10,6 +10,8 @@ use std::io::{self, ErrorKind, Read, Write};
 use std::process::Abort;
 use std::test::Fail;
 
+mod waiting;
+
 /// A reader of a text that gives so many bytes a read, and fails where the text ends if it is to.
 #[derive(Drop)]
 struct Script<'a> {
@@ -187,10 +189,10 @@ fn reports_bad_lines(rt: HostRuntime) -> Result<(), Fail> {
         // commands and their words
         ("frob", "line 2: unknown command"),
         ("Session b 5", "line 2: unknown command"),
-        ("lock a 5/16384 ShareLock", "line 2: unknown command"),
+        ("Lock a 5/16384 ShareLock", "line 2: unknown command"),
         ("fast", "line 2: unknown command"),
-        ("cancel a b", "line 2: unknown command"),
-        ("waiters a b c d e f", "line 2: unknown command"),
+        ("count a 796", "line 2: unknown command"),
+        ("begin a b c d e f", "line 2: unknown command"),
         ("commit", "line 2: wrong number of words"),
         ("abort a a", "line 2: wrong number of words"),
         ("close A a", "line 2: wrong number of words"),

@@ -10,7 +10,7 @@ use Rattle.lock_scenario.proofs.desk.Desk.list.Goals as goal
 pub loop-part-preserved : goal.loop-part-preserved
 loop-part-preserved c =
     rw c.deref-part-items.ensures.value (
-    Lists-step c.self.inside.parts.items (c.self.invariant.0.own_objects, c.self.invariant.0.nobody_waits) c.loop-part.part-index c.part-item.result c.loop-part.table.items _
+    Lists-step c.self.inside.parts.items (record { own_holds = c.self.invariant.0.agrees.own_holds; own_waits = c.self.invariant.0.agrees.own_waits }) c.loop-part.part-index c.part-item.result c.loop-part.table.items _
     (rw c.deref-part-items.ensures.value at c.loop-part-test.true) (rw c.deref-part-items.ensures.value at c.part-item.is)
     (rw c.deref-part-items.ensures.value at c.loop-part.invariant) c.in-Ok.ensures.ok
     )

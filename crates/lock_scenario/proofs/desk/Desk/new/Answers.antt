@@ -14,6 +14,7 @@ returns-clause-ok c =
     record {
       no_session_yet = rw c.in-Ok.ensures.items refl;
       nothing_owned = rw c.in-Ok.ensures.items refl;
+      nobody_waits = rw c.in-Ok.ensures.items refl;
       nothing_held = λ i p. c.in_ok-parts.ensures.empty.content p i;
       limit = refl;
       max_local = refl;

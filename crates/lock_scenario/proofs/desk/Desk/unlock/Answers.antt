@@ -1,49 +1,78 @@
-use Rattle.std.proofs.Common.{◌≡◌, ◌<◌, ◌∙◌, ap, length, arith}
+use Rattle.std.proofs.Common.{◌≡◌, ◌<◌, ◌∙◌, List, sym, ap, subst, length, arith, refl, None}
 use Rattle.modes_core.specs.Tag.{partition_of}
-use Rattle.lock_model.specs.Content.{remove_hold}
-use Rattle.lock_model.specs.PartView.{content_of}
+use Rattle.local_locks.specs.declared.records.Entry.{Entry}
+use Rattle.local_locks.specs.Owned.{total_of, with_one_less}
 use Rattle.lock_model.specs.World.{set_at}
-use Rattle.lock_scenario.specs.Desk.{DeskView, contents_of}
-use Rattle.lock_scenario.proofs.DeskLemmas.{Finds, IsDesk-after, held_there, nobody_waits_in, none_begun_there, contents_after}
-use Rattle.lock_scenario.proofs.AcquireLemmas.{holds-give_up, waits-give_up, others-give_up, gone-released, kept-still_held}
+use Rattle.lock_scenario.specs.declared.sessions.DeskSession.{DeskSession}
+use Rattle.lock_scenario.specs.Parts.{content_in}
+use Rattle.lock_scenario.specs.Sessions.{waits_in}
+use Rattle.lock_scenario.specs.Waiting.{Releases}
+use Rattle.lock_scenario.specs.Desk.{DeskView, entries_of, wait_of, shared_of}
+use Rattle.lock_scenario.proofs.DeskLemmas.{Finds_session, find_session, order_after, held_as_owned, IsDesk-same_keys, IsDesk-released, Releases-after, entries-changed, own-changed, number-changed}
+use Rattle.lock_scenario.proofs.AcquireLemmas.{others-give_up, keys-still_held, owned-entry, gone-released, none-released, still_not_released, ok_not_refused}
 use Rattle.lock_scenario.proofs.desk.Desk.unlock.Goals as goal
 
-found :
-    (c : goal.After-self-2-1) →
-    Finds c.self.inside.parts.items c.self.inside.sessions.items c.self.inside.limit c.self.inside.max_local c.from.result c.from-2.result c.args.session c.args.tag
-    c.index_mut-part.result.now c.index_mut.result.now
-found c =
-    let number : c.from-2.result ≡ c.args.session = c.from-2.ensures ∙ c.number.ensures.value in
-    let opened : c.args.session < length c.args.self.now.sessions = c.requires.issued in
-    let same : length c.self.inside.sessions.items ≡ length c.args.self.now.sessions = ap (λ (desk : DeskView). length desk.sessions) c.self.view_is in
-    record {
-      desk = c.self.invariant.0;
-      partition = c.from.ensures ∙ c.partition.ensures.value;
-      number = number;
-      opened = omega arith;
-      part_is = c.index_mut-part.ensures.value;
-      it_is = c.index_mut.ensures.value;
-    }
+pub invariant_of-self-in-StillHeld : goal.invariant_of-self-in-StillHeld
+invariant_of-self-in-StillHeld c =
+    let found : Finds_session c.self.inside.parts.items c.self.inside.sessions.items c.self.inside.limit c.self.inside.max_local c.from.result c.args.session c.index_mut.result.now =
+    find_session _ _ _ _ _ _ _ _ c.args.self.now c.self.invariant.0 c.self.view_is c.from.ensures c.number.ensures.value c.requires.issued c.index_mut.ensures.value in
+    let none : waits_in c.self.inside.sessions.items c.args.session ≡ None = ap (λ (desk : DeskView). wait_of desk c.args.session) c.self.view_is ∙ c.requires.not_waiting in
+    let after : DeskSession = record { database = c.index_mut.result.now.database; locals = c.drop_one.new.self; wait = c.index_mut.result.now.wait } in (
+      IsDesk-same_keys _ _ _ _ _ _ c.index_mut.result.now after found
+          (order_after _ _ _ _ _ _ c.index_mut.result.now after found none c.in_ok-answer.ensures.well_owned c.in_ok-answer.ensures.max_local refl) refl
+          (keys-still_held c.index_mut.result.now.locals.entries c.drop_one.new.self.entries c.args.tag c.args.mode c.args.owner c.in_ok-answer.ensures.entries (c.in_ok-answer.ensures.answer.0 c.in-StillHeld.is)),
+      c.self.invariant.1,
+    )
 
-pub invariant_of-self : goal.invariant_of-self
-invariant_of-self c = (
-  IsDesk-after _ _ _ _ _ _ _ _ _ _ (found c) c.args.mode c.give_up.new.part (record { database = c.index_mut.result.now.database; locals = c.give_up.new.locals })
-      (c.give_up.ensures.begun ∙ none_begun_there _ _ _ _ _ _ _ _ _ _ (found c))
-      (waits-give_up (content_of c.index_mut-part.result.now) (content_of c.give_up.new.part) c.args.session c.args.tag c.args.mode c.give_up.result c.give_up.ensures.released c.give_up.ensures.same_content)
-      c.give_up.ensures.well_owned c.give_up.ensures.max_local
-      (others-give_up c.index_mut.result.now.locals.entries c.give_up.new.locals.entries c.args.tag c.args.mode c.args.owner c.give_up.result c.give_up.ensures.entries c.give_up.ensures.same_entries)
-      (holds-give_up (content_of c.index_mut-part.result.now) (content_of c.give_up.new.part) c.index_mut.result.now.locals.entries c.give_up.new.locals.entries c.args.session c.args.tag c.args.mode c.args.owner
-      c.give_up.result (held_there _ _ _ _ _ _ _ _ _ _ (found c) c.args.mode) c.give_up.ensures.released c.give_up.ensures.same_content
-      (gone-released c.index_mut.result.now.locals.entries c.give_up.new.locals.entries c.args.tag c.args.mode c.args.owner c.give_up.result c.give_up.ensures.not_held c.give_up.ensures.still_held c.give_up.ensures.well_owned.counted)
-      (kept-still_held c.index_mut.result.now.locals.entries c.give_up.new.locals.entries c.args.tag c.args.mode c.args.owner c.give_up.result c.give_up.ensures.still_held) c.give_up.ensures.entries c.give_up.ensures.same_entries),
-  c.self.invariant.1,
+pub release_hold-requires-clause-held : goal.release_hold-requires-clause-held
+release_hold-requires-clause-held c =
+    let found : Finds_session c.self.inside.parts.items c.self.inside.sessions.items c.self.inside.limit c.self.inside.max_local c.from.result c.args.session c.index_mut.result.now =
+    find_session _ _ _ _ _ _ _ _ c.args.self.now c.self.invariant.0 c.self.view_is c.from.ensures c.number.ensures.value c.requires.issued c.index_mut.ensures.value in
+    let none : waits_in c.self.inside.sessions.items c.args.session ≡ None = ap (λ (desk : DeskView). wait_of desk c.args.session) c.self.view_is ∙ c.requires.not_waiting in
+    held_as_owned _ _ _ _ _ _ _ found none c.args.tag c.args.mode ∙
+    owned-entry c.index_mut.result.now.locals.entries c.args.tag c.args.mode c.args.owner (λ no_count. ok_not_refused c.in_ok-answer.answer (sym c.in_ok-answer.was ∙ c.drop_one.ensures.not_held.1 no_count))
+
+found : (c : goal.After-release_hold) → Finds_session c.self.inside.parts.items c.self.inside.sessions.items c.self.inside.limit c.self.inside.max_local c.from.result c.args.session c.index_mut.result.now
+found c = find_session _ _ _ _ _ _ _ _ c.args.self.now c.self.invariant.0 c.self.view_is c.from.ensures c.number.ensures.value c.requires.issued c.index_mut.ensures.value
+
+none : (c : goal.After-release_hold) → waits_in c.self.inside.sessions.items c.args.session ≡ None
+none c = ap (λ (desk : DeskView). wait_of desk c.args.session) c.self.view_is ∙ c.requires.not_waiting
+
+abbrev after : goal.After-release_hold → DeskSession
+after c = record { database = c.index_mut.result.now.database; locals = c.drop_one.new.self; wait = c.index_mut.result.now.wait }
+
+pub invariant_of-self-in-Released : goal.invariant_of-self-in-Released
+invariant_of-self-in-Released c = (
+  IsDesk-released _ _ _ _ _ _ c.index_mut.result.now (after c) c.args.tag c.args.mode c.release_hold.new.parts.items c.release_hold.new.sessions.items (found c) (none c)
+      (order_after _ _ _ _ _ _ c.index_mut.result.now (after c) (found c) (none c) c.in_ok-answer.ensures.well_owned c.in_ok-answer.ensures.max_local refl) refl
+      (record {
+        here = gone-released c.drop_one.new.self.entries c.args.tag c.args.mode c.in_ok-answer.answer c.in_ok-answer.ensures.answer c.in_ok-answer.ensures.well_owned.counted c.in-Released.is;
+        others = others-give_up c.index_mut.result.now.locals.entries c.drop_one.new.self.entries c.args.tag c.args.mode c.args.owner c.in_ok-answer.ensures.entries;
+      })
+      c.release_hold.ensures.changed,
+  omega (arith, c.release_hold.ensures.capacity, c.self.invariant.1),
 )
 
-pub returns-clause-released : goal.returns-clause-released
-returns-clause-released c is =
-    contents_after _ _ _ _ _ _ _ _ _ _ (found c) (λ content. remove_hold content c.args.session c.args.tag c.args.mode) c.give_up.new.part (c.give_up.ensures.released is) ∙
-    ap (λ (desk : DeskView). set_at (contents_of desk) (partition_of c.args.tag) (remove_hold (contents_of desk (partition_of c.args.tag)) c.args.session c.args.tag c.args.mode)) c.self.view_is
+pub returns-in-Released-clause-still_held : goal.returns-in-Released-clause-still_held
+returns-in-Released-clause-still_held c = (
+  λ is. absurd (still_not_released is),
+  λ both. absurd (none-released c.drop_one.new.self.entries c.args.tag c.args.mode c.in_ok-answer.answer c.in_ok-answer.ensures.answer c.in-Released.is
+      (subst (λ (es : List Entry). 0 < total_of es c.args.tag c.args.mode)
+      (own-changed _ _ _ _ _ _ c.index_mut.result.now (after c) (partition_of c.args.tag) _ c.release_hold.new.parts.items c.release_hold.new.sessions.items (found c) c.release_hold.ensures.changed) both.1)),
+)
 
-pub give_up-requires-clause-nobody_waits : goal.give_up-requires-clause-nobody_waits
-give_up-requires-clause-nobody_waits c =
-    nobody_waits_in _ _ _ _ _ c.args.tag _ c.self.invariant.0 (c.from.ensures ∙ c.partition.ensures.value) c.index_mut-part.ensures.value
+pub returns-in-Released-clause-entries : goal.returns-in-Released-clause-entries
+returns-in-Released-clause-entries c =
+    entries-changed _ _ _ _ _ _ c.index_mut.result.now (after c) (partition_of c.args.tag) _ c.release_hold.new.parts.items c.release_hold.new.sessions.items (found c) c.release_hold.ensures.changed
+    (λ es. with_one_less es c.args.tag c.args.mode c.args.owner) c.in_ok-answer.ensures.entries ∙
+    ap (λ (desk : DeskView). set_at (entries_of desk) c.args.session (with_one_less (entries_of desk c.args.session) c.args.tag c.args.mode c.args.owner)) c.self.view_is
+
+pub returns-in-Released-clause-released : goal.returns-in-Released-clause-released
+returns-in-Released-clause-released c is =
+    subst (λ (desk : DeskView). Releases (shared_of desk) c.args.session c.args.tag c.args.mode (record { contents = content_in c.release_hold.new.parts.items; waits = waits_in c.release_hold.new.sessions.items })) c.self.view_is
+    (Releases-after _ _ _ _ _ _ c.index_mut.result.now (after c) c.args.tag c.args.mode c.release_hold.new.parts.items c.release_hold.new.sessions.items (found c) refl c.release_hold.ensures.changed)
+
+pub returns-in-Released-clause-sessions : goal.returns-in-Released-clause-sessions
+returns-in-Released-clause-sessions c =
+    number-changed _ c.self.inside.sessions.items c.from.result (after c) (partition_of c.args.tag) _ c.release_hold.new.parts.items c.release_hold.new.sessions.items c.release_hold.ensures.changed ∙
+    ap (λ (desk : DeskView). length desk.sessions) c.self.view_is

@@ -1,0 +1,76 @@
+use Rattle.std.proofs.Common.{◌≡◌, ℕ, Bool, true, false, List, [], arith, refl, sym, ap, subst, ◌∙◌, slice_set, Option, None}
+use Rattle.std.specs.Prelude.{if◌then◌else◌, IfSome}
+use Rattle.modes_core.specs.declared.modes.Mode.{Mode}
+use Rattle.modes_core.specs.declared.tags.Tag.{Tag}
+use Rattle.modes_core.specs.declared.sessions.Owner.{Owner}
+use Rattle.local_locks.specs.declared.records.Entry.{Entry}
+use Rattle.local_locks.specs.Owned.{has_entry, with_one_more}
+use Rattle.lock_model.specs.Content.{Content}
+use Rattle.lock_model.specs.PartView.{PartView, content_of}
+use Rattle.lock_model.specs.Queue.{add_wait}
+use Rattle.lock_model.specs.World.{set_at}
+use Rattle.lock_model.proofs.PutLemmas.{set_at-same}
+use Rattle.lock_scenario.specs.declared.acquire.Started.{Started}
+use Rattle.lock_scenario.specs.declared.acquire.Started.TheVariants.{Granted, AlreadyHeld, Queued}
+use Rattle.lock_scenario.specs.declared.sessions.OwnWait.{OwnWait}
+use Rattle.lock_scenario.specs.declared.sessions.DeskSession.{DeskSession}
+use Rattle.lock_scenario.specs.Parts.{content_in}
+use Rattle.lock_scenario.specs.Sessions.{entries_in, waits_in}
+use Rattle.lock_scenario.specs.Started.{IsStarted, entries_started, wait_started}
+use Rattle.lock_scenario.specs.Waiting.{Agrees}
+use Rattle.lock_scenario.specs.Desk.{IsInOrder, IsDesk}
+use Rattle.lock_scenario.proofs.Agreement.{GoneAt}
+use Rattle.lock_scenario.proofs.Entries.{same_key, same_key-refl, has_entry-with_one_more}
+use Rattle.lock_scenario.proofs.JoinLemmas.{Agrees-join, queued-in_queue}
+use Rattle.lock_scenario.proofs.DeskLemmas.{Finds, in_parts, in_sessions, held_there, wait_there, set_hold-same, IsDesk-after, IsDesk-told}
+
+-- One count more of an object and mode gives it an entry, and no other.
+more_there : (entries after : List Entry) (tag : Tag) (mode : Mode) (owner : Owner) → after ≡ with_one_more entries tag mode owner → GoneAt entries after tag mode true
+more_there entries after tag mode owner more = record {
+  here = ap (λ (es : List Entry). has_entry es tag mode) more ∙ has_entry-with_one_more entries tag mode owner tag mode ∙ rw (same_key-refl tag mode) refl;
+  others = λ o n apart. ap (λ (es : List Entry). has_entry es o n) more ∙ has_entry-with_one_more entries tag mode owner o n ∙
+      ap (λ (b : Bool). if b then true else has_entry entries o n) (let key : same_key o n tag mode ≡ false = apart in key);
+}
+
+-- A desk stays one after a request that may wait.
+pub IsDesk-started :
+    (started : Started) (parts : List PartView) (sessions : List DeskSession) (limit max_local : ℕ) (p s session : ℕ) (tag : Tag) (part : PartView) (it : DeskSession) →
+    Finds parts sessions limit max_local p s session tag part it → waits_in sessions session ≡ None →
+    (mode : Mode) (owner : Owner) (part_after : PartView) (after : DeskSession) →
+    part_after.begun ≡ None → IsInOrder max_local after →
+    IsStarted (content_of part) session tag mode (content_of part_after) started →
+    after.locals.entries ≡ entries_started started it.locals.entries tag mode owner →
+    after.wait ≡ wait_started started tag mode owner → (started ≡ AlreadyHeld → has_entry it.locals.entries tag mode ≡ true) →
+    IsDesk (slice_set parts p part_after) (slice_set sessions s after) limit max_local
+IsDesk-started Granted parts sessions limit max_local p s session tag part it found none mode owner part_after after begun in_order is entries wait had =
+    IsDesk-after parts sessions limit max_local p s session tag part it found none mode true part_after after begun in_order
+    (wait ∙ sym (wait_there parts sessions limit max_local p s session tag part it found ∙ ap (waits_in sessions) found.number ∙ none))
+    (more_there it.locals.entries after.locals.entries tag mode owner entries)
+    (ap (λ (content : Content). content.holds) is.1) (ap (λ (content : Content). content.waits) is.1)
+IsDesk-started AlreadyHeld parts sessions limit max_local p s session tag part it found none mode owner part_after after begun in_order is entries wait had =
+    IsDesk-after parts sessions limit max_local p s session tag part it found none mode true part_after after begun in_order
+    (wait ∙ sym (wait_there parts sessions limit max_local p s session tag part it found ∙ ap (waits_in sessions) found.number ∙ none))
+    (more_there it.locals.entries after.locals.entries tag mode owner entries)
+    (ap (λ (content : Content). content.holds) is ∙
+    set_hold-same (content_of part).holds session tag mode true (held_there parts sessions limit max_local p s session tag part it found none mode ∙ had refl))
+    (ap (λ (content : Content). content.waits) is)
+IsDesk-started Queued parts sessions limit max_local p s session tag part it found none mode owner part_after after begun in_order is entries wait had =
+    let part_is = in_parts parts sessions limit max_local p s session tag part it found in
+    let it_is = in_sessions parts sessions limit max_local p s session tag part it found in
+    let here : (content_of part_after) ≡ add_wait (content_in parts p) s tag mode is.0 =
+    is.2 ∙ ap (λ (view : PartView). add_wait (content_of view) session tag mode is.0) part_is ∙ ap (λ (k : ℕ). add_wait (content_in parts p) k tag mode is.0) (sym found.number) in
+    let same : entries_in sessions ≡ set_at (entries_in sessions) s after.locals.entries =
+    sym (set_at-same (entries_in sessions) s after.locals.entries (entries ∙ ap (λ (one : DeskSession). one.locals.entries) it_is)) in
+    IsDesk-told parts sessions limit max_local p s part_after after [] found.desk (rw found.partition (omega arith)) found.opened begun in_order
+    (subst (λ (content : Content). Agrees (set_at (content_in parts) p content) (set_at (entries_in sessions) s after.locals.entries) (set_at (waits_in sessions) s after.wait)) (sym here)
+    (subst (λ (all : ℕ → List Entry). Agrees (set_at (content_in parts) p (add_wait (content_in parts p) s tag mode is.0)) all (set_at (waits_in sessions) s after.wait)) same
+    (subst (λ (own : Option OwnWait). Agrees (set_at (content_in parts) p (add_wait (content_in parts p) s tag mode is.0)) (entries_in sessions) (set_at (waits_in sessions) s own)) (sym wait)
+    (Agrees-join (content_in parts) (entries_in sessions) (waits_in sessions) p s tag mode is.0 (record { tag = tag; mode = mode; owner = owner; is_granted = false; cancel_asked = false }) found.desk.agrees found.partition
+    (queued-in_queue (content_of part) session tag mode is.0 is.1) (ap (waits_in sessions) found.number ∙ none) (record { tag = refl; mode = refl; is_not_granted = refl })))))
+
+-- The session is ready for what it awaits.
+pub started_ready : (started : Started) (tag : Tag) (mode : Mode) (owner : Owner) (own : Option OwnWait) (P : OwnWait → Type 0) → own ≡ wait_started started tag mode owner →
+    (started ≡ Queued → P (record { tag = tag; mode = mode; owner = owner; is_granted = false; cancel_asked = false })) → IfSome own P
+started_ready Granted tag mode owner own P is ready = subst (λ (w : Option OwnWait). IfSome w P) (sym is) tt
+started_ready AlreadyHeld tag mode owner own P is ready = subst (λ (w : Option OwnWait). IfSome w P) (sym is) tt
+started_ready Queued tag mode owner own P is ready = subst (λ (w : Option OwnWait). IfSome w P) (sym is) (ready refl)

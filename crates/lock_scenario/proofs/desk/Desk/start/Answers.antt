@@ -1,0 +1,134 @@
+use Rattle.std.proofs.Common.{◌≡◌, ◌<◌, ◌∙◌, ℕ, List, sym, ap, subst, length, slice_set, arith, refl, None, Ok}
+use Rattle.modes_core.specs.Tag.{partition_of}
+use Rattle.local_locks.specs.Owned.{has_entry}
+use Rattle.local_locks.specs.declared.records.Entry.{Entry}
+use Rattle.lock_model.specs.Content.{Content}
+use Rattle.lock_model.specs.PartView.{content_of}
+use Rattle.lock_model.specs.World.{set_at}
+use Rattle.lock_model.proofs.PutLemmas.{set_at-here}
+use Rattle.lock_scenario.specs.Parts.{content_in}
+use Rattle.lock_scenario.specs.Sessions.{waits_in}
+use Rattle.lock_scenario.specs.Started.{IsStarted, wait_started}
+use Rattle.lock_scenario.specs.Desk.{DeskView, wait_of, contents_of, IsReadyFor}
+use Rattle.lock_scenario.proofs.DeskLemmas.{Finds, held_there, no_wait_there, wait_there, limit_there, none_ready, waits-set, set_hold-same, IsDesk-after, contents_after, in_parts}
+use Rattle.lock_scenario.proofs.StartLemmas.{IsDesk-started, started_ready}
+use Rattle.lock_scenario.proofs.desk.Desk.start.Goals as goal
+
+asked :
+    (c : goal.After-request-arg-1) →
+    Finds c.self.inside.parts.items c.self.inside.sessions.items c.self.inside.limit c.self.inside.max_local c.from.result c.from-2.result c.args.session c.args.tag
+    c.index_mut-part.result.now c.index_mut-own.result.now
+asked c =
+    let number : c.from-2.result ≡ c.args.session = c.from-2.ensures ∙ c.number.ensures.value in
+    let opened : c.args.session < length c.args.self.now.sessions = c.requires.issued in
+    let same : length c.self.inside.sessions.items ≡ length c.args.self.now.sessions = ap (λ (desk : DeskView). length desk.sessions) c.self.view_is in
+    record {
+      desk = c.self.invariant.0;
+      partition = c.from.ensures ∙ c.partition.ensures.value;
+      number = number;
+      opened = omega arith;
+      part_is = c.index_mut-part.ensures.value;
+      it_is = c.index_mut-own.ensures.value;
+    }
+
+none_yet : (c : goal.After-request-arg-1) → waits_in c.self.inside.sessions.items c.args.session ≡ None
+none_yet c = ap (λ (desk : DeskView). wait_of desk c.args.session) c.self.view_is ∙ c.requires.not_waiting
+
+pub request-requires-clause-held : goal.request-requires-clause-held
+request-requires-clause-held c = held_there _ _ _ _ _ _ _ _ _ _ (asked c) (none_yet c) c.args.mode
+
+pub request-requires-clause-no_wait : goal.request-requires-clause-no_wait
+request-requires-clause-no_wait c = no_wait_there _ _ _ _ _ _ _ _ _ _ (asked c) (none_yet c)
+
+failed :
+    (c : goal.After-from_residual) →
+    Finds c.self.inside.parts.items c.self.inside.sessions.items c.self.inside.limit c.self.inside.max_local c.from.result c.from-2.result c.args.session c.args.tag
+    c.index_mut-part.result.now c.index_mut-own.result.now
+failed c =
+    let number : c.from-2.result ≡ c.args.session = c.from-2.ensures ∙ c.number.ensures.value in
+    let opened : c.args.session < length c.args.self.now.sessions = c.requires.issued in
+    let same : length c.self.inside.sessions.items ≡ length c.args.self.now.sessions = ap (λ (desk : DeskView). length desk.sessions) c.self.view_is in
+    record {
+      desk = c.self.invariant.0;
+      partition = c.from.ensures ∙ c.partition.ensures.value;
+      number = number;
+      opened = omega arith;
+      part_is = c.index_mut-part.ensures.value;
+      it_is = c.index_mut-own.ensures.value;
+    }
+
+none_failed : (c : goal.After-from_residual) → waits_in c.self.inside.sessions.items c.args.session ≡ None
+none_failed c = ap (λ (desk : DeskView). wait_of desk c.args.session) c.self.view_is ∙ c.requires.not_waiting
+
+pub invariant_of-self : goal.invariant_of-self
+invariant_of-self c =
+    let same = c.in_err-started.ensures.same_entries in
+    let content = c.in_err-started.ensures.unchanged in (
+      IsDesk-after _ _ _ _ _ _ _ _ _ _ (failed c) (none_failed c) c.args.mode (has_entry c.index_mut-own.result.now.locals.entries c.args.tag c.args.mode) c.request.new.part
+          (record { database = c.index_mut-own.result.now.database; locals = c.request.new.locals; wait = c.index_mut-own.result.now.wait })
+          c.in_err-started.ensures.none_begun
+          (record {
+            well_owned = c.in_err-started.ensures.well_owned;
+            same_limit = c.in_err-started.ensures.max_local ∙ limit_there _ _ _ _ _ _ _ _ _ _ (failed c);
+            ready = none_ready c.index_mut-own.result.now.wait (IsReadyFor c.request.new.locals) (wait_there _ _ _ _ _ _ _ _ _ _ (failed c) ∙ ap (waits_in c.self.inside.sessions.items) (failed c).number ∙ none_failed c);
+          }) refl
+          (record {
+            here = ap (λ (es : List Entry). has_entry es c.args.tag c.args.mode) same;
+            others = λ o n apart. ap (λ (es : List Entry). has_entry es o n) same;
+          })
+          (ap (λ (now : Content). now.holds) content ∙ set_hold-same (content_of c.index_mut-part.result.now).holds c.args.session c.args.tag c.args.mode (has_entry c.index_mut-own.result.now.locals.entries c.args.tag c.args.mode)
+          (held_there _ _ _ _ _ _ _ _ _ _ (failed c) (none_failed c) c.args.mode))
+          (ap (λ (now : Content). now.waits) content),
+      c.self.invariant.1,
+    )
+
+found :
+    (c : goal.After-self-2-1) →
+    Finds c.self.inside.parts.items c.self.inside.sessions.items c.self.inside.limit c.self.inside.max_local c.from.result c.from-2.result c.args.session c.args.tag
+    c.index_mut-part.result.now c.index_mut-own.result.now
+found c =
+    let number : c.from-2.result ≡ c.args.session = c.from-2.ensures ∙ c.number.ensures.value in
+    let opened : c.args.session < length c.args.self.now.sessions = c.requires.issued in
+    let same : length c.self.inside.sessions.items ≡ length c.args.self.now.sessions = ap (λ (desk : DeskView). length desk.sessions) c.self.view_is in
+    record {
+      desk = c.self.invariant.0;
+      partition = c.from.ensures ∙ c.partition.ensures.value;
+      number = number;
+      opened = omega arith;
+      part_is = c.index_mut-part.ensures.value;
+      it_is = c.index_mut-own.ensures.value;
+    }
+
+none : (c : goal.After-self-2-1) → waits_in c.self.inside.sessions.items c.args.session ≡ None
+none c = ap (λ (desk : DeskView). wait_of desk c.args.session) c.self.view_is ∙ c.requires.not_waiting
+
+pub invariant_of-self-2 : goal.invariant_of-self-2
+invariant_of-self-2 c = (
+  IsDesk-started c.in_ok-started.started _ _ _ _ _ _ _ _ _ _ (found c) (none c) c.args.mode c.args.owner c.request.new.part (record { database = c.index_mut-own.result.now.database; locals = c.request.new.locals; wait = c.wait_for-own.result })
+      c.in_ok-started.ensures.none_begun
+      (record {
+        well_owned = c.in_ok-started.ensures.well_owned;
+        same_limit = c.in_ok-started.ensures.max_local ∙ limit_there _ _ _ _ _ _ _ _ _ _ (found c);
+        ready = started_ready c.in_ok-started.started c.args.tag c.args.mode c.args.owner c.wait_for-own.result (IsReadyFor c.request.new.locals) c.wait_for-own.ensures
+            (λ queued. let is_ready = c.in_ok-started.ensures.ready (ap Ok queued) in record { reserved = is_ready.0; new = is_ready.1 });
+      })
+      c.in_ok-started.ensures.decided c.in_ok-started.ensures.entries c.wait_for-own.ensures (λ already. (c.in_ok-started.ensures.already_held.0 (ap Ok already)).0),
+  c.self.invariant.1,
+)
+
+pub returns-clause-waits : goal.returns-clause-waits
+returns-clause-waits c =
+    waits-set c.self.inside.sessions.items c.from-2.result (record { database = c.index_mut-own.result.now.database; locals = c.request.new.locals; wait = c.wait_for-own.result }) (found c).opened ∙
+    ap (λ own. set_at (waits_in c.self.inside.sessions.items) c.from-2.result own) c.wait_for-own.ensures ∙
+    ap (λ k. set_at (waits_in c.self.inside.sessions.items) k (wait_started c.in_ok-started.started c.args.tag c.args.mode c.args.owner)) (found c).number ∙
+    ap (λ (desk : DeskView). set_at (wait_of desk) c.args.session (wait_started c.in_ok-started.started c.args.tag c.args.mode c.args.owner)) c.self.view_is
+
+pub returns-clause-decided : goal.returns-clause-decided
+returns-clause-decided c =
+    let now : content_in (slice_set c.self.inside.parts.items c.from.result c.request.new.part) (partition_of c.args.tag) ≡ content_of c.request.new.part =
+    ap (λ (all : ℕ → Content). all (partition_of c.args.tag)) (contents_after _ _ _ _ _ _ _ _ _ _ (found c) (λ _. content_of c.request.new.part) c.request.new.part refl) ∙
+    set_at-here (content_in c.self.inside.parts.items) (partition_of c.args.tag) (content_of c.request.new.part) (partition_of c.args.tag) refl in
+    let before : content_of c.index_mut-part.result.now ≡ contents_of c.args.self.now (partition_of c.args.tag) =
+    ap content_of (in_parts _ _ _ _ _ _ _ _ _ _ (found c)) ∙ ap (content_in c.self.inside.parts.items) (found c).partition ∙ ap (λ (desk : DeskView). contents_of desk (partition_of c.args.tag)) c.self.view_is in
+    subst (λ (content : Content). IsStarted (contents_of c.args.self.now (partition_of c.args.tag)) c.args.session c.args.tag c.args.mode content c.in_ok-started.started) (sym now)
+    (subst (λ (content : Content). IsStarted content c.args.session c.args.tag c.args.mode (content_of c.request.new.part) c.in_ok-started.started) before c.in_ok-started.ensures.decided)
