@@ -248,3 +248,21 @@ fn a_session_that_waits_is_addressed_by_a_cancel_alone(rt: HostRuntime) -> Resul
     }
     Ok(())
 }
+
+#[test]
+fn reads_queue_up_behind_an_alter(rt: HostRuntime) -> Result<(), Fail> {
+    let script = "session report 5\nsession alter 5\nsession web1 5\nsession web2 5\n\
+                  lock report 5/16384 AccessShareLock\nlock alter 5/16384 AccessExclusiveLock\n\
+                  lock web1 5/16384 AccessShareLock\nlock web2 5/16384 AccessShareLock\n\
+                  waiters report 5/16384 AccessShareLock\nlist report\ncommit report\ncommit alter\n";
+    let printed = "report: session 0 database 5\nalter: session 1 database 5\n\
+                   web1: session 2 database 5\nweb2: session 3 database 5\nreport: granted\n\
+                   alter: waits\nweb1: waits\nweb2: waits\nreport: waiters yes\n\
+                   table report 5/16384 AccessShareLock granted\n\
+                   table alter 5/16384 AccessExclusiveLock awaited\n\
+                   table web1 5/16384 AccessShareLock awaited\n\
+                   table web2 5/16384 AccessShareLock awaited\nrows 4\nreport: committed\n\
+                   alter: granted after waiting\nalter: committed\nweb1: granted after waiting\n\
+                   web2: granted after waiting\n";
+    expect_run(&rt, script, printed, "")
+}
