@@ -1,10 +1,13 @@
 //! Scripts with what they print, as the language says.
+ghost use Rattle.std.specs.Prelude.{◌≡◌, ◌<◌};
+ghost use Rattle.lock_scenario.specs.Desk.{issued_of};
+
 use crate::arguments::parse_arguments;
 use crate::desk::{Config, Desk};
 use crate::faults::{Defect, Fault};
 use crate::script::run_script;
 use local_locks::{Acquired, Unlocked};
-use modes_core::{Mode, Owner, Refusal, Tag};
+use modes_core::{Mode, Owner, Refusal, SessionId, Tag};
 use std::alloc::Global;
 use std::io::{self, ErrorKind, Read, Write};
 use std::process::Abort;
@@ -328,13 +331,29 @@ fn bounds_a_sessions_entries(rt: HostRuntime) -> Result<(), Fail> {
     Ok(())
 }
 
+/// Takes the lock once more for an owner. The session may not wait.
+fn taken(
+    rt: &impl Abort,
+    desk: &mut Desk,
+    session: SessionId,
+    owner: Owner,
+) -> Result<Acquired, Refusal>
+    requires issued { session < issued_of desk.old }
+    ensures issued { issued_of desk.new ≡ issued_of desk.old }
+{
+    if desk.is_waiting(session) {
+        panic!(rt; "the session waits");
+    }
+    desk.try_lock(session, Tag::relation(5, 16384), Mode::Share, owner)
+}
+
 #[test]
 fn bounds_an_owners_count(rt: HostRuntime) -> Result<(), Fail> {
     let mut desk = Desk::new(rt.alloc(), EIGHT).expect(&rt, "a desk");
     let session = desk.session(5).expect(&rt, "a session");
     let tag = Tag::relation(5, 16384);
     for count in 0..u16::MAX {
-        let acquired = desk.try_lock(session, tag, Mode::Share, Owner::Transaction);
+        let acquired = taken(&rt, &mut desk, session, Owner::Transaction);
         let as_it_should_be = if count == 0 {
             Acquired::Granted
         } else {
@@ -342,15 +361,21 @@ fn bounds_an_owners_count(rt: HostRuntime) -> Result<(), Fail> {
         };
         assert!(rt; acquired == Ok(as_it_should_be), "acquire {count}");
     }
-    let one_more = desk.try_lock(session, tag, Mode::Share, Owner::Transaction);
+    let one_more = taken(&rt, &mut desk, session, Owner::Transaction);
     assert!(rt; one_more == Err(Refusal::CountFull));
-    let for_the_session = desk.try_lock(session, tag, Mode::Share, Owner::Session);
+    let for_the_session = taken(&rt, &mut desk, session, Owner::Session);
     assert!(rt; for_the_session == Ok(Acquired::AlreadyHeld));
     let count = desk.owner_count(session, tag, Mode::Share, Owner::Transaction);
     assert_eq!(rt; count, u16::MAX);
     assert!(rt; desk.held(session, tag).has(Mode::Share));
     assert!(rt; !desk.held(session, tag).has(Mode::Exclusive));
+    if desk.is_waiting(session) {
+        panic!(rt; "the session waits");
+    }
     desk.commit(session);
+    if desk.is_waiting(session) {
+        panic!(rt; "the session waits");
+    }
     let released = desk.unlock(session, tag, Mode::Share, Owner::Session);
     assert!(rt; released == Ok(Unlocked::Released));
     assert!(rt; !desk.held(session, tag).has(Mode::Share));
