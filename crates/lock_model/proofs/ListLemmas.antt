@@ -1,6 +1,9 @@
-use Rattle.std.proofs.Common.{◌≡◌, ℕ, ◌+◌, ◌<◌, ◌≤◌, Bool, true, false, cond, ◌||◌, List, [], ◌∷◌, length, get_or, Some, None, ltb, refl, sym, ap, ◌∙◌, inl, inr, arith, suc}
+use Rattle.std.proofs.Common.{◌≡◌, ℕ, ◌+◌, ◌<◌, ◌≤◌, Bool, true, false, cond, ◌||◌, List, [], ◌∷◌, length, get_or, Option, Some, None, is_some, is_none, ltb, refl, sym, ap, ◌∙◌, inl, inr, arith, suc}
+use Rattle.std.specs.Prelude.{filter}
 use Rattle.std.specs.List.{list_any, count_by, position, position_or_len}
-use Rattle.std.proofs.lemmas.Bool.{cases_Bool, false≢true, cond-true, cond-false, false_from_ne_true, both_ways, ltb-false}
+use Rattle.std.proofs.lemmas.Bool.{cases_Bool, cases_lt, false≢true, cond-true, cond-false, false_from_ne_true, both_ways, ltb-false}
+use Rattle.std.proofs.lemmas.List.{get_or_past, get_or_default}
+use Rattle.std.proofs.lemmas.List.Folds.{list_any_at}
 use Rattle.std.proofs.lemmas.List.Sums.{sum_by-cons, fails_before_first}
 
 -- A test that some element passes finds one.
@@ -62,3 +65,37 @@ position-none {X} p xs none =
           let within : at.0 < length xs = at.2 in
           both_ways (p at.1) (ap p (sym (at.3 at.1)) ∙ fails_before_first p xs at.0 at.1 (omega arith)) at.4)
     ]
+
+-- Where none is left of those that pass, none passes.
+pub filter_nothing : {X : Type 0} (p : X → Bool) (xs : List X) → filter p xs ≡ [] → list_any p xs ≡ false
+filter_nothing p [] none = refl
+filter_nothing {X} p (x ∷ xs) none =
+    elim (cases_Bool (p x)) [
+      | inl pass ↦ let some : filter p (x ∷ xs) ≡ x ∷ filter p xs = cond-true (p x) (x ∷ filter p xs) (filter p xs) pass in absurd (cc)
+      | inr fail ↦
+          ap (λ b. b || list_any p xs) fail ∙ filter_nothing p xs (sym (cond-false (p x) (x ∷ filter p xs) (filter p xs) fail) ∙ none)
+    ]
+
+-- An element that is there is that at any default.
+pub some_at : {X : Type 0} (xs : List (Option X)) (i : ℕ) (o : Option X) → i < length xs → is_some (get_or xs i o) ≡ true → (x : X) × (get_or xs i None ≡ Some x)
+some_at {X} xs i o within some = at (get_or xs i o) some (get_or_default xs i None o within) where
+  at : (v : Option X) → is_some v ≡ true → get_or xs i None ≡ v → (x : X) × (get_or xs i None ≡ Some x)
+  at None e is = absurd (false≢true e)
+  at (Some x) e is = (x, is)
+
+-- What passes and is no default stands at a place of the list, and is found there.
+pub found_within : {X : Type 0} (p : X → Bool) (xs : List X) (i : ℕ) (d : X) → p d ≡ false → p (get_or xs i d) ≡ true → list_any p xs ≡ true
+found_within p xs i d not_default e =
+    elim (cases_lt i (length xs)) [
+      | inl within ↦ list_any_at p xs i d within e
+      | inr past ↦ absurd (false≢true (sym not_default ∙ sym (ap p (get_or_past xs i d past)) ∙ e))
+    ]
+
+-- What is there is not missing.
+pub there_not_none : {X : Type 0} (o : Option X) → is_some o ≡ true → is_none o ≡ false
+there_not_none None e = absurd (false≢true e)
+there_not_none (Some x) e = refl
+
+pub not_there_none : {X : Type 0} (o : Option X) → is_some o ≡ false → is_none o ≡ true
+not_there_none None e = refl
+not_there_none (Some x) e = absurd (false≢true (sym e))

@@ -24,11 +24,11 @@ pub count_by-map : {X Y : Type 0} (p : Y → Bool) (f : X → Y) (xs : List X) �
 count_by-map p f [] = refl
 count_by-map p f (x ∷ xs) = rw (count_by-cons p (f x) (map f xs), count_by-cons (λ y. p (f y)) x xs, count_by-map p f xs) refl
 
-count_by-same : {X : Type 0} (p q : X → Bool) (xs : List X) → ((x : X) → p x ≡ q x) → count_by p xs ≡ count_by q xs
+pub count_by-same : {X : Type 0} (p q : X → Bool) (xs : List X) → ((x : X) → p x ≡ q x) → count_by p xs ≡ count_by q xs
 count_by-same p q xs same = λ i. count_by (λ x. same x i) xs
 
 -- What is there at most once is counted once or not at all.
-once_or_not : {X : Type 0} (p : X → Bool) (xs : List X) → count_by p xs ≤ 1 → count_by p xs ≡ (if list_any p xs then 1 else 0)
+pub once_or_not : {X : Type 0} (p : X → Bool) (xs : List X) → count_by p xs ≤ 1 → count_by p xs ≡ (if list_any p xs then 1 else 0)
 once_or_not p xs at_most =
     elim (cases_Bool (list_any p xs)) [
       | inl some ↦ let at_least : 0 < count_by p xs = any-counted p xs some in rw some (omega arith)

@@ -36,6 +36,16 @@ set_at-same {A} f k a e = λ i j. at j i where
         | inr n ↦ set_at-else f k a j n
       ]
 
+-- A function set twice in one place has the later value there.
+pub set_at-twice : {A : Type 0} (f : ℕ → A) (k : ℕ) (a b : A) → set_at (set_at f k a) k b ≡ set_at f k b
+set_at-twice {A} f k a b = λ i j. at j i where
+  at : (j : ℕ) → set_at (set_at f k a) k b j ≡ set_at f k b j
+  at j =
+      elim (cases_eq j k) [
+        | inl s ↦ set_at-here (set_at f k a) k b j s ∙ sym (set_at-here f k b j s)
+        | inr n ↦ set_at-else (set_at f k a) k b j n ∙ set_at-else f k a j n ∙ sym (set_at-else f k b j n)
+      ]
+
 -- A table of rows and columns, changed in one place and read in one column.
 pub column-here : {A : Type 0} (f : ℕ → ℕ → A) (s p : ℕ) (a : A) (q : ℕ) → q ≡ p → (k : ℕ) → set_at f s (set_at (f s) p a) k q ≡ set_at (λ k. f k q) s a k
 column-here f s p a q e k =

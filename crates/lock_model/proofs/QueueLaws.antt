@@ -245,7 +245,7 @@ one_wakes before t granted other after its one two =
     (same.0, λ i. record { holds = holds i; waits = waits i })
 
 -- What a request clashes with keeps it from being free behind the whole queue.
-clash-not_free : (found : Option Wait) (c : Content) (s : ℕ) (t : Tag) (m : Mode) (clash : Clash) → found ≡ first_waiter (c.waits t) m → ClashAfterWaiters found c s t m (Some clash) → IsFree c.holds s t m (c.waits t) → ⊥
+pub clash-not_free : (found : Option Wait) (c : Content) (s : ℕ) (t : Tag) (m : Mode) (clash : Clash) → found ≡ first_waiter (c.waits t) m → ClashAfterWaiters found c s t m (Some clash) → IsFree c.holds s t m (c.waits t) → ⊥
 clash-not_free None c s t m clash is in_the_way free =
     both_ways (conflict m clash.mode) (free.beside_holders clash.session clash.mode in_the_way.0.another in_the_way.0.holding) in_the_way.0.conflicting
 clash-not_free (Some w) c s t m clash is e free = both_ways (some_awaits_conflict (c.waits t) m) free.behind_waiters (found_passes (c.waits t) (sym is)) where
@@ -301,7 +301,7 @@ release-not_own before after s t m granted none wakes =
     (λ k n other held. set_hold-other_session before.holds s t m false k t n other ∙ held) (λ n free quiet. quiet) none wakes.split
 
 -- What is granted at once conflicts with nothing.
-no_clash-free : (found : Option Wait) (c : Content) (s : ℕ) (t : Tag) (m : Mode) → found ≡ first_waiter (c.waits t) m → ClashAfterWaiters found c s t m None → NoConflictingHolder c.holds s t m × (some_awaits_conflict (c.waits t) m ≡ false)
+pub no_clash-free : (found : Option Wait) (c : Content) (s : ℕ) (t : Tag) (m : Mode) → found ≡ first_waiter (c.waits t) m → ClashAfterWaiters found c s t m None → NoConflictingHolder c.holds s t m × (some_awaits_conflict (c.waits t) m ≡ false)
 no_clash-free None c s t m is free = (free, none_found (c.waits t) (sym is)) where
   none_found : (queue : List Wait) → find (λ w. conflict m w.mode) queue ≡ None → some_awaits_conflict queue m ≡ false
   none_found [] none = refl

@@ -1,43 +1,31 @@
-use Rattle.std.proofs.Common.{◌≡◌, ℕ, List, ◌∙◌}
+use Rattle.std.proofs.Common.{◌≡◌, ℕ, true, refl, inl, inr}
+use Rattle.std.specs.Prelude.{◌==◌, ◌||◌}
+use Rattle.std.proofs.lemmas.Bool.{eqb-true, or_cases}
 use Rattle.lock_model.specs.WaitWord.{wait_state, asked_word}
-use Rattle.lock_model.specs.World.{World, TraceEntry}
+use Rattle.lock_model.specs.World.{World, set_at}
 use Rattle.lock_model.specs.Happens.{after_asking, after_loading_wait}
 use Rattle.lock_model.specs.Safe.{Safe}
 use Rattle.lock_model.proofs.PutLemmas.{set_at-each}
 use Rattle.lock_model.proofs.WaitWordLemmas.{asked_word-state}
-
--- A World of which the wait words and the traces alone have changed.
-abbrev pub with_wait_words : World → (ℕ → ℕ) → (ℕ → List TraceEntry) → World
-with_wait_words w wait trace = record {
-  words = record (w.words) { wait = wait };
-  contents = w.contents;
-  sessions = record (w.sessions) { trace = trace };
-  numbers = w.numbers;
-}
-
-pub with_wait_words-safe : (w : World) (wait : ℕ → ℕ) (trace : ℕ → List TraceEntry) → Safe w → ((k : ℕ) → wait_state (wait k) ≡ 0) → Safe (with_wait_words w wait trace)
-with_wait_words-safe w wait trace safe no_state = record {
-  promise = record { no_conflict = safe.promise.no_conflict; one_place = safe.promise.one_place; words = safe.promise.words; spent = safe.promise.spent };
-  carriers = record {
-    hands = safe.carriers.hands;
-    numbers = safe.carriers.numbers;
-    nobody_waits = record { no_wait = safe.carriers.nobody_waits.no_wait; no_state = no_state };
-    not_yet = record {
-      fast = safe.carriers.not_yet.fast;
-      database = safe.carriers.not_yet.database;
-      slot = safe.carriers.not_yet.slot;
-      strong = safe.carriers.not_yet.strong;
-      sleep = safe.carriers.not_yet.sleep;
-    };
-  };
-}
+use Rattle.lock_model.proofs.SafeWaits.{same_states-safe, seeing-safe}
+use Rattle.lock_model.proofs.WithWaits.{waits_of, with_waits-safe}
 
 -- Asking any session to cancel is safe.
 pub asking-safe : (w : World) (s k : ℕ) → Safe w → Safe (after_asking w s k)
-asking-safe w s k safe = with_wait_words-safe w _ _ safe
-    (set_at-each (λ _ n. wait_state n ≡ 0) w.words.wait k (asked_word (w.words.wait k))
-    (asked_word-state (w.words.wait k) ∙ safe.carriers.nobody_waits.no_state k) (λ j _. safe.carriers.nobody_waits.no_state j))
+asking-safe w s k safe = with_waits-safe w w.contents.now w.sessions.own w.sessions.awaited w.sessions.seen _ w.contents.hand _ safe
+    (same_states-safe w.contents.now w.sessions.own w.sessions.awaited w.sessions.seen w.words.wait w.contents.hand (waits_of w safe) (set_at w.words.wait k (asked_word (w.words.wait k)))
+    (set_at-each (λ j n. wait_state n ≡ wait_state (w.words.wait j)) w.words.wait k (asked_word (w.words.wait k)) (asked_word-state (w.words.wait k)) (λ _ _. refl)))
+    safe.promise.spent (λ _ _. refl)
 
--- Loading the own wait word is safe.
+-- Loading the own wait word is safe: a session sees a grant only where the word shows it.
 pub loading_wait-safe : (w : World) (s n : ℕ) → Safe w → Safe (after_loading_wait w s n)
-loading_wait-safe w s n safe = with_wait_words-safe w w.words.wait _ safe safe.carriers.nobody_waits.no_state
+loading_wait-safe w s n safe = with_waits-safe w w.contents.now w.sessions.own w.sessions.awaited _ w.words.wait w.contents.hand _ safe
+    (seeing-safe w.contents.now w.sessions.own w.sessions.awaited w.sessions.seen w.words.wait w.contents.hand (waits_of w safe) s
+    (w.sessions.seen s || (wait_state (w.words.wait s) == 2)) shown)
+    safe.promise.spent (λ _ _. refl) where
+      shown : (w.sessions.seen s || (wait_state (w.words.wait s) == 2)) ≡ true → wait_state (w.words.wait s) ≡ 2
+      shown e =
+          elim (or_cases (w.sessions.seen s) (wait_state (w.words.wait s) == 2) e) [
+            | inl seen ↦ safe.promise.wait_words.seen_is_shown s seen
+            | inr two ↦ eqb-true (wait_state (w.words.wait s)) 2 two
+          ]

@@ -9,10 +9,17 @@ use Rattle.lock_model.proofs.PutLemmas.{set_at-else, set_at-each}
 abbrev pub with_numbers : World → Numbers → World
 with_numbers w numbers = record { words = w.words; contents = w.contents; sessions = w.sessions; numbers = numbers }
 
-pub with_numbers-safe : (w : World) (numbers : Numbers) → Safe w → SpentHaveNothing numbers.live w.sessions.own w.sessions.holds_partition → NumbersAreInOrder numbers → Safe (with_numbers w numbers)
+pub with_numbers-safe : (w : World) (numbers : Numbers) → Safe w → SpentHaveNothing numbers.live w.sessions.own w.sessions.awaited w.sessions.holds_partition → NumbersAreInOrder numbers → Safe (with_numbers w numbers)
 with_numbers-safe w numbers safe spent order = record {
-  promise = record { no_conflict = safe.promise.no_conflict; one_place = safe.promise.one_place; words = safe.promise.words; spent = spent };
-  carriers = record { hands = safe.carriers.hands; numbers = order; nobody_waits = safe.carriers.nobody_waits; not_yet = safe.carriers.not_yet };
+  promise = record {
+    no_conflict = safe.promise.no_conflict;
+    one_place = safe.promise.one_place;
+    none_free = safe.promise.none_free;
+    wait_words = safe.promise.wait_words;
+    words = safe.promise.words;
+    spent = spent;
+  };
+  carriers = record { hands = safe.carriers.hands; numbers = order; owes_by_move = safe.carriers.owes_by_move; not_yet = safe.carriers.not_yet };
 }
 
 -- Issuing a number is safe.
@@ -20,6 +27,7 @@ pub issuing-safe : (w : World) (s : ℕ) → Safe w → MayBeIssued w s → Safe
 issuing-safe w s safe may = with_numbers-safe w _ safe
     (record {
       no_hold = λ k o n dead. safe.promise.spent.no_hold k o n (was_dead k dead);
+      no_wait = λ k dead. safe.promise.spent.no_wait k (was_dead k dead);
       no_word = λ k p dead. safe.promise.spent.no_word k p (was_dead k dead);
     })
     (record {
@@ -52,6 +60,7 @@ pub closing-safe : (w : World) (s : ℕ) → Safe w → MayClose w s → Safe (a
 closing-safe w s safe may = with_numbers-safe w _ safe
     (record {
       no_hold = λ k o n. set_at-each (λ k b. b ≡ false → w.sessions.own k o n ≡ false) w.numbers.live s false (λ _. may.no_hold o n) (λ k _ dead. safe.promise.spent.no_hold k o n dead) k;
+      no_wait = set_at-each (λ k b. b ≡ false → w.sessions.awaited k ≡ None) w.numbers.live s false (λ _. may.no_wait) (λ k _ dead. safe.promise.spent.no_wait k dead);
       no_word = λ k p. set_at-each (λ k b. b ≡ false → w.sessions.holds_partition k p ≡ false) w.numbers.live s false (λ _. may.no_word p) (λ k _ dead. safe.promise.spent.no_word k p dead) k;
     })
     (record {

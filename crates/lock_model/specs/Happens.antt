@@ -1,25 +1,23 @@
-use Rattle.std.specs.Prelude.{◌≡◌, ◌≢◌, ◌⊎◌, ℕ, ◌+◌, ◌<◌, true, false, List, [], ◌∷◌, ◌++◌, Option, Some, None}
+use Rattle.std.specs.Prelude.{◌≡◌, ◌≢◌, ◌⊎◌, ℕ, ◌+◌, ◌<◌, ◌==◌, ◌||◌, Bool, true, false, List, [], ◌∷◌, ◌++◌, Option, Some, None}
 use Rattle.modes_core.specs.declared.modes.Mode.{Mode}
 use Rattle.modes_core.specs.declared.tags.Tag.{Tag}
+use Rattle.modes_core.specs.Tag.{partition_of}
 use Rattle.lock_model.specs.declared.events.Event.{Event}
 use Rattle.lock_model.specs.declared.events.Move.{Move}
-use Rattle.lock_model.specs.declared.events.Move.TheVariants.{Keep, Grant, Release}
+use Rattle.lock_model.specs.declared.events.Move.TheVariants.{Keep, Grant, Join, Release, Leave}
 use Rattle.lock_model.specs.declared.events.Step.{Step}
-use Rattle.lock_model.specs.declared.events.Step.TheVariants.{TakeExclusive, PutExclusive, SplitSeat, JoinSeat, AskCancel, LoadWait}
+use Rattle.lock_model.specs.declared.events.Step.TheVariants.{TakeExclusive, PutExclusive, SplitSeat, JoinSeat, AskCancel, LoadWait, SetWaiting, MarkGranted, ClearWait}
 use Rattle.lock_model.specs.declared.events.Word.{Word}
 use Rattle.lock_model.specs.declared.events.Word.TheVariants.{Partition, Fast, Database, Slot, Wait, Strong, Sleep}
-use Rattle.lock_model.specs.Content.{Holds, Content, set_hold}
+use Rattle.lock_model.specs.Content.{Content}
+use Rattle.lock_model.specs.Content as content
 use Rattle.lock_model.specs.LightweightWord.{IsHeldByNobody, taken_word, put_word}
-use Rattle.lock_model.specs.WaitWord.{asked_word}
-use Rattle.lock_model.specs.Moves.{Moves, IsInPartition, FitsOwn}
-use Rattle.lock_model.specs.World.{World, Numbers, Hand, Took, Episode, AskedToCancel, LoadedWait, set_at}
+use Rattle.lock_model.specs.OwnWait.{OwnWait}
+use Rattle.lock_model.specs.WaitWord.{wait_state, asked_word}
+use Rattle.lock_model.specs.World.{World, Hand, MakesSteps, recorded_in, owes, Took, Episode, AskedToCancel, LoadedWait, set_at}
+use Rattle.lock_model.specs.Making.{MayMove, own_after, after_setting_waiting, MayMarkFirst, after_marking_first, MayMarkNext, after_marking_next, MayClearSeen, MayClearInHand, after_clearing, MayLeave, after_leaving}
 
 -- Where each kind of event is lawful, and the World after it.
-
--- The session makes steps of its own: it is live, and no other session keeps it apart.
-pub record MakesSteps (numbers : Numbers) (session : ℕ) : Type 0 where
-  pub live : numbers.live session ≡ true
-  pub by_itself : numbers.kept_by session ≡ None
 
 -- Taking a partition: its word shows that nobody holds it.
 pub record MayTakePartition (w : World) (session partition : ℕ) : Type 0 where
@@ -32,7 +30,7 @@ abbrev pub after_taking_partition : World → ℕ → ℕ → World
 after_taking_partition w session partition = record {
   words = record (w.words) { partition = set_at w.words.partition partition (taken_word (w.words.partition partition)) };
   contents = record (w.contents) {
-    hand = set_at w.contents.hand partition (Some (record { holder = session; taken = w.contents.now partition }));
+    hand = set_at w.contents.hand partition (Some (record { holder = session; taken = w.contents.now partition; recorded = None; due = λ _. false }));
   };
   sessions = record (w.sessions) {
     holds_partition = set_at w.sessions.holds_partition session (set_at (w.sessions.holds_partition session) partition true);
@@ -41,20 +39,18 @@ after_taking_partition w session partition = record {
   numbers = w.numbers;
 }
 
--- Putting a partition: the session holds its word, and what it puts is the content after one move of its own on it, by
--- which nobody is granted who has not been told.
-pub record MayPutPartition (w : World) (session partition : ℕ) (done : Move) (content : Content) : Type 0 where
-  pub steps : MakesSteps w.numbers session
-  pub holding : w.sessions.holds_partition session partition ≡ true
-  pub object : IsInPartition partition done
-  pub own : FitsOwn w.sessions.own session done
-  pub moved : Moves (w.contents.now partition) session done [] content
+-- Putting a partition after one move of the session's own on its content, by which nobody is granted who has not been told.
+-- A join and a leave stand recorded before the partition is put.
+abbrev pub IsMadeByPutting : Move → Type 0
+IsMadeByPutting Keep = Unit {0}
+IsMadeByPutting (Grant tag mode) = Unit {0}
+IsMadeByPutting (Join tag mode) = ⊥
+IsMadeByPutting (Release tag mode) = Unit {0}
+IsMadeByPutting (Leave tag) = ⊥
 
--- own holds follow the move
-abbrev pub own_after : Holds → ℕ → Move → Holds
-own_after own session Keep = own
-own_after own session (Grant tag mode) = set_hold own session tag mode true
-own_after own session (Release tag mode) = set_hold own session tag mode false
+pub record MayPutPartition (w : World) (session partition : ℕ) (done : Move) (content : Content) : Type 0 where
+  pub may_move : MayMove w session partition done [] content
+  pub by_putting : IsMadeByPutting done
 
 -- the content that a hand has taken
 abbrev pub content_taken : Content → Option Hand → Content
@@ -66,7 +62,7 @@ abbrev pub after_putting_partition : World → ℕ → ℕ → Move → Content 
 after_putting_partition w session partition done content = record {
   words = record (w.words) { partition = set_at w.words.partition partition (put_word (w.words.partition partition)) };
   contents = record { now = set_at w.contents.now partition content; hand = set_at w.contents.hand partition None };
-  sessions = record {
+  sessions = record (w.sessions) {
     own = own_after w.sessions.own session done;
     holds_partition = set_at w.sessions.holds_partition session (set_at (w.sessions.holds_partition session) partition false);
     trace = set_at w.sessions.trace session
@@ -74,6 +70,26 @@ after_putting_partition w session partition done content = record {
   };
   numbers = w.numbers;
 }
+
+-- Putting a partition with the move recorded in the hand: all whom it granted have been told, and after a leave the session
+-- has no wait on an object of the partition.
+abbrev pub WaitIsOver : Option OwnWait → ℕ → Move → Type 0
+WaitIsOver awaited partition Keep = Unit {0}
+WaitIsOver awaited partition (Grant tag mode) = Unit {0}
+WaitIsOver awaited partition (Join tag mode) = Unit {0}
+WaitIsOver awaited partition (Release tag mode) = Unit {0}
+WaitIsOver awaited partition (Leave tag) = (wait : OwnWait) → awaited ≡ Some wait → partition_of wait.tag ≢ partition
+
+pub record MayPutRecorded (w : World) (session partition : ℕ) (done : Move) : Type 0 where
+  pub steps : MakesSteps w.numbers session
+  pub holding : w.sessions.holds_partition session partition ≡ true
+  pub recorded : recorded_in (w.contents.hand partition) ≡ Some done
+  pub all_told : (other : ℕ) → owes (w.contents.hand partition) other ≡ false
+  pub wait_is_over : WaitIsOver (w.sessions.awaited session) partition done
+
+-- The content is as recorded, and own holds have followed.
+abbrev pub after_putting_recorded : World → ℕ → ℕ → World
+after_putting_recorded w session partition = after_putting_partition w session partition Keep (w.contents.now partition)
 
 -- Issuing a number: it is the lowest that was not given out.
 pub record MayBeIssued (w : World) (session : ℕ) : Type 0 where
@@ -115,11 +131,12 @@ after_keeping_apart w session joiner = record {
   numbers = record (w.numbers) { kept_by = set_at w.numbers.kept_by session (Some joiner) };
 }
 
--- Closing: with no word held, no hold, and no other session kept apart.
+-- Closing: with no word held, no hold, no wait, and no other session kept apart.
 pub record MayClose (w : World) (session : ℕ) : Type 0 where
   pub steps : MakesSteps w.numbers session
   pub no_word : (partition : ℕ) → w.sessions.holds_partition session partition ≡ false
   pub no_hold : (tag : Tag) (mode : Mode) → w.sessions.own session tag mode ≡ false
+  pub no_wait : w.sessions.awaited session ≡ None
   pub keeps_nobody : (other : ℕ) → w.numbers.kept_by other ≢ Some session
 
 abbrev pub after_closing : World → ℕ → World
@@ -141,7 +158,7 @@ after_asking w session other = record {
   numbers = w.numbers;
 }
 
--- Loading the own wait word: the value shown is the whole word.
+-- Loading the own wait word: the value shown is the whole word, and a session sees so that its wait was granted.
 pub record MayLoadWait (w : World) (session shown : ℕ) : Type 0 where
   pub steps : MakesSteps w.numbers session
   pub is_word : shown ≡ w.words.wait session
@@ -150,7 +167,10 @@ abbrev pub after_loading_wait : World → ℕ → ℕ → World
 after_loading_wait w session shown = record {
   words = w.words;
   contents = w.contents;
-  sessions = record (w.sessions) { trace = set_at w.sessions.trace session (w.sessions.trace session ++ LoadedWait shown ∷ []) };
+  sessions = record (w.sessions) {
+    seen = set_at w.sessions.seen session (w.sessions.seen session || (wait_state (w.words.wait session) == 2));
+    trace = set_at w.sessions.trace session (w.sessions.trace session ++ LoadedWait shown ∷ []);
+  };
   numbers = w.numbers;
 }
 
@@ -167,7 +187,8 @@ HappensTaking w session (Sleep owner) v = ⊥
 
 abbrev pub HappensPutting : World → ℕ → Word → Move → World → Type 0
 HappensPutting w session (Partition partition) done v =
-    (content : Content) × MayPutPartition w session partition done content × (v ≡ after_putting_partition w session partition done content)
+    ((content : Content) × MayPutPartition w session partition done content × (v ≡ after_putting_partition w session partition done content))
+    ⊎ (MayPutRecorded w session partition done × (v ≡ after_putting_recorded w session partition))
 HappensPutting w session (Fast owner) done v = ⊥
 HappensPutting w session (Database owner) done v = ⊥
 HappensPutting w session (Slot owner place) done v = ⊥
@@ -179,6 +200,30 @@ abbrev pub HappensJoining : World → ℕ → Option ℕ → World → Type 0
 HappensJoining w session (Some joiner) v = MayBeKeptApart w session joiner × (v ≡ after_keeping_apart w session joiner)
 HappensJoining w session None v = MayClose w session × (v ≡ after_closing w session)
 
+abbrev pub HappensMarkingIn : World → ℕ → ℕ → ℕ → Move → World → Type 0
+HappensMarkingIn w session other partition done v =
+    ((granted : List content.Wait) × (content : Content) × MayMarkFirst w session other partition done granted content
+    × (v ≡ after_marking_first w session other partition done granted content))
+    ⊎ (MayMarkNext w session other partition done × (v ≡ after_marking_next w other partition done))
+
+-- Only a release and a leave grant waits.
+abbrev pub HappensMarking : World → ℕ → ℕ → Move → World → Type 0
+HappensMarking w session other Keep v = ⊥
+HappensMarking w session other (Grant tag mode) v = ⊥
+HappensMarking w session other (Join tag mode) v = ⊥
+HappensMarking w session other (Release tag mode) v = HappensMarkingIn w session other (partition_of tag) (Release tag mode) v
+HappensMarking w session other (Leave tag) v = HappensMarkingIn w session other (partition_of tag) (Leave tag) v
+
+-- With leaving, the step makes the leave, or it stands recorded already.
+abbrev pub HappensClearing : World → ℕ → Bool → World → Type 0
+HappensClearing w session false v =
+    (wait : OwnWait) × (MayClearSeen w session wait ⊎ MayClearInHand w session wait) × (v ≡ after_clearing w session wait)
+HappensClearing w session true v =
+    ((wait : OwnWait) × (granted : List content.Wait) × (content : Content) × MayLeave w session wait granted content
+    × (v ≡ after_leaving w session wait granted content))
+    ⊎ ((wait : OwnWait) × MayClearInHand w session wait
+    × (recorded_in (w.contents.hand (partition_of wait.tag)) ≡ Some (Leave wait.tag)) × (v ≡ after_clearing w session wait))
+
 abbrev pub HappensStep : World → ℕ → Step → World → Type 0
 HappensStep w session (TakeExclusive word) v = HappensTaking w session word v
 HappensStep w session (PutExclusive word done) v = HappensPutting w session word done v
@@ -187,6 +232,10 @@ HappensStep w session SplitSeat v =
 HappensStep w session (JoinSeat joiner) v = HappensJoining w session joiner v
 HappensStep w session (AskCancel other) v = MakesSteps w.numbers session × (v ≡ after_asking w session other)
 HappensStep w session (LoadWait shown) v = MayLoadWait w session shown × (v ≡ after_loading_wait w session shown)
+HappensStep w session (SetWaiting tag mode) v =
+    (content : Content) × MayMove w session (partition_of tag) (Join tag mode) [] content × (v ≡ after_setting_waiting w session tag mode content)
+HappensStep w session (MarkGranted other done) v = HappensMarking w session other done v
+HappensStep w session (ClearWait leaving) v = HappensClearing w session leaving v
 
 -- The event is lawful in the World w, and v is the World after it.
 abbrev pub Happens : World → Event → World → Type 0

@@ -1,17 +1,24 @@
-use Rattle.std.specs.Prelude.{◌≡◌, ℕ, Bool, false, ◌==◌, ◌&&◌, not, if◌then◌else◌, List, Option, Some, None, is_none, nat_lt, length, slice_index_or, count_by, All}
+use Rattle.std.specs.Prelude.{◌≡◌, ◌⊎◌, ℕ, ◌<◌, Bool, true, false, not, ◌&&◌, ◌||◌, ◌==◌, nat_lt, List, length, count_by, Option, Some, None, is_none, All, option_map, slice_index_or, if◌then◌else◌}
+use Rattle.std.specs.List.{list_any}
 use Rattle.modes_core.specs.declared.modes.Mode.{Mode}
 use Rattle.modes_core.specs.declared.tags.Tag.{Tag}
 use Rattle.modes_core.specs.Mode.{mode_eq}
-use Rattle.modes_core.specs.Conflict.{conflict}
-use Rattle.modes_core.specs.Tag.{tag_eq}
+use Rattle.modes_core.specs.Tag.{tag_eq, partition_of}
 use Rattle.lock_model.specs.declared.machine.plain.Hold.{Hold}
 use Rattle.lock_model.specs.declared.machine.plain.Spot.TheVariants.{Table}
+use Rattle.lock_model.specs.declared.machine.hands.InHand.{InHand}
+use Rattle.lock_model.specs.declared.machine.hands.Awaited.{Awaited}
 use Rattle.lock_model.specs.declared.machine.state.Machine.{Machine}
+use Rattle.lock_model.specs.declared.events.Move.{Move}
+use Rattle.lock_model.specs.declared.events.Move.TheVariants.{Keep, Grant, Join, Release, Leave}
 use Rattle.lock_model.specs.declared.events.Step.{Step}
-use Rattle.lock_model.specs.Content.{Holds}
+use Rattle.lock_model.specs.Content.{Holds, Content}
 use Rattle.lock_model.specs.LightweightWord.{free_word}
+use Rattle.lock_model.specs.OwnWait.{OwnWait}
+use Rattle.lock_model.specs.Parts.{part_at, contents_in}
 use Rattle.lock_model.specs.World.{World, Hand}
-use Rattle.lock_model.specs.Happens.{Next}
+use Rattle.lock_model.specs.Happens.{Next, HappensMarkingIn}
+use Rattle.lock_model.specs.Queue.{waits_there}
 use Rattle.lock_model.specs.Safe.{Safe}
 
 -- whether it is the hold of this session on this object in this mode
@@ -26,44 +33,123 @@ ListsHolds list holds = (session : ℕ) (tag : Tag) (mode : Mode) → count_by (
 abbrev pub AreInTable : List Hold → Type 0
 AreInTable list = All (λ hold. hold.spot ≡ Table) list
 
-abbrev pub holder_of : Option Hand → Option ℕ
-holder_of None = None
-holder_of (Some hand) = Some hand.holder
+-- whether the session is marked as one to be told
+abbrev pub is_due : List Bool → ℕ → Bool
+is_due due session = slice_index_or due session false
 
--- What the machine keeps is what the World has.
-pub record ShowsParts (issued : ℕ) (live : List Bool) (kept_by : List (Option ℕ)) (words wait_words : List ℕ) (holders : List (Option ℕ)) (holds : List Hold) (w : World) : Type 0 where
+-- whether no session is marked
+abbrev pub owes_nobody : List Bool → Bool
+owes_nobody due = not (list_any (λ b. b) due)
+
+-- whether the session is among those woken
+abbrev pub names_in : List (ℕ × Mode) → ℕ → Bool
+names_in woken session = list_any (λ whose. whose.0 == session) woken
+
+-- The machine's hand is the World's.
+pub record ShowsHand (shown : InHand) (hand : Hand) : Type 0 where
+  pub holder : shown.holder ≡ hand.holder
+  pub recorded : shown.recorded ≡ hand.recorded
+  pub due : (session : ℕ) → is_due shown.due session ≡ hand.due session
+
+abbrev pub ShowsHandIfAny : Option InHand → Option Hand → Type 0
+ShowsHandIfAny None None = Unit {0}
+ShowsHandIfAny (Some shown) (Some hand) = ShowsHand shown hand
+ShowsHandIfAny None (Some hand) = ⊥
+ShowsHandIfAny (Some shown) None = ⊥
+
+-- what the machine keeps of a session's wait
+abbrev pub awaited_of : OwnWait → Awaited
+awaited_of wait = record { tag = wait.tag; mode = wait.mode }
+
+-- What the machine keeps is what the World has. It keeps no own holds: a session's own are those of the contents but what
+-- it awaits.
+pub record Shows (machine : Machine) (w : World) : Type 0 where
   pub limit : w.numbers.limit ≡ 64
-  pub issued_is : issued ≡ w.numbers.issued
-  pub live_is : (session : ℕ) → slice_index_or live session false ≡ w.numbers.live session
-  pub kept_by_is : (session : ℕ) → slice_index_or kept_by session None ≡ w.numbers.kept_by session
-  pub word_is : (p : ℕ) → slice_index_or words p free_word ≡ w.words.partition p
-  pub wait_is : (session : ℕ) → slice_index_or wait_words session 0 ≡ w.words.wait session
-  pub holder_is : (p : ℕ) → slice_index_or holders p None ≡ holder_of (w.contents.hand p)
-  pub sixteen : length holders ≡ 16
-  pub holds_are : ListsHolds holds w.sessions.own
-  pub in_table : AreInTable holds
-
-abbrev pub Shows : Machine → World → Type 0
-Shows machine w = ShowsParts machine.issued machine.live machine.kept_by machine.words machine.wait_words machine.holders machine.holds.items w
+  pub issued : machine.issued ≡ w.numbers.issued
+  pub live : (session : ℕ) → slice_index_or machine.live session false ≡ w.numbers.live session
+  pub kept_by : (session : ℕ) → slice_index_or machine.kept_by session None ≡ w.numbers.kept_by session
+  pub word : (p : ℕ) → slice_index_or machine.words p free_word ≡ w.words.partition p
+  pub wait_word : (session : ℕ) → slice_index_or machine.wait_words session 0 ≡ w.words.wait session
+  pub hand : (p : ℕ) → ShowsHandIfAny (slice_index_or machine.hands p None) (w.contents.hand p)
+  pub sixteen_hands : length machine.hands ≡ 16
+  pub sixteen : length machine.parts.items ≡ 16
+  pub content : (p : ℕ) → p < 16 → contents_in machine.parts.items p ≡ w.contents.now p
+  pub none_begun : (p : ℕ) → (part_at machine.parts.items p).begun ≡ None
+  pub awaited : (session : ℕ) → slice_index_or machine.awaited session None ≡ option_map awaited_of (w.sessions.awaited session)
+  pub seen : (session : ℕ) → slice_index_or machine.seen session false ≡ w.sessions.seen session
 
 -- whether the session makes steps of its own
-abbrev pub makes_steps : List Bool → List (Option ℕ) → ℕ → Bool
-makes_steps live kept_by session = slice_index_or live session false && is_none (slice_index_or kept_by session None)
+abbrev pub makes_steps : Machine → ℕ → Bool
+makes_steps machine session = slice_index_or machine.live session false && is_none (slice_index_or machine.kept_by session None)
 
 -- whether it is this session's number
 abbrev pub is_number : ℕ → Option ℕ → Bool
 is_number session None = false
 is_number session (Some other) = other == session
 
--- whether it makes steps and has the partition in hand
-abbrev pub has_in_hand : List Bool → List (Option ℕ) → List (Option ℕ) → ℕ → ℕ → Bool
-has_in_hand live kept_by holders session p = nat_lt p 16 && (makes_steps live kept_by session && is_number session (slice_index_or holders p None))
+-- whether it is this session's hand
+abbrev pub is_holder : ℕ → Option InHand → Bool
+is_holder session None = false
+is_holder session (Some hand) = hand.holder == session
 
--- whether it is another session's hold on the object in a mode that conflicts with the mode
-abbrev pub stands_in_the_way : ℕ → Tag → Mode → Hold → Bool
-stands_in_the_way session tag mode hold = not (hold.session == session) && (tag_eq hold.tag tag && conflict mode hold.mode)
+-- the partition in hand, where the session makes steps and has it
+abbrev pub hand_of : Machine → ℕ → ℕ → Option InHand
+hand_of machine session p =
+    if makes_steps machine session && is_holder session (slice_index_or machine.hands p None) then slice_index_or machine.hands p None else None
+
+-- whether the wait is for the mode on the object
+abbrev pub awaits : Option Awaited → Tag → Mode → Bool
+awaits None tag mode = false
+awaits (Some wait) tag mode = tag_eq wait.tag tag && mode_eq wait.mode mode
+
+-- The session has the partition in hand, and has made no move on it.
+abbrev pub HasUnmoved : Machine → ℕ → ℕ → Type 0
+HasUnmoved machine session p = (hand : InHand) × (hand_of machine session p ≡ Some hand) × (hand.recorded ≡ None)
+
+-- whether the move has left the session no wait on an object of the partition that it should have ended
+abbrev pub is_over : Option Awaited → ℕ → Move → Bool
+is_over awaited p Keep = true
+is_over awaited p (Grant tag mode) = true
+is_over awaited p (Join tag mode) = true
+is_over awaited p (Release tag mode) = true
+is_over None p (Leave tag) = true
+is_over (Some wait) p (Leave tag) = not (partition_of wait.tag == p)
+
+-- whether the move is a release or a leave, which can grant waits
+abbrev pub IsWaking : Move → Type 0
+IsWaking Keep = ⊥
+IsWaking (Grant tag mode) = ⊥
+IsWaking (Join tag mode) = ⊥
+IsWaking (Release tag mode) = Unit {0}
+IsWaking (Leave tag) = Unit {0}
+
+-- What a release asks of the session's account beside the hold: that it is no grant which it hasn't taken over.
+abbrev pub IsOwnFor : Option Awaited → Move → Type 0
+IsOwnFor awaited Keep = Unit {0}
+IsOwnFor awaited (Grant tag mode) = Unit {0}
+IsOwnFor awaited (Join tag mode) = Unit {0}
+IsOwnFor awaited (Release tag mode) = awaits awaited tag mode ≡ false
+IsOwnFor awaited (Leave tag) = Unit {0}
+
+-- The session cannot make the release or the leave: it has no such hold of its own, or no such wait.
+abbrev pub CannotMake : Option Awaited → Content → ℕ → Move → Type 0
+CannotMake awaited content session Keep = Unit {0}
+CannotMake awaited content session (Grant tag mode) = Unit {0}
+CannotMake awaited content session (Join tag mode) = Unit {0}
+CannotMake awaited content session (Release tag mode) = (awaits awaited tag mode ≡ true) ⊎ (content.holds session tag mode ≡ false)
+CannotMake awaited content session (Leave tag) = waits_there (content.waits tag) session ≡ false
+
+-- The machine shows a safe World.
+abbrev pub ShowsSafe : Machine → Type 0
+ShowsSafe machine = (w : World) × Safe w × Shows machine w
 
 -- Whatever safe World the machine showed, the event of the session leads on from it to one that the machine shows now.
 abbrev pub Follows : Machine → ℕ → Step → Machine → Type 0
 Follows old session step new =
     (w : World) → Safe w → Shows old w → (v : World) × Next w (record { session = session; step = step }) v × Shows new v
+
+-- The same of marking the other session's wait granted, by a move in the partition.
+abbrev pub FollowsMarking : Machine → ℕ → ℕ → ℕ → Move → Machine → Type 0
+FollowsMarking old session other p done new =
+    (w : World) → Safe w → Shows old w →
+    (v : World) × (HappensMarkingIn w session other p done v ⊎ (((u : World) × HappensMarkingIn w session other p done u → ⊥) × (v ≡ w))) × Shows new v

@@ -1,7 +1,9 @@
-use Rattle.std.specs.Prelude.{ℕ, ◌==◌, Bool, false, List, [], Option, None}
+use Rattle.std.specs.Prelude.{◌≡◌, ℕ, ◌==◌, Bool, true, false, List, [], Option, Some, None}
+use Rattle.lock_model.specs.declared.events.Move.{Move}
 use Rattle.lock_model.specs.Put.{put}
 use Rattle.lock_model.specs.Content.{Holds, Content, empty_content}
 use Rattle.lock_model.specs.LightweightWord.{free_word}
+use Rattle.lock_model.specs.OwnWait.{OwnWait}
 
 -- The World is all that there is between two atomic steps: what each word shows, each content wherever it is, what each
 -- session has by its own account, and which session numbers are in use.
@@ -23,10 +25,15 @@ pub record Words : Type 0 where
   -- each session's sleep word
   pub sleep : ℕ → ℕ
 
--- A partition's content in a session's hand: whose hand it is, and the content as it was taken.
+-- A partition's content in a session's hand: whose hand it is, the content as it was taken, and what the session has made
+-- of it.
 pub record Hand : Type 0 where
   pub holder : ℕ
   pub taken : Content
+  -- the move that it has made and that stands recorded in the content, if any
+  pub recorded : Option Move
+  -- those whom that move granted and who have not been told
+  pub due : ℕ → Bool
 
 -- The contents of the partitions.
 pub record Contents : Type 0 where
@@ -52,6 +59,10 @@ pub record Sessions : Type 0 where
   pub own : Holds
   -- the partition words that it holds exclusively
   pub holds_partition : ℕ → ℕ → Bool
+  -- its wait, until it has cleared its wait word
+  pub awaited : ℕ → Option OwnWait
+  -- it has seen its wait word show that this wait was granted
+  pub seen : ℕ → Bool
   pub trace : ℕ → List TraceEntry
 
 -- The session numbers.
@@ -71,6 +82,21 @@ pub record World : Type 0 where
   pub sessions : Sessions
   pub numbers : Numbers
 
+-- the move that a hand has recorded
+abbrev pub recorded_in : Option Hand → Option Move
+recorded_in None = None
+recorded_in (Some hand) = hand.recorded
+
+-- whether a hand owes the session word that its wait was granted
+abbrev pub owes : Option Hand → ℕ → Bool
+owes None session = false
+owes (Some hand) session = hand.due session
+
+-- The session makes steps of its own: it is live, and no other session keeps it apart.
+pub record MakesSteps (numbers : Numbers) (session : ℕ) : Type 0 where
+  pub live : numbers.live session ≡ true
+  pub by_itself : numbers.kept_by session ≡ None
+
 -- a function of numbers, changed at one of them
 abbrev pub set_at : {A : Type 0} → (ℕ → A) → ℕ → A → ℕ → A
 set_at f k a = put (λ i j. i == j) f k a
@@ -88,6 +114,6 @@ opening limit = record {
     sleep = λ _. 0;
   };
   contents = record { now = λ _. empty_content; hand = λ _. None };
-  sessions = record { own = λ _ _ _. false; holds_partition = λ _ _. false; trace = λ _. [] };
+  sessions = record { own = λ _ _ _. false; holds_partition = λ _ _. false; awaited = λ _. None; seen = λ _. false; trace = λ _. [] };
   numbers = record { limit = limit; issued = 0; live = λ _. false; kept_by = λ _. None };
 }

@@ -27,9 +27,37 @@ pub enum Move {
     Keep,
     /// It adds a hold of its own (`GrantLock` in lock.c).
     Grant { tag: Tag, mode: Mode },
+    /// It joins the object's wait queue at its place, with the modes of the object that it holds
+    /// (`JoinWaitQueue`, in version 16 a part of `ProcSleep` in proc.c).
+    Join { tag: Tag, mode: Mode },
     /// It takes a hold of its own away, and wakes who may go then (`UnGrantLock` and `CleanUpLock` in
     /// lock.c).
     Release { tag: Tag, mode: Mode },
+    /// It takes its wait out of the object's queue, and wakes who may go then (`RemoveFromWaitQueue` in
+    /// lock.c).
+    Leave { tag: Tag },
+}
+
+impl Move {
+    ghost use Rattle.std.specs.Prelude.{◌≡◌};
+    ghost use Rattle.lock_model.specs.MoveTests.{move_eq, is_leave};
+
+    /// Whether both are the same move.
+    pub fn is_same(self, other: Self) -> bool
+        ensures { result ≡ move_eq self other }
+    {
+        self == other
+    }
+
+    /// Whether it is a leave.
+    pub fn is_leave(self) -> bool
+        ensures { result ≡ is_leave self }
+    {
+        match self {
+            Move::Leave { tag: _ } => true,
+            _ => false,
+        }
+    }
 }
 
 /// One atomic step.
@@ -54,6 +82,16 @@ pub enum Step {
     /// Load the own wait word, which shows this value (`waitStatus` in proc.h, as `ProcSleep` in proc.c
     /// reads it).
     LoadWait { shown: u8 },
+    /// Store in the own wait word that the session waits, with the object's partition in hand: its join is
+    /// made (`ProcSleep` in proc.c sets `waitStatus` so).
+    SetWaiting { tag: Tag, mode: Mode },
+    /// Add 1 to another session's wait word, which turns waiting into granted, with the partition in hand:
+    /// its wait was granted by this move (`ProcWakeup` in proc.c sets `waitStatus` so).
+    MarkGranted { other: SessionId, done: Move },
+    /// Clear the own wait word: the wait is over, and what was granted is the session's own from then on.
+    /// With `leaving` this very step takes the wait out of the queue, with the partition in hand
+    /// (`LockErrorCleanup` in proc.c).
+    ClearWait { leaving: bool },
 }
 
 /// One atomic step of one session.

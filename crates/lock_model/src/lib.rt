@@ -2,6 +2,7 @@
 //! plain machine that runs events.
 #![tactic(auto)]
 
+pub mod answering;
 pub mod events;
 pub mod machine;
 pub mod no_memory;
@@ -13,6 +14,9 @@ pub mod request;
 pub mod rows;
 pub mod waits;
 
+pub use answering::{
+    Clash, Standing, Told, clash_with, first_against, standing_of, waiting_answer,
+};
 pub use events::{Event, Move, Step, Word};
 pub use machine::{Hold, Plain, QueuedWait, Spot, run_events};
 pub use no_memory::NoMemory;

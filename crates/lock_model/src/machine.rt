@@ -7,9 +7,13 @@ ghost use Rattle.lock_model.specs.Happens.{Runs};
 ghost use Rattle.lock_model.specs.Safe.{Safe};
 ghost use Rattle.lock_model.specs.Plain.{IsPlainOf, holds_of};
 
+pub mod gathered;
+mod hands;
 pub mod laws;
-mod listed;
+mod moved;
 mod plain;
+mod putting;
+mod seats;
 mod state;
 #[cfg(test)]
 mod tests;
@@ -26,9 +30,9 @@ pub fn run_events(alloc: Global, events: &[Event]) -> Result<Plain, NoMemory>
     ensures ran { IfOk result (λ plain. (w : World) × Runs (opening 64) events.now w × Safe w × IsPlainOf plain w) }
     ensures in_order { IfOk result (λ plain. IsSorted ⟦<Hold as Ord>⟧.cmp (holds_of plain)) }
 {
-    let mut machine = Machine::new(alloc);
+    let mut machine = Machine::new(alloc)?;
     for event in events {
         machine.step(*event)?;
     }
-    Ok(machine.into_plain(alloc))
+    machine.into_plain(alloc)
 }

@@ -13,7 +13,7 @@ use std::alloc::Global;
 use std::marker::Model;
 
 #[cfg(test)]
-mod tests;
+pub mod tests;
 
 /// The plain keeper of a partition: a list of its holds, and one of the waits of all its objects. Each
 /// call looks through the whole list; it serves the slow machine, the tests and one thread.
@@ -38,7 +38,10 @@ impl Model for PlainPart {
 
 impl PlainPart {
     ghost use Rattle.lock_model.specs.PartView.{content_of};
-    ghost use Rattle.std.specs.Prelude.{◌≡◌, None};
+    ghost use Rattle.lock_model.specs.PartWaits.{EachOnce};
+    ghost use Rattle.lock_model.specs.Queue.{waits_there};
+    ghost use Rattle.std.specs.Prelude.{◌≡◌, ◌==◌, IfOk, None};
+    ghost use Rattle.std.specs.List.{list_any};
     ghost use Rattle.lock_model.specs.Content.{empty_content};
 
     /// A part with nothing in it, which grows by this allocator.
@@ -51,6 +54,51 @@ impl PlainPart {
             waits: Vec::new(alloc),
             begun: None,
         }
+    }
+
+    /// The same part once more, in memory of its own.
+    pub fn copy(&self) -> Result<Self, NoMemory>
+        ensures same { IfOk result (λ part. part ≡ self.now) }
+    {
+        let alloc = *self.holds.allocator();
+        let mut holds = Vec::from_slice(alloc, self.holds.as_slice())?;
+        let mut waits = Vec::from_slice(alloc, self.waits.as_slice())?;
+        holds.reserve(self.waits.len() + 1)?;
+        waits.reserve(1)?;
+        Ok(PlainPart {
+            holds,
+            waits,
+            begun: self.begun,
+        })
+    }
+
+    /// Whether the session holds anything.
+    pub fn has_hold_of(&self, session: SessionId) -> bool
+        ensures { result ≡ list_any (λ hold. hold.session == session) self.now.holds }
+    {
+        self.holds.iter().any(|hold| hold.session == session)
+    }
+
+    /// Whether the session waits in the object's queue.
+    pub fn has_wait_of(&self, session: SessionId, tag: Tag) -> bool
+        ensures { result ≡ waits_there ((content_of self.now).waits tag) session }
+    {
+        awaited_mode(self.waits.as_slice(), session, tag).is_some()
+    }
+
+    /// Its holds. Each request is held or awaited once at most.
+    pub fn holds(&self) -> &[Request]
+        ensures value { result.now ≡ self.now.holds }
+        ensures each_once { EachOnce self.now.holds self.now.waits }
+    {
+        self.holds.as_slice()
+    }
+
+    /// The waits of all its objects, those of one object in the order of its queue.
+    pub fn waits(&self) -> &[PartWait]
+        ensures { result.now ≡ self.now.waits }
+    {
+        self.waits.as_slice()
     }
 }
 

@@ -7,7 +7,7 @@ ghost use Rattle.modes_core.specs.declared.modes.Mode.{Mode};
 ghost use Rattle.modes_core.specs.declared.tags.Tag.{Tag};
 ghost use Rattle.lock_model.specs.Content.{Wait, Content, remove_hold};
 ghost use Rattle.lock_model.specs.Clash.{NoConflictingHolder};
-ghost use Rattle.lock_model.specs.Queue.{Place, Granted, Queued, some_awaits_conflict, joined, ConditionalAnswer, WaitingAnswer, Wakes, NoneFreeBehind, NoneFree, NoConflictAmong, IsSplitOf};
+ghost use Rattle.lock_model.specs.Queue.{Place, Answer, Granted, Queued, some_awaits_conflict, joined, ConditionalAnswer, WaitingAnswer, Wakes, NoneFreeBehind, NoneFree, NoConflictAmong, IsSplitOf};
 
 /// A request that may wait and is granted conflicts with no other session's hold.
 pub fn what_is_granted_conflicts_with_no_holder()
@@ -38,6 +38,12 @@ pub fn whoever_is_left_is_not_free()
 pub fn a_wakeup_splits_the_queue()
     ensures { (before after : Content) (tag : Tag) (granted : List Wait) →
         Wakes before tag granted after → IsSplitOf (before.waits tag) granted (after.waits tag) }
+{}
+
+/// There is one answer to a request that may wait.
+pub fn there_is_one_answer()
+    ensures { (content : Content) (session : ℕ) (tag : Tag) (mode : Mode) (answer other : Answer) →
+        WaitingAnswer content session tag mode answer → WaitingAnswer content session tag mode other → answer ≡ other }
 {}
 
 /// There is one wakeup of a queue.

@@ -1,20 +1,13 @@
-use Rattle.std.proofs.Common.{◌≡◌, ℕ, Bool, true, false, not, cond, List, [], ◌∷◌, Option, refl, sym, ap, ◌∙◌}
-use Rattle.std.specs.Prelude.{◌==◌, filter, is_some, option_map}
+use Rattle.std.proofs.Common.{◌≡◌, ℕ, Bool, true, false, not, cond, List, [], ◌∷◌, refl, sym, ap, ◌∙◌}
+use Rattle.std.specs.Prelude.{◌==◌, filter}
 use Rattle.std.specs.List.{list_any}
 use Rattle.std.proofs.lemmas.Bool.{or_parts}
-use Rattle.modes_core.specs.declared.modes.Mode.{Mode}
 use Rattle.modes_core.specs.declared.tags.Tag.{Tag}
 use Rattle.modes_core.specs.Tag.{tag_eq}
 use Rattle.modes_core.proofs.Laws.{tag_eq-same}
 use Rattle.lock_model.specs.Put.{put}
-use Rattle.lock_model.specs.Content.{Wait, Content}
-use Rattle.lock_model.specs.Queue.{waits_there, wait_in, queue_without, remove_wait}
-use Rattle.wait_queue.proofs.ListLemmas.{is_some-find, is_some-option_map}
-
--- A session waits in a queue exactly where its wait there has a mode.
-pub waits_there-mode : (queue : List Wait) (session : ℕ) (mode : Option Mode) → mode ≡ option_map (λ wait. wait.mode) (wait_in queue session) → is_some mode ≡ waits_there queue session
-waits_there-mode queue session mode is =
-    ap is_some is ∙ is_some-option_map (λ wait. wait.mode) (wait_in queue session) ∙ is_some-find (λ wait. wait.session == session) queue
+use Rattle.lock_model.specs.Content.{Content}
+use Rattle.lock_model.specs.Queue.{waits_there, queue_without, remove_wait}
 
 -- With none that passes taken out, a list is as before.
 filter-none : {X : Type 0} (p : X → Bool) (xs : List X) → list_any p xs ≡ false → filter (λ x. not (p x)) xs ≡ xs

@@ -1,4 +1,1 @@
-pub mod Walk
-pub mod Standing
-pub mod Clash
 pub mod Decide

@@ -2,11 +2,9 @@
 //! of the queue when a waiter leaves it. All of it works on any keeper of a partition's content.
 #![tactic(auto)]
 
-mod place;
 pub mod releases;
 pub mod removals;
 pub mod requests;
-mod walk;
 
 pub use releases::{awaited_in_conflict, release};
 pub use removals::{Removed, remove_waiter};

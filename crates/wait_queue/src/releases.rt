@@ -5,8 +5,7 @@ ghost use Rattle.lock_model.specs.Moves.{Moves};
 ghost use Rattle.lock_model.specs.Queue.{some_awaits_conflict};
 ghost use Rattle.lock_model.specs.Waiter.{whose_and_mode};
 
-use crate::walk::first_against;
-use lock_model::{PartTable, Woken};
+use lock_model::{PartTable, Woken, first_against};
 use modes_core::{Mode, SessionId, Tag};
 
 /// Whether somebody awaits the object in a mode that conflicts with this one (`LockHasWaiters` in

@@ -1,13 +1,10 @@
-ghost use Rattle.std.specs.Prelude.{◌≡◌, ◌≢◌, false, option_map, IfOk, IfErr, OnErr};
-ghost use Rattle.lock_model.specs.Clash.{ClashIs};
+ghost use Rattle.std.specs.Prelude.{◌≡◌, ◌≢◌, false, IfOk, IfErr, OnErr};
 ghost use Rattle.lock_model.specs.Queue.{waits_there};
-ghost use Rattle.wait_queue.specs.Clash.{clash_of, Clashes};
+ghost use Rattle.lock_model.specs.Told.{Clashes};
 ghost use Rattle.wait_queue.specs.Decide.{IsDecided, RefusedFor};
 
-use crate::place::{Standing, standing_of};
-use crate::walk::first_against;
-use lock_model::PartTable;
-use modes_core::{How, Mode, Refusal, SessionId, Tag};
+use lock_model::{PartTable, Standing, clash_with, standing_of};
+use modes_core::{Mode, Refusal, SessionId, Tag};
 
 /// Whether a request may wait (`dontWait` of `LockAcquireExtended` in lock.c).
 #[derive(Clone, Copy, Debug, PartialEq, Eq)]
@@ -25,14 +22,6 @@ pub enum Decision {
     Granted,
     /// It is a wait in the object's queue.
     Queued,
-}
-
-/// What stands in the way of a request: another session, with its mode.
-#[derive(Clone, Copy)]
-struct Clash {
-    session: SessionId,
-    mode: Mode,
-    how: How,
 }
 
 /// Decides a request for a mode that the session neither holds nor awaits (`LockAcquireExtended` in
@@ -75,27 +64,6 @@ pub fn decide<P: PartTable>(
         }
         Kind::Waiting => settle(part, session, tag, mode),
     }
-}
-
-/// What a request for the mode clashes with, if anything: the first waiter that awaits a conflicting
-/// mode, else the lowest-numbered session that holds one (`LockCheckConflicts` in lock.c, after the
-/// look at `waitMask`).
-fn clash_with<P: PartTable>(part: &P, session: SessionId, tag: Tag, mode: Mode) -> Option<Clash>
-    ensures { ClashIs (P.content part.now) session tag mode (option_map clash_of result) }
-{
-    if let Some(waiter) = first_against(part, tag, mode) {
-        return Some(Clash {
-            session: waiter.session,
-            mode: waiter.mode,
-            how: How::Awaited,
-        });
-    }
-    let (other, its) = part.conflict_of(session, tag, mode)?;
-    Some(Clash {
-        session: other,
-        mode: its,
-        how: How::Held,
-    })
 }
 
 /// Answers a begun request that something stands in the way of, by its place in the queue.

@@ -1,8 +1,5 @@
-ghost use Rattle.std.specs.Prelude.{◌≡◌};
-ghost use Rattle.modes_core.specs.Conflict.{conflict};
-
 use crate::Word;
-use modes_core::{Mode, ModeSet, SessionId, Tag, conflicts};
+use modes_core::{Mode, ModeSet, SessionId, Tag};
 
 /// Where a hold stands.
 #[derive(Clone, Copy, Debug, PartialEq, Eq, PartialOrd, Ord)]
@@ -20,32 +17,6 @@ pub struct Hold {
     pub tag: Tag,
     pub mode: Mode,
     pub spot: Spot,
-}
-
-impl Hold {
-    ghost use Rattle.std.specs.Prelude.{◌≡◌};
-    ghost use Rattle.lock_model.specs.Shows.{is_hold, stands_in_the_way};
-
-    /// Whether it is the session's hold on the object in the mode.
-    pub fn is(&self, session: SessionId, tag: Tag, mode: Mode) -> bool
-        ensures { result ≡ is_hold session tag mode self.now }
-    {
-        self.session == session && self.tag == tag && self.mode == mode
-    }
-
-    /// Whether it is another session's hold on the object in a mode that conflicts with the mode.
-    pub fn stands_in_the_way(&self, session: SessionId, tag: Tag, mode: Mode) -> bool
-        ensures { result ≡ stands_in_the_way session tag mode self.now }
-    {
-        self.session != session && self.tag == tag && are_in_conflict(mode, self.mode)
-    }
-}
-
-/// Whether two modes conflict.
-fn are_in_conflict(mode: Mode, other: Mode) -> bool
-    ensures { result ≡ conflict mode other }
-{
-    conflicts(mode).has(other)
 }
 
 /// A wait in an object's queue, with the modes that its session held when it joined.
@@ -67,7 +38,7 @@ pub struct Plain {
 }
 
 impl Plain {
-    ghost use Rattle.std.specs.Prelude.{◌<◌};
+    ghost use Rattle.std.specs.Prelude.{◌≡◌, ◌<◌};
     ghost use Rattle.lock_model.specs.declared.events.Word.TheVariants.{Strong};
     ghost use Rattle.lock_model.specs.Plain.{WordExists, holds_of, waits_of, word_of};
 

@@ -4,6 +4,8 @@ use modes_core::{Mode, SessionId, Tag};
 use std::process::Abort;
 use std::test::Fail;
 
+mod waiting;
+
 fn session(rt: &impl Abort, number: u8) -> SessionId {
     SessionId::new(number).expect(rt, "a session number")
 }

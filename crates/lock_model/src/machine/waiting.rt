@@ -1,11 +1,25 @@
 //! The plain machine's steps on wait words.
 
+use super::hands::{Awaited, InHand, is_among, marks_of};
+use super::moved::{MovedPart, after_leaving, after_release};
 use super::state::Machine;
-use modes_core::SessionId;
+use crate::answering::{Told, waiting_answer};
+use crate::{Move, NoMemory, PartTable};
+use modes_core::{Mode, SessionId, Tag};
 
 impl Machine {
+    ghost use Rattle.std.specs.Prelude.{◌≡◌, ◌≢◌, ◌<◌, ◌+◌, ◌&&◌, true, false, not, length, is_some, is_none, OnOk, IfOk, IfSome, slice_set, slice_index_or, Some, None};
+    ghost use Rattle.modes_core.specs.Tag.{partition_of};
     ghost use Rattle.lock_model.specs.declared.events.Step.{Step};
-    ghost use Rattle.lock_model.specs.Shows.{Follows};
+    ghost use Rattle.lock_model.specs.declared.machine.hands.Awaited.{Awaited};
+    ghost use Rattle.lock_model.specs.Queue.{waits_there};
+    ghost use Rattle.lock_model.specs.Told.{IsTold};
+    ghost use Rattle.lock_model.specs.declared.answering.Told.TheVariants.{InQueue};
+    ghost use Rattle.lock_model.specs.Moves.{IsInPartition};
+    ghost use Rattle.lock_model.specs.MovedPart.{IsMoved};
+    ghost use Rattle.lock_model.specs.Parts.{part_at, contents_in};
+    ghost use Rattle.lock_model.specs.WaitWord.{wait_state};
+    ghost use Rattle.lock_model.specs.Shows.{ShowsSafe, Follows, FollowsMarking, IsWaking, IsOwnFor, CannotMake, makes_steps, hand_of};
 
     /// Asks the other session, whoever it is, to cancel: bit 2 of its wait word is set.
     pub fn ask_cancel(&mut self, session: SessionId, other: SessionId)
@@ -15,5 +29,298 @@ impl Machine {
         if self.makes_steps(session) {
             self.wait_words[index] |= 4;
         }
+    }
+
+    /// Loads the own wait word: where it shows that the wait was granted, the session has seen it.
+    pub fn load_wait(&mut self, session: SessionId, shown: u8)
+        ensures { Follows self.old session (Step.LoadWait shown) self.new }
+    {
+        let index = usize::from(session.number());
+        if self.makes_steps(session) && shown == self.wait_words[index] && shown % 4 == 2 {
+            self.seen[index] = true;
+        }
+    }
+
+    /// Records a move in the hand that has the partition, with those to be told of it.
+    fn record(&mut self, partition: u8, hand: InHand, done: Move, due: [bool; 64])
+        requires { partition < 16 }
+        ensures { self.new ≡ record self.old {
+          hands = slice_set self.old.hands partition (Some (record { holder = hand.holder; recorded = Some done; due = due }));
+        } }
+    {
+        self.hands[usize::from(partition)] = Some(InHand {
+            holder: hand.holder,
+            recorded: Some(done),
+            due,
+        });
+    }
+
+    /// Joins the object's queue, and sets the own wait word to waiting.
+    pub fn set_waiting(&mut self, session: SessionId, tag: Tag, mode: Mode) -> Result<(), NoMemory>
+        requires shown { ShowsSafe self.old }
+        ensures { OnOk result (Follows self.old session (Step.SetWaiting tag mode) self.new) }
+    {
+        let partition = tag.partition();
+        let Some(hand) = self.hand_of(session, partition) else {
+            return Ok(());
+        };
+        if hand.recorded.is_some() || !self.may_ask(session, tag, mode) {
+            return Ok(());
+        }
+        let part = &self.parts[usize::from(partition)];
+        let Told::InQueue(place) = waiting_answer(part, session, tag, mode) else {
+            return Ok(());
+        };
+        self.join_now(session, tag, mode, hand, place)
+    }
+
+    /// Makes the join: the session's wait goes into the object's queue, at the place that it was told.
+    fn join_now(
+        &mut self,
+        session: SessionId,
+        tag: Tag,
+        mode: Mode,
+        hand: InHand,
+        place: usize,
+    ) -> Result<(), NoMemory>
+        requires shown { ShowsSafe self.old }
+        requires in_hand { hand_of self.old session (partition_of tag) ≡ Some hand }
+        requires unmoved { hand.recorded ≡ None }
+        requires no_wait { is_none (slice_index_or self.old.awaited session None) ≡ true }
+        requires not_held { (contents_in self.old.parts.items (partition_of tag)).holds session tag mode ≡ false }
+        requires told { IsTold (contents_in self.old.parts.items (partition_of tag)) session tag mode (InQueue place) }
+        ensures { OnOk result (Follows self.old session (Step.SetWaiting tag mode) self.new) }
+    {
+        let partition = tag.partition();
+        let part = &mut self.parts[usize::from(partition)];
+        part.begin(session, tag, mode)?;
+        part.join(session, tag, mode, place);
+        self.record(partition, hand, Move::Join { tag, mode }, [false; 64]);
+        self.begin_wait(session, tag, mode);
+        Ok(())
+    }
+
+    /// The session waits from now on, by its own account and by its wait word.
+    fn begin_wait(&mut self, session: SessionId, tag: Tag, mode: Mode)
+        ensures { self.new ≡ record self.old {
+          wait_words = slice_set self.old.wait_words session 1;
+          awaited = slice_set self.old.awaited session (Some (record { tag = tag; mode = mode }));
+          seen = slice_set self.old.seen session false;
+        } }
+    {
+        let index = usize::from(session.number());
+        self.wait_words[index] = 1;
+        self.awaited[index] = Some(Awaited { tag, mode });
+        self.seen[index] = false;
+    }
+
+    /// The session's wait is over, by its own account and by its wait word.
+    fn end_wait(&mut self, session: SessionId)
+        ensures { self.new ≡ record self.old {
+          wait_words = slice_set self.old.wait_words session 0;
+          awaited = slice_set self.old.awaited session None;
+          seen = slice_set self.old.seen session false;
+        } }
+    {
+        let index = usize::from(session.number());
+        self.wait_words[index] = 0;
+        self.awaited[index] = None;
+        self.seen[index] = false;
+    }
+
+    /// Marks the wait of the other session granted, by a release or a leave of the session's own.
+    pub fn mark_granted(
+        &mut self,
+        session: SessionId,
+        other: SessionId,
+        done: Move,
+    ) -> Result<(), NoMemory>
+        requires shown { ShowsSafe self.old }
+        ensures { OnOk result (Follows self.old session (Step.MarkGranted other done) self.new) }
+    {
+        if other == session || self.wait_words[usize::from(other.number())] % 4 != 1 {
+            return Ok(());
+        }
+        match done {
+            Move::Keep => Ok(()),
+            Move::Grant { tag: _, mode: _ } => Ok(()),
+            Move::Join { tag: _, mode: _ } => Ok(()),
+            Move::Release { tag, mode: _ } => self.mark_in(session, other, tag.partition(), done),
+            Move::Leave { tag } => self.mark_in(session, other, tag.partition(), done),
+        }
+    }
+
+    /// Marks the wait granted, of a session that waits, by a move in the partition.
+    fn mark_in(
+        &mut self,
+        session: SessionId,
+        other: SessionId,
+        partition: u8,
+        done: Move,
+    ) -> Result<(), NoMemory>
+        requires shown { ShowsSafe self.old }
+        requires another { other ≢ session }
+        requires waiting { wait_state (slice_index_or self.old.wait_words other 0) ≡ 1 }
+        requires object { IsInPartition partition done }
+        requires wakes { IsWaking done }
+        ensures { OnOk result (FollowsMarking self.old session other partition done self.new) }
+    {
+        let Some(hand) = self.hand_of(session, partition) else {
+            return Ok(());
+        };
+        let Some(recorded) = hand.recorded else {
+            return self.mark_first(session, other, partition, hand, done);
+        };
+        if recorded.is_same(done) && hand.owes(other) {
+            self.tell(partition, hand, other, done, hand.due);
+        }
+        Ok(())
+    }
+
+    /// Tells the other session that its wait was granted by the move: its wait word goes from waiting to
+    /// granted, and it is due no more.
+    fn tell(&mut self, partition: u8, hand: InHand, other: SessionId, done: Move, due: [bool; 64])
+        requires exists { partition < 16 }
+        requires waiting { wait_state (slice_index_or self.old.wait_words other 0) ≡ 1 }
+        ensures { self.new ≡ record self.old {
+          hands = slice_set self.old.hands partition (Some (record { holder = hand.holder; recorded = Some done; due = slice_set due other false }));
+          wait_words = slice_set self.old.wait_words other (slice_index_or self.old.wait_words other 0 + 1);
+        } }
+    {
+        let index = usize::from(other.number());
+        let mut due = due;
+        due[index] = false;
+        self.record(partition, hand, done, due);
+        self.wait_words[index] += 1;
+    }
+
+    /// Makes the move, where it grants the other session's wait, and tells that one first.
+    fn mark_first(
+        &mut self,
+        session: SessionId,
+        other: SessionId,
+        partition: u8,
+        hand: InHand,
+        done: Move,
+    ) -> Result<(), NoMemory>
+        requires shown { ShowsSafe self.old }
+        requires another { other ≢ session }
+        requires waiting { wait_state (slice_index_or self.old.wait_words other 0) ≡ 1 }
+        requires in_hand { hand_of self.old session partition ≡ Some hand }
+        requires unmoved { hand.recorded ≡ None }
+        requires object { IsInPartition partition done }
+        requires wakes { IsWaking done }
+        ensures { OnOk result (FollowsMarking self.old session other partition done self.new) }
+    {
+        let Some(moved) = self.after_move(session, partition, done)? else {
+            return Ok(());
+        };
+        if is_among(&moved.woken, other) {
+            let due = marks_of(&moved.woken);
+            self.parts[usize::from(partition)] = moved.part;
+            self.tell(partition, hand, other, done, due);
+        }
+        Ok(())
+    }
+
+    /// What a release or a leave of the session's makes of the partition. Nothing where it may not make it.
+    pub fn after_move(
+        &self,
+        session: SessionId,
+        partition: u8,
+        done: Move,
+    ) -> Result<Option<MovedPart>, NoMemory>
+        requires exists { partition < 16 }
+        requires sixteen { length self.now.parts.items ≡ 16 }
+        ensures moved { IfOk result (λ found. IfSome found (IsMoved (part_at self.now.parts.items partition) session done)) }
+        ensures own { IfOk result (λ found. IfSome found (λ _. IsOwnFor (slice_index_or self.now.awaited session None) done)) }
+        ensures cannot { IfOk result (λ found. found ≡ None → CannotMake (slice_index_or self.now.awaited session None) (contents_in self.now.parts.items partition) session done) }
+    {
+        let part = &self.parts[usize::from(partition)];
+        match done {
+            Move::Keep => Ok(None),
+            Move::Grant { tag: _, mode: _ } => Ok(None),
+            Move::Join { tag: _, mode: _ } => Ok(None),
+            Move::Release { tag, mode } => {
+                if self.awaits(session, tag, mode) {
+                    Ok(None)
+                } else {
+                    after_release(part, session, tag, mode)
+                }
+            }
+            Move::Leave { tag } => after_leaving(part, session, tag),
+        }
+    }
+
+    /// Clears the own wait word, where the session has seen its grant or has the partition in hand and its
+    /// wait is in the queue no more; with leaving, this step may take it out.
+    pub fn clear_wait(&mut self, session: SessionId, leaving: bool)
+        requires shown { ShowsSafe self.old }
+        ensures { Follows self.old session (Step.ClearWait leaving) self.new }
+    {
+        if !self.makes_steps(session) {
+            return;
+        }
+        let Some(wait) = self.awaited[usize::from(session.number())] else {
+            return;
+        };
+        if leaving {
+            self.leave_queue(session, wait.tag);
+        } else if self.seen[usize::from(session.number())] || self.is_gone(session, wait.tag) {
+            self.end_wait(session);
+        }
+    }
+
+    /// Whether the session has the object's partition in hand, and no wait in the object's queue.
+    fn is_gone(&self, session: SessionId, tag: Tag) -> bool
+        requires shown { ShowsSafe self.now }
+        ensures { result ≡ (is_some (hand_of self.now session (partition_of tag)) && not (waits_there ((contents_in self.now.parts.items (partition_of tag)).waits tag) session)) }
+    {
+        let partition = tag.partition();
+        match self.hand_of(session, partition) {
+            Some(_) => !self.parts[usize::from(partition)].has_wait_of(session, tag),
+            None => false,
+        }
+    }
+
+    /// Takes the session's wait out of the object's queue, and clears its wait word. Where that leave stands
+    /// recorded already, it clears the word.
+    fn leave_queue(&mut self, session: SessionId, tag: Tag)
+        requires shown { ShowsSafe self.old }
+        requires steps { makes_steps self.old session ≡ true }
+        requires awaited { (wait : Awaited) × (slice_index_or self.old.awaited session None ≡ Some wait) × (wait.tag ≡ tag) }
+        ensures { Follows self.old session (Step.ClearWait true) self.new }
+    {
+        let partition = tag.partition();
+        let Some(hand) = self.hand_of(session, partition) else {
+            return;
+        };
+        let waits = self.parts[usize::from(partition)].has_wait_of(session, tag);
+        let Some(recorded) = hand.recorded else {
+            if waits {
+                self.leave_now(session, tag, hand);
+            }
+            return;
+        };
+        if recorded.is_same(Move::Leave { tag }) && !waits {
+            self.end_wait(session);
+        }
+    }
+
+    /// Makes the leave: takes the session's wait out of the object's queue, and clears its wait word.
+    fn leave_now(&mut self, session: SessionId, tag: Tag, hand: InHand)
+        requires shown { ShowsSafe self.old }
+        requires awaited { (wait : Awaited) × (slice_index_or self.old.awaited session None ≡ Some wait) × (wait.tag ≡ tag) }
+        requires in_hand { hand_of self.old session (partition_of tag) ≡ Some hand }
+        requires unmoved { hand.recorded ≡ None }
+        requires in_queue { waits_there ((contents_in self.old.parts.items (partition_of tag)).waits tag) session ≡ true }
+        ensures { Follows self.old session (Step.ClearWait true) self.new }
+    {
+        let partition = tag.partition();
+        let part = &mut self.parts[usize::from(partition)];
+        part.leave(session, tag);
+        let woken = part.wake(tag);
+        self.record(partition, hand, Move::Leave { tag }, marks_of(&woken));
+        self.end_wait(session);
     }
 }

@@ -4,20 +4,20 @@ ghost use Rattle.lock_model.specs.Queue.{waits_there};
 ghost use Rattle.lock_model.specs.declared.request.Request.{Request};
 
 use super::PlainPart;
-use crate::{NoMemory, PartTable, TableRow};
+use crate::{NoMemory, PartTable, TableRow, Told, waiting_answer};
 use modes_core::{Mode, SessionId, Tag};
 use std::process::Abort;
 use std::test::Fail;
 
-fn session(rt: &impl Abort, number: u8) -> SessionId {
+pub fn session(rt: &impl Abort, number: u8) -> SessionId {
     SessionId::new(number).expect(rt, "a session number")
 }
 
-fn object() -> Tag {
+pub fn object() -> Tag {
     Tag::relation(5, 16384)
 }
 
-fn another_object() -> Tag {
+pub fn another_object() -> Tag {
     Tag::object(5, 1259, 16384, 0)
 }
 
@@ -47,7 +47,7 @@ fn begins(
 }
 
 /// Makes the session hold the object.
-fn holds(
+pub fn holds(
     rt: &impl Abort,
     part: &mut PlainPart,
     session: SessionId,
@@ -63,7 +63,7 @@ fn holds(
 }
 
 /// Makes the session wait on the object, at this place of its queue.
-fn waits(
+pub fn waits(
     rt: &impl Abort,
     part: &mut PlainPart,
     session: SessionId,
@@ -277,5 +277,49 @@ fn waits_are_listed_behind_holds(rt: HostRuntime) -> Result<(), Fail> {
         row(b, Mode::AccessShare, false),
     ];
     assert_eq!(rt; rows.as_slice(), expected.as_slice());
+    Ok(())
+}
+
+#[test]
+fn a_request_is_told_where_it_stands(rt: HostRuntime) -> Result<(), Fail> {
+    let (a, b, c) = (session(&rt, 0), session(&rt, 1), session(&rt, 2));
+    let mut part = PlainPart::new(rt.alloc());
+    let first = waiting_answer(&part, a, object(), Mode::Share);
+    assert_eq!(rt; first, Told::Granted);
+    holds(&rt, &mut part, a, object(), Mode::Share)?;
+    let behind_the_holder = waiting_answer(&part, b, object(), Mode::RowExclusive);
+    assert_eq!(rt; behind_the_holder, Told::InQueue(0));
+    waits(&rt, &mut part, b, object(), Mode::RowExclusive, 0)?;
+    let behind_the_waiter = waiting_answer(&part, c, object(), Mode::Share);
+    assert_eq!(rt; behind_the_waiter, Told::InQueue(1));
+    // The holder stands before the one that it keeps waiting, and nothing else is in its way.
+    let before_the_waiter = waiting_answer(&part, a, object(), Mode::Exclusive);
+    assert_eq!(rt; before_the_waiter, Told::Granted);
+    holds(&rt, &mut part, a, another_object(), Mode::Share)?;
+    holds(&rt, &mut part, b, another_object(), Mode::Share)?;
+    waits(&rt, &mut part, a, another_object(), Mode::Exclusive, 0)?;
+    let against_one_another = waiting_answer(&part, b, another_object(), Mode::Exclusive);
+    assert_eq!(rt; against_one_another, Told::Deadlock(a));
+    Ok(())
+}
+
+#[test]
+fn a_copy_is_a_part_of_its_own(rt: HostRuntime) -> Result<(), Fail> {
+    let (a, b) = (session(&rt, 0), session(&rt, 1));
+    let mut part = PlainPart::new(rt.alloc());
+    holds(&rt, &mut part, a, object(), Mode::Share)?;
+    waits(&rt, &mut part, b, object(), Mode::Exclusive, 0)?;
+    let mut copy = part.copy()?;
+    assert_eq!(rt; copy.holds(), part.holds());
+    assert_eq!(rt; copy.waits(), part.waits());
+    releases(&rt, &mut copy, a, object(), Mode::Share);
+    assert!(rt; !copy.has_hold_of(a));
+    assert!(rt; part.has_hold_of(a));
+    // There is room in it for the hold that its wait becomes.
+    let woken = copy.wake(object());
+    assert_eq!(rt; woken.as_slice(), [(b, Mode::Exclusive)].as_slice());
+    assert!(rt; copy.has_hold_of(b));
+    assert!(rt; !part.has_hold_of(b));
+    queue_is(&rt, &part, object(), &[1]);
     Ok(())
 }

@@ -1,5 +1,6 @@
 use Rattle.std.proofs.Common.{not, sym, ap, ◌∙◌}
-use Rattle.wait_queue.proofs.RemovalLemmas.{waits_there-mode, remove_wait-none}
+use Rattle.lock_model.proofs.MovedLemmas.{waits_there-mode}
+use Rattle.wait_queue.proofs.RemovalLemmas.{remove_wait-none}
 use Rattle.wait_queue.proofs.removals.remove_waiter.Goals as goal
 
 pub returns-in-None-clause-found : goal.returns-in-None-clause-found

@@ -1,13 +1,17 @@
-use Rattle.std.proofs.Common.{sym, ap, ◌∙◌}
 use Rattle.lock_model.specs.World.{opening}
 use Rattle.lock_model.specs.Safe.{Safe}
 use Rattle.lock_model.proofs.SafeRuns.{opening-safe, Runs-safe}
+use Rattle.lock_model.proofs.LawsOfSafe.{held-own_or_pending, own_or_pending-held}
 use Rattle.lock_model.proofs.machine.laws.each_hold_in_one_place.Goals as goal
 
-pub returns : goal.returns
-returns c =
-    λ limit events w run p s tag mode.
-    let safe : Safe w = Runs-safe (opening limit) events w (opening-safe limit) run in (
-      λ has. (safe.promise.one_place.nothing_else p s tag mode has, safe.promise.one_place.nowhere_else p s tag mode has),
-      λ has. ap (λ q. (w.contents.now q).holds s tag mode) (sym has.1) ∙ safe.promise.one_place.own_is_there s tag mode has.0,
-    )
+pub returns-clause-own_or_pending : goal.returns-clause-own_or_pending
+returns-clause-own_or_pending c =
+    λ limit events w run p s t m.
+    let safe : Safe w = Runs-safe (opening limit) events w (opening-safe limit) run in
+    (λ has. held-own_or_pending w safe p s t m has, λ is. own_or_pending-held w safe p s t m is.0 is.1)
+
+pub returns-clause-never_both : goal.returns-clause-never_both
+returns-clause-never_both c =
+    λ limit events w run s t m awaits.
+    let safe : Safe w = Runs-safe (opening limit) events w (opening-safe limit) run in
+    safe.promise.one_place.awaited_is_not_own s t m awaits

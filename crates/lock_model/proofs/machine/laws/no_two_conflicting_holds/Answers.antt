@@ -1,11 +1,16 @@
-use Rattle.modes_core.specs.Tag.{partition_of}
 use Rattle.lock_model.specs.World.{opening}
 use Rattle.lock_model.specs.Safe.{Safe}
 use Rattle.lock_model.proofs.SafeRuns.{opening-safe, Runs-safe}
+use Rattle.lock_model.proofs.LawsOfSafe.{no_conflict-own}
 use Rattle.lock_model.proofs.machine.laws.no_two_conflicting_holds.Goals as goal
 
-pub returns : goal.returns
-returns c =
-    λ limit events w run s o tag mode its apart has other.
+pub returns-clause-in_contents : goal.returns-clause-in_contents
+returns-clause-in_contents c =
+    λ limit events w run p s k t m n apart has its.
     let safe : Safe w = Runs-safe (opening limit) events w (opening-safe limit) run in
-    safe.promise.no_conflict (partition_of tag) s o tag mode its apart (safe.promise.one_place.own_is_there s tag mode has) (safe.promise.one_place.own_is_there o tag its other)
+    safe.promise.no_conflict p s k t m n apart has its
+
+pub returns-clause-own : goal.returns-clause-own
+returns-clause-own c =
+    λ limit events w run s k t m n apart has its.
+    no_conflict-own w (Runs-safe (opening limit) events w (opening-safe limit) run) s k t m n apart has its

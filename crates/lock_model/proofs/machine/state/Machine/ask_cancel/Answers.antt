@@ -1,5 +1,5 @@
 use Rattle.std.proofs.Common.{◌≡◌, ◌<◌, length, sym, ◌∙◌, arith}
-use Rattle.lock_model.proofs.FollowingWaiting.{was_asked}
+use Rattle.lock_model.proofs.FollowingWaiting.{was_asked, ask_refused}
 use Rattle.lock_model.proofs.machine.state.Machine.ask_cancel.Goals as goal
 
 pub returns-then-makes_steps : goal.returns-then-makes_steps
@@ -7,5 +7,7 @@ returns-then-makes_steps c = λ w safe shows.
     let now = c.args.self.now in
     let place : c.from-index.result ≡ c.args.other = c.from-index.ensures ∙ c.number.ensures.value in
     let in_wait_words : c.args.other < length now.wait_words = omega arith in
-    rw place
-    (was_asked now.issued now.live now.kept_by now.words now.wait_words now.holders now.holds.items w safe shows c.args.session c.args.other (sym c.if-makes_steps.ensures) in_wait_words)
+    rw place (was_asked now w safe shows c.args.session c.args.other (sym c.if-makes_steps.ensures) in_wait_words)
+
+pub returns-else-makes_steps : goal.returns-else-makes_steps
+returns-else-makes_steps c = λ w safe shows. ask_refused c.args.self.now w safe shows c.args.session c.args.other (sym c.if-makes_steps.ensures)

@@ -1,5 +1,6 @@
+use Rattle.std.proofs.Common.{refl}
 use Rattle.lock_model.proofs.ShowsLemmas.{opening-shown}
 use Rattle.lock_model.proofs.machine.state.Machine.new.Goals as goal
 
 pub returns : goal.returns
-returns c = opening-shown _ c.new.ensures.items
+returns c = opening-shown _ refl refl refl refl refl refl refl refl c.in_ok-empty_parts.ensures.sixteen c.in_ok-empty_parts.ensures.empty

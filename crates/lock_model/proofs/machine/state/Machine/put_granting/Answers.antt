@@ -1,50 +1,73 @@
-use Rattle.std.proofs.Common.{◌<◌, length, get_or, None, ◌∙◌, ap, sym, refl, subst, arith}
-use Rattle.std.proofs.lemmas.Bool.{and_parts, ltb-true}
+use Rattle.std.proofs.Common.{◌≡◌, ◌<◌, length, sym, ap, ◌∙◌, subst, arith}
+use Rattle.std.specs.Vec.{with_item}
+use Rattle.std.proofs.lemmas.Bool.{both_ways}
+use Rattle.modes_core.specs.Tag.{partition_of}
 use Rattle.lock_model.specs.declared.machine.state.Machine.{Machine}
 use Rattle.lock_model.specs.declared.events.Move.TheVariants.{Grant}
 use Rattle.lock_model.specs.declared.events.Step.TheVariants.{PutExclusive}
 use Rattle.lock_model.specs.declared.events.Word.TheVariants.{Partition}
+use Rattle.lock_model.specs.Content.{add_hold}
+use Rattle.lock_model.specs.PartView.{content_of}
+use Rattle.lock_model.specs.Parts.{contents_in}
+use Rattle.lock_model.specs.Queue.{awaits_mode, Granted, WaitingAnswer}
+use Rattle.lock_model.specs.Told.{IsTold}
 use Rattle.lock_model.specs.World.{World}
 use Rattle.lock_model.specs.Happens.{Next}
-use Rattle.std.specs.List.{list_any}
-use Rattle.std.proofs.Math.ListN.{set}
-use Rattle.lock_model.specs.LightweightWord.{free_word, put_word}
-use Rattle.lock_model.specs.Shows.{Shows, ShowsParts, is_hold, stands_in_the_way}
+use Rattle.lock_model.specs.Shows.{Shows}
 use Rattle.lock_model.proofs.Following.{skipped}
-use Rattle.lock_model.proofs.FollowingPuts.{granted, grant_refused, grant_again, not_in_hand}
+use Rattle.lock_model.proofs.FollowingPuts.{granted, granting, told-granted, exists_from, asks_not_awaited}
+use Rattle.lock_model.proofs.PlaceLemmas.{changed_there, part_read}
 use Rattle.lock_model.proofs.machine.state.Machine.put_granting.Goals as goal
-use Rattle.lock_model.proofs.machine.state.Machine.put_granting.Goals.{then-not-has_in_hand-via-then-not-has_in_hand, then-not-has_in_hand-via-else-not-has_in_hand+then-partition, then-not-has_in_hand-via-else-not-has_in_hand+else-partition+then-is_listed, then-not-has_in_hand-via-else-not-has_in_hand+else-partition+else-is_listed+then-is_in_the_way}
+use Rattle.lock_model.proofs.machine.state.Machine.put_granting.Goals.{then-partition-via-then-partition, then-partition-via-else-partition+then-not-may_ask}
 
-pub returns-then-not-has_in_hand : goal.returns-then-not-has_in_hand
-returns-then-not-has_in_hand c = λ w safe shows.
+pub returns-then-partition : goal.returns-then-partition
+returns-then-partition c = λ w safe shows.
     let now = c.args.self.now in
-    skipped now.issued now.live now.kept_by now.words now.wait_words now.holders now.holds.items w safe shows c.args.session (PutExclusive (Partition c.args.partition) (Grant c.args.tag c.args.mode))
-    (λ lawful. elim c.then-not-has_in_hand.branch [
-      | then-not-has_in_hand-via-then-not-has_in_hand b ↦
-          not_in_hand now.issued now.live now.kept_by now.words now.wait_words now.holders now.holds.items w safe shows c.args.session c.args.partition (Grant c.args.tag c.args.mode) (sym b.if-not-has_in_hand.ensures) lawful
-      | then-not-has_in_hand-via-else-not-has_in_hand+then-partition b ↦ b.if-partition.true (b.partition.ensures.value ∙ lawful.1.1.object)
-      | then-not-has_in_hand-via-else-not-has_in_hand+else-partition+then-is_listed b ↦
-          grant_again now.issued now.live now.kept_by now.words now.wait_words now.holders now.holds.items w safe shows c.args.session c.args.partition c.args.tag c.args.mode
-          (ap (list_any (is_hold c.args.session c.args.tag c.args.mode)) (sym b.as_slice.ensures.value) ∙ sym b.if-is_listed.ensures) lawful
-      | then-not-has_in_hand-via-else-not-has_in_hand+else-partition+else-is_listed+then-is_in_the_way b ↦
-          grant_refused now.issued now.live now.kept_by now.words now.wait_words now.holders now.holds.items w safe shows c.args.session c.args.partition c.args.tag c.args.mode
-          (ap (list_any (stands_in_the_way c.args.session c.args.tag c.args.mode)) (sym b.as_slice-else-is_listed.ensures.value) ∙ sym b.if-is_in_the_way.ensures) lawful
+    skipped now w safe shows c.args.session (PutExclusive (Partition c.args.partition) (Grant c.args.tag c.args.mode))
+    (λ lawful. let needs = granting now w safe shows c.args.session c.args.partition c.args.tag c.args.mode c.requires.in_hand lawful in
+    elim c.then-partition.branch [
+      | then-partition-via-then-partition b ↦ b.if-partition.true (c.partition.ensures.value ∙ needs.0)
+      | then-partition-via-else-partition+then-not-may_ask b ↦ both_ways _ (sym b.may_ask.ensures ∙ b.if-not-may_ask.true) needs.1
     ])
+
+pub returns-in_default : goal.returns-in_default
+returns-in_default c = λ w safe shows.
+    let now = c.args.self.now in
+    let below = exists_from now w safe shows c.args.session c.args.partition c.requires.in_hand in
+    let in_parts : c.args.partition < length now.parts.items = subst (λ n. c.args.partition < n) (sym shows.sixteen) below in
+    let read = part_read now.parts.items c.from-index.result c.args.partition c.index.result.now c.from-index.ensures (subst (λ n. n < length now.parts.items) (sym c.from-index.ensures) in_parts) c.index.ensures in
+    skipped now w safe shows c.args.session (PutExclusive (Partition c.args.partition) (Grant c.args.tag c.args.mode))
+    (λ lawful. let needs = granting now w safe shows c.args.session c.args.partition c.args.tag c.args.mode c.requires.in_hand lawful in
+    c.in_default.not-Granted (told-granted (contents_in now.parts.items c.args.partition) c.args.session c.args.tag c.args.mode c.waiting_answer.result
+    (subst (λ part. IsTold (content_of part) c.args.session c.args.tag c.args.mode c.waiting_answer.result) read c.waiting_answer.ensures) needs.2))
+
+pub begin-requires-clause-not_awaited : goal.begin-requires-clause-not_awaited
+begin-requires-clause-not_awaited c =
+    let now = c.args.self.now in
+    let shown = c.requires.shown in
+    let below = exists_from now shown.0 shown.1 shown.2 c.args.session c.args.partition c.requires.in_hand in
+    let in_parts : c.args.partition < length now.parts.items = subst (λ n. c.args.partition < n) (sym shown.2.sixteen) below in
+    let read = part_read now.parts.items c.from-index.result c.args.partition c.index_mut-part.result.now c.from-index.ensures (subst (λ n. n < length now.parts.items) (sym c.from-index.ensures) in_parts) c.index_mut-part.ensures.value in
+    let object : partition_of c.args.tag ≡ c.args.partition = sym c.partition.ensures.value ∙ c.if-partition.false in
+    ap (λ part. awaits_mode ((content_of part).waits c.args.tag) c.args.session c.args.mode) read
+    ∙ sym (ap (λ p. awaits_mode ((contents_in now.parts.items p).waits c.args.tag) c.args.session c.args.mode) object)
+    ∙ asks_not_awaited now shown.0 shown.1 shown.2 c.args.session c.args.tag c.args.mode (sym c.may_ask.ensures ∙ c.if-not-may_ask.false)
 
 pub returns : goal.returns
 returns c = λ w safe shows.
     let now = c.args.self.now in
-    let has = sym c.if-not-has_in_hand.ensures in
-    let below : c.args.partition < 16 = ltb-true c.args.partition 16 (and_parts _ _ has).0 in
-    let in_words : c.args.partition < length now.words = omega arith in
-    let in_holders : c.args.partition < length now.holders = omega arith in
+    let in_hand = c.requires.in_hand in
+    let below = exists_from now w safe shows c.args.session c.args.partition in_hand in
+    let in_words : c.args.partition < length now.words = omega (arith, below) in
+    let in_parts : c.args.partition < length now.parts.items = subst (λ n. c.args.partition < n) (sym shows.sixteen) below in
+    let object : partition_of c.args.tag ≡ c.args.partition = sym c.partition.ensures.value ∙ c.if-partition.false in
+    let looked = part_read now.parts.items c.from-index.result c.args.partition c.index.result.now c.from-index.ensures (subst (λ n. n < length now.parts.items) (sym c.from-index.ensures) in_parts) c.index.ensures in
+    let read = part_read now.parts.items c.from-index.result c.args.partition c.index_mut-part.result.now c.from-index.ensures (subst (λ n. n < length now.parts.items) (sym c.from-index.ensures) in_parts) c.index_mut-part.ensures.value in
+    let content = c.grant.ensures.content ∙ ap (λ x. add_hold x c.args.session c.args.tag c.args.mode) (c.begin.ensures.content ∙ ap content_of read) in
+    let changed : Machine = record now { parts = with_item now.parts c.from-index.result c.grant.new.self } in
     let P : Machine → Type 0 = λ m. (v : World) × Next w (record { session = c.args.session; step = PutExclusive (Partition c.args.partition) (Grant c.args.tag c.args.mode) }) v × Shows m v in
     subst P (sym c.set_free.ensures)
-    (subst (λ list. (v : World) × Next w (record { session = c.args.session; step = PutExclusive (Partition c.args.partition) (Grant c.args.tag c.args.mode) }) v
-    × ShowsParts now.issued now.live now.kept_by (set now.words c.args.partition (put_word (get_or now.words c.args.partition free_word))) now.wait_words (set now.holders c.args.partition None) list v)
-    (sym c.in_ok-push.ensures.items)
-    (granted now.issued now.live now.kept_by now.words now.wait_words now.holders now.holds.items w safe shows c.args.session c.args.partition c.args.tag c.args.mode _ refl refl refl refl has
-    (sym c.partition.ensures.value ∙ c.if-partition.false)
-    (ap (list_any (is_hold c.args.session c.args.tag c.args.mode)) (sym c.as_slice.ensures.value) ∙ sym c.if-is_listed.ensures)
-    (ap (list_any (stands_in_the_way c.args.session c.args.tag c.args.mode)) (sym c.as_slice-else-is_listed.ensures.value) ∙ sym c.if-is_in_the_way.ensures)
-    in_words in_holders))
+    (granted now w safe shows c.args.session c.args.partition c.args.tag c.args.mode changed in_hand object (sym c.may_ask.ensures ∙ c.if-not-may_ask.false)
+    (subst (λ part. WaitingAnswer (content_of part) c.args.session c.args.tag c.args.mode Granted) looked c.in-Granted.ensures) in_words
+    (changed_there now.parts.items c.from-index.result c.args.partition c.grant.new.self (add_hold (contents_in now.parts.items c.args.partition) c.args.session c.args.tag c.args.mode)
+    c.from-index.ensures in_parts content c.grant.ensures.ended))

@@ -1,45 +1,64 @@
-use Rattle.std.proofs.Common.{◌≡◌, ◌<◌, length, get_or, Some, None, ◌∙◌, ap, sym, subst, arith}
-use Rattle.std.proofs.lemmas.Bool.{and_parts, ltb-true}
+use Rattle.std.proofs.Common.{◌≡◌, ◌<◌, IfSome, [], map, length, get_or, None, refl, sym, ap, ◌∙◌, subst, arith}
+use Rattle.std.specs.Prelude.{◌==◌}
+use Rattle.std.specs.Vec.{with_item}
+use Rattle.std.proofs.lemmas.Bool.{both_ways, eqb-true}
+use Rattle.std.proofs.lemmas.List.{nil_from_length, length-map}
+use Rattle.modes_core.specs.Tag.{partition_of}
 use Rattle.lock_model.specs.declared.machine.state.Machine.{Machine}
 use Rattle.lock_model.specs.declared.events.Move.TheVariants.{Release}
 use Rattle.lock_model.specs.declared.events.Step.TheVariants.{PutExclusive}
 use Rattle.lock_model.specs.declared.events.Word.TheVariants.{Partition}
+use Rattle.lock_model.specs.MovedPart.{IsMoved}
+use Rattle.lock_model.specs.Moves.{Moves}
+use Rattle.lock_model.specs.PartView.{content_of}
+use Rattle.lock_model.specs.Parts.{part_at, contents_in}
+use Rattle.lock_model.specs.Waiter.{whose_and_mode}
 use Rattle.lock_model.specs.World.{World}
 use Rattle.lock_model.specs.Happens.{Next}
-use Rattle.std.specs.List.{position}
-use Rattle.std.proofs.Math.ListN.{set}
-use Rattle.std.proofs.lemmas.List.Folds.{list_any_at}
-use Rattle.std.proofs.lemmas.List.Quantifiers.{position-Some}
-use Rattle.lock_model.proofs.ListLemmas.{position-none}
-use Rattle.lock_model.specs.LightweightWord.{free_word, put_word}
-use Rattle.lock_model.specs.Shows.{Shows, ShowsParts, is_hold}
+use Rattle.lock_model.specs.Shows.{Shows, IsOwnFor}
 use Rattle.lock_model.proofs.Following.{skipped}
-use Rattle.lock_model.proofs.FollowingPuts.{released, release_absent}
+use Rattle.lock_model.proofs.FollowingPuts.{released, releasing, release_wakes, exists_from}
+use Rattle.lock_model.proofs.PlaceLemmas.{changed_there}
 use Rattle.lock_model.proofs.machine.state.Machine.put_releasing.Goals as goal
 
-pub returns-in-Some : goal.returns-in-Some
-returns-in-Some c = λ w safe shows.
+pub returns-in_default : goal.returns-in_default
+returns-in_default c = λ w safe shows.
     let now = c.args.self.now in
-    let has = sym c.if-not-has_in_hand.ensures in
-    let below : c.args.partition < 16 = ltb-true c.args.partition 16 (and_parts _ _ has).0 in
-    let in_words : c.args.partition < length now.words = omega arith in
-    let in_holders : c.args.partition < length now.holders = omega arith in
-    let found : position (is_hold c.args.session c.args.tag c.args.mode) now.holds.items ≡ Some c.in-Some.place =
-    ap (position (is_hold c.args.session c.args.tag c.args.mode)) (sym c.as_slice.ensures.value) ∙ sym c.in-Some.ensures in
-    let at = position-Some (is_hold c.args.session c.args.tag c.args.mode) now.holds.items c.in-Some.place c.swap_remove.result found in
+    skipped now w safe shows c.args.session (PutExclusive (Partition c.args.partition) (Release c.args.tag c.args.mode))
+    (λ lawful. (releasing now w safe shows c.args.session c.args.partition c.args.tag c.args.mode c.requires.in_hand lawful).1 (c.in_ok-moved.ensures.cannot c.in_default.is))
+
+pub returns-then-is_empty : goal.returns-then-is_empty
+returns-then-is_empty c = λ w safe shows.
+    let now = c.args.self.now in
+    let in_hand = c.requires.in_hand in
+    let done = Release c.args.tag c.args.mode in
+    let below = exists_from now w safe shows c.args.session c.args.partition in_hand in
+    let in_words : c.args.partition < length now.words = omega (arith, below) in
+    let in_parts : c.args.partition < length now.parts.items = subst (λ n. c.args.partition < n) (sym shows.sixteen) below in
+    let object : partition_of c.args.tag ≡ c.args.partition = sym c.partition.ensures.value ∙ c.if-partition.false in
+    let moved = subst (λ found. IfSome found (IsMoved (part_at now.parts.items c.args.partition) c.args.session done)) c.in-Some.is c.in_ok-moved.ensures.moved in
+    let own = subst (λ found. IfSome found (λ _. IsOwnFor (get_or now.awaited c.args.session None) done)) c.in-Some.is c.in_ok-moved.ensures.own in
+    let none : length c.in-Some.moved.woken.items ≡ 0 = eqb-true (length c.in-Some.moved.woken.items) 0 (sym c.is_empty.ensures ∙ c.if-is_empty.true) in
+    let nobody : moved.granted ≡ [] = nil_from_length moved.granted (sym (length-map moved.granted whose_and_mode) ∙ sym (ap length moved.told) ∙ none) in
+    let changed : Machine = record now { parts = with_item now.parts c.from.result c.in-Some.moved.part } in
     let P : Machine → Type 0 = λ m. (v : World) × Next w (record { session = c.args.session; step = PutExclusive (Partition c.args.partition) (Release c.args.tag c.args.mode) }) v × Shows m v in
     subst P (sym c.set_free.ensures)
-    (subst (λ list. (v : World) × Next w (record { session = c.args.session; step = PutExclusive (Partition c.args.partition) (Release c.args.tag c.args.mode) }) v
-    × ShowsParts now.issued now.live now.kept_by (set now.words c.args.partition (put_word (get_or now.words c.args.partition free_word))) now.wait_words (set now.holders c.args.partition None) list v)
-    (sym c.swap_remove.ensures.items)
-    (released now.issued now.live now.kept_by now.words now.wait_words now.holders now.holds.items w safe shows c.args.session c.args.partition c.args.tag c.args.mode c.in-Some.place c.swap_remove.result has
-    (sym c.partition.ensures.value ∙ c.if-partition.false) at.0 c.swap_remove.ensures.value at.1
-    (list_any_at (is_hold c.args.session c.args.tag c.args.mode) now.holds.items c.in-Some.place c.swap_remove.result at.0 at.1)
-    in_words in_holders))
+    (released now w safe shows c.args.session c.args.partition c.args.tag c.args.mode (content_of c.in-Some.moved.part) changed in_hand object own
+    (subst (λ granted. Moves (contents_in now.parts.items c.args.partition) c.args.session done granted (content_of c.in-Some.moved.part)) nobody moved.moves) in_words
+    (changed_there now.parts.items c.from.result c.args.partition c.in-Some.moved.part (content_of c.in-Some.moved.part) c.from.ensures in_parts refl (moved.begun ∙ shows.none_begun c.args.partition)))
 
-pub returns-in-None : goal.returns-in-None
-returns-in-None c = λ w safe shows.
+pub returns-else-is_empty : goal.returns-else-is_empty
+returns-else-is_empty c = λ w safe shows.
     let now = c.args.self.now in
-    skipped now.issued now.live now.kept_by now.words now.wait_words now.holders now.holds.items w safe shows c.args.session (PutExclusive (Partition c.args.partition) (Release c.args.tag c.args.mode))
-    (λ lawful. release_absent now.issued now.live now.kept_by now.words now.wait_words now.holders now.holds.items w safe shows c.args.session c.args.partition c.args.tag c.args.mode
-    (position-none (is_hold c.args.session c.args.tag c.args.mode) now.holds.items (ap (position (is_hold c.args.session c.args.tag c.args.mode)) (sym c.as_slice.ensures.value) ∙ sym c.in-None.ensures)) lawful)
+    let done = Release c.args.tag c.args.mode in
+    let moved = subst (λ found. IfSome found (IsMoved (part_at now.parts.items c.args.partition) c.args.session done)) c.in-Some.is c.in_ok-moved.ensures.moved in
+    skipped now w safe shows c.args.session (PutExclusive (Partition c.args.partition) done)
+    (λ lawful.
+    let nobody = release_wakes now w safe shows c.args.session c.args.partition c.args.tag c.args.mode moved.granted (content_of c.in-Some.moved.part) c.requires.in_hand moved.moves lawful in
+    both_ways _ c.if-is_empty.false (c.is_empty.ensures ∙ ap (λ told. length told == 0) (moved.told ∙ ap (map whose_and_mode) nobody)))
+
+pub returns-then-partition : goal.returns-then-partition
+returns-then-partition c = λ w safe shows.
+    let now = c.args.self.now in
+    skipped now w safe shows c.args.session (PutExclusive (Partition c.args.partition) (Release c.args.tag c.args.mode))
+    (λ lawful. c.if-partition.true (c.partition.ensures.value ∙ (releasing now w safe shows c.args.session c.args.partition c.args.tag c.args.mode c.requires.in_hand lawful).0))

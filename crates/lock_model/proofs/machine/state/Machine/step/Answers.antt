@@ -1,8 +1,25 @@
-use Rattle.lock_model.proofs.FollowingWaiting.{loaded}
 use Rattle.lock_model.proofs.machine.state.Machine.step.Goals as goal
 
+pub returns-in-PutExclusive : goal.returns-in-PutExclusive
+returns-in-PutExclusive c = rw c.in-PutExclusive.is c.put_exclusive.ensures
+
+pub returns-in-SetWaiting : goal.returns-in-SetWaiting
+returns-in-SetWaiting c = rw c.in-SetWaiting.is c.set_waiting.ensures
+
+pub returns-in-MarkGranted : goal.returns-in-MarkGranted
+returns-in-MarkGranted c = rw c.in-MarkGranted.is c.mark_granted.ensures
+
+pub returns-in-TakeExclusive : goal.returns-in-TakeExclusive
+returns-in-TakeExclusive c = rw c.in-TakeExclusive.is c.take_exclusive.ensures
+
+pub returns-in-JoinSeat : goal.returns-in-JoinSeat
+returns-in-JoinSeat c = rw c.in-JoinSeat.is c.join_seat.ensures
+
+pub returns-in-AskCancel : goal.returns-in-AskCancel
+returns-in-AskCancel c = rw c.in-AskCancel.is c.ask_cancel.ensures
+
 pub returns-in-LoadWait : goal.returns-in-LoadWait
-returns-in-LoadWait c = λ w safe shows.
-    let now = c.args.self.now in
-    rw c.in-LoadWait.is
-    (loaded now.issued now.live now.kept_by now.words now.wait_words now.holders now.holds.items w safe shows c.args.event.session c.in-LoadWait.shown)
+returns-in-LoadWait c = rw c.in-LoadWait.is c.load_wait.ensures
+
+pub returns-in-ClearWait : goal.returns-in-ClearWait
+returns-in-ClearWait c = rw c.in-ClearWait.is c.clear_wait.ensures

@@ -1,0 +1,26 @@
+use Rattle.std.proofs.Common.{◌≡◌, ◌<◌, ◌∙◌, length, refl, false, true, arith, ap, take}
+use Rattle.std.proofs.Math.ListN.{length-set}
+use Rattle.std.proofs.lemmas.List.{take_all}
+use Rattle.lock_model.specs.Shows.{names_in}
+use Rattle.lock_model.proofs.PlaceLemmas.{get_or-one_value}
+use Rattle.lock_model.proofs.MarkLemmas.{marks-one_more}
+use Rattle.lock_model.proofs.machine.hands.marks_of.Goals as goal
+
+pub loop-whose-init : goal.loop-whose-init
+loop-whose-init c = (refl, λ k. get_or-one_value 64 false k)
+
+pub loop-whose-preserved : goal.loop-whose-preserved
+loop-whose-preserved c =
+    let marks = c.loop-whose.marks in
+    let sixty_four : length marks ≡ 64 = c.loop-whose.invariant.0 in
+    let place : c.from.result ≡ c.whose-item.result.0 = c.from.ensures ∙ c.number.ensures.value in
+    let below = c.number.ensures.within in
+    let within : c.from.result < length marks = omega arith in (
+      length-set marks c.from.result true ∙ sixty_four,
+      marks-one_more marks c.as_slice-whose-items.result.now c.loop-whose.whose-index c.whose-item.result c.from.result within place c.loop-whose-test.true c.whose-item.is c.loop-whose.invariant.1,
+    )
+
+pub returns : goal.returns
+returns c = λ k.
+    c.loop-whose.invariant.1 k
+    ∙ ap (λ xs. names_in xs k) (take_all c.loop-whose.whose-index c.as_slice-whose-items.result.now c.loop-whose-test.false ∙ c.as_slice-whose-items.ensures.value)

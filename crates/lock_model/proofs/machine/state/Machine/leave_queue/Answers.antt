@@ -1,0 +1,52 @@
+use Rattle.std.proofs.Common.{◌≡◌, ◌<◌, length, get_or, sym, ap, ◌∙◌, subst, arith, true}
+use Rattle.std.proofs.lemmas.Bool.{both_ways}
+use Rattle.modes_core.specs.Tag.{partition_of}
+use Rattle.lock_model.specs.declared.events.Move.TheVariants.{Leave}
+use Rattle.lock_model.specs.MoveTests.{move_eq}
+use Rattle.lock_model.specs.PartView.{PartView, content_of}
+use Rattle.lock_model.specs.Queue.{waits_there}
+use Rattle.lock_model.specs.Shows.{hand_of}
+use Rattle.lock_model.proofs.PlaceLemmas.{part_read}
+use Rattle.lock_model.proofs.MoveTests.{move_eq-same, move_eq-refl}
+use Rattle.lock_model.proofs.FollowingClears.{left_before, leave_without_hand, leave_of_nothing, leave_after_move}
+use Rattle.lock_model.proofs.machine.state.Machine.leave_queue.Goals as goal
+use Rattle.lock_model.proofs.machine.state.Machine.leave_queue.Goals.{else-is_same-via-then-is_same+else-not-waits, else-is_same-via-else-is_same}
+
+pub returns-in_default : goal.returns-in_default
+returns-in_default c = λ w safe shows.
+    let now = c.args.self.now in
+    leave_without_hand now w safe shows c.args.session c.requires.awaited.0 c.args.tag c.requires.awaited.1 c.requires.awaited.2
+    (ap (hand_of now c.args.session) (sym c.partition-partition.ensures.value) ∙ sym c.in_default.ensures)
+
+pub returns-then-not-waits : goal.returns-then-not-waits
+returns-then-not-waits c = λ w safe shows.
+    let now = c.args.self.now in
+    let place : c.from.result ≡ partition_of c.args.tag = c.from.ensures ∙ c.partition-partition.ensures.value in
+    let below = c.partition-partition.ensures.within in
+    let sixteen : length now.parts.items ≡ 16 = shows.sixteen in
+    let within : c.from.result < length now.parts.items = omega arith in
+    let part = part_read now.parts.items c.from.result (partition_of c.args.tag) c.index.result.now place within c.index.ensures in
+    let in_wait_words : c.args.session < length now.wait_words = omega arith in
+    let in_awaited : c.args.session < length now.awaited = omega arith in
+    let in_seen : c.args.session < length now.seen = omega arith in
+    rw c.end_wait.ensures
+    (left_before now w safe shows c.args.session c.requires.awaited.0 c.args.tag c.in-Some.hand c.in-Some-recorded.recorded c.requires.awaited.1 c.requires.awaited.2
+    (ap (hand_of now c.args.session) (sym c.partition-partition.ensures.value) ∙ sym c.in-Some.ensures) c.in-Some-recorded.is
+    (move_eq-same c.in-Some-recorded.recorded (Leave c.args.tag) (sym c.if-is_same.ensures))
+    (ap (λ (x : PartView). waits_there ((content_of x).waits c.args.tag) c.args.session) (sym part) ∙ sym c.if-not-waits.ensures)
+    in_wait_words in_awaited in_seen)
+
+pub returns-else-is_same : goal.returns-else-is_same
+returns-else-is_same c = λ w safe shows.
+    let now = c.args.self.now in
+    let place : c.from.result ≡ partition_of c.args.tag = c.from.ensures ∙ c.partition-partition.ensures.value in
+    let below = c.partition-partition.ensures.within in
+    let sixteen : length now.parts.items ≡ 16 = shows.sixteen in
+    let within : c.from.result < length now.parts.items = omega arith in
+    let part = part_read now.parts.items c.from.result (partition_of c.args.tag) c.index.result.now place within c.index.ensures in
+    leave_after_move now w safe shows c.args.session c.requires.awaited.0 c.args.tag c.in-Some.hand c.in-Some-recorded.recorded c.requires.awaited.1 c.requires.awaited.2
+    (ap (hand_of now c.args.session) (sym c.partition-partition.ensures.value) ∙ sym c.in-Some.ensures) c.in-Some-recorded.is
+    (λ same. elim c.else-is_same.branch [
+      | else-is_same-via-then-is_same+else-not-waits b ↦ ap (λ (x : PartView). waits_there ((content_of x).waits c.args.tag) c.args.session) (sym part) ∙ sym b.if-not-waits.ensures
+      | else-is_same-via-else-is_same b ↦ absurd (both_ways (move_eq c.in-Some-recorded.recorded (Leave c.args.tag)) (sym b.if-is_same.ensures) (ap (λ x. move_eq x (Leave c.args.tag)) same ∙ move_eq-refl (Leave c.args.tag)))
+    ])

@@ -1,0 +1,43 @@
+use Rattle.std.proofs.Common.{◌<◌, length, sym, subst, arith}
+use Rattle.lock_model.specs.declared.machine.state.Machine.{Machine}
+use Rattle.lock_model.specs.declared.events.Move.TheVariants.{Keep}
+use Rattle.lock_model.specs.declared.events.Step.TheVariants.{PutExclusive}
+use Rattle.lock_model.specs.declared.events.Word.TheVariants.{Partition}
+use Rattle.lock_model.specs.World.{World}
+use Rattle.lock_model.specs.Happens.{Next, IsMadeByPutting}
+use Rattle.lock_model.specs.Shows.{Shows}
+use Rattle.lock_model.proofs.Following.{skipped}
+use Rattle.lock_model.proofs.FollowingPuts.{kept, only_made, exists_from}
+use Rattle.lock_model.proofs.machine.state.Machine.put_made.Goals as goal
+
+pub set_free-requires : goal.set_free-requires
+set_free-requires c = let shown = c.requires.shown in exists_from c.args.self.now shown.0 shown.1 shown.2 c.args.session c.args.partition c.requires.in_hand
+
+pub returns-in-Keep : goal.returns-in-Keep
+returns-in-Keep c = λ w safe shows.
+    let now = c.args.self.now in
+    let in_hand = c.requires.in_hand in
+    let below = exists_from now w safe shows c.args.session c.args.partition in_hand in
+    let in_words : c.args.partition < length now.words = omega (arith, below) in
+    let P : Machine → Type 0 = λ m. (v : World) × Next w (record { session = c.args.session; step = PutExclusive (Partition c.args.partition) Keep }) v × Shows m v in
+    rw c.in-Keep.is (subst P (sym c.set_free.ensures) (kept now w safe shows c.args.session c.args.partition in_hand in_words))
+
+pub returns-in-Grant : goal.returns-in-Grant
+returns-in-Grant c = rw c.in-Grant.is c.put_granting.ensures
+
+pub returns-in-Release : goal.returns-in-Release
+returns-in-Release c = rw c.in-Release.is c.put_releasing.ensures
+
+pub returns-in-Join : goal.returns-in-Join
+returns-in-Join c = λ w safe shows.
+    let now = c.args.self.now in
+    skipped now w safe shows c.args.session (PutExclusive (Partition c.args.partition) c.args.done)
+    (λ lawful. let made = only_made now w safe shows c.args.session c.args.partition c.args.done c.requires.in_hand lawful in
+    subst IsMadeByPutting c.in-Join.is made.1.by_putting)
+
+pub returns-in-Leave : goal.returns-in-Leave
+returns-in-Leave c = λ w safe shows.
+    let now = c.args.self.now in
+    skipped now w safe shows c.args.session (PutExclusive (Partition c.args.partition) c.args.done)
+    (λ lawful. let made = only_made now w safe shows c.args.session c.args.partition c.args.done c.requires.in_hand lawful in
+    subst IsMadeByPutting c.in-Leave.is made.1.by_putting)

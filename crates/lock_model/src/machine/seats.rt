@@ -1,0 +1,87 @@
+//! The plain machine's steps on seats: session numbers, and who keeps whom apart.
+
+use super::state::Machine;
+use crate::PartTable;
+use modes_core::SessionId;
+
+impl Machine {
+    ghost use Rattle.std.specs.Prelude.{◌≡◌, ◌==◌, Some, None};
+    ghost use Rattle.std.specs.List.{list_any};
+    ghost use Rattle.lock_model.specs.declared.events.Step.{Step};
+    ghost use Rattle.lock_model.specs.Shows.{Follows, is_number, is_holder};
+
+    /// Whether the session has a partition in hand.
+    fn has_a_word(&self, session: SessionId) -> bool
+        ensures { result ≡ list_any (is_holder session) self.now.hands }
+    {
+        self.hands
+            .iter()
+            .any(|hand| hand.is_some_and(|hand| hand.holder == session))
+    }
+
+    /// Whether the session keeps another one apart.
+    fn keeps_someone(&self, session: SessionId) -> bool
+        ensures { result ≡ list_any (is_number session) self.now.kept_by }
+    {
+        self.kept_by
+            .iter()
+            .any(|joiner| joiner.is_some_and(|other| other == session))
+    }
+
+    /// Whether the session has a hold.
+    fn has_a_hold(&self, session: SessionId) -> bool
+        ensures { result ≡ list_any (λ part. list_any (λ hold. hold.session == session) part.holds) self.now.parts.items }
+    {
+        self.parts.iter().any(|part| part.has_hold_of(session))
+    }
+
+    /// Issues the session's number, where it is the next one, or lets a session that is kept apart go on.
+    pub fn split_seat(&mut self, session: SessionId)
+        ensures { Follows self.old session Step.SplitSeat self.new }
+    {
+        let index = usize::from(session.number());
+        if session.number() == self.issued {
+            self.issued += 1;
+            self.live[index] = true;
+        } else if self.kept_by[index].is_some() {
+            self.kept_by[index] = None;
+        }
+    }
+
+    /// Keeps the session apart for the joiner.
+    fn keep_apart(&mut self, session: SessionId, joiner: SessionId)
+        ensures { Follows self.old session (Step.JoinSeat (Some joiner)) self.new }
+    {
+        if self.makes_steps(session)
+            && joiner != session
+            && self.makes_steps(joiner)
+            && !self.has_a_word(session)
+        {
+            self.kept_by[usize::from(session.number())] = Some(joiner);
+        }
+    }
+
+    /// Closes the session.
+    fn close(&mut self, session: SessionId)
+        ensures { Follows self.old session (Step.JoinSeat None) self.new }
+    {
+        let index = usize::from(session.number());
+        if self.makes_steps(session)
+            && !self.has_a_word(session)
+            && !self.has_a_hold(session)
+            && self.awaited[index].is_none()
+            && !self.keeps_someone(session)
+        {
+            self.live[index] = false;
+        }
+    }
+
+    pub fn join_seat(&mut self, session: SessionId, joiner: Option<SessionId>)
+        ensures { Follows self.old session (Step.JoinSeat joiner) self.new }
+    {
+        match joiner {
+            Some(joiner) => self.keep_apart(session, joiner),
+            None => self.close(session),
+        }
+    }
+}
