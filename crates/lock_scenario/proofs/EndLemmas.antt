@@ -1,7 +1,7 @@
 use Rattle.std.proofs.Common.{◌≡◌, ℕ, ◌<◌, true, false, ◌==◌, ◌||◌, List, [], ◌∷◌, length, get_or, arith, refl, sym, ap, subst, ◌∙◌, inl, inr}
 use Rattle.std.specs.Prelude.{if◌then◌else◌}
 use Rattle.std.specs.List.{AllByRecursion, IsDistinct}
-use Rattle.std.proofs.lemmas.Bool.{cases_Bool, eq-eqb, false≢true}
+use Rattle.std.proofs.lemmas.Bool.{cases_Bool, false≢true}
 use Rattle.std.proofs.lemmas.List.{get_or_default}
 use Rattle.modes_core.specs.declared.modes.Mode.{Mode}
 use Rattle.modes_core.specs.declared.tags.Tag.{Tag}
@@ -15,6 +15,7 @@ use Rattle.lock_model.specs.PartView.{PartView, content_of}
 use Rattle.lock_scenario.specs.declared.sessions.DeskSession.{DeskSession}
 use Rattle.lock_scenario.specs.Parts.{no_part, content_in}
 use Rattle.lock_model.specs.World.{set_at}
+use Rattle.lock_model.proofs.PutLemmas.{set_at-here}
 use Rattle.lock_scenario.specs.Sessions.{entries_in, waits_in, is_pending}
 use Rattle.lock_scenario.specs.Waiting.{Shared, Releases, ReleasesAll}
 use Rattle.lock_scenario.specs.Desk.{IsDesk}
@@ -115,9 +116,6 @@ has_entry-last end (entry ∷ entries) none t m =
 
 -- ---- a whole end, step by step
 
-set_at-here : {A : Type 0} (f : ℕ → A) (k : ℕ) (a : A) → set_at f k a k ≡ a
-set_at-here f k a = rw (eq-eqb k k refl) refl
-
 set_at-again : {A : Type 0} (f : ℕ → A) (k : ℕ) (a b : A) → set_at (set_at f k a) k b ≡ set_at f k b
 set_at-again f k a b = λ i j. at_place j i where
   at_place : (j : ℕ) → set_at (set_at f k a) k b j ≡ set_at f k b j
@@ -130,7 +128,7 @@ pub left-step :
 left-step end entries after session step =
     rw step (
     set_at-again entries session _ _ ∙
-    ap (λ (es : List Entry). set_at entries session (left_by end es)) (set_at-here entries session (with_next_ended end (entries session))) ∙
+    ap (λ (es : List Entry). set_at entries session (left_by end es)) (set_at-here entries session (with_next_ended end (entries session)) session refl) ∙
     ap (λ (es : List Entry). set_at entries session es) (left_by-next end (entries session))
     )
 
@@ -142,7 +140,7 @@ pub released-step :
     Releases before session key.0 key.1 between → ReleasesAll between session (ended_by end (after session)) last →
     ReleasesAll before session (ended_by end (entries session)) last
 released-step end entries after before between last session key step next released rest =
-    let now : after session ≡ with_next_ended end (entries session) = ap (λ (es : ℕ → List Entry). es session) step ∙ set_at-here entries session (with_next_ended end (entries session)) in
+    let now : after session ≡ with_next_ended end (entries session) = ap (λ (es : ℕ → List Entry). es session) step ∙ set_at-here entries session (with_next_ended end (entries session)) session refl in
     subst (λ (keys : List (Tag × Mode)). ReleasesAll before session keys last) (sym next)
     (between, released, subst (λ (es : List Entry). ReleasesAll between session (ended_by end es) last) now rest)
 
@@ -152,7 +150,7 @@ pub fewer-step :
     ended_by end (entries session) ≡ key ∷ ended_by end (with_next_ended end (entries session)) →
     length (ended_by end (after session)) < length (ended_by end (entries session))
 fewer-step end entries after session key step next =
-    let now : after session ≡ with_next_ended end (entries session) = ap (λ (es : ℕ → List Entry). es session) step ∙ set_at-here entries session (with_next_ended end (entries session)) in
+    let now : after session ≡ with_next_ended end (entries session) = ap (λ (es : ℕ → List Entry). es session) step ∙ set_at-here entries session (with_next_ended end (entries session)) session refl in
     rw (now, next) (omega arith)
 
 -- ---- what a session holds

@@ -1,4 +1,4 @@
-use Rattle.std.proofs.Common.{◌≡◌, ◌≢◌, ℕ, ◌+◌, ◌<◌, Bool, true, false, nat_lt, ◌&&◌, ◌==◌, List, [], ◌++◌, length, get_or, subst, arith, refl, sym, ap, ◌∙◌, inl, inr}
+use Rattle.std.proofs.Common.{◌≡◌, ◌≢◌, ℕ, ◌+◌, ◌<◌, Bool, true, false, nat_lt, ◌&&◌, ◌==◌, List, [], length, get_or, subst, arith, refl, sym, ap, ◌∙◌, inl, inr}
 use Rattle.std.specs.Prelude.{count_by, if◌then◌else◌, IsSorted, IsPermutation}
 use Rattle.std.specs.List.{list_any}
 use Rattle.std.proofs.lemmas.Bool.{cases_Bool, cases_eq, false≢true}
@@ -21,9 +21,6 @@ use Rattle.lock_scenario.specs.Desk.{whole_of}
 abbrev pub Lists : List PartView → ℕ → List TableRow → Type 0
 Lists parts past rows =
     (row : TableRow) → count_by (row_eq row) rows ≡ (if nat_lt (partition_of row.tag) past then (if has_row (content_in parts (partition_of row.tag)) row then 1 else 0) else 0)
-
-count_by-append : {X : Type 0} (p : X → Bool) (xs ys : List X) → count_by p (xs ++ ys) ≡ count_by p xs + count_by p ys
-count_by-append p xs ys = sum_by-append (λ x. if p x then 1 else 0) xs ys
 
 -- A partition has rows of its own objects alone.
 pub record OwnObjects (parts : List PartView) : Type 0 where
@@ -48,7 +45,7 @@ pub Lists-more :
     (parts : List PartView) → OwnObjects parts → (past : ℕ) (old new : List TableRow) →
     Lists parts past old → AppendsListing (content_in parts past) old new → Lists parts (past + 1) new
 Lists-more parts own past old new so_far appends row =
-    ap (count_by (row_eq row)) appends.behind ∙ count_by-append (row_eq row) old appends.added ∙
+    ap (count_by (row_eq row)) appends.behind ∙ sum_by-append (λ other. if row_eq row other then 1 else 0) old appends.added ∙
     elim (cases_eq (partition_of row.tag) past) [
       | inl same ↦
           let none_before : count_by (row_eq row) old ≡ 0 = so_far row ∙ ap (λ (b : Bool). if b then here else 0) (not_below (partition_of row.tag) past same) in

@@ -6,9 +6,8 @@ use Rattle.std.proofs.Math.Seq.{take-append_seam}
 use Rattle.std.proofs.lemmas.List.{get_or_default, length-set}
 use Rattle.arrayvec.specs.declared.array_string.ArrayString.{ArrayString}
 use Rattle.lock_scenario.specs.declared.names.Opened.{Opened}
-use Rattle.lock_scenario.specs.Names.{NotAfter, closed}
+use Rattle.lock_scenario.specs.Names.{ComesAfter, NotAfter, closed}
 use Rattle.lock_scenario.proofs.NameOrder.{NotAfter-trans}
-use Rattle.std.proofs.lemmas.Bool.{false≢true}
 use Rattle.std.specs.Str.{bytes_eq}
 use Rattle.std.specs.Bool.{Decides}
 use Rattle.std.proofs.lemmas.Slice.Eq.{bytes_eq-Decides}
@@ -25,69 +24,69 @@ each-more P items i x at within here below k d h = below_more (λ j. P (get_or i
   same : x ≡ get_or items i d
   same = grind (arith, common_steps)
 
--- ---- the first open session
+-- ---- the next open session
 
--- Below this place the session that was found is open, and its name comes after no open session's.
-pub record FirstBelow (items : List Opened) (i : ℕ) (found : ℕ × ArrayString 16) : Type 0 where
+-- Below this place the session that was found comes after the last one, and its name comes after the name of none that does.
+pub record NextBelow (items : List Opened) (last : Option (ArrayString 16)) (i : ℕ) (found : ℕ × ArrayString 16) : Type 0 where
   pub below : found.0 < i
-  pub is_open : (d : Opened) → (get_or items found.0 d).is_open ≡ true
+  pub comes_after : (d : Opened) → ComesAfter last (get_or items found.0 d)
   pub name : (d : Opened) → (get_or items found.0 d).name ≡ found.1
-  pub not_after : (k : ℕ) (d : Opened) → k < i → (get_or items k d).is_open ≡ true → NotAfter found.1.bytes (get_or items k d).name.bytes
+  pub not_after : (k : ℕ) (d : Opened) → k < i → ComesAfter last (get_or items k d) → NotAfter found.1.bytes (get_or items k d).name.bytes
 
--- Below this place no session is open.
-abbrev pub NoneOpenBelow : List Opened → ℕ → Type 0
-NoneOpenBelow items i = (k : ℕ) (d : Opened) → k < i → (get_or items k d).is_open ≡ false
+-- Below this place no session comes after the last one.
+abbrev pub NoneLeftBelow : List Opened → Option (ArrayString 16) → ℕ → Type 0
+NoneLeftBelow items last i = (k : ℕ) (d : Opened) → k < i → ComesAfter last (get_or items k d) → ⊥
 
--- An open session is looked at: of it and the first one so far the earlier is the first one now.
-pub found-open :
-    (items : List Opened) (i : ℕ) (x : Opened) (first : Option (ℕ × ArrayString 16)) (after : ℕ × ArrayString 16) →
-    x ≡ get_or items i x → i < length items → x.is_open ≡ true → IfSome first (FirstBelow items i) → IfNone first (NoneOpenBelow items i) →
-    (after ≡ (i, x.name)) ⊎ (first ≡ Some after) → NotAfter after.1.bytes x.name.bytes → IfSome first (λ other. NotAfter after.1.bytes other.1.bytes) → FirstBelow items (i + 1) after
-found-open items i x first after at within opened before none which not_after_x not_after_first = record {
+-- A session that comes after the last one is looked at: of it and the next one so far the earlier is the next one now.
+pub found-left :
+    (items : List Opened) (last : Option (ArrayString 16)) (i : ℕ) (x : Opened) (next : Option (ℕ × ArrayString 16)) (after : ℕ × ArrayString 16) →
+    x ≡ get_or items i x → i < length items → ComesAfter last x → IfSome next (NextBelow items last i) → IfNone next (NoneLeftBelow items last i) →
+    (after ≡ (i, x.name)) ⊎ (next ≡ Some after) → NotAfter after.1.bytes x.name.bytes → IfSome next (λ other. NotAfter after.1.bytes other.1.bytes) → NextBelow items last (i + 1) after
+found-left items last i x next after at within left before none which not_after_x not_after_next = record {
   below = (place which).0;
-  is_open = (place which).1;
+  comes_after = (place which).1;
   name = name which;
-  not_after = each-more (λ other. other.is_open ≡ true → NotAfter after.1.bytes other.name.bytes) items i x at within (λ _. not_after_x) (below first before none not_after_first);
+  not_after = each-more (λ other. ComesAfter last other → NotAfter after.1.bytes other.name.bytes) items i x at within (λ _. not_after_x) (below next before none not_after_next);
 } where
   here : (d : Opened) → get_or items i d ≡ x
   here d = sym (at ∙ get_or_default items i x d within)
 
-  place : (after ≡ (i, x.name)) ⊎ (first ≡ Some after) → (after.0 < i + 1) × ((d : Opened) → (get_or items after.0 d).is_open ≡ true)
+  place : (after ≡ (i, x.name)) ⊎ (next ≡ Some after) → (after.0 < i + 1) × ((d : Opened) → ComesAfter last (get_or items after.0 d))
   place (inl e) =
       let it : after.0 ≡ i = ap (λ (found : ℕ × ArrayString 16). found.0) e in
-      (omega arith, λ d. ap (λ (k : ℕ). (get_or items k d).is_open) it ∙ ap (λ (one : Opened). one.is_open) (here d) ∙ opened)
+      (omega arith, λ d. subst (ComesAfter last) (sym (ap (λ (k : ℕ). get_or items k d) it ∙ here d)) left)
   place (inr e) =
-      let it : FirstBelow items i after = subst (λ (o : Option (ℕ × ArrayString 16)). IfSome o (FirstBelow items i)) e before in
-      (omega (arith, it.below), it.is_open)
+      let it : NextBelow items last i after = subst (λ (o : Option (ℕ × ArrayString 16)). IfSome o (NextBelow items last i)) e before in
+      (omega (arith, it.below), it.comes_after)
 
-  name : (after ≡ (i, x.name)) ⊎ (first ≡ Some after) → (d : Opened) → (get_or items after.0 d).name ≡ after.1
+  name : (after ≡ (i, x.name)) ⊎ (next ≡ Some after) → (d : Opened) → (get_or items after.0 d).name ≡ after.1
   name (inl e) = λ d.
       ap (λ (found : ℕ × ArrayString 16). (get_or items found.0 d).name) e ∙ ap (λ (one : Opened). one.name) (here d) ∙ sym (ap (λ (found : ℕ × ArrayString 16). found.1) e)
-  name (inr e) = (subst (λ (o : Option (ℕ × ArrayString 16)). IfSome o (FirstBelow items i)) e before).name
+  name (inr e) = (subst (λ (o : Option (ℕ × ArrayString 16)). IfSome o (NextBelow items last i)) e before).name
 
   below :
-      (first : Option (ℕ × ArrayString 16)) → IfSome first (FirstBelow items i) → IfNone first (NoneOpenBelow items i) → IfSome first (λ other. NotAfter after.1.bytes other.1.bytes) →
-      (k : ℕ) (d : Opened) → k < i → (get_or items k d).is_open ≡ true → NotAfter after.1.bytes (get_or items k d).name.bytes
-  below None before none not_after_first k d h is = absurd (false≢true (sym (none k d h) ∙ is))
-  below (Some other) before none not_after_first k d h is = NotAfter-trans after.1.bytes other.1.bytes (get_or items k d).name.bytes not_after_first (before.not_after k d h is)
+      (next : Option (ℕ × ArrayString 16)) → IfSome next (NextBelow items last i) → IfNone next (NoneLeftBelow items last i) → IfSome next (λ other. NotAfter after.1.bytes other.1.bytes) →
+      (k : ℕ) (d : Opened) → k < i → ComesAfter last (get_or items k d) → NotAfter after.1.bytes (get_or items k d).name.bytes
+  below None before none not_after_next k d h is = absurd (none k d h is)
+  below (Some other) before none not_after_next k d h is = NotAfter-trans after.1.bytes other.1.bytes (get_or items k d).name.bytes not_after_next (before.not_after k d h is)
 
--- A session that is not open is passed over.
+-- A session that does not come after the last one is passed over.
 pub found-later :
-    (items : List Opened) (i : ℕ) (x : Opened) (first : Option (ℕ × ArrayString 16)) →
-    x ≡ get_or items i x → i < length items → x.is_open ≡ false → IfSome first (FirstBelow items i) → IfSome first (FirstBelow items (i + 1))
-found-later items i x None at within here before = tt
-found-later items i x (Some found) at within here before = record {
+    (items : List Opened) (last : Option (ArrayString 16)) (i : ℕ) (x : Opened) (next : Option (ℕ × ArrayString 16)) →
+    x ≡ get_or items i x → i < length items → (ComesAfter last x → ⊥) → IfSome next (NextBelow items last i) → IfSome next (NextBelow items last (i + 1))
+found-later items last i x None at within here before = tt
+found-later items last i x (Some found) at within here before = record {
   below = omega (arith, before.below);
-  is_open = before.is_open;
+  comes_after = before.comes_after;
   name = before.name;
-  not_after = each-more (λ other. other.is_open ≡ true → NotAfter found.1.bytes other.name.bytes) items i x at within (λ is. absurd (false≢true (sym here ∙ is))) before.not_after;
+  not_after = each-more (λ other. ComesAfter last other → NotAfter found.1.bytes other.name.bytes) items i x at within (λ is. absurd (here is)) before.not_after;
 }
 
 pub none-later :
-    (items : List Opened) (i : ℕ) (x : Opened) (first : Option (ℕ × ArrayString 16)) →
-    x ≡ get_or items i x → i < length items → x.is_open ≡ false → IfNone first (NoneOpenBelow items i) → IfNone first (NoneOpenBelow items (i + 1))
-none-later items i x None at within here before = each-more (λ other. other.is_open ≡ false) items i x at within here before
-none-later items i x (Some found) at within here before = tt
+    (items : List Opened) (last : Option (ArrayString 16)) (i : ℕ) (x : Opened) (next : Option (ℕ × ArrayString 16)) →
+    x ≡ get_or items i x → i < length items → (ComesAfter last x → ⊥) → IfNone next (NoneLeftBelow items last i) → IfNone next (NoneLeftBelow items last (i + 1))
+none-later items last i x None at within here before = each-more (λ other. ComesAfter last other → ⊥) items i x at within here before
+none-later items last i x (Some found) at within here before = tt
 
 -- ---- a session that is closed
 

@@ -1,6 +1,7 @@
 //! The commands of the script language, and the parse of their words.
-ghost use Rattle.std.specs.Prelude.{◌≡◌, ◌<◌, length, IfOk, IfSome};
-ghost use Rattle.lock_scenario.specs.Command.{Addresses, MayAct};
+ghost use Rattle.std.specs.Prelude.{◌≡◌, ◌≢◌, ◌<◌, ◌↔◌, ◌⊎◌, length, IfOk, IfErr, IfSome, IsErrOf};
+ghost use Rattle.std.specs.List.{HoldsAt};
+ghost use Rattle.lock_scenario.specs.Command.{Addresses, IsBarred, IsNamed, IsUnnamed, MayAct, NamesOneThatMayAct};
 ghost use Rattle.lock_scenario.specs.Desk.{issued_of};
 
 use crate::desk::Desk;
@@ -187,7 +188,13 @@ fn parse_hash(words: &[&str]) -> Result<Tag, Defect> {
 /// The words behind `cancel`: who asks, and the session that is asked, which may wait.
 fn parse_cancel(words: &[&str], names: &Names, desk: &Desk) -> Result<(Speaker, Speaker), Defect>
     requires { length names.now.opened.items ≡ issued_of desk.now }
-    ensures { IfOk result (λ parsed. MayAct desk.now parsed.0.session) }
+    ensures addressed { IfOk result (λ parsed. MayAct desk.now parsed.0.session × (parsed.1.session < issued_of desk.now)) }
+    ensures by { IfOk result (λ parsed. HoldsAt (λ word. IsNamed names.now.opened.items word.now parsed.0.session × (parsed.0.name.bytes ≡ word.now)) words.now 0) }
+    ensures other { IfOk result (λ parsed. HoldsAt (λ word. IsNamed names.now.opened.items word.now parsed.1.session × (parsed.1.name.bytes ≡ word.now)) words.now 1) }
+    ensures wrong_number { IsErrOf result Defect.WrongNumberOfWords ↔ (length words.now ≢ 2) }
+    ensures refused { IfErr result (λ defect. defect ≢ Defect.WrongNumberOfWords →
+        HoldsAt (λ word. IsBarred desk.now names.now.opened.items word.now defect) words.now 0
+        ⊎ (HoldsAt (λ word. NamesOneThatMayAct desk.now names.now.opened.items word.now) words.now 0 × HoldsAt (λ word. IsUnnamed names.now.opened.items word.now defect) words.now 1)) }
 {
     let [by, other] = words else {
         return Err(Defect::WrongNumberOfWords);
@@ -200,7 +207,10 @@ fn parse_cancel(words: &[&str], names: &Names, desk: &Desk) -> Result<(Speaker, 
 /// The session that a word names. It may not wait.
 fn parse_speaker(name: &str, names: &Names, desk: &Desk) -> Result<Speaker, Defect>
     requires { length names.now.opened.items ≡ issued_of desk.now }
-    ensures { IfOk result (λ speaker. MayAct desk.now speaker.session) }
+    ensures may_act { IfOk result (λ speaker. MayAct desk.now speaker.session) }
+    ensures named { IfOk result (λ speaker. IsNamed names.now.opened.items name.now speaker.session) }
+    ensures name { IfOk result (λ speaker. speaker.name.bytes ≡ name.now) }
+    ensures refused { IfErr result (IsBarred desk.now names.now.opened.items name.now) }
 {
     let speaker = parse_opened(name, names)?;
     if desk.is_waiting(speaker.session) {
@@ -211,7 +221,9 @@ fn parse_speaker(name: &str, names: &Names, desk: &Desk) -> Result<Speaker, Defe
 
 /// The session that a word names, whether it waits or not.
 fn parse_opened(name: &str, names: &Names) -> Result<Speaker, Defect>
-    ensures { IfOk result (λ speaker. speaker.session < length names.now.opened.items) }
+    ensures named { IfOk result (λ speaker. IsNamed names.now.opened.items name.now speaker.session) }
+    ensures name { IfOk result (λ speaker. speaker.name.bytes ≡ name.now) }
+    ensures refused { IfErr result (IsUnnamed names.now.opened.items name.now) }
 {
     let name = parse_name(name).ok_or(Defect::BadName)?;
     let session = names.session(&name).ok_or(Defect::NoSuchSession)?;

@@ -2,7 +2,7 @@
 ghost use Rattle.std.specs.Prelude.{◌≡◌, ◌≢◌, ◌<◌, ◌↔◌, ◌⊎◌, [], ◌∷◌, ◌++◌, true, false, length, slice_get, Some, IfSome, IfNone, IsTrue, All};
 ghost use Rattle.std.specs.List.{HoldsAt};
 ghost use Rattle.std.specs.Option.{option_map};
-ghost use Rattle.lock_scenario.specs.Names.{GoesBy, IsFirstOf, NotAfter, closed};
+ghost use Rattle.lock_scenario.specs.Names.{ComesAfter, GoesBy, IsFirstOf, IsNextOf, NotAfter, closed};
 
 use arrayvec::{ArrayString, ArrayVec};
 use modes_core::SessionId;
@@ -26,7 +26,9 @@ impl Opened {
     }
 
     /// Whether this is an open session whose name comes after the last one, if there is one.
-    fn comes_after(&self, last: Option<Name>) -> bool {
+    fn comes_after(&self, last: Option<Name>) -> bool
+        ensures { IsTrue result ↔ ComesAfter last self.now }
+    {
         match last {
             Some(last) => self.is_open && last < self.name,
             None => self.is_open,
@@ -100,20 +102,17 @@ impl Names {
         ensures within { IfSome result (λ session. session < length self.now.opened.items) }
         ensures none_open { IfNone result (All (λ other. other.is_open ≡ false) self.now.opened.items) }
     {
-        let mut first: Option<(u8, Name)> = None;
-        for (place, other) in self.opened.as_slice().iter().enumerate() {
-            if other.is_open {
-                first = Some(earlier(first, place as u8, other.name));
-            }
-        }
-        let (place, _) = first?;
-        SessionId::new(place)
+        let (_, session) = self.next(None)?;
+        Some(session)
     }
 
     /// The open session whose name comes next after this one in the order of bytes, or first where there
     /// is no last one.
     pub fn next(&self, last: Option<Name>) -> Option<(Name, SessionId)>
+        ensures found { IfSome result (λ found. HoldsAt (IsNextOf self.now.opened.items last) self.now.opened.items found.1) }
+        ensures name { IfSome result (λ found. HoldsAt (λ opened. opened.name ≡ found.0) self.now.opened.items found.1) }
         ensures within { IfSome result (λ found. found.1 < length self.now.opened.items) }
+        ensures none_left { IfNone result (All (λ other. ComesAfter last other → ⊥) self.now.opened.items) }
     {
         let mut next: Option<(u8, Name)> = None;
         for (place, other) in self.opened.as_slice().iter().enumerate() {

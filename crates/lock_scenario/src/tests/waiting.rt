@@ -1,5 +1,11 @@
 //! Scripts in which sessions wait, with what they print by the rules of the queue.
-use super::expect_run;
+ghost use Rattle.std.specs.Prelude.{◌≡◌, ◌<◌, None};
+ghost use Rattle.lock_scenario.specs.Desk.{issued_of, wait_of};
+
+use super::{EIGHT, expect_run};
+use crate::desk::{Asked, Cancelled, Desk, Started};
+use local_locks::{Acquired, Unlocked};
+use modes_core::{How, Mode, Owner, Refusal, SessionId, Tag};
 use std::alloc::Global;
 use std::process::Abort;
 use std::test::Fail;
@@ -211,6 +217,62 @@ fn cancels_waits(rt: HostRuntime) -> Result<(), Fail> {
     ] {
         expect_waiting(&rt, sessions, lines, printed, "")?;
     }
+    Ok(())
+}
+
+/// Ends the test where the session waits.
+fn expect_no_wait(rt: &impl Abort, desk: &Desk, session: SessionId)
+    requires issued { session < issued_of desk.now }
+    ensures { wait_of desk.now session ≡ None }
+{
+    if desk.is_waiting(session) {
+        panic!(rt; "the session waits");
+    }
+}
+
+#[test]
+fn keeps_what_was_granted_before_a_cancel(rt: HostRuntime) -> Result<(), Fail> {
+    let mut desk = Desk::new(rt.alloc(), EIGHT).expect(&rt, "a desk");
+    let holder = desk.session(5).expect(&rt, "a session");
+    let waiter = desk.session(5).expect(&rt, "a session");
+    let tag = Tag::relation(5, 16384);
+    let (mode, owner) = (Mode::AccessExclusive, Owner::Transaction);
+    expect_no_wait(&rt, &desk, holder);
+    let taken = desk.try_lock(holder, tag, mode, owner);
+    assert!(rt; taken == Ok(Acquired::Granted));
+    expect_no_wait(&rt, &desk, waiter);
+    let started = desk.start(waiter, tag, mode, owner);
+    assert!(rt; started == Ok(Started::Queued));
+    assert!(rt; !desk.held(waiter, tag).has(mode));
+
+    // the release grants it, and the waiter has not looked
+    expect_no_wait(&rt, &desk, holder);
+    let released = desk.unlock(holder, tag, mode, owner);
+    assert!(rt; released == Ok(Unlocked::Released));
+    expect_no_wait(&rt, &desk, holder);
+    let asked = desk.ask_cancel(holder, waiter);
+    assert!(rt; asked == Asked::NotWaiting);
+    assert_eq!(rt; desk.owner_count(waiter, tag, mode, owner), 0);
+    if !desk.is_waiting(waiter) {
+        panic!(rt; "the session doesn't wait");
+    }
+    let cancelled = desk.cancel(waiter);
+    assert!(rt; cancelled == Cancelled::WasGranted);
+
+    // the waiter owns it and keeps others out
+    expect_no_wait(&rt, &desk, waiter);
+    assert_eq!(rt; desk.owner_count(waiter, tag, mode, owner), 1);
+    assert!(rt; desk.held(waiter, tag).has(mode));
+    expect_no_wait(&rt, &desk, holder);
+    let refused = desk.try_lock(holder, tag, Mode::AccessShare, owner);
+    assert!(rt;
+        refused
+            == Err(Refusal::Conflict {
+                session: waiter,
+                mode,
+                how: How::Held
+            })
+    );
     Ok(())
 }
 
