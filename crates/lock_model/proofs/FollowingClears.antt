@@ -1,8 +1,7 @@
-use Rattle.std.proofs.Common.{◌≡◌, ◌⊎◌, ℕ, ◌<◌, Bool, true, false, not, ◌&&◌, List, length, map, get_or, Option, Some, None, is_none, is_some, option_map, refl, sym, ap, ◌∙◌, subst, inl, inr}
+use Rattle.std.proofs.Common.{◌≡◌, ℕ, ◌<◌, Bool, true, false, not, ◌&&◌, List, length, get_or, Option, Some, None, is_some, option_map, refl, sym, ap, ◌∙◌, subst, inl, inr}
 use Rattle.std.specs.Vec.{with_item}
 use Rattle.std.proofs.Math.ListN.{set, length-set}
 use Rattle.std.proofs.lemmas.Bool.{both_ways, and_parts, and_from, not-true, not_from_false}
-use Rattle.modes_core.specs.declared.modes.Mode.{Mode}
 use Rattle.modes_core.specs.declared.tags.Tag.{Tag}
 use Rattle.modes_core.specs.Tag.{partition_of}
 use Rattle.lock_model.specs.declared.events.Move.{Move}
@@ -12,18 +11,18 @@ use Rattle.lock_model.specs.declared.machine.hands.InHand.{InHand}
 use Rattle.lock_model.specs.declared.machine.hands.Awaited.{Awaited}
 use Rattle.lock_model.specs.declared.machine.state.Machine.{Machine}
 use Rattle.lock_model.specs.Content.{Wait, Content}
-use Rattle.lock_model.specs.Parts.{part_at, contents_in}
+use Rattle.lock_model.specs.Parts.{contents_in}
 use Rattle.lock_model.specs.PartView.{PartView, content_of}
 use Rattle.lock_model.specs.OwnWait.{OwnWait}
 use Rattle.lock_model.specs.Queue.{waits_there, Wakes, remove_wait}
-use Rattle.lock_model.specs.World.{World, set_at, recorded_in, MakesSteps}
-use Rattle.lock_model.specs.Making.{MayMove, recording, MayClearSeen, MayClearInHand, after_clearing, MayLeave, after_leaving}
-use Rattle.lock_model.specs.Happens.{Lawful, Next, HappensClearing}
+use Rattle.lock_model.specs.World.{World, recorded_in, MakesSteps}
+use Rattle.lock_model.specs.Making.{MayMove, recording, MayClearSeen, MayClearInHand, after_clearing, after_leaving}
+use Rattle.lock_model.specs.Happens.{Next, HappensClearing}
 use Rattle.lock_model.specs.Safe.{Safe}
 use Rattle.lock_model.specs.Shows.{Shows, is_due, hand_of, awaited_of, makes_steps}
-use Rattle.lock_model.proofs.FollowingWaiting.{SeatsAreKept, ShowsWaits, shown_with, unlawful}
+use Rattle.lock_model.proofs.FollowingWaiting.{shown_with}
 use Rattle.lock_model.proofs.MarkLemmas.{recording-shown, awaited-set_at, contents-set_at, begun-set_at, awaited-some}
-use Rattle.lock_model.proofs.Following.{get_or-set_at}
+use Rattle.lock_model.proofs.Following.{get_or-set_at, skipped}
 use Rattle.lock_model.proofs.PlaceLemmas.{hand-set_at}
 use Rattle.lock_model.proofs.Showing.{HasInHand, recorded_from, hand_from, hand_not, content_from, steps_from, steps_not}
 
@@ -55,11 +54,11 @@ same_wait wait a e = let same : a ≡ awaited_of wait = cc in sym (ap (λ (x : A
 
 module _ (m : Machine) (w : World) (safe : Safe w) (shows : Shows m w) where
   pub clear_refused : (s : ℕ) (leaving : Bool) → makes_steps m s ≡ false → (v : World) × Next w (record { session = s; step = ClearWait leaving }) v × Shows m v
-  clear_refused s leaving no_steps = unlawful m w safe shows s (ClearWait leaving) (λ lawful. steps_not m w safe shows s no_steps (clearing_steps w s leaving lawful.0 lawful.1))
+  clear_refused s leaving no_steps = skipped m w safe shows s (ClearWait leaving) (λ lawful. steps_not m w safe shows s no_steps (clearing_steps w s leaving lawful.0 lawful.1))
 
   pub clear_of_nothing : (s : ℕ) (leaving : Bool) → get_or m.awaited s None ≡ None → (v : World) × Next w (record { session = s; step = ClearWait leaving }) v × Shows m v
   clear_of_nothing s leaving none =
-      unlawful m w safe shows s (ClearWait leaving)
+      skipped m w safe shows s (ClearWait leaving)
       (λ lawful.
       let found = clearing_wait w s leaving lawful.0 lawful.1 in
       let some : None ≡ Some (awaited_of found.0) = sym none ∙ shows.awaited s ∙ ap (option_map awaited_of) found.1 in
@@ -134,7 +133,7 @@ module _ (m : Machine) (w : World) (safe : Safe w) (shows : Shows m w) where
   pub clear_too_early : (s : ℕ) (a : Awaited) → get_or m.awaited s None ≡ Some a → get_or m.seen s false ≡ false
       → (is_some (hand_of m s (partition_of a.tag)) && not (waits_there ((contents_in m.parts.items (partition_of a.tag)).waits a.tag) s)) ≡ false
       → (v : World) × Next w (record { session = s; step = ClearWait false }) v × Shows m v
-  clear_too_early s a kept unseen not_gone = unlawful m w safe shows s (ClearWait false) (λ lawful. not_clear s a kept unseen not_gone lawful.0 lawful.1)
+  clear_too_early s a kept unseen not_gone = skipped m w safe shows s (ClearWait false) (λ lawful. not_clear s a kept unseen not_gone lawful.0 lawful.1)
 
   -- Leaving, where the leave stands recorded.
   pub left_before : (s : ℕ) (a : Awaited) (t : Tag) (shown : InHand) (r : Move) → get_or m.awaited s None ≡ Some a → a.tag ≡ t → hand_of m s (partition_of t) ≡ Some shown → shown.recorded ≡ Some r → r ≡ Leave t
@@ -238,7 +237,7 @@ module _ (m : Machine) (w : World) (safe : Safe w) (shows : Shows m w) where
       hand_not m w safe shows s (partition_of wait.tag) (ap (λ x. hand_of m s (partition_of x)) (tag_of s a wait kept may.is_wait ∙ of_tag) ∙ none) may.steps may.holding
 
   pub leave_without_hand : (s : ℕ) (a : Awaited) (t : Tag) → get_or m.awaited s None ≡ Some a → a.tag ≡ t → hand_of m s (partition_of t) ≡ None → (v : World) × Next w (record { session = s; step = ClearWait true }) v × Shows m v
-  leave_without_hand s a t kept of_tag none = unlawful m w safe shows s (ClearWait true) (λ lawful. not_leave_hand s a t kept of_tag none lawful.0 lawful.1)
+  leave_without_hand s a t kept of_tag none = skipped m w safe shows s (ClearWait true) (λ lawful. not_leave_hand s a t kept of_tag none lawful.0 lawful.1)
 
   not_leave_nothing : (s : ℕ) (a : Awaited) (t : Tag) (shown : InHand) → get_or m.awaited s None ≡ Some a → a.tag ≡ t → hand_of m s (partition_of t) ≡ Some shown → shown.recorded ≡ None
       → waits_there ((contents_in m.parts.items (partition_of t)).waits t) s ≡ false → (v : World) → HappensClearing w s true v → ⊥
@@ -255,7 +254,7 @@ module _ (m : Machine) (w : World) (safe : Safe w) (shows : Shows m w) where
   pub leave_of_nothing : (s : ℕ) (a : Awaited) (t : Tag) (shown : InHand) → get_or m.awaited s None ≡ Some a → a.tag ≡ t → hand_of m s (partition_of t) ≡ Some shown → shown.recorded ≡ None
       → waits_there ((contents_in m.parts.items (partition_of t)).waits t) s ≡ false → (v : World) × Next w (record { session = s; step = ClearWait true }) v × Shows m v
   leave_of_nothing s a t shown kept of_tag in_hand unmoved gone =
-      unlawful m w safe shows s (ClearWait true) (λ lawful. not_leave_nothing s a t shown kept of_tag in_hand unmoved gone lawful.0 lawful.1)
+      skipped m w safe shows s (ClearWait true) (λ lawful. not_leave_nothing s a t shown kept of_tag in_hand unmoved gone lawful.0 lawful.1)
 
   not_leave_again : (s : ℕ) (a : Awaited) (t : Tag) (shown : InHand) (r : Move) → get_or m.awaited s None ≡ Some a → a.tag ≡ t → hand_of m s (partition_of t) ≡ Some shown → shown.recorded ≡ Some r
       → ((r ≡ Leave t) → waits_there ((contents_in m.parts.items (partition_of t)).waits t) s ≡ true) → (v : World) → HappensClearing w s true v → ⊥
@@ -276,4 +275,4 @@ module _ (m : Machine) (w : World) (safe : Safe w) (shows : Shows m w) where
   pub leave_after_move : (s : ℕ) (a : Awaited) (t : Tag) (shown : InHand) (r : Move) → get_or m.awaited s None ≡ Some a → a.tag ≡ t → hand_of m s (partition_of t) ≡ Some shown → shown.recorded ≡ Some r
       → ((r ≡ Leave t) → waits_there ((contents_in m.parts.items (partition_of t)).waits t) s ≡ true) → (v : World) × Next w (record { session = s; step = ClearWait true }) v × Shows m v
   leave_after_move s a t shown r kept of_tag in_hand recorded stands =
-      unlawful m w safe shows s (ClearWait true) (λ lawful. not_leave_again s a t shown r kept of_tag in_hand recorded stands lawful.0 lawful.1)
+      skipped m w safe shows s (ClearWait true) (λ lawful. not_leave_again s a t shown r kept of_tag in_hand recorded stands lawful.0 lawful.1)

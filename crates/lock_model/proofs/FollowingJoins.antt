@@ -1,4 +1,4 @@
-use Rattle.std.proofs.Common.{◌≡◌, ℕ, ◌+◌, ◌<◌, ◌≤◌, Bool, true, false, not, ◌&&◌, List, [], ◌++◌, ◌∷◌, length, length-append, take, drop, get_or, Option, Some, None, is_none, is_some, option_map, refl, sym, ap, ◌∙◌, subst, inl, inr, arith}
+use Rattle.std.proofs.Common.{◌≡◌, ℕ, ◌<◌, ◌≤◌, Bool, true, false, not, ◌&&◌, List, [], ◌++◌, ◌∷◌, length, length-append, drop, get_or, Option, Some, None, is_none, is_some, option_map, refl, sym, ap, ◌∙◌, subst, inl, inr, arith}
 use Rattle.std.specs.Vec.{with_item}
 use Rattle.std.proofs.Math.ListN.{set, length-set}
 use Rattle.std.proofs.lemmas.Bool.{both_ways, and_parts, and_from, not-true, not_from_false, false_from_ne_true}
@@ -15,22 +15,22 @@ use Rattle.lock_model.specs.declared.machine.hands.InHand.{InHand}
 use Rattle.lock_model.specs.declared.machine.hands.Awaited.{Awaited}
 use Rattle.lock_model.specs.declared.machine.state.Machine.{Machine}
 use Rattle.lock_model.specs.Clash.{Clash}
-use Rattle.lock_model.specs.Content.{Wait, Content}
-use Rattle.lock_model.specs.Parts.{part_at, contents_in}
+use Rattle.lock_model.specs.Content.{Content}
+use Rattle.lock_model.specs.Parts.{contents_in}
 use Rattle.lock_model.specs.PartView.{PartView, content_of}
-use Rattle.lock_model.specs.Queue.{Place, Last, Before, AtOnce, Deadlock, Answer, Granted, Queued, SimpleDeadlock, answer_of_place, PlaceIs, WaitingAnswer, WaitingAnswerAt, awaits_mode, waits_there, joining_wait, with_queue, add_wait}
+use Rattle.lock_model.specs.Queue.{Place, Last, Before, AtOnce, Deadlock, Granted, Queued, SimpleDeadlock, answer_of_place, PlaceIs, WaitingAnswer, WaitingAnswerAt, awaits_mode, waits_there, joining_wait, with_queue, add_wait}
 use Rattle.lock_model.specs.Told.{IsTold}
-use Rattle.lock_model.specs.World.{World, set_at}
+use Rattle.lock_model.specs.World.{World}
 use Rattle.lock_model.specs.Making.{MayMove, recording, after_setting_waiting}
-use Rattle.lock_model.specs.Happens.{Lawful, Next}
+use Rattle.lock_model.specs.Happens.{Next}
 use Rattle.lock_model.specs.Safe.{Safe}
 use Rattle.lock_model.specs.Shows.{Shows, is_due, hand_of, awaits, awaited_of}
-use Rattle.lock_model.proofs.FollowingWaiting.{SeatsAreKept, ShowsWaits, shown_with, unlawful}
+use Rattle.lock_model.proofs.FollowingWaiting.{shown_with}
 use Rattle.lock_model.proofs.MarkLemmas.{recording-shown, awaited-set_at, contents-set_at, begun-set_at}
 use Rattle.lock_model.proofs.OneAnswer.{waiting_answer-one}
-use Rattle.lock_model.proofs.Following.{get_or-set_at}
+use Rattle.lock_model.proofs.Following.{get_or-set_at, skipped}
 use Rattle.lock_model.proofs.PlaceLemmas.{hand-set_at}
-use Rattle.lock_model.proofs.Showing.{HasInHand, recorded_from, hand_from, hand_not, own_from, content_from, no_wait_from, some_wait_from, stands_not, awaits_not}
+use Rattle.lock_model.proofs.Showing.{HasInHand, recorded_from, hand_from, hand_not, own_from, content_from, no_wait_from, stands_not, awaits_not}
 
 -- Joining a queue, and setting the own wait word to waiting.
 
@@ -66,8 +66,8 @@ told_place c s t m n (inr last) =
       Last,
       last.0,
       ap (with_queue c t)
-      (ap (λ front. front ++ joining_wait c s t m ∷ drop n (c.waits t)) (take_all n (c.waits t) all)
-      ∙ ap (λ back. c.waits t ++ joining_wait c s t m ∷ back) (drop_all n (c.waits t) all)),
+          (ap (λ front. front ++ joining_wait c s t m ∷ drop n (c.waits t)) (take_all n (c.waits t) all)
+          ∙ ap (λ back. c.waits t ++ joining_wait c s t m ∷ back) (drop_all n (c.waits t) all)),
     )
 
 -- Whoever is told another thing is not to join.
@@ -154,11 +154,11 @@ module _ (m : Machine) (w : World) (safe : Safe w) (shows : Shows m w) where
     }
 
   pub join_without_hand : (s : ℕ) (t : Tag) (n : Mode) → hand_of m s (partition_of t) ≡ None → (v : World) × Next w (record { session = s; step = SetWaiting t n }) v × Shows m v
-  join_without_hand s t n none = unlawful m w safe shows s (SetWaiting t n) (λ lawful. hand_not m w safe shows s (partition_of t) none lawful.1.1.steps lawful.1.1.holding)
+  join_without_hand s t n none = skipped m w safe shows s (SetWaiting t n) (λ lawful. hand_not m w safe shows s (partition_of t) none lawful.1.1.steps lawful.1.1.holding)
 
   pub join_after_move : (s : ℕ) (t : Tag) (n : Mode) (shown : InHand) → hand_of m s (partition_of t) ≡ Some shown → is_some shown.recorded ≡ true → (v : World) × Next w (record { session = s; step = SetWaiting t n }) v × Shows m v
   join_after_move s t n shown in_hand moved =
-      unlawful m w safe shows s (SetWaiting t n)
+      skipped m w safe shows s (SetWaiting t n)
       (λ lawful. both_ways (is_some shown.recorded)
       (ap is_some (sym (recorded_from w s (partition_of t) shown (hand_from m w safe shows s (partition_of t) shown in_hand)) ∙ lawful.1.1.unrecorded)) moved)
 
@@ -166,7 +166,7 @@ module _ (m : Machine) (w : World) (safe : Safe w) (shows : Shows m w) where
       → (is_none (get_or m.awaited s None) && not ((contents_in m.parts.items (partition_of t)).holds s t n)) ≡ false
       → (v : World) × Next w (record { session = s; step = SetWaiting t n }) v × Shows m v
   join_may_not s t n shown in_hand may_not =
-      unlawful m w safe shows s (SetWaiting t n)
+      skipped m w safe shows s (SetWaiting t n)
       (λ lawful.
       let none : is_none (get_or m.awaited s None) ≡ true = ap is_none (shows.awaited s ∙ ap (option_map awaited_of) lawful.1.1.own.0) in
       let not_held = false_from_ne_true ((contents_in m.parts.items (partition_of t)).holds s t n) (λ held.
@@ -178,5 +178,5 @@ module _ (m : Machine) (w : World) (safe : Safe w) (shows : Shows m w) where
   pub join_not_told : (s : ℕ) (t : Tag) (n : Mode) (what : Told) → IsTold (contents_in m.parts.items (partition_of t)) s t n what → ((k : ℕ) → what ≡ InQueue k → ⊥)
       → (v : World) × Next w (record { session = s; step = SetWaiting t n }) v × Shows m v
   join_not_told s t n what is not_queued =
-      unlawful m w safe shows s (SetWaiting t n)
+      skipped m w safe shows s (SetWaiting t n)
       (λ lawful. told_not (w.contents.now (partition_of t)) s t n what lawful.1.1.moved.0 (subst (λ (c : Content). IsTold c s t n what) (content_from m w safe shows t) is) not_queued lawful.1.1.moved.1)

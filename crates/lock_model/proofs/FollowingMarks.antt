@@ -1,10 +1,8 @@
-use Rattle.std.proofs.Common.{◌≡◌, ◌≢◌, ◌⊎◌, ℕ, ◌+◌, ◌<◌, ◌%◌, Bool, true, false, not, ◌&&◌, List, length, map, get_or, Option, Some, None, refl, sym, ap, ◌∙◌, subst, inl, inr, arith}
+use Rattle.std.proofs.Common.{◌≡◌, ◌≢◌, ◌⊎◌, ℕ, ◌+◌, ◌<◌, Bool, true, false, not, ◌&&◌, List, length, get_or, Option, Some, None, refl, sym, ap, ◌∙◌, subst, inl, inr, arith}
 use Rattle.std.specs.Vec.{with_item}
 use Rattle.std.proofs.Math.ListN.{set, length-set}
 use Rattle.std.proofs.lemmas.Bool.{cases_lt, both_ways, and_from}
 use Rattle.std.proofs.lemmas.List.{get_or_past}
-use Rattle.modes_core.specs.declared.modes.Mode.{Mode}
-use Rattle.modes_core.specs.declared.tags.Tag.{Tag}
 use Rattle.modes_core.specs.Tag.{partition_of}
 use Rattle.lock_model.specs.declared.events.Move.{Move}
 use Rattle.lock_model.specs.declared.events.Move.TheVariants.{Keep, Grant, Join, Release, Leave}
@@ -18,7 +16,6 @@ use Rattle.lock_model.specs.MoveTests.{move_eq}
 use Rattle.lock_model.specs.Parts.{part_at, contents_in}
 use Rattle.lock_model.specs.PartView.{content_of}
 use Rattle.lock_model.specs.Queue.{waits_there}
-use Rattle.lock_model.specs.Waiter.{whose_and_mode}
 use Rattle.lock_model.specs.WaitWord.{wait_state}
 use Rattle.lock_model.specs.World.{World, recorded_in, owes, set_at}
 use Rattle.lock_model.specs.Making.{MayMove, MayMark, recording, without, after_marking_first, after_marking_next}
@@ -109,14 +106,16 @@ module _ (m : Machine) (w : World) (safe : Safe w) (shows : Shows m w) where
   mark_next s k p hand recorded done in_hand is_recorded same due another waiting = (
     after_marking_next w k p done,
     inl
-    (inr
-    (record {
-      steps = has.steps;
-      holding = has.holding;
-      recorded = recorded_from w s p hand has ∙ is_recorded ∙ ap Some (move_eq-same recorded done same);
-      may_mark = may_mark s k another waiting;
-      is_due = owes_from w s p hand has k ∙ due;
-    }, refl)),
+        (inr (
+          record {
+            steps = has.steps;
+            holding = has.holding;
+            recorded = recorded_from w s p hand has ∙ is_recorded ∙ ap Some (move_eq-same recorded done same);
+            may_mark = may_mark s k another waiting;
+            is_due = owes_from w s p hand has k ∙ due;
+          },
+          refl,
+        )),
     shown_with m _ w _ shows (record { numbers = refl; partition = refl; issued = refl; live = refl; kept_by = refl; words = refl; hands = length-set m.hands p _ }) (record {
       wait_word = words_after k waiting;
       hand = hand-set_at m.hands p _ (recording (w.contents.hand p) done (without (owes (w.contents.hand p)) k)) w.contents.hand (subst (λ n. p < n) (sym shows.sixteen_hands) has.exists)

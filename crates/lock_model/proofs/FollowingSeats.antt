@@ -1,4 +1,4 @@
-use Rattle.std.proofs.Common.{◌≡◌, ◌≢◌, ℕ, ◌+◌, ◌<◌, Bool, true, false, not, ◌&&◌, List, length, get_or, Option, Some, None, is_none, refl, sym, ap, ◌∙◌, subst, inl, inr}
+use Rattle.std.proofs.Common.{◌≡◌, ◌≢◌, ℕ, ◌+◌, ◌<◌, Bool, true, false, not, List, length, get_or, Option, Some, None, is_none, refl, sym, ap, ◌∙◌, subst, inl, inr}
 use Rattle.std.specs.Prelude.{◌==◌}
 use Rattle.std.specs.List.{list_any}
 use Rattle.std.proofs.Math.ListN.{set}
@@ -6,17 +6,16 @@ use Rattle.std.proofs.lemmas.Bool.{both_ways, false≢true, and_parts, and_from,
 use Rattle.std.proofs.lemmas.List.Folds.{list_any_at}
 use Rattle.modes_core.specs.declared.modes.Mode.{Mode}
 use Rattle.modes_core.specs.declared.tags.Tag.{Tag}
-use Rattle.modes_core.specs.Mode.{mode_eq}
-use Rattle.modes_core.specs.Tag.{tag_eq, partition_of}
+use Rattle.modes_core.specs.Tag.{partition_of}
 use Rattle.lock_model.specs.declared.events.Step.TheVariants.{SplitSeat, JoinSeat}
 use Rattle.lock_model.specs.declared.machine.state.Machine.{Machine}
 use Rattle.lock_model.specs.declared.request.Request.{Request}
-use Rattle.lock_model.specs.Parts.{no_part, part_at, contents_in}
+use Rattle.lock_model.specs.Parts.{no_part, part_at}
 use Rattle.lock_model.specs.PartView.{PartView, holds_in}
 use Rattle.lock_model.specs.Request.{is_request_of}
 use Rattle.lock_model.specs.World.{World}
 use Rattle.lock_model.specs.Happens.{Next, MayBeIssued, after_issuing, after_going_on, MayBeKeptApart, after_keeping_apart, MayClose, after_closing}
-use Rattle.lock_model.specs.Safe.{Safe, is_hand_of}
+use Rattle.lock_model.specs.Safe.{Safe}
 use Rattle.lock_model.specs.OwnWait.{is_for}
 use Rattle.lock_model.specs.Shows.{Shows, is_number, is_holder, makes_steps, awaits}
 use Rattle.lock_model.proofs.Following.{get_or-set_at}

@@ -1,21 +1,16 @@
-use Rattle.std.proofs.Common.{◌≡◌, ◌≢◌, ◌⊎◌, ℕ, ◌+◌, ◌<◌, ◌%◌, Bool, true, false, ◌||◌, not, ◌&&◌, List, [], ◌++◌, ◌∷◌, length, take, drop, map, get_or, Option, Some, None, is_none, is_some, option_map, refl, sym, ap, ◌∙◌, subst, inl, inr, arith}
+use Rattle.std.proofs.Common.{◌≡◌, ◌≢◌, ℕ, ◌<◌, Bool, true, false, ◌||◌, length, get_or, None, option_map, refl, sym, ap, ◌∙◌, inl}
 use Rattle.std.specs.Prelude.{◌==◌}
-use Rattle.std.specs.Vec.{with_item}
-use Rattle.std.proofs.Math.ListN.{set, length-set}
-use Rattle.std.proofs.lemmas.Bool.{cases_Bool, both_ways, false≢true, eq-eqb, ne_eqb}
-use Rattle.modes_core.specs.declared.modes.Mode.{Mode}
-use Rattle.modes_core.specs.declared.tags.Tag.{Tag}
-use Rattle.modes_core.specs.Tag.{partition_of}
-use Rattle.lock_model.specs.declared.events.Step.{Step}
+use Rattle.std.proofs.Math.ListN.{set}
+use Rattle.std.proofs.lemmas.Bool.{eq-eqb, ne_eqb}
 use Rattle.lock_model.specs.declared.events.Step.TheVariants.{AskCancel, LoadWait}
 use Rattle.lock_model.specs.declared.machine.state.Machine.{Machine}
 use Rattle.lock_model.specs.Parts.{part_at, contents_in}
 use Rattle.lock_model.specs.WaitWord.{wait_state, asked_word}
 use Rattle.lock_model.specs.World.{World, set_at}
-use Rattle.lock_model.specs.Happens.{Lawful, Next, after_asking, after_loading_wait}
+use Rattle.lock_model.specs.Happens.{Next, after_asking, after_loading_wait}
 use Rattle.lock_model.specs.Safe.{Safe}
 use Rattle.lock_model.specs.Shows.{Shows, ShowsHandIfAny, awaited_of, makes_steps}
-use Rattle.lock_model.proofs.Following.{get_or-set_at}
+use Rattle.lock_model.proofs.Following.{get_or-set_at, skipped}
 use Rattle.lock_model.proofs.PutLemmas.{set_at-same}
 use Rattle.lock_model.proofs.Showing.{steps_from, steps_not}
 
@@ -59,10 +54,6 @@ shown_with m n w v shows kept waits = record {
 }
 
 module _ (m : Machine) (w : World) (safe : Safe w) (shows : Shows m w) where
-  -- An event that isn't lawful leaves the machine as it was.
-  pub unlawful : (s : ℕ) (step : Step) → (Lawful w (record { session = s; step = step }) → ⊥) → (v : World) × Next w (record { session = s; step = step }) v × Shows m v
-  unlawful s step not_lawful = (w, inr (not_lawful, refl), shows)
-
   pub was_asked : (s k : ℕ) → makes_steps m s ≡ true → k < length m.wait_words
       → (v : World) × Next w (record { session = s; step = AskCancel k }) v × Shows (record m { wait_words = set m.wait_words k (asked_word (get_or m.wait_words k 0)) }) v
   was_asked s k steps in_wait_words = (
@@ -81,7 +72,7 @@ module _ (m : Machine) (w : World) (safe : Safe w) (shows : Shows m w) where
   )
 
   pub ask_refused : (s k : ℕ) → makes_steps m s ≡ false → (v : World) × Next w (record { session = s; step = AskCancel k }) v × Shows m v
-  ask_refused s k no_steps = unlawful s (AskCancel k) (λ lawful. steps_not m w safe shows s no_steps lawful.1.0)
+  ask_refused s k no_steps = skipped m w safe shows s (AskCancel k) (λ lawful. steps_not m w safe shows s no_steps lawful.1.0)
 
   -- A load by which the session sees that its wait was granted.
   pub was_seen : (s n : ℕ) → makes_steps m s ≡ true → n ≡ get_or m.wait_words s 0 → wait_state n ≡ 2 → s < length m.seen
@@ -131,7 +122,7 @@ module _ (m : Machine) (w : World) (safe : Safe w) (shows : Shows m w) where
         ∙ or_false (w.sessions.seen s)
 
   pub load_refused : (s n : ℕ) → makes_steps m s ≡ false → (v : World) × Next w (record { session = s; step = LoadWait n }) v × Shows m v
-  load_refused s n no_steps = unlawful s (LoadWait n) (λ lawful. steps_not m w safe shows s no_steps lawful.1.0.steps)
+  load_refused s n no_steps = skipped m w safe shows s (LoadWait n) (λ lawful. steps_not m w safe shows s no_steps lawful.1.0.steps)
 
   pub load_of_another : (s n : ℕ) → n ≢ get_or m.wait_words s 0 → (v : World) × Next w (record { session = s; step = LoadWait n }) v × Shows m v
-  load_of_another s n another = unlawful s (LoadWait n) (λ lawful. another (lawful.1.0.is_word ∙ sym (shows.wait_word s)))
+  load_of_another s n another = skipped m w safe shows s (LoadWait n) (λ lawful. another (lawful.1.0.is_word ∙ sym (shows.wait_word s)))

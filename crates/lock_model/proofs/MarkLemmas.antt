@@ -1,13 +1,11 @@
 use Rattle.std.proofs.Common.{◌≡◌, ℕ, ◌+◌, ◌<◌, Bool, true, false, not, ◌||◌, ◌&&◌, List, [], ◌∷◌, length, take, map, get_or, Option, Some, None, option_map, refl, sym, ap, ◌∙◌, subst, inl, inr}
 use Rattle.std.specs.Prelude.{◌==◌}
-use Rattle.std.specs.List.{list_any}
 use Rattle.std.proofs.Math.ListN.{set}
 use Rattle.std.proofs.lemmas.Bool.{cases_eq, eq-eqb, ne_eqb}
-use Rattle.std.proofs.lemmas.List.{get_or-set_same, get_or-set_other, get_or_default}
+use Rattle.std.proofs.lemmas.List.{get_or-set_same, get_or-set_other}
 use Rattle.std.proofs.lemmas.List.Folds.{list_any_more}
 use Rattle.modes_core.specs.declared.modes.Mode.{Mode}
 use Rattle.lock_model.specs.declared.events.Move.{Move}
-use Rattle.lock_model.specs.declared.machine.hands.InHand.{InHand}
 use Rattle.lock_model.specs.declared.machine.hands.Awaited.{Awaited}
 use Rattle.lock_model.specs.Content.{Wait, Content}
 use Rattle.lock_model.specs.OwnWait.{OwnWait}
@@ -15,7 +13,7 @@ use Rattle.lock_model.specs.Making.{recording, without}
 use Rattle.lock_model.specs.Parts.{no_part, part_at, contents_in}
 use Rattle.lock_model.specs.PartView.{PartView, content_of}
 use Rattle.lock_model.specs.Queue.{waits_there}
-use Rattle.lock_model.specs.Shows.{ShowsHand, ShowsHandIfAny, is_due, names_in, awaited_of}
+use Rattle.lock_model.specs.Shows.{ShowsHandIfAny, is_due, names_in, awaited_of}
 use Rattle.lock_model.specs.Waiter.{whose_and_mode}
 use Rattle.lock_model.specs.World.{Hand, set_at}
 use Rattle.lock_model.proofs.PutLemmas.{set_at-here, set_at-else}

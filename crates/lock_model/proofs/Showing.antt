@@ -1,16 +1,14 @@
-use Rattle.std.proofs.Common.{◌≡◌, ℕ, ◌<◌, ◌≤◌, Bool, true, false, not, ◌&&◌, ◌||◌, List, [], length, is_none, get_or, option_map, Option, Some, None, refl, sym, ap, ◌∙◌, subst, inl, inr, arith}
+use Rattle.std.proofs.Common.{◌≡◌, ℕ, ◌<◌, ◌≤◌, Bool, true, false, not, ◌&&◌, ◌||◌, length, is_none, get_or, option_map, Option, Some, None, refl, sym, ap, ◌∙◌, subst, inl, inr, arith}
 use Rattle.std.specs.Prelude.{◌==◌}
 use Rattle.std.proofs.lemmas.Bool.{cases_Bool, cases_lt, both_ways, false≢true, and_parts, and_from, eqb-true, false_from_ne_true, cond-true, cond-false}
 use Rattle.std.proofs.lemmas.List.{get_or_past}
 use Rattle.modes_core.specs.declared.modes.Mode.{Mode}
 use Rattle.modes_core.specs.declared.tags.Tag.{Tag}
 use Rattle.modes_core.specs.Tag.{partition_of}
-use Rattle.lock_model.specs.declared.events.Move.{Move}
 use Rattle.lock_model.specs.declared.machine.hands.InHand.{InHand}
-use Rattle.lock_model.specs.declared.machine.hands.Awaited.{Awaited}
 use Rattle.lock_model.specs.declared.machine.state.Machine.{Machine}
 use Rattle.lock_model.specs.OwnWait.{OwnWait, Stage, InQueue, WasGranted, HasLeft, is_for, is_pending, queued_by}
-use Rattle.lock_model.specs.Parts.{part_at, contents_in}
+use Rattle.lock_model.specs.Parts.{contents_in}
 use Rattle.lock_model.specs.Queue.{waits_there, awaits_mode}
 use Rattle.lock_model.specs.World.{World, Hand, MakesSteps, recorded_in, owes}
 use Rattle.lock_model.specs.Safe.{Safe, is_hand_of, stages}

@@ -1,10 +1,10 @@
-use Rattle.std.proofs.Common.{◌≡◌, ◌≢◌, ℕ, ◌<◌, Bool, true, false, cond, List, [], length, get_or, option_map, Option, None, refl, sym, ap, ◌∙◌, subst, inl, inr, arith}
+use Rattle.std.proofs.Common.{◌≡◌, ◌≢◌, ℕ, true, false, cond, List, [], length, get_or, Option, None, refl, sym, ap, ◌∙◌, subst, inl, inr, arith}
 use Rattle.std.specs.Prelude.{replicate, map, filter}
 use Rattle.std.specs.List.Sorted.{IsSortedByKey}
 use Rattle.std.specs.Ordering.{nat_cmp, on}
 use Rattle.std.specs.Cmp.Lexicographic.{slice_cmp}
 use Rattle.std.proofs.lemmas.Bool.{cases_lt, false≢true}
-use Rattle.std.proofs.lemmas.List.{get_or-replicate, length-replicate, get_or_past}
+use Rattle.std.proofs.lemmas.List.{length-replicate, get_or_past}
 use Rattle.modes_core.specs.declared.modes.Mode.{Mode}
 use Rattle.modes_core.specs.declared.tags.Tag.{Tag}
 use Rattle.modes_core.specs.Tag.{tag_eq, numbers_of, partition_of}
@@ -15,11 +15,11 @@ use Rattle.lock_model.specs.declared.machine.plain.Hold.{Hold}
 use Rattle.lock_model.specs.declared.machine.plain.QueuedWait.{QueuedWait}
 use Rattle.lock_model.specs.declared.machine.plain.Plain.{Plain}
 use Rattle.lock_model.specs.declared.machine.state.Machine.{Machine}
-use Rattle.lock_model.specs.Content.{Content, empty_content}
+use Rattle.lock_model.specs.Content.{empty_content}
 use Rattle.lock_model.specs.LightweightWord.{free_word}
 use Rattle.lock_model.specs.Parts.{AreAtHome, no_part, part_at, contents_in}
 use Rattle.lock_model.specs.PartView.{PartView, content_of}
-use Rattle.lock_model.specs.Plain.{IsPlainOf, WordExists, word_in, word_of, holds_of, waits_of, wait_of, table_holds}
+use Rattle.lock_model.specs.Plain.{IsPlainOf, WordExists, word_in, word_of, holds_of, waits_of, wait_of}
 use Rattle.lock_model.specs.Safe.{Safe}
 use Rattle.lock_model.specs.World.{World, opening}
 use Rattle.lock_model.specs.Shows.{Shows, ShowsHandIfAny, AreInTable, ListsHolds}

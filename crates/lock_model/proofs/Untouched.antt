@@ -15,7 +15,7 @@ use Rattle.lock_model.specs.Content.{Holds, set_hold}
 use Rattle.lock_model.specs.WaitWord.{wait_state, asked_word, granted_word}
 use Rattle.lock_model.specs.World.{World, set_at}
 use Rattle.lock_model.specs.OwnWait.{OwnWait}
-use Rattle.lock_model.specs.Making.{own_after, after_clearing}
+use Rattle.lock_model.specs.Making.{after_clearing}
 use Rattle.lock_model.specs.Happens.{Happens, HappensStep, HappensTaking, HappensPutting, HappensJoining, HappensMarking, HappensMarkingIn, HappensClearing}
 use Rattle.lock_model.proofs.HoldLemmas.{set_hold-other_session}
 use Rattle.lock_model.proofs.PutLemmas.{set_at-here, set_at-else, row-else}

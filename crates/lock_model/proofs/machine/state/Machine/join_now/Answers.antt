@@ -1,4 +1,4 @@
-use Rattle.std.proofs.Common.{◌≡◌, ◌<◌, ◌≤◌, false, length, get_or, sym, ap, ◌∙◌, refl, subst, arith}
+use Rattle.std.proofs.Common.{◌≡◌, ◌<◌, ◌≤◌, false, length, sym, ap, ◌∙◌, subst, arith}
 use Rattle.modes_core.specs.Tag.{partition_of}
 use Rattle.lock_model.specs.Content.{Content}
 use Rattle.lock_model.specs.PartView.{content_of}

@@ -1,4 +1,4 @@
-use Rattle.std.proofs.Common.{◌≡◌, ◌<◌, length, get_or, sym, ap, ◌∙◌, subst, arith}
+use Rattle.std.proofs.Common.{◌≡◌, ◌<◌, length, ap, ◌∙◌, subst, arith}
 use Rattle.modes_core.specs.Tag.{partition_of}
 use Rattle.lock_model.specs.Content.{Content}
 use Rattle.lock_model.specs.PartView.{PartView, content_of}

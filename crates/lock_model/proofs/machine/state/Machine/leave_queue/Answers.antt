@@ -1,4 +1,4 @@
-use Rattle.std.proofs.Common.{◌≡◌, ◌<◌, length, get_or, sym, ap, ◌∙◌, subst, arith, true}
+use Rattle.std.proofs.Common.{◌≡◌, ◌<◌, length, sym, ap, ◌∙◌, arith}
 use Rattle.std.proofs.lemmas.Bool.{both_ways}
 use Rattle.modes_core.specs.Tag.{partition_of}
 use Rattle.lock_model.specs.declared.events.Move.TheVariants.{Leave}
@@ -8,7 +8,7 @@ use Rattle.lock_model.specs.Queue.{waits_there}
 use Rattle.lock_model.specs.Shows.{hand_of}
 use Rattle.lock_model.proofs.PlaceLemmas.{part_read}
 use Rattle.lock_model.proofs.MoveTests.{move_eq-same, move_eq-refl}
-use Rattle.lock_model.proofs.FollowingClears.{left_before, leave_without_hand, leave_of_nothing, leave_after_move}
+use Rattle.lock_model.proofs.FollowingClears.{left_before, leave_without_hand, leave_after_move}
 use Rattle.lock_model.proofs.machine.state.Machine.leave_queue.Goals as goal
 use Rattle.lock_model.proofs.machine.state.Machine.leave_queue.Goals.{else-is_same-via-then-is_same+else-not-waits, else-is_same-via-else-is_same}
 

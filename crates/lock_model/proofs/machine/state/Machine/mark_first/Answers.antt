@@ -1,6 +1,4 @@
-use Rattle.std.proofs.Common.{◌≡◌, ◌∙◌, IfSome, get_or, None, sym, subst}
-use Rattle.std.specs.Vec.{with_item}
-use Rattle.lock_model.specs.declared.machine.state.Machine.{Machine}
+use Rattle.std.proofs.Common.{IfSome, get_or, None, sym, subst}
 use Rattle.lock_model.specs.MovedPart.{IsMoved}
 use Rattle.lock_model.specs.Parts.{part_at}
 use Rattle.lock_model.specs.Shows.{IsOwnFor}
