@@ -239,23 +239,6 @@ module _ (m : Machine) (w : World) (safe : Safe w) (shows : Shows m w) where
   pub leave_without_hand : (s : ℕ) (a : Awaited) (t : Tag) → get_or m.awaited s None ≡ Some a → a.tag ≡ t → hand_of m s (partition_of t) ≡ None → (v : World) × Next w (record { session = s; step = ClearWait true }) v × Shows m v
   leave_without_hand s a t kept of_tag none = skipped m w safe shows s (ClearWait true) (λ lawful. not_leave_hand s a t kept of_tag none lawful.0 lawful.1)
 
-  not_leave_nothing : (s : ℕ) (a : Awaited) (t : Tag) (shown : InHand) → get_or m.awaited s None ≡ Some a → a.tag ≡ t → hand_of m s (partition_of t) ≡ Some shown → shown.recorded ≡ None
-      → waits_there ((contents_in m.parts.items (partition_of t)).waits t) s ≡ false → (v : World) → HappensClearing w s true v → ⊥
-  not_leave_nothing s a t shown kept of_tag in_hand unmoved gone v (inl (wait, granted, content, may, after)) =
-      let tag = tag_of s a wait kept may.is_wait ∙ of_tag in
-      both_ways (waits_there ((contents_in m.parts.items (partition_of wait.tag)).waits wait.tag) s) (ap (λ x. waits_there ((contents_in m.parts.items (partition_of x)).waits x) s) tag ∙ gone)
-      (ap (λ (c : Content). waits_there (c.waits wait.tag) s) (content_from m w safe shows wait.tag) ∙ may.may_move.moved.0)
-  not_leave_nothing s a t shown kept of_tag in_hand unmoved gone v (inr (wait, may, recorded, after)) =
-      let tag = tag_of s a wait kept may.is_wait ∙ of_tag in
-      let its = recorded_from w s (partition_of wait.tag) shown (hand_from m w safe shows s (partition_of wait.tag) shown (ap (λ x. hand_of m s (partition_of x)) tag ∙ in_hand)) in
-      let both : None ≡ Some (Leave wait.tag) = sym unmoved ∙ sym its ∙ recorded in
-      cc
-
-  pub leave_of_nothing : (s : ℕ) (a : Awaited) (t : Tag) (shown : InHand) → get_or m.awaited s None ≡ Some a → a.tag ≡ t → hand_of m s (partition_of t) ≡ Some shown → shown.recorded ≡ None
-      → waits_there ((contents_in m.parts.items (partition_of t)).waits t) s ≡ false → (v : World) × Next w (record { session = s; step = ClearWait true }) v × Shows m v
-  leave_of_nothing s a t shown kept of_tag in_hand unmoved gone =
-      skipped m w safe shows s (ClearWait true) (λ lawful. not_leave_nothing s a t shown kept of_tag in_hand unmoved gone lawful.0 lawful.1)
-
   not_leave_again : (s : ℕ) (a : Awaited) (t : Tag) (shown : InHand) (r : Move) → get_or m.awaited s None ≡ Some a → a.tag ≡ t → hand_of m s (partition_of t) ≡ Some shown → shown.recorded ≡ Some r
       → ((r ≡ Leave t) → waits_there ((contents_in m.parts.items (partition_of t)).waits t) s ≡ true) → (v : World) → HappensClearing w s true v → ⊥
   not_leave_again s a t shown r kept of_tag in_hand recorded stands v (inl (wait, granted, content, may, after)) =

@@ -1,10 +1,10 @@
-use Rattle.std.proofs.Common.{◌≡◌, ℕ, ◌+◌, ◌<◌, ◌≤◌, Bool, true, false, cond, ◌||◌, List, [], ◌∷◌, length, get_or, Option, Some, None, is_some, is_none, ltb, refl, sym, ap, ◌∙◌, inl, inr, arith, suc}
+use Rattle.std.proofs.Common.{◌≡◌, ℕ, ◌+◌, ◌<◌, Bool, true, false, cond, ◌||◌, List, [], ◌∷◌, length, get_or, Option, Some, None, is_some, is_none, refl, sym, ap, ◌∙◌, inl, inr, arith, suc}
 use Rattle.std.specs.Prelude.{filter}
-use Rattle.std.specs.List.{list_any, count_by, position, position_or_len}
-use Rattle.std.proofs.lemmas.Bool.{cases_Bool, cases_lt, false≢true, cond-true, cond-false, false_from_ne_true, both_ways, ltb-false}
+use Rattle.std.specs.List.{list_any, count_by}
+use Rattle.std.proofs.lemmas.Bool.{cases_Bool, cases_lt, false≢true, cond-true, cond-false}
 use Rattle.std.proofs.lemmas.List.{get_or_past, get_or_default}
 use Rattle.std.proofs.lemmas.List.Folds.{list_any_at}
-use Rattle.std.proofs.lemmas.List.Sums.{sum_by-cons, fails_before_first}
+use Rattle.std.proofs.lemmas.List.Sums.{sum_by-cons}
 
 -- A test that some element passes finds one.
 pub any_found : {X : Type 0} (p : X → Bool) (xs : List X) → list_any p xs ≡ true → (i : ℕ) × (x : X) × (i < length xs) × ((d : X) → get_or xs i d ≡ x) × (p x ≡ true)
@@ -52,18 +52,6 @@ counted-any p (x ∷ xs) more =
           let sum = count_by-cons p x xs in
           let rest : 0 < count_by p xs = omega arith in
           ap (λ b. b || list_any p xs) fail ∙ counted-any p xs rest
-    ]
-
--- Where there is no first place that passes, none passes.
-pub position-none : {X : Type 0} (p : X → Bool) (xs : List X) → position p xs ≡ None → list_any p xs ≡ false
-position-none {X} p xs none =
-    elim (cases_Bool (ltb (position_or_len p xs) (length xs))) [
-      | inl found ↦ let some : position p xs ≡ Some (position_or_len p xs) = cond-true (ltb (position_or_len p xs) (length xs)) (Some (position_or_len p xs)) None found in absurd (cc)
-      | inr past ↦ false_from_ne_true (list_any p xs) (λ any.
-          let at = any_found p xs any in
-          let last : length xs ≤ position_or_len p xs = ltb-false (position_or_len p xs) (length xs) past in
-          let within : at.0 < length xs = at.2 in
-          both_ways (p at.1) (ap p (sym (at.3 at.1)) ∙ fails_before_first p xs at.0 at.1 (omega arith)) at.4)
     ]
 
 -- Where none is left of those that pass, none passes.

@@ -21,9 +21,6 @@ use Rattle.lock_model.proofs.HoldLemmas.{SetHoldAt, here, elsewhere, set_hold-at
 abbrev pub HasMore : Holds → Holds → Tag → Type 0
 HasMore holds more tag = (k : ℕ) (m : Mode) → holds k tag m ≡ true → more k tag m ≡ true
 
-pub HasMore-refl : (holds : Holds) (t : Tag) → HasMore holds holds t
-HasMore-refl holds t k m has = has
-
 pub HasMore-set : (holds : Holds) (s : ℕ) (o t : Tag) (m : Mode) → HasMore holds (set_hold holds s o m true) t
 HasMore-set holds s o t m k n has = at (set_hold-at holds s o m true k t n) where
   at : SetHoldAt holds s o m true k t n → set_hold holds s o m true k t n ≡ true

@@ -1,12 +1,10 @@
-use Rattle.std.proofs.Common.{◌≡◌, ℕ, false, List, [], ◌∷◌, ◌++◌, length, take, drop, Option, Some, None, refl, sym, ap, ◌∙◌, subst, inl, inr, arith}
+use Rattle.std.proofs.Common.{◌≡◌, ℕ, List, [], ◌∷◌, ◌++◌, length, take, drop, Option, Some, None, refl, ap, ◌∙◌, inl, inr, arith}
 use Rattle.std.proofs.lemmas.List.{take_all, drop_all}
 use Rattle.modes_core.specs.declared.modes.Mode.{Mode}
 use Rattle.modes_core.specs.declared.tags.Tag.{Tag}
 use Rattle.lock_model.specs.Content.{Wait, Content}
 use Rattle.lock_model.specs.Clash.{NoConflictingHolder, Clash, ClashIs, ClashAfterWaiters, first_waiter}
-use Rattle.std.proofs.lemmas.Bool.{MatchBool-at_false}
-use Rattle.lock_model.specs.Moves.{WakesFor}
-use Rattle.lock_model.specs.Queue.{some_awaits_conflict, Wakes, Place, Last, Before, AtOnce, Deadlock, Granted, PlaceIs, answer_of_place, WaitingAnswer, WaitingAnswerAt, with_queue, joining_wait, add_wait}
+use Rattle.lock_model.specs.Queue.{Place, Last, Before, AtOnce, Deadlock, Granted, PlaceIs, answer_of_place, WaitingAnswer, WaitingAnswerAt, with_queue, joining_wait, add_wait}
 
 -- Where a request clashes with nothing, no holder is in its way.
 no_clash-no_holder : (waiter : Option Wait) (c : Content) (s : ℕ) (t : Tag) (m : Mode) → ClashAfterWaiters waiter c s t m None → NoConflictingHolder c.holds s t m
@@ -31,21 +29,6 @@ granted-no_holder c s t m answer = at answer.0 answer.1 answer.2 where
   at None is e = no_clash-no_holder (first_waiter (c.waits t) m) c s t m is
   at (Some clash) is found = at_once-no_holder c s t m (rw (granted-at_once found.0 found.2) at found.1)
 
--- Where nobody waits nobody is woken.
-pub WakesFor-empty : (m : Mode) (before : Content) (t : Tag) (granted : List Wait) (after : Content) → before.waits t ≡ [] → WakesFor m before t granted after → after ≡ before
-WakesFor-empty m before t granted after empty wakes =
-    let none : some_awaits_conflict (before.waits t) m ≡ false = ap (λ waits. some_awaits_conflict waits m) empty in
-    (MatchBool-at_false (Wakes before t granted after) ((granted ≡ []) × (after ≡ before)) none wakes).1
-
-pub WakesFor-none : (m : Mode) (before : Content) (t : Tag) → before.waits t ≡ [] → WakesFor m before t [] before
-WakesFor-none m before t empty =
-    let none : some_awaits_conflict (before.waits t) m ≡ false = ap (λ waits. some_awaits_conflict waits m) empty in
-    rw none (refl, refl)
-
--- Where nobody waits and no holder is in its way, a request is granted.
-pub no_holder-granted : (c : Content) (s : ℕ) (t : Tag) (m : Mode) → c.waits t ≡ [] → NoConflictingHolder c.holds s t m → WaitingAnswer c s t m Granted
-no_holder-granted c s t m empty free = (None, subst (λ waiter. ClashAfterWaiters waiter c s t m None) (sym (ap (λ waits. first_waiter waits m) empty)) free, refl)
-
 -- The end of a queue is the place of its length.
 pub add_wait-last : (content : Content) (session : ℕ) (tag : Tag) (mode : Mode) (place : ℕ) → place ≡ length (content.waits tag)
     → add_wait content session tag mode (Before place) ≡ add_wait content session tag mode Last
@@ -54,6 +37,3 @@ add_wait-last content session tag mode place is =
     let none : drop place (content.waits tag) ≡ [] = drop_all place (content.waits tag) (omega arith) in
     let wait = joining_wait content session tag mode in
     ap (with_queue content tag) (ap (λ (queue : List Wait). queue ++ wait ∷ drop place (content.waits tag)) all ∙ ap (λ (behind : List Wait). content.waits tag ++ wait ∷ behind) none)
-
-pub add_wait-end : (content : Content) (session : ℕ) (tag : Tag) (mode : Mode) → add_wait content session tag mode Last ≡ add_wait content session tag mode (Before (length (content.waits tag)))
-add_wait-end content session tag mode = sym (add_wait-last content session tag mode (length (content.waits tag)) refl)

@@ -1,5 +1,5 @@
 use super::{FREE, HELD, asks, closes, grant, loads, object, opens, puts, release, session, takes};
-use crate::machine::run_events;
+use crate::machine::{Plain, run_events};
 use crate::{Event, Move, Step, Word};
 use modes_core::{Mode, ModeSet, SessionId, Tag};
 use std::process::Abort;
@@ -47,23 +47,50 @@ fn leave() -> Move {
     Move::Leave { tag: object() }
 }
 
-/// What a run leads to: the sessions that hold and those that wait, in the order of their modes and of
-/// the queue; what the wait words of sessions 0 to 3 show; and what word 15 shows.
+/// What the wait words of sessions 0 to 3 show, and what the word of partition 15 shows.
 #[derive(Clone, Copy)]
-struct Expected<'a> {
-    holds: &'a [(SessionId, Mode)],
-    waits: &'a [(SessionId, Mode)],
-    words: [u64; 4],
+struct Words {
+    wait: [u64; 4],
     partition: u64,
 }
 
-/// Runs the events after sessions 0 to 3 are open.
+/// Ends the test where these are not the holds, in the order of their sessions and modes.
+fn expect_holds(
+    rt: &impl Abort,
+    plain: &Plain,
+    expected: &[(SessionId, Mode)],
+) -> Result<(), Fail> {
+    assert_eq!(rt; plain.holds().len(), expected.len());
+    for (hold, (session, mode)) in plain.holds().iter().zip(expected) {
+        assert_eq!(rt; hold.session, *session);
+        assert_eq!(rt; hold.tag, object());
+        assert_eq!(rt; hold.mode, *mode);
+    }
+    Ok(())
+}
+
+/// Ends the test where these are not the waits, in the order of the queue.
+fn expect_waits(
+    rt: &impl Abort,
+    plain: &Plain,
+    expected: &[(SessionId, Mode)],
+) -> Result<(), Fail> {
+    assert_eq!(rt; plain.waits().len(), expected.len());
+    for (wait, (session, mode)) in plain.waits().iter().zip(expected) {
+        assert_eq!(rt; wait.session, *session);
+        assert_eq!(rt; wait.tag, object());
+        assert_eq!(rt; wait.mode, *mode);
+    }
+    Ok(())
+}
+
+/// Runs the events after sessions 0 to 3 are open, and looks at the words.
 fn leads_to<R: Abort + AllocGlobal>(
     rt: &R,
     before: &[Event],
     more: &[Event],
-    expected: &Expected,
-) -> Result<(), Fail> {
+    words: Words,
+) -> Result<Plain, Fail> {
     let mut events = Vec::new(rt.alloc());
     for number in 0..4u8 {
         events.push(opens(session(rt, number)))?;
@@ -71,24 +98,12 @@ fn leads_to<R: Abort + AllocGlobal>(
     events.extend_from_slice(before)?;
     events.extend_from_slice(more)?;
     let plain = run_events(rt.alloc(), events.as_slice())?;
-    assert_eq!(rt; plain.holds().len(), expected.holds.len());
-    for (hold, (session, mode)) in plain.holds().iter().zip(expected.holds) {
-        assert_eq!(rt; hold.session, *session);
-        assert_eq!(rt; hold.tag, object());
-        assert_eq!(rt; hold.mode, *mode);
-    }
-    assert_eq!(rt; plain.waits().len(), expected.waits.len());
-    for (wait, (session, mode)) in plain.waits().iter().zip(expected.waits) {
-        assert_eq!(rt; wait.session, *session);
-        assert_eq!(rt; wait.tag, object());
-        assert_eq!(rt; wait.mode, *mode);
-    }
     for number in 0..4u8 {
         let word = plain.word(Word::Wait(session(rt, number)));
-        assert_eq!(rt; word, expected.words[usize::from(number)]);
+        assert_eq!(rt; word, words.wait[usize::from(number)]);
     }
-    assert_eq!(rt; plain.word(Word::Partition(15)), expected.partition);
-    Ok(())
+    assert_eq!(rt; plain.word(Word::Partition(15)), words.partition);
+    Ok(plain)
 }
 
 #[test]
@@ -101,50 +116,37 @@ fn a_wait_is_made_granted_and_taken_over(rt: HostRuntime) -> Result<(), Fail> {
         sets_waiting(b, Mode::Share),
         puts(b, 15, join(Mode::Share)),
     ];
+    let words = |second, partition| Words {
+        wait: [0, second, 0, 0],
+        partition,
+    };
+    let plain = leads_to(&rt, &waiting, &[], words(1, FREE))?;
+    expect_holds(&rt, &plain, &[(a, Mode::Exclusive)])?;
+    expect_waits(&rt, &plain, &[(b, Mode::Share)])?;
     let granted = [
         takes(a, 15),
         marks(a, b, release(Mode::Exclusive)),
         puts(a, 15, release(Mode::Exclusive)),
     ];
-    let waits = Expected {
-        holds: &[(a, Mode::Exclusive)],
-        waits: &[(b, Mode::Share)],
-        words: [0, 1, 0, 0],
-        partition: FREE,
-    };
-    leads_to(&rt, &waiting, &[], &waits)?;
-    let pending = Expected {
-        holds: &[(b, Mode::Share)],
-        waits: &[],
-        words: [0, 2, 0, 0],
-        partition: FREE,
-    };
-    leads_to(&rt, &waiting, &granted, &pending)?;
-    // It does not see the grant, so it can't take it over; and can't release what it hasn't taken over.
-    let more = [granted[0], granted[1], granted[2], loads(b, 1), clears(b)];
-    leads_to(&rt, &waiting, &more, &pending)?;
-    let more = [
+    let plain = leads_to(&rt, &waiting, &granted, words(2, FREE))?;
+    expect_holds(&rt, &plain, &[(b, Mode::Share)])?;
+    expect_waits(&rt, &plain, &[])?;
+    // It hasn't seen the grant, so it can't take it over; and can't release what it hasn't taken over.
+    let unseen = [granted[0], granted[1], granted[2], loads(b, 1), clears(b)];
+    leads_to(&rt, &waiting, &unseen, words(2, FREE))?;
+    let too_early = [
         granted[0],
         granted[1],
         granted[2],
         takes(b, 15),
         puts(b, 15, release(Mode::Share)),
     ];
-    let in_hand = Expected {
-        partition: HELD,
-        ..pending
-    };
-    leads_to(&rt, &waiting, &more, &in_hand)?;
-    let more = [granted[0], granted[1], granted[2], loads(b, 2), clears(b)];
-    let over = Expected {
-        holds: &[(b, Mode::Share)],
-        waits: &[],
-        words: [0; 4],
-        partition: FREE,
-    };
-    leads_to(&rt, &waiting, &more, &over)?;
+    leads_to(&rt, &waiting, &too_early, words(2, HELD))?;
+    let seen = [granted[0], granted[1], granted[2], loads(b, 2), clears(b)];
+    let plain = leads_to(&rt, &waiting, &seen, words(0, FREE))?;
+    expect_holds(&rt, &plain, &[(b, Mode::Share)])?;
     // Or with the partition in hand, unseen: a cancel that comes after the grant.
-    let more = [
+    let too_late = [
         granted[0],
         granted[1],
         granted[2],
@@ -154,7 +156,8 @@ fn a_wait_is_made_granted_and_taken_over(rt: HostRuntime) -> Result<(), Fail> {
         puts(b, 15, leave()),
         puts(b, 15, Move::Keep),
     ];
-    leads_to(&rt, &waiting, &more, &over)
+    let plain = leads_to(&rt, &waiting, &too_late, words(0, FREE))?;
+    expect_holds(&rt, &plain, &[(b, Mode::Share)])
 }
 
 #[test]
@@ -171,49 +174,34 @@ fn a_release_that_wakes_marks_all_whom_it_granted(rt: HostRuntime) -> Result<(),
         puts(c, 15, join(Mode::RowShare)),
         takes(a, 15),
     ];
-    let put = puts(a, 15, release(Mode::Exclusive));
-    let mark = |other: SessionId| marks(a, other, release(Mode::Exclusive));
-    let none_marked = Expected {
-        holds: &[(a, Mode::Exclusive)],
-        waits: &[(b, Mode::RowShare), (c, Mode::RowShare)],
-        words: [0, 1, 1, 0],
-        partition: HELD,
-    };
-    leads_to(&rt, &waiting, &[put], &none_marked)?;
-    let both = [(b, Mode::RowShare), (c, Mode::RowShare)];
-    let marked = |words, partition| Expected {
-        holds: &both,
-        waits: &[],
-        words,
+    let done = release(Mode::Exclusive);
+    let words = |second, third, partition| Words {
+        wait: [0, second, third, 0],
         partition,
     };
+    let plain = leads_to(&rt, &waiting, &[puts(a, 15, done)], words(1, 1, HELD))?;
+    expect_holds(&rt, &plain, &[(a, Mode::Exclusive)])?;
+    expect_waits(&rt, &plain, &[(b, Mode::RowShare), (c, Mode::RowShare)])?;
     // One is marked, the put is skipped; a second mark of the same one is skipped too.
-    leads_to(&rt, &waiting, &[mark(c), put], &marked([0, 1, 2, 0], HELD))?;
-    leads_to(
-        &rt,
-        &waiting,
-        &[mark(c), mark(c), put],
-        &marked([0, 1, 2, 0], HELD),
-    )?;
-    leads_to(
-        &rt,
-        &waiting,
-        &[mark(c), mark(b), put],
-        &marked([0, 2, 2, 0], FREE),
-    )?;
-    // Another move than the one recorded is not put, and a mark by another session is skipped.
-    leads_to(
-        &rt,
-        &waiting,
-        &[mark(c), mark(b), puts(a, 15, Move::Keep)],
-        &marked([0, 2, 2, 0], HELD),
-    )?;
-    leads_to(
-        &rt,
-        &waiting,
-        &[marks(b, c, release(Mode::Exclusive)), mark(a)],
-        &none_marked,
-    )
+    let one = [marks(a, c, done), puts(a, 15, done)];
+    let plain = leads_to(&rt, &waiting, &one, words(1, 2, HELD))?;
+    expect_holds(&rt, &plain, &[(b, Mode::RowShare), (c, Mode::RowShare)])?;
+    let twice = [marks(a, c, done), marks(a, c, done), puts(a, 15, done)];
+    leads_to(&rt, &waiting, &twice, words(1, 2, HELD))?;
+    let both = [marks(a, c, done), marks(a, b, done), puts(a, 15, done)];
+    let plain = leads_to(&rt, &waiting, &both, words(2, 2, FREE))?;
+    expect_holds(&rt, &plain, &[(b, Mode::RowShare), (c, Mode::RowShare)])?;
+    expect_waits(&rt, &plain, &[])?;
+    // Another move than the one recorded is not put, and marks by or of another session are skipped.
+    let another = [
+        marks(a, c, done),
+        marks(a, b, done),
+        puts(a, 15, Move::Keep),
+    ];
+    leads_to(&rt, &waiting, &another, words(2, 2, HELD))?;
+    let others = [marks(b, c, done), marks(a, a, done)];
+    leads_to(&rt, &waiting, &others, words(1, 1, HELD))?;
+    Ok(())
 }
 
 #[test]
@@ -230,56 +218,29 @@ fn a_wait_that_leaves_lets_others_go(rt: HostRuntime) -> Result<(), Fail> {
         puts(c, 15, join(Mode::Share)),
         takes(b, 15),
     ];
-    let both_wait = Expected {
-        holds: &[(a, Mode::Share)],
-        waits: &[(b, Mode::Exclusive), (c, Mode::Share)],
-        words: [0, 1, 1, 0],
-        partition: HELD,
-    };
-    leads_to(
-        &rt,
-        &waiting,
-        &[clears(b), puts(b, 15, leave())],
-        &both_wait,
-    )?;
-    let both = [(a, Mode::Share), (c, Mode::Share)];
-    let left = |words, partition| Expected {
-        holds: &both,
-        waits: &[],
-        words,
+    let words = |second, third, partition| Words {
+        wait: [0, second, third, 0],
         partition,
     };
+    let stands = [clears(b), puts(b, 15, leave())];
+    let plain = leads_to(&rt, &waiting, &stands, words(1, 1, HELD))?;
+    expect_holds(&rt, &plain, &[(a, Mode::Share)])?;
+    expect_waits(&rt, &plain, &[(b, Mode::Exclusive), (c, Mode::Share)])?;
     // The leave is made by the mark, or by the step that clears; neither is left out.
-    leads_to(
-        &rt,
-        &waiting,
-        &[marks(b, c, leave()), puts(b, 15, leave())],
-        &left([0, 1, 2, 0], HELD),
-    )?;
-    leads_to(
-        &rt,
-        &waiting,
-        &[leaves(b), puts(b, 15, leave())],
-        &left([0, 0, 1, 0], HELD),
-    )?;
-    leads_to(
-        &rt,
-        &waiting,
-        &[marks(b, c, leave()), clears(b), puts(b, 15, leave())],
-        &left([0, 0, 2, 0], FREE),
-    )?;
-    leads_to(
-        &rt,
-        &waiting,
-        &[marks(b, c, leave()), leaves(b), puts(b, 15, leave())],
-        &left([0, 0, 2, 0], FREE),
-    )?;
-    leads_to(
-        &rt,
-        &waiting,
-        &[leaves(b), marks(b, c, leave()), puts(b, 15, leave())],
-        &left([0, 0, 2, 0], FREE),
-    )
+    let unfinished = [marks(b, c, leave()), puts(b, 15, leave())];
+    let plain = leads_to(&rt, &waiting, &unfinished, words(1, 2, HELD))?;
+    expect_holds(&rt, &plain, &[(a, Mode::Share), (c, Mode::Share)])?;
+    let untold = [leaves(b), puts(b, 15, leave())];
+    let plain = leads_to(&rt, &waiting, &untold, words(0, 1, HELD))?;
+    expect_holds(&rt, &plain, &[(a, Mode::Share), (c, Mode::Share)])?;
+    let mark_first = [marks(b, c, leave()), clears(b), puts(b, 15, leave())];
+    leads_to(&rt, &waiting, &mark_first, words(0, 2, FREE))?;
+    let named_again = [marks(b, c, leave()), leaves(b), puts(b, 15, leave())];
+    leads_to(&rt, &waiting, &named_again, words(0, 2, FREE))?;
+    let clear_first = [leaves(b), marks(b, c, leave()), puts(b, 15, leave())];
+    let plain = leads_to(&rt, &waiting, &clear_first, words(0, 2, FREE))?;
+    expect_holds(&rt, &plain, &[(a, Mode::Share), (c, Mode::Share)])?;
+    expect_waits(&rt, &plain, &[])
 }
 
 #[test]
@@ -295,49 +256,46 @@ fn a_wait_stands_at_its_place(rt: HostRuntime) -> Result<(), Fail> {
         puts(c, 15, join(Mode::AccessExclusive)),
         takes(b, 15),
     ];
-    // What it holds is in the way of the waiter, so it stands before that one.
-    let early = Expected {
-        holds: &[(a, Mode::Exclusive), (b, Mode::AccessShare)],
-        waits: &[(b, Mode::RowShare), (c, Mode::AccessExclusive)],
-        words: [0, 1, 1, 0],
-        partition: FREE,
+    let words = |second, partition| Words {
+        wait: [0, second, 1, 0],
+        partition,
     };
-    let joins = [
+    // What it holds is in the way of the waiter, so it stands before that one.
+    let early = [
         sets_waiting(b, Mode::RowShare),
         puts(b, 15, join(Mode::RowShare)),
     ];
-    leads_to(&rt, &before, &joins, &early)?;
-    // What is granted at once does not join, and what is not does not get the hold.
-    let granted = Expected {
-        holds: &[(a, Mode::Exclusive), (b, Mode::AccessShare)],
-        waits: &[(c, Mode::AccessExclusive)],
-        words: [0, 0, 1, 0],
-        partition: HELD,
-    };
-    leads_to(
+    let plain = leads_to(&rt, &before, &early, words(1, FREE))?;
+    expect_holds(&rt, &plain, &[(a, Mode::Exclusive), (b, Mode::AccessShare)])?;
+    expect_waits(
         &rt,
-        &before,
-        &[sets_waiting(b, Mode::AccessShare)],
-        &granted,
+        &plain,
+        &[(b, Mode::RowShare), (c, Mode::AccessExclusive)],
     )?;
-    leads_to(
-        &rt,
-        &before,
-        &[puts(b, 15, grant(Mode::RowShare))],
-        &granted,
-    )?;
-    leads_to(&rt, &before, &[puts(b, 15, join(Mode::RowShare))], &granted)?;
-    let plain_wait = [
+    // It has the hold; what is not granted does not get it, and what did not join is not put so.
+    let has_it = [sets_waiting(b, Mode::AccessShare)];
+    leads_to(&rt, &before, &has_it, words(0, HELD))?;
+    let not_granted = [puts(b, 15, grant(Mode::RowShare))];
+    leads_to(&rt, &before, &not_granted, words(0, HELD))?;
+    let not_joined = [puts(b, 15, join(Mode::RowShare))];
+    let plain = leads_to(&rt, &before, &not_joined, words(0, HELD))?;
+    expect_waits(&rt, &plain, &[(c, Mode::AccessExclusive)])?;
+    let twice = [
         sets_waiting(b, Mode::RowShare),
         sets_waiting(b, Mode::RowShare),
     ];
-    let recorded = Expected {
-        partition: HELD,
-        ..early
-    };
-    leads_to(&rt, &before, &plain_wait, &recorded)?;
-    // Two sessions that hold and would wait for one another: the second one does not join.
-    let against = [
+    let plain = leads_to(&rt, &before, &twice, words(1, HELD))?;
+    expect_waits(
+        &rt,
+        &plain,
+        &[(b, Mode::RowShare), (c, Mode::AccessExclusive)],
+    )
+}
+
+#[test]
+fn two_do_not_wait_for_one_another(rt: HostRuntime) -> Result<(), Fail> {
+    let (a, b) = (session(&rt, 0), session(&rt, 1));
+    let before = [
         takes(a, 15),
         puts(a, 15, grant(Mode::Share)),
         takes(b, 15),
@@ -347,13 +305,13 @@ fn a_wait_stands_at_its_place(rt: HostRuntime) -> Result<(), Fail> {
         puts(a, 15, join(Mode::Exclusive)),
         takes(b, 15),
     ];
-    let refused = Expected {
-        holds: &[(a, Mode::Share), (b, Mode::Share)],
-        waits: &[(a, Mode::Exclusive)],
-        words: [1, 0, 0, 0],
+    let words = Words {
+        wait: [1, 0, 0, 0],
         partition: HELD,
     };
-    leads_to(&rt, &against, &[sets_waiting(b, Mode::Exclusive)], &refused)
+    let plain = leads_to(&rt, &before, &[sets_waiting(b, Mode::Exclusive)], words)?;
+    expect_holds(&rt, &plain, &[(a, Mode::Share), (b, Mode::Share)])?;
+    expect_waits(&rt, &plain, &[(a, Mode::Exclusive)])
 }
 
 #[test]
@@ -367,24 +325,23 @@ fn a_waiting_session_does_nothing_else(rt: HostRuntime) -> Result<(), Fail> {
         sets_waiting(b, Mode::Share),
         puts(b, 15, join(Mode::Share)),
     ];
-    let (holding, queue) = ([(a, Mode::Exclusive)], [(b, Mode::Share)]);
-    let waits = |word, partition| Expected {
-        holds: &holding,
-        waits: &queue,
-        words: [0, word, 0, 0],
+    let words = |second, partition| Words {
+        wait: [0, second, 0, 0],
         partition,
     };
     // The cancel that was asked before it waited is wiped out; one that is asked now stays.
-    leads_to(&rt, &waiting, &[], &waits(1, FREE))?;
-    leads_to(&rt, &waiting, &[asks(a, b)], &waits(5, FREE))?;
-    leads_to(&rt, &waiting, &[closes(b)], &waits(1, FREE))?;
-    leads_to(&rt, &waiting, &[clears(b), leaves(b)], &waits(1, FREE))?;
+    leads_to(&rt, &waiting, &[], words(1, FREE))?;
+    leads_to(&rt, &waiting, &[asks(a, b)], words(5, FREE))?;
+    leads_to(&rt, &waiting, &[closes(b)], words(1, FREE))?;
+    leads_to(&rt, &waiting, &[clears(b), leaves(b)], words(1, FREE))?;
     let asks_more = [
         takes(b, 15),
         puts(b, 15, grant(Mode::AccessShare)),
         sets_waiting(b, Mode::RowShare),
     ];
-    leads_to(&rt, &waiting, &asks_more, &waits(1, HELD))?;
+    let plain = leads_to(&rt, &waiting, &asks_more, words(1, HELD))?;
+    expect_holds(&rt, &plain, &[(a, Mode::Exclusive)])?;
+    expect_waits(&rt, &plain, &[(b, Mode::Share)])?;
     // A grant keeps the bit.
     let granted = [
         asks(a, b),
@@ -392,13 +349,9 @@ fn a_waiting_session_does_nothing_else(rt: HostRuntime) -> Result<(), Fail> {
         marks(a, b, release(Mode::Exclusive)),
         puts(a, 15, release(Mode::Exclusive)),
     ];
-    let pending = Expected {
-        holds: &[(b, Mode::Share)],
-        waits: &[],
-        words: [0, 6, 0, 0],
-        partition: FREE,
-    };
-    leads_to(&rt, &waiting, &granted, &pending)
+    let plain = leads_to(&rt, &waiting, &granted, words(6, FREE))?;
+    expect_holds(&rt, &plain, &[(b, Mode::Share)])?;
+    expect_waits(&rt, &plain, &[])
 }
 
 #[test]
