@@ -7,7 +7,7 @@ ghost use Rattle.lock_model.specs.Happens.{Runs};
 ghost use Rattle.lock_model.specs.Safe.{Safe};
 ghost use Rattle.lock_model.specs.Plain.{IsPlainOf, holds_of};
 
-pub mod gathered;
+mod gathered;
 mod hands;
 pub mod laws;
 mod moved;
