@@ -2,13 +2,14 @@ use Rattle.std.proofs.Common.{◌≡◌, ℕ, ◌<◌, List, length, get_or, ref
 use Rattle.std.proofs.Math.ListN.{set}
 use Rattle.std.proofs.lemmas.Bool.{cases_eq}
 use Rattle.std.proofs.lemmas.List.{get_or-set_same, get_or-set_other}
-use Rattle.lock_model.specs.declared.events.Step.{Step}
+use Rattle.lock_world.specs.declared.events.Step.{Step}
 use Rattle.lock_model.specs.declared.machine.state.Machine.{Machine}
-use Rattle.lock_model.specs.World.{World, set_at}
-use Rattle.lock_model.specs.Happens.{Lawful, Next}
-use Rattle.lock_model.specs.Safe.{Safe}
+use Rattle.lock_world.specs.World.{World}
+use Rattle.lock_table.specs.Put.{set_at}
+use Rattle.lock_world.specs.Happens.{Lawful, Next}
+use Rattle.lock_world.specs.Safe.{Safe}
 use Rattle.lock_model.specs.Shows.{Shows}
-use Rattle.lock_model.proofs.PutLemmas.{set_at-here, set_at-else}
+use Rattle.lock_table.proofs.PutLemmas.{set_at-here, set_at-else}
 
 -- A list with one place written reads as the function changed there.
 pub get_or-set_at : {A : Type 0} (xs : List A) (k : ℕ) (a d : A) (f : ℕ → A) → k < length xs → ((j : ℕ) → get_or xs j d ≡ f j) → (j : ℕ) → get_or (set xs k a) j d ≡ set_at f k a j

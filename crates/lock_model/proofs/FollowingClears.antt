@@ -4,21 +4,21 @@ use Rattle.std.proofs.Math.ListN.{set, length-set}
 use Rattle.std.proofs.lemmas.Bool.{both_ways, and_parts, and_from, not-true, not_from_false}
 use Rattle.modes_core.specs.declared.tags.Tag.{Tag}
 use Rattle.modes_core.specs.Tag.{partition_of}
-use Rattle.lock_model.specs.declared.events.Move.{Move}
-use Rattle.lock_model.specs.declared.events.Move.TheVariants.{Leave}
-use Rattle.lock_model.specs.declared.events.Step.TheVariants.{ClearWait}
+use Rattle.lock_table.specs.declared.moves.Move.{Move}
+use Rattle.lock_table.specs.declared.moves.Move.TheVariants.{Leave}
+use Rattle.lock_world.specs.declared.events.Step.TheVariants.{ClearWait}
 use Rattle.lock_model.specs.declared.machine.hands.InHand.{InHand}
 use Rattle.lock_model.specs.declared.machine.hands.Awaited.{Awaited}
 use Rattle.lock_model.specs.declared.machine.state.Machine.{Machine}
-use Rattle.lock_model.specs.Content.{Wait, Content}
-use Rattle.lock_model.specs.Parts.{contents_in}
-use Rattle.lock_model.specs.PartView.{PartView, content_of}
-use Rattle.lock_model.specs.OwnWait.{OwnWait}
-use Rattle.lock_model.specs.Queue.{waits_there, Wakes, remove_wait}
-use Rattle.lock_model.specs.World.{World, recorded_in, MakesSteps}
-use Rattle.lock_model.specs.Making.{MayMove, recording, MayClearSeen, MayClearInHand, after_clearing, after_leaving}
-use Rattle.lock_model.specs.Happens.{Next, HappensClearing}
-use Rattle.lock_model.specs.Safe.{Safe}
+use Rattle.lock_table.specs.Content.{Wait, Content}
+use Rattle.lock_table.specs.Parts.{contents_in}
+use Rattle.lock_table.specs.PartView.{PartView, content_of}
+use Rattle.lock_table.specs.OwnWait.{OwnWait}
+use Rattle.lock_table.specs.Queue.{waits_there, Wakes, remove_wait}
+use Rattle.lock_world.specs.World.{World, recorded_in, MakesSteps}
+use Rattle.lock_world.specs.Making.{MayMove, recording, MayClearSeen, MayClearInHand, after_clearing, after_leaving}
+use Rattle.lock_world.specs.Happens.{Next, HappensClearing}
+use Rattle.lock_world.specs.Safe.{Safe}
 use Rattle.lock_model.specs.Shows.{Shows, is_due, hand_of, awaited_of, makes_steps}
 use Rattle.lock_model.proofs.FollowingWaiting.{shown_with}
 use Rattle.lock_model.proofs.MarkLemmas.{recording-shown, awaited-set_at, contents-set_at, begun-set_at, awaited-some}

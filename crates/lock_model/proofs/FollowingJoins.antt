@@ -6,28 +6,28 @@ use Rattle.std.proofs.lemmas.List.{take_all, drop_all}
 use Rattle.modes_core.specs.declared.modes.Mode.{Mode}
 use Rattle.modes_core.specs.declared.tags.Tag.{Tag}
 use Rattle.modes_core.specs.Tag.{partition_of}
-use Rattle.lock_model.specs.declared.answering.Told.{Told}
-use Rattle.lock_model.specs.declared.answering.Told.TheVariants.{InQueue}
-use Rattle.lock_model.specs.declared.answering.Told.TheVariants as told
-use Rattle.lock_model.specs.declared.events.Move.TheVariants.{Join}
-use Rattle.lock_model.specs.declared.events.Step.TheVariants.{SetWaiting}
+use Rattle.lock_table.specs.declared.answering.Told.{Told}
+use Rattle.lock_table.specs.declared.answering.Told.TheVariants.{InQueue}
+use Rattle.lock_table.specs.declared.answering.Told.TheVariants as told
+use Rattle.lock_table.specs.declared.moves.Move.TheVariants.{Join}
+use Rattle.lock_world.specs.declared.events.Step.TheVariants.{SetWaiting}
 use Rattle.lock_model.specs.declared.machine.hands.InHand.{InHand}
 use Rattle.lock_model.specs.declared.machine.hands.Awaited.{Awaited}
 use Rattle.lock_model.specs.declared.machine.state.Machine.{Machine}
-use Rattle.lock_model.specs.Clash.{Clash}
-use Rattle.lock_model.specs.Content.{Content}
-use Rattle.lock_model.specs.Parts.{contents_in}
-use Rattle.lock_model.specs.PartView.{PartView, content_of}
-use Rattle.lock_model.specs.Queue.{Place, Last, Before, AtOnce, Deadlock, Granted, Queued, SimpleDeadlock, answer_of_place, PlaceIs, WaitingAnswer, WaitingAnswerAt, awaits_mode, waits_there, joining_wait, with_queue, add_wait}
-use Rattle.lock_model.specs.Told.{IsTold}
-use Rattle.lock_model.specs.World.{World}
-use Rattle.lock_model.specs.Making.{MayMove, recording, after_setting_waiting}
-use Rattle.lock_model.specs.Happens.{Next}
-use Rattle.lock_model.specs.Safe.{Safe}
+use Rattle.lock_table.specs.Clash.{Clash}
+use Rattle.lock_table.specs.Content.{Content}
+use Rattle.lock_table.specs.Parts.{contents_in}
+use Rattle.lock_table.specs.PartView.{PartView, content_of}
+use Rattle.lock_table.specs.Queue.{Place, Last, Before, AtOnce, Deadlock, Granted, Queued, SimpleDeadlock, answer_of_place, PlaceIs, WaitingAnswer, WaitingAnswerAt, awaits_mode, waits_there, joining_wait, with_queue, add_wait}
+use Rattle.lock_table.specs.Told.{IsTold}
+use Rattle.lock_world.specs.World.{World}
+use Rattle.lock_world.specs.Making.{MayMove, recording, after_setting_waiting}
+use Rattle.lock_world.specs.Happens.{Next}
+use Rattle.lock_world.specs.Safe.{Safe}
 use Rattle.lock_model.specs.Shows.{Shows, is_due, hand_of, awaits, awaited_of}
 use Rattle.lock_model.proofs.FollowingWaiting.{shown_with}
 use Rattle.lock_model.proofs.MarkLemmas.{recording-shown, awaited-set_at, contents-set_at, begun-set_at}
-use Rattle.lock_model.proofs.OneAnswer.{waiting_answer-one}
+use Rattle.lock_table.proofs.OneAnswer.{waiting_answer-one}
 use Rattle.lock_model.proofs.Following.{get_or-set_at, skipped}
 use Rattle.lock_model.proofs.PlaceLemmas.{hand-set_at}
 use Rattle.lock_model.proofs.Showing.{HasInHand, recorded_from, hand_from, hand_not, own_from, content_from, no_wait_from, stands_not, awaits_not}

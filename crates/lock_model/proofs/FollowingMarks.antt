@@ -4,28 +4,29 @@ use Rattle.std.proofs.Math.ListN.{set, length-set}
 use Rattle.std.proofs.lemmas.Bool.{cases_lt, both_ways, and_from}
 use Rattle.std.proofs.lemmas.List.{get_or_past}
 use Rattle.modes_core.specs.Tag.{partition_of}
-use Rattle.lock_model.specs.declared.events.Move.{Move}
-use Rattle.lock_model.specs.declared.events.Move.TheVariants.{Keep, Grant, Join, Release, Leave}
+use Rattle.lock_table.specs.declared.moves.Move.{Move}
+use Rattle.lock_table.specs.declared.moves.Move.TheVariants.{Keep, Grant, Join, Release, Leave}
 use Rattle.lock_model.specs.declared.machine.hands.InHand.{InHand}
 use Rattle.lock_model.specs.declared.machine.moved.MovedPart.{MovedPart}
 use Rattle.lock_model.specs.declared.machine.state.Machine.{Machine}
-use Rattle.lock_model.specs.Content.{Wait, Content}
+use Rattle.lock_table.specs.Content.{Wait, Content}
 use Rattle.lock_model.specs.MovedPart.{IsMoved}
-use Rattle.lock_model.specs.Moves.{Moves, IsInPartition, FitsOwn}
-use Rattle.lock_model.specs.MoveTests.{move_eq}
-use Rattle.lock_model.specs.Parts.{part_at, contents_in}
-use Rattle.lock_model.specs.PartView.{content_of}
-use Rattle.lock_model.specs.Queue.{waits_there}
-use Rattle.lock_model.specs.WaitWord.{wait_state}
-use Rattle.lock_model.specs.World.{World, recorded_in, owes, set_at}
-use Rattle.lock_model.specs.Making.{MayMove, MayMark, recording, without, after_marking_first, after_marking_next}
-use Rattle.lock_model.specs.Happens.{HappensMarkingIn}
-use Rattle.lock_model.specs.Safe.{Safe}
+use Rattle.lock_table.specs.Moves.{Moves, IsInPartition, FitsOwn}
+use Rattle.lock_table.specs.MoveTests.{move_eq}
+use Rattle.lock_table.specs.Parts.{part_at, contents_in}
+use Rattle.lock_table.specs.PartView.{content_of}
+use Rattle.lock_table.specs.Queue.{waits_there}
+use Rattle.lock_world.specs.WaitWord.{wait_state}
+use Rattle.lock_world.specs.World.{World, recorded_in, owes}
+use Rattle.lock_table.specs.Put.{set_at}
+use Rattle.lock_world.specs.Making.{MayMove, MayMark, recording, without, after_marking_first, after_marking_next}
+use Rattle.lock_world.specs.Happens.{HappensMarkingIn}
+use Rattle.lock_world.specs.Safe.{Safe}
 use Rattle.lock_model.specs.Shows.{Shows, is_due, names_in, hand_of, awaits, IsWaking, IsOwnFor, CannotMake}
 use Rattle.lock_model.proofs.FollowingWaiting.{shown_with}
 use Rattle.lock_model.proofs.MarkLemmas.{names_in-granted, marks-without, recording-shown, contents-set_at, begun-set_at}
-use Rattle.lock_model.proofs.MoveTests.{move_eq-same, move_eq-refl}
-use Rattle.lock_model.proofs.OneMove.{one_moved}
+use Rattle.lock_table.proofs.MoveTests.{move_eq-same, move_eq-refl}
+use Rattle.lock_table.proofs.OneMove.{one_moved}
 use Rattle.lock_model.proofs.Following.{get_or-set_at}
 use Rattle.lock_model.proofs.PlaceLemmas.{hand-set_at}
 use Rattle.lock_model.proofs.Showing.{HasInHand, recorded_from, owes_from, hand_from, hand_not, own_from}

@@ -4,31 +4,32 @@ use Rattle.std.proofs.lemmas.Bool.{cases_Bool, cases_eq, both_ways, false≢true
 use Rattle.modes_core.specs.declared.modes.Mode.{Mode}
 use Rattle.modes_core.specs.declared.tags.Tag.{Tag}
 use Rattle.modes_core.specs.Tag.{partition_of}
-use Rattle.lock_model.specs.declared.answering.Told.{Told}
-use Rattle.lock_model.specs.declared.answering.Told.TheVariants as told
-use Rattle.lock_model.specs.declared.events.Move.{Move}
-use Rattle.lock_model.specs.declared.events.Move.TheVariants.{Keep, Grant, Join, Release, Leave}
-use Rattle.lock_model.specs.declared.events.Step.TheVariants.{TakeExclusive, PutExclusive}
-use Rattle.lock_model.specs.declared.events.Word.TheVariants.{Partition}
+use Rattle.lock_table.specs.declared.answering.Told.{Told}
+use Rattle.lock_table.specs.declared.answering.Told.TheVariants as told
+use Rattle.lock_table.specs.declared.moves.Move.{Move}
+use Rattle.lock_table.specs.declared.moves.Move.TheVariants.{Keep, Grant, Join, Release, Leave}
+use Rattle.lock_world.specs.declared.events.Step.TheVariants.{TakeExclusive, PutExclusive}
+use Rattle.lock_world.specs.declared.events.Word.TheVariants.{Partition}
 use Rattle.lock_model.specs.declared.machine.hands.InHand.{InHand}
 use Rattle.lock_model.specs.declared.machine.state.Machine.{Machine}
-use Rattle.lock_model.specs.LightweightWord.{free_word, put_word}
-use Rattle.lock_model.specs.Content.{Wait, Content, add_hold, remove_hold}
-use Rattle.lock_model.specs.Told.{IsTold}
-use Rattle.lock_model.specs.Queue.{some_awaits_conflict, awaits_mode, Wakes, Granted, WaitingAnswer}
-use Rattle.lock_model.specs.Moves.{Moves, WakesFor, IsInPartition, FitsOwn}
-use Rattle.lock_model.specs.OwnWait.{OwnWait, is_for}
-use Rattle.lock_model.specs.PartView.{content_of}
-use Rattle.lock_model.specs.Parts.{part_at, contents_in}
-use Rattle.lock_model.specs.World.{World, set_at}
-use Rattle.lock_model.specs.Happens.{Lawful, Next, MayTakePartition, after_taking_partition, IsMadeByPutting, MayPutPartition, after_putting_partition, WaitIsOver, MayPutRecorded, after_putting_recorded}
-use Rattle.lock_model.specs.Safe.{Safe}
+use Rattle.lock_world.specs.LightweightWord.{free_word, put_word}
+use Rattle.lock_table.specs.Content.{Wait, Content, add_hold, remove_hold}
+use Rattle.lock_table.specs.Told.{IsTold}
+use Rattle.lock_table.specs.Queue.{some_awaits_conflict, awaits_mode, Wakes, Granted, WaitingAnswer}
+use Rattle.lock_table.specs.Moves.{Moves, WakesFor, IsInPartition, FitsOwn}
+use Rattle.lock_table.specs.OwnWait.{OwnWait, is_for}
+use Rattle.lock_table.specs.PartView.{content_of}
+use Rattle.lock_table.specs.Parts.{part_at, contents_in}
+use Rattle.lock_world.specs.World.{World}
+use Rattle.lock_table.specs.Put.{set_at}
+use Rattle.lock_world.specs.Happens.{Lawful, Next, MayTakePartition, after_taking_partition, IsMadeByPutting, MayPutPartition, after_putting_partition, WaitIsOver, MayPutRecorded, after_putting_recorded}
+use Rattle.lock_world.specs.Safe.{Safe}
 use Rattle.lock_model.specs.Shows.{Shows, is_due, owes_nobody, makes_steps, hand_of, awaits, awaited_of, HasUnmoved, is_over, CannotMake}
 use Rattle.lock_model.proofs.Following.{get_or-set_at}
-use Rattle.lock_model.proofs.OneAnswer.{waiting_answer-one}
+use Rattle.lock_table.proofs.OneAnswer.{waiting_answer-one}
 use Rattle.lock_model.proofs.PlaceLemmas.{hand-set_at, owes_nobody-none, none-owes_nobody, IsChangedAt, changed_nowhere}
-use Rattle.lock_model.proofs.PutLemmas.{set_at-here, set_at-else}
-use Rattle.lock_model.proofs.QueueLaws.{one_wakes}
+use Rattle.lock_table.proofs.PutLemmas.{set_at-here, set_at-else}
+use Rattle.lock_table.proofs.QueueLaws.{one_wakes}
 use Rattle.lock_model.proofs.Showing.{recorded_from, owes_from, steps_from, hand_from, hand_not, own_from, content_from, awaits_from, no_wait_from, some_wait_from, awaits_not}
 
 -- What the code asks of the own wait before a leave is put is what the World asks.

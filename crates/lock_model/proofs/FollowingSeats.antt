@@ -7,20 +7,20 @@ use Rattle.std.proofs.lemmas.List.Folds.{list_any_at}
 use Rattle.modes_core.specs.declared.modes.Mode.{Mode}
 use Rattle.modes_core.specs.declared.tags.Tag.{Tag}
 use Rattle.modes_core.specs.Tag.{partition_of}
-use Rattle.lock_model.specs.declared.events.Step.TheVariants.{SplitSeat, JoinSeat}
+use Rattle.lock_world.specs.declared.events.Step.TheVariants.{SplitSeat, JoinSeat}
 use Rattle.lock_model.specs.declared.machine.state.Machine.{Machine}
-use Rattle.lock_model.specs.declared.request.Request.{Request}
-use Rattle.lock_model.specs.Parts.{no_part, part_at}
-use Rattle.lock_model.specs.PartView.{PartView, holds_in}
-use Rattle.lock_model.specs.Request.{is_request_of}
-use Rattle.lock_model.specs.World.{World}
-use Rattle.lock_model.specs.Happens.{Next, MayBeIssued, after_issuing, after_going_on, MayBeKeptApart, after_keeping_apart, MayClose, after_closing}
-use Rattle.lock_model.specs.Safe.{Safe}
-use Rattle.lock_model.specs.OwnWait.{is_for}
+use Rattle.lock_table.specs.declared.request.Request.{Request}
+use Rattle.lock_table.specs.Parts.{no_part, part_at}
+use Rattle.lock_table.specs.PartView.{PartView, holds_in}
+use Rattle.lock_table.specs.Request.{is_request_of}
+use Rattle.lock_world.specs.World.{World}
+use Rattle.lock_world.specs.Happens.{Next, MayBeIssued, after_issuing, after_going_on, MayBeKeptApart, after_keeping_apart, MayClose, after_closing}
+use Rattle.lock_world.specs.Safe.{Safe}
+use Rattle.lock_table.specs.OwnWait.{is_for}
 use Rattle.lock_model.specs.Shows.{Shows, is_number, is_holder, makes_steps, awaits}
 use Rattle.lock_model.proofs.Following.{get_or-set_at}
-use Rattle.lock_model.proofs.ListLemmas.{any_found, any_weaker, found_within}
-use Rattle.lock_model.proofs.Same.{same_triple-refl}
+use Rattle.lock_table.proofs.ListLemmas.{any_found, any_weaker, found_within}
+use Rattle.lock_table.proofs.Same.{same_triple-refl}
 use Rattle.lock_model.proofs.Showing.{hand_kept, kept_hand, steps_from, own_from, content_from, awaits_from, no_wait_from}
 
 -- The events on session numbers, as the machine makes them, and what its tests of them say of the World.

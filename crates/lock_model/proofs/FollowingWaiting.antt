@@ -2,16 +2,17 @@ use Rattle.std.proofs.Common.{◌≡◌, ◌≢◌, ℕ, ◌<◌, Bool, true, fa
 use Rattle.std.specs.Prelude.{◌==◌}
 use Rattle.std.proofs.Math.ListN.{set}
 use Rattle.std.proofs.lemmas.Bool.{eq-eqb, ne_eqb}
-use Rattle.lock_model.specs.declared.events.Step.TheVariants.{AskCancel, LoadWait}
+use Rattle.lock_world.specs.declared.events.Step.TheVariants.{AskCancel, LoadWait}
 use Rattle.lock_model.specs.declared.machine.state.Machine.{Machine}
-use Rattle.lock_model.specs.Parts.{part_at, contents_in}
-use Rattle.lock_model.specs.WaitWord.{wait_state, asked_word}
-use Rattle.lock_model.specs.World.{World, set_at}
-use Rattle.lock_model.specs.Happens.{Next, after_asking, after_loading_wait}
-use Rattle.lock_model.specs.Safe.{Safe}
+use Rattle.lock_table.specs.Parts.{part_at, contents_in}
+use Rattle.lock_world.specs.WaitWord.{wait_state, asked_word}
+use Rattle.lock_world.specs.World.{World}
+use Rattle.lock_table.specs.Put.{set_at}
+use Rattle.lock_world.specs.Happens.{Next, after_asking, after_loading_wait}
+use Rattle.lock_world.specs.Safe.{Safe}
 use Rattle.lock_model.specs.Shows.{Shows, ShowsHandIfAny, awaited_of, makes_steps}
 use Rattle.lock_model.proofs.Following.{get_or-set_at, skipped}
-use Rattle.lock_model.proofs.PutLemmas.{set_at-same}
+use Rattle.lock_table.proofs.PutLemmas.{set_at-same}
 use Rattle.lock_model.proofs.Showing.{steps_from, steps_not}
 
 -- Asking to cancel, loading the own wait word, and what the steps on wait words leave as it was.

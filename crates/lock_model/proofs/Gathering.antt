@@ -1,5 +1,5 @@
 -- What stands in all parts of the lock table, in one list.
-use Rattle.std.proofs.Common.{◌≡◌, ◌≢◌, ℕ, ◌+◌, ◌<◌, ◌≤◌, Bool, true, false, not, ◌&&◌, ◌||◌, List, [], ◌∷◌, ◌++◌, take, length, get_or, arith, refl, sym, ap, ◌∙◌, subst, inl, inr, zero, suc}
+use Rattle.std.proofs.Common.{◌≡◌, ◌≢◌, ℕ, ◌+◌, ◌<◌, ◌≤◌, Bool, true, false, not, ◌&&◌, ◌||◌, List, [], ◌∷◌, ◌++◌, take, length, get_or, arith, refl, sym, ap, ◌∙◌, subst, inl, inr, zero, suc, rules}
 use Rattle.std.specs.Prelude.{map, filter, count_by, if◌then◌else◌}
 use Rattle.std.specs.List.{list_any, flat_map}
 use Rattle.std.proofs.lemmas.Bool.{cases_Bool, cases_lt, false≢true, false_from_ne_true}
@@ -13,7 +13,6 @@ use Rattle.std.specs.declared.cmp.Ordering.TheVariants.{Less, Equal, Greater}
 use Rattle.std.specs.Cmp.{IsTotalOrder}
 use Rattle.std.specs.Cmp.Rules.{comparing}
 use Rattle.std.specs.Cmp.Lexicographic.{slice_cmp}
-use Rattle.std.proofs.Common.{rules}
 use Rattle.std.proofs.lemmas.List.Sorted.{sum_by-IsPermutation, All-permutation}
 use Rattle.modes_core.specs.declared.modes.Mode.{Mode}
 use Rattle.modes_core.specs.declared.modes.Mode.TheVariants.{AccessShare}
@@ -21,21 +20,22 @@ use Rattle.modes_core.specs.declared.tags.Tag.{Tag}
 use Rattle.modes_core.specs.Tag.{tag_eq, numbers_of, partition_of}
 use Rattle.modes_core.specs.TagOrder.{same_tag-by_numbers}
 use Rattle.modes_core.proofs.Laws.{tag_eq-same, tag_eq-refl}
-use Rattle.lock_model.specs.declared.request.Request.{Request}
-use Rattle.lock_model.specs.declared.part_waits.PartWait.{PartWait}
+use Rattle.lock_table.specs.declared.request.Request.{Request}
+use Rattle.lock_table.specs.declared.part_waits.PartWait.{PartWait}
 use Rattle.lock_model.specs.declared.machine.plain.Hold.{Hold}
 use Rattle.lock_model.specs.declared.machine.plain.QueuedWait.{QueuedWait}
-use Rattle.lock_model.specs.Request.{is_request_of}
-use Rattle.lock_model.specs.PartView.{PartView}
-use Rattle.lock_model.specs.PartWaits.{EachOnce, waits_in}
-use Rattle.lock_model.specs.Parts.{no_part, part_at, contents_in, AreAtHome, table_hold_of, queued_of}
+use Rattle.lock_table.specs.Request.{is_request_of}
+use Rattle.lock_table.specs.PartView.{PartView}
+use Rattle.lock_table.specs.PartWaits.{EachOnce, waits_in}
+use Rattle.lock_table.specs.Parts.{no_part, part_at, contents_in, AreAtHome}
+use Rattle.lock_model.specs.Gathered.{table_hold_of, queued_of}
 use Rattle.lock_model.specs.Shows.{is_hold, ListsHolds, AreInTable}
 use Rattle.lock_model.specs.declared.machine.plain.Spot.TheVariants.{Table}
 use Rattle.lock_model.specs.Plain.{wait_of}
-use Rattle.lock_model.proofs.Same.{same_triple-comm}
-use Rattle.lock_model.proofs.HoldLists.{take_one_more}
-use Rattle.lock_model.proofs.ListLemmas.{any_weaker}
-use Rattle.lock_model.proofs.ListingLemmas.{count_by-map, count_by-same, once_or_not}
+use Rattle.lock_table.proofs.Same.{same_triple-comm}
+use Rattle.lock_table.proofs.HoldLists.{take_one_more}
+use Rattle.lock_table.proofs.ListLemmas.{any_weaker}
+use Rattle.lock_table.proofs.ListingLemmas.{count_by-map, count_by-same, once_or_not}
 
 -- the holds and the waits of a part, as they stand in the plain lists
 abbrev pub table_holds_of : PartView → List Hold

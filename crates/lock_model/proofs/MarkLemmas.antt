@@ -5,18 +5,19 @@ use Rattle.std.proofs.lemmas.Bool.{cases_eq, eq-eqb, ne_eqb}
 use Rattle.std.proofs.lemmas.List.{get_or-set_same, get_or-set_other}
 use Rattle.std.proofs.lemmas.List.Folds.{list_any_more}
 use Rattle.modes_core.specs.declared.modes.Mode.{Mode}
-use Rattle.lock_model.specs.declared.events.Move.{Move}
+use Rattle.lock_table.specs.declared.moves.Move.{Move}
 use Rattle.lock_model.specs.declared.machine.hands.Awaited.{Awaited}
-use Rattle.lock_model.specs.Content.{Wait, Content}
-use Rattle.lock_model.specs.OwnWait.{OwnWait}
-use Rattle.lock_model.specs.Making.{recording, without}
-use Rattle.lock_model.specs.Parts.{no_part, part_at, contents_in}
-use Rattle.lock_model.specs.PartView.{PartView, content_of}
-use Rattle.lock_model.specs.Queue.{waits_there}
+use Rattle.lock_table.specs.Content.{Wait, Content}
+use Rattle.lock_table.specs.OwnWait.{OwnWait}
+use Rattle.lock_world.specs.Making.{recording, without}
+use Rattle.lock_table.specs.Parts.{no_part, part_at, contents_in}
+use Rattle.lock_table.specs.PartView.{PartView, content_of}
+use Rattle.lock_table.specs.Queue.{waits_there}
 use Rattle.lock_model.specs.Shows.{ShowsHandIfAny, is_due, names_in, awaited_of}
-use Rattle.lock_model.specs.Waiter.{whose_and_mode}
-use Rattle.lock_model.specs.World.{Hand, set_at}
-use Rattle.lock_model.proofs.PutLemmas.{set_at-here, set_at-else}
+use Rattle.lock_table.specs.Waiter.{whose_and_mode}
+use Rattle.lock_world.specs.World.{Hand}
+use Rattle.lock_table.specs.Put.{set_at}
+use Rattle.lock_table.proofs.PutLemmas.{set_at-here, set_at-else}
 
 -- One of those woken marked, with those before it.
 pub marks-one_more : (marks : List Bool) (woken : List (ℕ × Mode)) (n : ℕ) (whose : ℕ × Mode) (i : ℕ) → i < length marks → i ≡ whose.0 → n < length woken → whose ≡ get_or woken n whose

@@ -5,13 +5,14 @@ use Rattle.std.proofs.Math.ListN.{set, length-set}
 use Rattle.std.proofs.lemmas.Bool.{cases_eq, cases_lt, both_ways, not-true, not_from_false, or_from, false_from_ne_true}
 use Rattle.std.proofs.lemmas.List.{get_or-set_same, get_or-set_other, get_or-replicate, length-replicate, get_or_past, get_or_default}
 use Rattle.lock_model.specs.declared.machine.hands.InHand.{InHand}
-use Rattle.lock_model.specs.World.{Hand, set_at}
-use Rattle.lock_model.specs.Content.{Content}
-use Rattle.lock_model.specs.PartView.{PartView, content_of}
-use Rattle.lock_model.specs.Parts.{no_part, part_at}
+use Rattle.lock_world.specs.World.{Hand}
+use Rattle.lock_table.specs.Put.{set_at}
+use Rattle.lock_table.specs.Content.{Content}
+use Rattle.lock_table.specs.PartView.{PartView, content_of}
+use Rattle.lock_table.specs.Parts.{no_part, part_at}
 use Rattle.lock_model.specs.Shows.{ShowsHandIfAny, is_due, owes_nobody}
-use Rattle.lock_model.proofs.ListLemmas.{found_within}
-use Rattle.lock_model.proofs.PutLemmas.{set_at-here, set_at-else}
+use Rattle.lock_table.proofs.ListLemmas.{found_within}
+use Rattle.lock_table.proofs.PutLemmas.{set_at-here, set_at-else}
 
 -- A list of hands with one place written shows the function changed there.
 pub hand-set_at : (xs : List (Option InHand)) (k : ℕ) (shown : Option InHand) (hand : Option Hand) (f : ℕ → Option Hand) → k < length xs → ShowsHandIfAny shown hand → ((j : ℕ) → ShowsHandIfAny (get_or xs j None) (f j)) → (j : ℕ) → ShowsHandIfAny (get_or (set xs k shown) j None) (set_at f k hand j)

@@ -7,13 +7,13 @@ use Rattle.modes_core.specs.declared.tags.Tag.{Tag}
 use Rattle.modes_core.specs.Tag.{partition_of}
 use Rattle.lock_model.specs.declared.machine.hands.InHand.{InHand}
 use Rattle.lock_model.specs.declared.machine.state.Machine.{Machine}
-use Rattle.lock_model.specs.OwnWait.{OwnWait, Stage, InQueue, WasGranted, HasLeft, is_for, is_pending, queued_by}
-use Rattle.lock_model.specs.Parts.{contents_in}
-use Rattle.lock_model.specs.Queue.{waits_there, awaits_mode}
-use Rattle.lock_model.specs.World.{World, Hand, MakesSteps, recorded_in, owes}
-use Rattle.lock_model.specs.Safe.{Safe, is_hand_of, stages}
+use Rattle.lock_table.specs.OwnWait.{OwnWait, Stage, InQueue, WasGranted, HasLeft, is_for, is_pending, queued_by}
+use Rattle.lock_table.specs.Parts.{contents_in}
+use Rattle.lock_table.specs.Queue.{waits_there, awaits_mode}
+use Rattle.lock_world.specs.World.{World, Hand, MakesSteps, recorded_in, owes}
+use Rattle.lock_world.specs.Safe.{Safe, is_hand_of, stages}
 use Rattle.lock_model.specs.Shows.{Shows, ShowsHand, ShowsHandIfAny, is_due, is_holder, makes_steps, hand_of, awaits, awaited_of}
-use Rattle.lock_model.proofs.ListLemmas.{any_weaker, filter_nothing}
+use Rattle.lock_table.proofs.ListLemmas.{any_weaker, filter_nothing}
 
 -- What the machine's looks tell of a safe World that it shows.
 

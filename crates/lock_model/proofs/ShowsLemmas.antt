@@ -8,20 +8,20 @@ use Rattle.std.proofs.lemmas.List.{length-replicate, get_or_past}
 use Rattle.modes_core.specs.declared.modes.Mode.{Mode}
 use Rattle.modes_core.specs.declared.tags.Tag.{Tag}
 use Rattle.modes_core.specs.Tag.{tag_eq, numbers_of, partition_of}
-use Rattle.lock_model.specs.declared.events.Word.{Word}
-use Rattle.lock_model.specs.declared.events.Word.TheVariants.{Partition, Fast, Database, Slot, Wait, Strong, Sleep}
+use Rattle.lock_world.specs.declared.events.Word.{Word}
+use Rattle.lock_world.specs.declared.events.Word.TheVariants.{Partition, Fast, Database, Slot, Wait, Strong, Sleep}
 use Rattle.lock_model.specs.declared.machine.hands.InHand.{InHand}
 use Rattle.lock_model.specs.declared.machine.plain.Hold.{Hold}
 use Rattle.lock_model.specs.declared.machine.plain.QueuedWait.{QueuedWait}
 use Rattle.lock_model.specs.declared.machine.plain.Plain.{Plain}
 use Rattle.lock_model.specs.declared.machine.state.Machine.{Machine}
-use Rattle.lock_model.specs.Content.{empty_content}
-use Rattle.lock_model.specs.LightweightWord.{free_word}
-use Rattle.lock_model.specs.Parts.{AreAtHome, no_part, part_at, contents_in}
-use Rattle.lock_model.specs.PartView.{PartView, content_of}
+use Rattle.lock_table.specs.Content.{empty_content}
+use Rattle.lock_world.specs.LightweightWord.{free_word}
+use Rattle.lock_table.specs.Parts.{AreAtHome, no_part, part_at, contents_in}
+use Rattle.lock_table.specs.PartView.{PartView, content_of}
 use Rattle.lock_model.specs.Plain.{IsPlainOf, WordExists, word_in, word_of, holds_of, waits_of, wait_of}
-use Rattle.lock_model.specs.Safe.{Safe}
-use Rattle.lock_model.specs.World.{World, opening}
+use Rattle.lock_world.specs.Safe.{Safe}
+use Rattle.lock_world.specs.World.{World, opening}
 use Rattle.lock_model.specs.Shows.{Shows, ShowsHandIfAny, AreInTable, ListsHolds}
 use Rattle.lock_model.proofs.PlaceLemmas.{get_or-one_value}
 use Rattle.lock_model.proofs.Showing.{content_from}

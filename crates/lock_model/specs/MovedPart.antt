@@ -1,10 +1,10 @@
 use Rattle.std.specs.Prelude.{◌≡◌, ℕ, List, map}
-use Rattle.lock_model.specs.declared.events.Move.{Move}
+use Rattle.lock_table.specs.declared.moves.Move.{Move}
 use Rattle.lock_model.specs.declared.machine.moved.MovedPart.{MovedPart}
-use Rattle.lock_model.specs.Content.{Wait}
-use Rattle.lock_model.specs.Moves.{Moves}
-use Rattle.lock_model.specs.PartView.{PartView, content_of}
-use Rattle.lock_model.specs.Waiter.{whose_and_mode}
+use Rattle.lock_table.specs.Content.{Wait}
+use Rattle.lock_table.specs.Moves.{Moves}
+use Rattle.lock_table.specs.PartView.{PartView, content_of}
+use Rattle.lock_table.specs.Waiter.{whose_and_mode}
 
 -- The part was moved: this is what the session's move makes of it, with those told whom the move granted.
 pub record IsMoved (before : PartView) (session : ℕ) (done : Move) (after : MovedPart) : Type 0 where

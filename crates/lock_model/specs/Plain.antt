@@ -5,15 +5,15 @@ use Rattle.std.specs.List.Sorted.{IsSortedByKey}
 use Rattle.modes_core.specs.declared.tags.Tag.{Tag}
 use Rattle.modes_core.specs.ModeSet.{set_has}
 use Rattle.modes_core.specs.Tag.{tag_eq, numbers_of, partition_of}
-use Rattle.lock_model.specs.declared.events.Word.{Word}
-use Rattle.lock_model.specs.declared.events.Word.TheVariants.{Partition, Fast, Database, Slot, Wait, Strong, Sleep}
+use Rattle.lock_world.specs.declared.events.Word.{Word}
+use Rattle.lock_world.specs.declared.events.Word.TheVariants.{Partition, Fast, Database, Slot, Wait, Strong, Sleep}
 use Rattle.lock_model.specs.declared.machine.plain.Hold.{Hold}
 use Rattle.lock_model.specs.declared.machine.plain.QueuedWait.{QueuedWait}
 use Rattle.lock_model.specs.declared.machine.plain.Plain.{Plain}
-use Rattle.lock_model.specs.Content.{Holds}
-use Rattle.lock_model.specs.Content as content
-use Rattle.lock_model.specs.LightweightWord.{free_word}
-use Rattle.lock_model.specs.World.{World, Words}
+use Rattle.lock_table.specs.Content.{Holds}
+use Rattle.lock_table.specs.Content as content
+use Rattle.lock_world.specs.LightweightWord.{free_word}
+use Rattle.lock_world.specs.World.{World, Words}
 use Rattle.lock_model.specs.Shows.{ListsHolds, AreInTable}
 
 -- There is such a word.

@@ -9,17 +9,17 @@ use Rattle.lock_model.specs.declared.machine.plain.Spot.TheVariants.{Table}
 use Rattle.lock_model.specs.declared.machine.hands.InHand.{InHand}
 use Rattle.lock_model.specs.declared.machine.hands.Awaited.{Awaited}
 use Rattle.lock_model.specs.declared.machine.state.Machine.{Machine}
-use Rattle.lock_model.specs.declared.events.Move.{Move}
-use Rattle.lock_model.specs.declared.events.Move.TheVariants.{Keep, Grant, Join, Release, Leave}
-use Rattle.lock_model.specs.declared.events.Step.{Step}
-use Rattle.lock_model.specs.Content.{Holds, Content}
-use Rattle.lock_model.specs.LightweightWord.{free_word}
-use Rattle.lock_model.specs.OwnWait.{OwnWait}
-use Rattle.lock_model.specs.Parts.{part_at, contents_in}
-use Rattle.lock_model.specs.World.{World, Hand}
-use Rattle.lock_model.specs.Happens.{Next, HappensMarkingIn}
-use Rattle.lock_model.specs.Queue.{waits_there}
-use Rattle.lock_model.specs.Safe.{Safe}
+use Rattle.lock_table.specs.declared.moves.Move.{Move}
+use Rattle.lock_table.specs.declared.moves.Move.TheVariants.{Keep, Grant, Join, Release, Leave}
+use Rattle.lock_world.specs.declared.events.Step.{Step}
+use Rattle.lock_table.specs.Content.{Holds, Content}
+use Rattle.lock_world.specs.LightweightWord.{free_word}
+use Rattle.lock_table.specs.OwnWait.{OwnWait}
+use Rattle.lock_table.specs.Parts.{part_at, contents_in}
+use Rattle.lock_world.specs.World.{World, Hand}
+use Rattle.lock_world.specs.Happens.{Next, HappensMarkingIn}
+use Rattle.lock_table.specs.Queue.{waits_there}
+use Rattle.lock_world.specs.Safe.{Safe}
 
 -- whether it is the hold of this session on this object in this mode
 abbrev pub is_hold : ℕ → Tag → Mode → Hold → Bool

@@ -1,27 +1,11 @@
-//! What the lock table means: the content of a partition, the calls that change it, and the slow
-//! plain machine that runs events.
+//! The plain machine: it runs any list of events on a World, slowly, and shows what they lead to. Beside it
+//! stand the names of the lock table and of the World.
 #![tactic(auto)]
 
-pub mod answering;
-pub mod events;
 pub mod machine;
-pub mod no_memory;
-pub mod part_table;
-pub mod part_waits;
-pub mod plain_part;
-pub mod queue_laws;
-pub mod request;
-pub mod rows;
-pub mod waits;
 
-pub use answering::{
-    Clash, Standing, Told, clash_with, first_against, standing_of, waiting_answer,
+pub use lock_table::{
+    Clash, Move, NoMemory, PartTable, PlainPart, Request, TableRow, Waiter, Woken,
 };
-pub use events::{Event, Move, Step, Word};
+pub use lock_world::{Event, Step, Word};
 pub use machine::{Hold, Plain, QueuedWait, Spot, run_events};
-pub use no_memory::NoMemory;
-pub use part_table::PartTable;
-pub use plain_part::PlainPart;
-pub use request::Request;
-pub use rows::TableRow;
-pub use waits::{Waiter, Woken};

@@ -2,14 +2,13 @@
 
 ghost use Rattle.std.specs.Prelude.{IfOk};
 ghost use Rattle.std.specs.List.Sorted.{IsSorted};
-ghost use Rattle.lock_model.specs.World.{World, opening};
-ghost use Rattle.lock_model.specs.Happens.{Runs};
-ghost use Rattle.lock_model.specs.Safe.{Safe};
+ghost use Rattle.lock_world.specs.World.{World, opening};
+ghost use Rattle.lock_world.specs.Happens.{Runs};
+ghost use Rattle.lock_world.specs.Safe.{Safe};
 ghost use Rattle.lock_model.specs.Plain.{IsPlainOf, holds_of};
 
 mod gathered;
 mod hands;
-pub mod laws;
 mod moved;
 mod plain;
 mod putting;
@@ -19,7 +18,8 @@ mod state;
 mod tests;
 mod waiting;
 
-use crate::{Event, NoMemory};
+use lock_table::NoMemory;
+use lock_world::Event;
 pub use plain::{Hold, Plain, QueuedWait, Spot};
 use state::Machine;
 use std::alloc::Global;

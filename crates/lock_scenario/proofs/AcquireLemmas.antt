@@ -13,10 +13,10 @@ use Rattle.local_locks.specs.declared.answers.Acquired.TheVariants.{Granted, Alr
 use Rattle.local_locks.specs.declared.answers.Unlocked.{Unlocked}
 use Rattle.local_locks.specs.declared.answers.Unlocked.TheVariants.{Released, StillHeld}
 use Rattle.local_locks.specs.Owned.{has_entry, entry_of, count_for, total_of, owner_count_of, with_one_more, with_one_less, IsCounted}
-use Rattle.lock_model.specs.Content.{Content, set_hold, add_hold}
-use Rattle.lock_model.specs.Clash.{Clash, ClashIs}
-use Rattle.lock_model.specs.Queue.{ConditionalAnswer, ConditionalAnswerAt}
-use Rattle.lock_model.specs.Queue as answer
+use Rattle.lock_table.specs.Content.{Content, set_hold, add_hold}
+use Rattle.lock_table.specs.Clash.{Clash, ClashIs}
+use Rattle.lock_table.specs.Queue.{ConditionalAnswer, ConditionalAnswerAt}
+use Rattle.lock_table.specs.Queue as answer
 use Rattle.lock_scenario.proofs.Entries.{same_key, same_key-refl, same_key-from, has_entry-none, has_entry-some, has_entry-with_one_more, has_entry-with_one_less}
 use Rattle.lock_scenario.proofs.DeskLemmas.{set_hold-same}
 

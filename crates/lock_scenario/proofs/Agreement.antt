@@ -13,15 +13,15 @@ use Rattle.modes_core.specs.Tag.{tag_eq, partition_of}
 use Rattle.modes_core.proofs.Laws.{both_true, mode_eq-refl, mode_eq-same, tag_eq-refl, tag_eq-same}
 use Rattle.local_locks.specs.declared.records.Entry.{Entry}
 use Rattle.local_locks.specs.Owned.{has_entry}
-use Rattle.lock_model.specs.declared.events.Move.TheVariants.{Release}
-use Rattle.lock_model.specs.Content.{Holds, Wait, Content, set_hold, remove_hold}
-use Rattle.lock_model.specs.Moves.{Moves}
-use Rattle.lock_model.specs.World.{set_at}
-use Rattle.lock_model.specs.Queue.{IsSplitOf, Wakes, hold_all, waits_there, some_awaits_conflict}
-use Rattle.lock_model.proofs.ListLemmas.{any_found, any_weaker, any-counted, counted-any}
-use Rattle.lock_model.proofs.PutLemmas.{put_else, set_at-here, set_at-else}
-use Rattle.lock_model.proofs.HoldLemmas.{SetHoldAt, IsTheHold, here, elsewhere, set_hold-at}
-use Rattle.lock_model.proofs.QueueLaws.{woken-split}
+use Rattle.lock_table.specs.declared.moves.Move.TheVariants.{Release}
+use Rattle.lock_table.specs.Content.{Holds, Wait, Content, set_hold, remove_hold}
+use Rattle.lock_table.specs.Moves.{Moves}
+use Rattle.lock_table.specs.Put.{set_at}
+use Rattle.lock_table.specs.Queue.{IsSplitOf, Wakes, hold_all, waits_there, some_awaits_conflict}
+use Rattle.lock_table.proofs.ListLemmas.{any_found, any_weaker, any-counted, counted-any}
+use Rattle.lock_table.proofs.PutLemmas.{put_else, set_at-here, set_at-else}
+use Rattle.lock_table.proofs.HoldLemmas.{SetHoldAt, IsTheHold, here, elsewhere, set_hold-at}
+use Rattle.lock_table.proofs.QueueLaws.{woken-split}
 use Rattle.lock_scenario.specs.declared.sessions.OwnWait.{OwnWait}
 use Rattle.lock_scenario.specs.Sessions.{as_granted, marked, is_pending, is_awaiting}
 use Rattle.lock_scenario.specs.Waiting.{is_wait_of, AgreesOn, Agrees}

@@ -1,15 +1,15 @@
 use Rattle.std.proofs.Common.{◌≡◌, ℕ, ◌∙◌, List, slice_set, Option, Some, refl, sym, ap, subst}
 use Rattle.std.specs.Prelude.{IfSome}
 use Rattle.local_locks.specs.declared.records.Entry.{Entry}
-use Rattle.lock_model.specs.PartView.{PartView}
+use Rattle.lock_table.specs.PartView.{PartView}
 use Rattle.lock_scenario.specs.Parts.{content_in}
 use Rattle.lock_scenario.specs.declared.sessions.OwnWait.{OwnWait}
 use Rattle.lock_scenario.specs.declared.sessions.DeskSession.{DeskSession}
 use Rattle.lock_scenario.specs.Sessions.{entries_in, waits_in, as_asked}
 use Rattle.lock_scenario.specs.Waiting.{Agrees}
 use Rattle.lock_scenario.specs.Desk.{IsDesk, IsInOrder, IsReadyFor}
-use Rattle.lock_model.specs.World.{set_at}
-use Rattle.lock_model.proofs.PutLemmas.{set_at-same}
+use Rattle.lock_table.specs.Put.{set_at}
+use Rattle.lock_table.proofs.PutLemmas.{set_at-same}
 use Rattle.lock_scenario.proofs.DeskLemmas.{Finds_session, session_found, order_there, IsDesk-session}
 use Rattle.lock_scenario.proofs.JoinLemmas.{Agrees-asked}
 

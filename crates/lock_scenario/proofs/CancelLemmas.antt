@@ -5,12 +5,12 @@ use Rattle.modes_core.specs.Mode.{mode_eq}
 use Rattle.modes_core.specs.Tag.{tag_eq, partition_of}
 use Rattle.modes_core.proofs.Laws.{both_true, tag_eq-refl, mode_eq-refl}
 use Rattle.local_locks.specs.declared.records.Entry.{Entry}
-use Rattle.lock_model.specs.Content.{Content}
-use Rattle.lock_model.specs.PartView.{PartView, content_of}
-use Rattle.lock_model.specs.Queue.{Wakes, remove_wait, waits_there}
-use Rattle.lock_model.specs.World.{set_at}
-use Rattle.lock_model.proofs.ListLemmas.{any_weaker, counted-any}
-use Rattle.lock_model.proofs.PutLemmas.{set_at-same, set_at-here, set_at-else}
+use Rattle.lock_table.specs.Content.{Content}
+use Rattle.lock_table.specs.PartView.{PartView, content_of}
+use Rattle.lock_table.specs.Queue.{Wakes, remove_wait, waits_there}
+use Rattle.lock_table.specs.Put.{set_at}
+use Rattle.lock_table.proofs.ListLemmas.{any_weaker, counted-any}
+use Rattle.lock_table.proofs.PutLemmas.{set_at-same, set_at-here, set_at-else}
 use Rattle.lock_scenario.specs.declared.sessions.OwnWait.{OwnWait}
 use Rattle.lock_scenario.specs.declared.sessions.DeskSession.{DeskSession}
 use Rattle.lock_scenario.specs.Parts.{no_part, content_in}

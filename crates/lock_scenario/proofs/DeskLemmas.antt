@@ -9,15 +9,15 @@ use Rattle.modes_core.specs.declared.tags.Tag.{Tag}
 use Rattle.modes_core.specs.Tag.{partition_of}
 use Rattle.local_locks.specs.declared.records.Entry.{Entry}
 use Rattle.local_locks.specs.Owned.{has_entry, IsWellOwned}
-use Rattle.lock_model.specs.declared.events.Move.TheVariants.{Release}
-use Rattle.lock_model.specs.Content.{Holds, Wait, Content, empty_content, set_hold}
-use Rattle.lock_model.specs.Moves.{Moves}
-use Rattle.lock_model.specs.PartView.{PartView, content_of}
-use Rattle.lock_model.specs.Queue.{waits_there}
-use Rattle.lock_model.specs.Waiter.{whose_and_mode}
-use Rattle.lock_model.specs.World.{set_at}
-use Rattle.lock_model.proofs.PutLemmas.{set_at-same, set_at-here, set_at-else}
-use Rattle.lock_model.proofs.Same.{same_triple, SameTriple-from, set_hold-here, set_hold-else}
+use Rattle.lock_table.specs.declared.moves.Move.TheVariants.{Release}
+use Rattle.lock_table.specs.Content.{Holds, Wait, Content, empty_content, set_hold}
+use Rattle.lock_table.specs.Moves.{Moves}
+use Rattle.lock_table.specs.PartView.{PartView, content_of}
+use Rattle.lock_table.specs.Queue.{waits_there}
+use Rattle.lock_table.specs.Waiter.{whose_and_mode}
+use Rattle.lock_table.specs.Put.{set_at}
+use Rattle.lock_table.proofs.PutLemmas.{set_at-same, set_at-here, set_at-else}
+use Rattle.lock_table.proofs.Same.{same_triple, SameTriple-from, set_hold-here, set_hold-else}
 use Rattle.lock_scenario.specs.declared.sessions.OwnWait.{OwnWait}
 use Rattle.lock_scenario.specs.declared.sessions.DeskSession.{DeskSession}
 use Rattle.lock_scenario.specs.Parts.{no_part, content_in, AreEmpty}

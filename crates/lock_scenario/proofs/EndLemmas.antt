@@ -11,11 +11,11 @@ use Rattle.local_locks.specs.declared.ends.End.TheVariants.{Commit, Abort, Close
 use Rattle.modes_core.specs.Tag.{partition_of}
 use Rattle.local_locks.specs.Owned.{is_of, has_entry, are_of_same, is_ended, after_end, ended_by, left_by, with_next_ended}
 use Rattle.local_locks.proofs.EndLaws.{left_by-next}
-use Rattle.lock_model.specs.PartView.{PartView, content_of}
+use Rattle.lock_table.specs.PartView.{PartView, content_of}
 use Rattle.lock_scenario.specs.declared.sessions.DeskSession.{DeskSession}
 use Rattle.lock_scenario.specs.Parts.{no_part, content_in}
-use Rattle.lock_model.specs.World.{set_at}
-use Rattle.lock_model.proofs.PutLemmas.{set_at-here}
+use Rattle.lock_table.specs.Put.{set_at}
+use Rattle.lock_table.proofs.PutLemmas.{set_at-here}
 use Rattle.lock_scenario.specs.Sessions.{entries_in, waits_in, is_pending}
 use Rattle.lock_scenario.specs.Waiting.{Shared, Releases, ReleasesAll}
 use Rattle.lock_scenario.specs.Desk.{IsDesk}

@@ -9,11 +9,11 @@ use Rattle.modes_core.specs.Tag.{tag_eq, partition_of}
 use Rattle.modes_core.proofs.Laws.{mode_eq-refl, mode_eq-same, tag_eq-refl}
 use Rattle.local_locks.specs.declared.records.Entry.{Entry}
 use Rattle.local_locks.specs.Owned.{has_entry, with_one_more}
-use Rattle.lock_model.specs.Content.{Wait, Content}
-use Rattle.lock_model.specs.Clash.{Clash, ClashIs}
-use Rattle.lock_model.specs.World.{set_at}
-use Rattle.lock_model.specs.Queue.{Wakes, Place, Last, Before, AtOnce, Deadlock, Queued, joined, joining_wait, add_wait, queue_without, remove_wait, answer_of_place, WaitingAnswer, WaitingAnswerAt}
-use Rattle.lock_model.proofs.PutLemmas.{put_here, put_else, set_at-here, set_at-else}
+use Rattle.lock_table.specs.Content.{Wait, Content}
+use Rattle.lock_table.specs.Clash.{Clash, ClashIs}
+use Rattle.lock_table.specs.Put.{set_at}
+use Rattle.lock_table.specs.Queue.{Wakes, Place, Last, Before, AtOnce, Deadlock, Queued, joined, joining_wait, add_wait, queue_without, remove_wait, answer_of_place, WaitingAnswer, WaitingAnswerAt}
+use Rattle.lock_table.proofs.PutLemmas.{put_here, put_else, set_at-here, set_at-else}
 use Rattle.lock_scenario.specs.declared.sessions.OwnWait.{OwnWait}
 use Rattle.lock_scenario.specs.Sessions.{marked, is_pending, is_awaiting}
 use Rattle.lock_scenario.specs.Waiting.{is_wait_of, AgreesOn, Agrees}

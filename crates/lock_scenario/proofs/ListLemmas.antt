@@ -10,10 +10,10 @@ use Rattle.modes_core.specs.declared.modes.Mode.{Mode}
 use Rattle.modes_core.specs.declared.tags.Tag.{Tag}
 use Rattle.modes_core.specs.Mode.{mode_eq}
 use Rattle.modes_core.specs.Tag.{partition_of}
-use Rattle.lock_model.specs.declared.rows.TableRow.{TableRow}
-use Rattle.lock_model.specs.Content.{Content}
-use Rattle.lock_model.specs.PartView.{PartView, content_of}
-use Rattle.lock_model.specs.Listing.{row_eq, has_row, row_cmp, IsListing, AppendsListing}
+use Rattle.lock_table.specs.declared.rows.TableRow.{TableRow}
+use Rattle.lock_table.specs.Content.{Content}
+use Rattle.lock_table.specs.PartView.{PartView, content_of}
+use Rattle.lock_table.specs.Listing.{row_eq, has_row, row_cmp, IsListing, AppendsListing}
 use Rattle.lock_scenario.specs.Parts.{no_part, content_in}
 use Rattle.lock_scenario.specs.Desk.{whole_of}
 

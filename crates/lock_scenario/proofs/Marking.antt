@@ -4,9 +4,9 @@ use Rattle.std.specs.Option.{option_map}
 use Rattle.std.specs.List.{list_any}
 use Rattle.std.proofs.lemmas.Bool.{cases_eq, eq-eqb, ne_eqb, cond-true, cond-false}
 use Rattle.modes_core.specs.declared.modes.Mode.{Mode}
-use Rattle.lock_model.specs.Content.{Wait}
-use Rattle.lock_model.specs.Queue.{waits_there}
-use Rattle.lock_model.specs.Waiter.{whose_and_mode}
+use Rattle.lock_table.specs.Content.{Wait}
+use Rattle.lock_table.specs.Queue.{waits_there}
+use Rattle.lock_table.specs.Waiter.{whose_and_mode}
 use Rattle.lock_scenario.specs.declared.sessions.OwnWait.{OwnWait}
 use Rattle.lock_scenario.specs.declared.sessions.DeskSession.{DeskSession}
 use Rattle.lock_scenario.specs.Sessions.{session_at, entries_in, waits_in, as_granted, with_granted, marked_at, marked_all, marked}

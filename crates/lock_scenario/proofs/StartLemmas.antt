@@ -5,11 +5,11 @@ use Rattle.modes_core.specs.declared.tags.Tag.{Tag}
 use Rattle.modes_core.specs.declared.sessions.Owner.{Owner}
 use Rattle.local_locks.specs.declared.records.Entry.{Entry}
 use Rattle.local_locks.specs.Owned.{has_entry, with_one_more}
-use Rattle.lock_model.specs.Content.{Content}
-use Rattle.lock_model.specs.PartView.{PartView, content_of}
-use Rattle.lock_model.specs.Queue.{add_wait}
-use Rattle.lock_model.specs.World.{set_at}
-use Rattle.lock_model.proofs.PutLemmas.{set_at-same}
+use Rattle.lock_table.specs.Content.{Content}
+use Rattle.lock_table.specs.PartView.{PartView, content_of}
+use Rattle.lock_table.specs.Queue.{add_wait}
+use Rattle.lock_table.specs.Put.{set_at}
+use Rattle.lock_table.proofs.PutLemmas.{set_at-same}
 use Rattle.lock_scenario.specs.declared.acquire.Started.{Started}
 use Rattle.lock_scenario.specs.declared.acquire.Started.TheVariants.{Granted, AlreadyHeld, Queued}
 use Rattle.lock_scenario.specs.declared.sessions.OwnWait.{OwnWait}

@@ -2,8 +2,8 @@ use Rattle.std.specs.Prelude.{◌≡◌, ℕ, ◌<◌, ◌≤◌, ◌&&◌, nat_
 use Rattle.modes_core.specs.Tag.{partition_of}
 use Rattle.local_locks.specs.declared.records.Entry.{Entry}
 use Rattle.local_locks.specs.Owned.{Owned, has_entry, IsWellOwned, IsReserved}
-use Rattle.lock_model.specs.Content.{Content, empty_content}
-use Rattle.lock_model.specs.PartView.{PartView}
+use Rattle.lock_table.specs.Content.{Content, empty_content}
+use Rattle.lock_table.specs.PartView.{PartView}
 use Rattle.lock_scenario.specs.Parts.{no_part, content_in}
 use Rattle.lock_scenario.specs.Sessions.{session_at, entries_in, waits_in, as_asked}
 use Rattle.lock_scenario.specs.Waiting.{Agrees, Shared}

@@ -1,6 +1,6 @@
 use Rattle.std.specs.Prelude.{◌≡◌, ℕ, List, [], None, slice_index_or}
-use Rattle.lock_model.specs.Content.{Content, empty_content}
-use Rattle.lock_model.specs.PartView.{PartView, content_of}
+use Rattle.lock_table.specs.Content.{Content, empty_content}
+use Rattle.lock_table.specs.PartView.{PartView, content_of}
 
 -- a partition with nothing in it
 abbrev pub no_part : PartView

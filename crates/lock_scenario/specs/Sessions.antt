@@ -5,8 +5,8 @@ use Rattle.modes_core.specs.declared.tags.Tag.{Tag}
 use Rattle.modes_core.specs.Mode.{mode_eq}
 use Rattle.modes_core.specs.Tag.{tag_eq}
 use Rattle.local_locks.specs.declared.records.Entry.{Entry}
-use Rattle.lock_model.specs.Content.{Wait}
-use Rattle.lock_model.specs.Queue.{waits_there}
+use Rattle.lock_table.specs.Content.{Wait}
+use Rattle.lock_table.specs.Queue.{waits_there}
 use Rattle.lock_scenario.specs.declared.sessions.OwnWait.{OwnWait}
 use Rattle.lock_scenario.specs.declared.sessions.DeskSession.{DeskSession}
 

@@ -5,9 +5,9 @@ use Rattle.modes_core.specs.declared.tags.Tag.{Tag}
 use Rattle.modes_core.specs.declared.sessions.Owner.{Owner}
 use Rattle.local_locks.specs.declared.records.Entry.{Entry}
 use Rattle.local_locks.specs.Owned.{with_one_more}
-use Rattle.lock_model.specs.Content.{Content, add_hold}
-use Rattle.lock_model.specs.Queue.{Place, WaitingAnswer, add_wait}
-use Rattle.lock_model.specs.Queue as answer
+use Rattle.lock_table.specs.Content.{Content, add_hold}
+use Rattle.lock_table.specs.Queue.{Place, WaitingAnswer, add_wait}
+use Rattle.lock_table.specs.Queue as answer
 use Rattle.lock_scenario.specs.declared.acquire.Started.{Started}
 use Rattle.lock_scenario.specs.declared.acquire.Started.TheVariants.{Granted, AlreadyHeld, Queued}
 

@@ -5,13 +5,13 @@ use Rattle.modes_core.specs.Mode.{mode_eq}
 use Rattle.modes_core.specs.Tag.{partition_of}
 use Rattle.local_locks.specs.declared.records.Entry.{Entry}
 use Rattle.local_locks.specs.Owned.{has_entry}
-use Rattle.lock_model.specs.declared.events.Move.TheVariants.{Release}
-use Rattle.lock_model.specs.Content.{Wait, Content}
-use Rattle.lock_model.specs.Moves.{Moves}
-use Rattle.lock_model.specs.Queue.{Wakes, remove_wait}
-use Rattle.lock_model.specs.World.{set_at}
-use Rattle.lock_model.specs.PartView.{PartView, content_of}
-use Rattle.lock_model.specs.Waiter.{whose_and_mode}
+use Rattle.lock_table.specs.declared.moves.Move.TheVariants.{Release}
+use Rattle.lock_table.specs.Content.{Wait, Content}
+use Rattle.lock_table.specs.Moves.{Moves}
+use Rattle.lock_table.specs.Queue.{Wakes, remove_wait}
+use Rattle.lock_table.specs.Put.{set_at}
+use Rattle.lock_table.specs.PartView.{PartView, content_of}
+use Rattle.lock_table.specs.Waiter.{whose_and_mode}
 use Rattle.lock_scenario.specs.Parts.{no_part}
 use Rattle.lock_scenario.specs.declared.sessions.OwnWait.{OwnWait}
 use Rattle.lock_scenario.specs.declared.sessions.DeskSession.{DeskSession}

@@ -1,14 +1,14 @@
 ghost use Rattle.std.specs.Prelude.{◌≡◌, ◌≢◌, ◌<◌, ◌↔◌, None, true, false, length, IsErrOf, IfOk, IfErr, OnOk, OnErr};
-ghost use Rattle.lock_model.specs.Content.{add_hold};
-ghost use Rattle.lock_model.specs.Clash.{ClashIs};
-ghost use Rattle.lock_model.specs.Queue.{waits_there};
+ghost use Rattle.lock_table.specs.Content.{add_hold};
+ghost use Rattle.lock_table.specs.Clash.{ClashIs};
+ghost use Rattle.lock_table.specs.Queue.{waits_there};
 ghost use Rattle.local_locks.specs.Owned.{has_entry, owner_count_of, with_one_more, max_count, IsWellOwned, IsReserved};
 ghost use Rattle.lock_scenario.specs.Started.{IsStarted, entries_started, wait_started};
 ghost use Rattle.wait_queue.specs.Decide.{RefusedFor};
 
 use crate::sessions::OwnWait;
 use local_locks::{Acquired, LocalTable};
-use lock_model::PartTable;
+use lock_table::PartTable;
 use modes_core::{Mode, Owner, Refusal, SessionId, Tag};
 use wait_queue::{Decision, Kind, decide};
 

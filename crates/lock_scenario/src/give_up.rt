@@ -1,13 +1,13 @@
 ghost use Rattle.std.specs.Prelude.{◌≡◌, true, length, vec_capacity};
 ghost use Rattle.modes_core.specs.Tag.{partition_of};
-ghost use Rattle.lock_model.specs.declared.events.Move.TheVariants.{Release};
-ghost use Rattle.lock_model.specs.Moves.{Moves};
-ghost use Rattle.lock_model.specs.Queue.{Wakes, remove_wait, waits_there};
+ghost use Rattle.lock_table.specs.declared.moves.Move.TheVariants.{Release};
+ghost use Rattle.lock_table.specs.Moves.{Moves};
+ghost use Rattle.lock_table.specs.Queue.{Wakes, remove_wait, waits_there};
 ghost use Rattle.lock_scenario.specs.Parts.{content_in};
 ghost use Rattle.lock_scenario.specs.Waiting.{ChangesPart};
 
 use crate::sessions::{DeskSession, mark_all};
-use lock_model::PlainPart;
+use lock_table::PlainPart;
 use modes_core::{Mode, SessionId, Tag};
 use wait_queue::{release, remove_waiter};
 

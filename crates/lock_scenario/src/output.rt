@@ -3,7 +3,7 @@ use crate::desk::{Asked, Listing, SlotRow, Started};
 use crate::faults::Fault;
 use crate::names::{Name, Names};
 use local_locks::{Acquired, End, Unlocked};
-use lock_model::TableRow;
+use lock_table::TableRow;
 use modes_core::{How, Mode, Refusal, SessionId, Tag};
 use std::io::{self, Write};
 

@@ -2,7 +2,7 @@ ghost use Rattle.std.specs.Prelude.{◌≡◌, vec_capacity};
 ghost use Rattle.lock_scenario.specs.Sessions.{marked_at, marked_all};
 
 use local_locks::LocalTable;
-use lock_model::Woken;
+use lock_table::Woken;
 use modes_core::{Mode, Owner, SessionId, Tag};
 
 /// The wait of a session (`waitLock` and `waitLockMode` of `PGPROC` in proc.h): what it awaits and for

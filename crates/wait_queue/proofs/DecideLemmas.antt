@@ -4,15 +4,15 @@ use Rattle.std.proofs.lemmas.Bool.{or_parts}
 use Rattle.modes_core.specs.declared.modes.Mode.{Mode}
 use Rattle.modes_core.specs.declared.tags.Tag.{Tag}
 use Rattle.modes_core.specs.Mode.{mode_eq}
-use Rattle.lock_model.specs.Content.{Wait, Content}
-use Rattle.lock_model.specs.Queue.{Last, Before, waits_there, awaits_mode, add_wait}
+use Rattle.lock_table.specs.Content.{Wait, Content}
+use Rattle.lock_table.specs.Queue.{Last, Before, waits_there, awaits_mode, add_wait}
 use Rattle.wait_queue.specs.declared.requests.Kind.TheVariants.{Waiting}
 use Rattle.wait_queue.specs.declared.requests.Decision.TheVariants.{Queued}
-use Rattle.lock_model.specs.declared.answering.place.Standing.TheVariants.{InQueue}
-use Rattle.lock_model.specs.Standing.{StandsAt}
-use Rattle.lock_model.specs.Told.{Clashes}
+use Rattle.lock_table.specs.declared.answering.place.Standing.TheVariants.{InQueue}
+use Rattle.lock_table.specs.Standing.{StandsAt}
+use Rattle.lock_table.specs.Told.{Clashes}
 use Rattle.wait_queue.specs.Decide.{IsDecided}
-use Rattle.lock_model.proofs.QueueLemmas.{add_wait-last}
+use Rattle.lock_table.proofs.QueueLemmas.{add_wait-last}
 
 -- A session that doesn't wait awaits no mode.
 pub awaits_mode-none : (queue : List Wait) (session : ℕ) (mode : Mode) → waits_there queue session ≡ false → awaits_mode queue session mode ≡ false

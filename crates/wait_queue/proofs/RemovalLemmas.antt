@@ -5,9 +5,9 @@ use Rattle.std.proofs.lemmas.Bool.{or_parts}
 use Rattle.modes_core.specs.declared.tags.Tag.{Tag}
 use Rattle.modes_core.specs.Tag.{tag_eq}
 use Rattle.modes_core.proofs.Laws.{tag_eq-same}
-use Rattle.lock_model.specs.Put.{put}
-use Rattle.lock_model.specs.Content.{Content}
-use Rattle.lock_model.specs.Queue.{waits_there, queue_without, remove_wait}
+use Rattle.lock_table.specs.Put.{put}
+use Rattle.lock_table.specs.Content.{Content}
+use Rattle.lock_table.specs.Queue.{waits_there, queue_without, remove_wait}
 
 -- With none that passes taken out, a list is as before.
 filter-none : {X : Type 0} (p : X → Bool) (xs : List X) → list_any p xs ≡ false → filter (λ x. not (p x)) xs ≡ xs

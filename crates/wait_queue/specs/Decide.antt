@@ -3,9 +3,9 @@ use Rattle.modes_core.specs.declared.modes.Mode.{Mode}
 use Rattle.modes_core.specs.declared.tags.Tag.{Tag}
 use Rattle.modes_core.specs.declared.refusals.Refusal.{Refusal}
 use Rattle.modes_core.specs.declared.refusals.Refusal.TheVariants.{Conflict, SimpleDeadlock, NoMemory}
-use Rattle.lock_model.specs.Content.{Content, add_hold}
-use Rattle.lock_model.specs.Queue.{Place, Answer, ConditionalAnswer, WaitingAnswer, add_wait}
-use Rattle.lock_model.specs.Queue as answer
+use Rattle.lock_table.specs.Content.{Content, add_hold}
+use Rattle.lock_table.specs.Queue.{Place, Answer, ConditionalAnswer, WaitingAnswer, add_wait}
+use Rattle.lock_table.specs.Queue as answer
 use Rattle.wait_queue.specs.declared.requests.Kind.{Kind}
 use Rattle.wait_queue.specs.declared.requests.Kind.TheVariants.{Conditional, Waiting}
 use Rattle.wait_queue.specs.declared.requests.Decision.{Decision}

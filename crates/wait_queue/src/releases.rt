@@ -1,11 +1,11 @@
 ghost use Rattle.std.specs.Prelude.{◌≡◌, true, List, map};
-ghost use Rattle.lock_model.specs.Content.{Wait};
-ghost use Rattle.lock_model.specs.declared.events.Move.TheVariants.{Release};
-ghost use Rattle.lock_model.specs.Moves.{Moves};
-ghost use Rattle.lock_model.specs.Queue.{some_awaits_conflict};
-ghost use Rattle.lock_model.specs.Waiter.{whose_and_mode};
+ghost use Rattle.lock_table.specs.Content.{Wait};
+ghost use Rattle.lock_table.specs.declared.moves.Move.TheVariants.{Release};
+ghost use Rattle.lock_table.specs.Moves.{Moves};
+ghost use Rattle.lock_table.specs.Queue.{some_awaits_conflict};
+ghost use Rattle.lock_table.specs.Waiter.{whose_and_mode};
 
-use lock_model::{PartTable, Woken, first_against};
+use lock_table::{PartTable, Woken, first_against};
 use modes_core::{Mode, SessionId, Tag};
 
 /// Whether somebody awaits the object in a mode that conflicts with this one (`LockHasWaiters` in

@@ -1,10 +1,10 @@
 ghost use Rattle.std.specs.Prelude.{◌≡◌, not, List, [], map};
 ghost use Rattle.std.specs.Bool.{OnTrue, OnFalse};
-ghost use Rattle.lock_model.specs.Content.{Wait};
-ghost use Rattle.lock_model.specs.Queue.{waits_there, remove_wait, Wakes};
-ghost use Rattle.lock_model.specs.Waiter.{whose_and_mode};
+ghost use Rattle.lock_table.specs.Content.{Wait};
+ghost use Rattle.lock_table.specs.Queue.{waits_there, remove_wait, Wakes};
+ghost use Rattle.lock_table.specs.Waiter.{whose_and_mode};
 
-use lock_model::{PartTable, Woken};
+use lock_table::{PartTable, Woken};
 use modes_core::{SessionId, Tag};
 
 /// What became of a wait that was to be taken out.

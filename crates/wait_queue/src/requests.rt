@@ -1,9 +1,9 @@
 ghost use Rattle.std.specs.Prelude.{◌≡◌, ◌≢◌, false, IfOk, IfErr, OnErr};
-ghost use Rattle.lock_model.specs.Queue.{waits_there};
-ghost use Rattle.lock_model.specs.Told.{Clashes};
+ghost use Rattle.lock_table.specs.Queue.{waits_there};
+ghost use Rattle.lock_table.specs.Told.{Clashes};
 ghost use Rattle.wait_queue.specs.Decide.{IsDecided, RefusedFor};
 
-use lock_model::{PartTable, Standing, clash_with, standing_of};
+use lock_table::{PartTable, Standing, clash_with, standing_of};
 use modes_core::{Mode, Refusal, SessionId, Tag};
 
 /// Whether a request may wait (`dontWait` of `LockAcquireExtended` in lock.c).

@@ -3,7 +3,7 @@
 ghost use Rattle.std.specs.Prelude.{◌≡◌, None};
 
 use crate::{Decision, Kind, awaited_in_conflict, decide, release, remove_waiter};
-use lock_model::{PartTable, PlainPart, Woken};
+use lock_table::{PartTable, PlainPart, Woken};
 use modes_core::{How, Mode, Refusal, SessionId, Tag};
 use std::process::Abort;
 use std::test::Fail;

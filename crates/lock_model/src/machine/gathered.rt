@@ -7,12 +7,13 @@ ghost use Rattle.std.specs.Cmp.Lexicographic.{slice_cmp};
 ghost use Rattle.modes_core.specs.declared.tags.Tag.{Tag};
 ghost use Rattle.modes_core.specs.Tag.{tag_eq, numbers_of, partition_of};
 ghost use Rattle.lock_model.specs.Shows.{ListsHolds, AreInTable};
-ghost use Rattle.lock_model.specs.PartWaits.{EachOnce};
+ghost use Rattle.lock_table.specs.PartWaits.{EachOnce};
 ghost use Rattle.lock_model.specs.Plain.{wait_of};
-ghost use Rattle.lock_model.specs.Parts.{AreAtHome, contents_in, table_hold_of, queued_of};
+ghost use Rattle.lock_table.specs.Parts.{AreAtHome, contents_in};
+ghost use Rattle.lock_model.specs.Gathered.{table_hold_of, queued_of};
 
 use super::plain::{Hold, QueuedWait, Spot};
-use crate::{NoMemory, PlainPart};
+use lock_table::{NoMemory, PlainPart};
 use std::alloc::Global;
 
 #[cfg(test)]

@@ -3,7 +3,7 @@
 ghost use Rattle.std.specs.Prelude.{◌≡◌, ℕ};
 ghost use Rattle.lock_model.specs.Shows.{is_due, owes_nobody, names_in};
 
-use crate::{Move, Woken};
+use lock_table::{Move, Woken};
 use modes_core::{Mode, SessionId, Tag};
 
 /// A partition in a session's hand.

@@ -2,17 +2,16 @@
 //! may depend on whom the move would grant.
 
 ghost use Rattle.std.specs.Prelude.{◌≡◌, true, false, List, map, None, IfOk, IfSome};
-ghost use Rattle.lock_model.specs.Content.{Wait};
-ghost use Rattle.lock_model.specs.Queue.{waits_there};
-ghost use Rattle.lock_model.specs.Moves.{Moves};
-ghost use Rattle.lock_model.specs.PartView.{PartView, content_of};
-ghost use Rattle.lock_model.specs.Waiter.{whose_and_mode};
-ghost use Rattle.lock_model.specs.declared.events.Move.{Move};
-ghost use Rattle.lock_model.specs.declared.events.Move.TheVariants.{Release, Leave};
+ghost use Rattle.lock_table.specs.Content.{Wait};
+ghost use Rattle.lock_table.specs.Queue.{waits_there};
+ghost use Rattle.lock_table.specs.Moves.{Moves};
+ghost use Rattle.lock_table.specs.PartView.{PartView, content_of};
+ghost use Rattle.lock_table.specs.Waiter.{whose_and_mode};
+ghost use Rattle.lock_table.specs.declared.moves.Move.{Move};
+ghost use Rattle.lock_table.specs.declared.moves.Move.TheVariants.{Release, Leave};
 ghost use Rattle.lock_model.specs.MovedPart.{IsMoved};
 
-use crate::answering::first_against;
-use crate::{NoMemory, PartTable, PlainPart, Woken};
+use lock_table::{NoMemory, PartTable, PlainPart, Woken, first_against};
 use modes_core::{Mode, SessionId, Tag};
 
 /// A part after a move, and those whose waits the move granted.

@@ -1,4 +1,4 @@
-use crate::Word;
+use lock_world::Word;
 use modes_core::{Mode, ModeSet, SessionId, Tag};
 
 /// Where a hold stands.
@@ -39,7 +39,7 @@ pub struct Plain {
 
 impl Plain {
     ghost use Rattle.std.specs.Prelude.{◌≡◌, ◌<◌};
-    ghost use Rattle.lock_model.specs.declared.events.Word.TheVariants.{Strong};
+    ghost use Rattle.lock_world.specs.declared.events.Word.TheVariants.{Strong};
     ghost use Rattle.lock_model.specs.Plain.{WordExists, holds_of, waits_of, word_of};
 
     /// The holds, by session, tag and mode.

@@ -2,17 +2,17 @@
 
 use super::hands::InHand;
 use super::state::Machine;
-use crate::answering::{Told, waiting_answer};
-use crate::{Move, NoMemory, PartTable, Word};
+use lock_table::{Move, NoMemory, PartTable, Told, waiting_answer};
+use lock_world::Word;
 use modes_core::{Mode, SessionId, Tag};
 
 impl Machine {
     ghost use Rattle.std.specs.Prelude.{◌≡◌, ◌<◌, OnOk, slice_set, slice_index_or, Some, None};
-    ghost use Rattle.lock_model.specs.declared.events.Step.{Step};
-    ghost use Rattle.lock_model.specs.declared.events.Word.{Word};
-    ghost use Rattle.lock_model.specs.declared.events.Move.{Move};
+    ghost use Rattle.lock_world.specs.declared.events.Step.{Step};
+    ghost use Rattle.lock_world.specs.declared.events.Word.{Word};
+    ghost use Rattle.lock_table.specs.declared.moves.Move.{Move};
     ghost use Rattle.lock_model.specs.Shows.{ShowsSafe, Follows, HasUnmoved, is_over};
-    ghost use Rattle.lock_model.specs.LightweightWord.{free_word, put_word};
+    ghost use Rattle.lock_world.specs.LightweightWord.{free_word, put_word};
 
     /// Takes a partition, where nobody holds its word.
     fn take_partition(&mut self, session: SessionId, partition: u8)

@@ -1,13 +1,13 @@
 //! The plain machine's steps on seats: session numbers, and who keeps whom apart.
 
 use super::state::Machine;
-use crate::PartTable;
+use lock_table::PartTable;
 use modes_core::SessionId;
 
 impl Machine {
     ghost use Rattle.std.specs.Prelude.{◌≡◌, ◌==◌, Some, None};
     ghost use Rattle.std.specs.List.{list_any};
-    ghost use Rattle.lock_model.specs.declared.events.Step.{Step};
+    ghost use Rattle.lock_world.specs.declared.events.Step.{Step};
     ghost use Rattle.lock_model.specs.Shows.{Follows, is_number, is_holder};
 
     /// Whether the session has a partition in hand.

@@ -1,11 +1,12 @@
 ghost use Rattle.std.specs.Prelude.{◌≡◌, ℕ, length, IfOk, None};
-ghost use Rattle.lock_model.specs.Content.{empty_content};
-ghost use Rattle.lock_model.specs.Parts.{part_at, contents_in};
+ghost use Rattle.lock_table.specs.Content.{empty_content};
+ghost use Rattle.lock_table.specs.Parts.{part_at, contents_in};
 
 use super::gathered::{gather_holds, gather_waits};
 use super::hands::{Awaited, InHand};
 use super::plain::{Hold, Plain};
-use crate::{Event, NoMemory, PartTable, PlainPart, Step};
+use lock_table::{NoMemory, PartTable, PlainPart};
+use lock_world::{Event, Step};
 use modes_core::{Mode, SessionId, Tag};
 use std::alloc::Global;
 
@@ -33,11 +34,11 @@ pub struct Machine {
 impl Machine {
     ghost use Rattle.std.specs.Prelude.{◌≡◌, ◌&&◌, not, OnOk, IfOk, is_none, slice_index_or, None};
     ghost use Rattle.std.specs.List.Sorted.{IsSorted};
-    ghost use Rattle.lock_model.specs.World.{World, opening};
-    ghost use Rattle.lock_model.specs.Safe.{Safe};
+    ghost use Rattle.lock_world.specs.World.{World, opening};
+    ghost use Rattle.lock_world.specs.Safe.{Safe};
     ghost use Rattle.lock_model.specs.Plain.{IsPlainOf, holds_of};
     ghost use Rattle.lock_model.specs.Shows.{Shows, ShowsSafe, Follows, makes_steps, hand_of, awaits};
-    ghost use Rattle.lock_model.specs.Parts.{contents_in};
+    ghost use Rattle.lock_table.specs.Parts.{contents_in};
     ghost use Rattle.modes_core.specs.Tag.{partition_of};
 
     /// The machine that shows the opening World.

@@ -1,5 +1,6 @@
 use super::{Spot, run_events};
-use crate::{Event, Move, Step, Word};
+use lock_table::Move;
+use lock_world::{Event, Step, Word};
 use modes_core::{Mode, SessionId, Tag};
 use std::process::Abort;
 use std::test::Fail;

@@ -3,22 +3,21 @@
 use super::hands::{Awaited, InHand, is_among, marks_of};
 use super::moved::{MovedPart, after_leaving, after_release};
 use super::state::Machine;
-use crate::answering::{Told, waiting_answer};
-use crate::{Move, NoMemory, PartTable};
+use lock_table::{Move, NoMemory, PartTable, Told, waiting_answer};
 use modes_core::{Mode, SessionId, Tag};
 
 impl Machine {
     ghost use Rattle.std.specs.Prelude.{◌≡◌, ◌≢◌, ◌<◌, ◌+◌, ◌&&◌, true, false, not, length, is_some, is_none, OnOk, IfOk, IfSome, slice_set, slice_index_or, Some, None};
     ghost use Rattle.modes_core.specs.Tag.{partition_of};
-    ghost use Rattle.lock_model.specs.declared.events.Step.{Step};
+    ghost use Rattle.lock_world.specs.declared.events.Step.{Step};
     ghost use Rattle.lock_model.specs.declared.machine.hands.Awaited.{Awaited};
-    ghost use Rattle.lock_model.specs.Queue.{waits_there};
-    ghost use Rattle.lock_model.specs.Told.{IsTold};
-    ghost use Rattle.lock_model.specs.declared.answering.Told.TheVariants.{InQueue};
-    ghost use Rattle.lock_model.specs.Moves.{IsInPartition};
+    ghost use Rattle.lock_table.specs.Queue.{waits_there};
+    ghost use Rattle.lock_table.specs.Told.{IsTold};
+    ghost use Rattle.lock_table.specs.declared.answering.Told.TheVariants.{InQueue};
+    ghost use Rattle.lock_table.specs.Moves.{IsInPartition};
     ghost use Rattle.lock_model.specs.MovedPart.{IsMoved};
-    ghost use Rattle.lock_model.specs.Parts.{part_at, contents_in};
-    ghost use Rattle.lock_model.specs.WaitWord.{wait_state};
+    ghost use Rattle.lock_table.specs.Parts.{part_at, contents_in};
+    ghost use Rattle.lock_world.specs.WaitWord.{wait_state};
     ghost use Rattle.lock_model.specs.Shows.{ShowsSafe, Follows, FollowsMarking, IsWaking, IsOwnFor, CannotMake, makes_steps, hand_of};
 
     /// Asks the other session, whoever it is, to cancel: bit 2 of its wait word is set.

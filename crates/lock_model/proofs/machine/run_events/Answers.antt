@@ -1,11 +1,11 @@
 use Rattle.std.proofs.Common.{◌≡◌, [], ◌∷◌, ◌++◌, take, refl, sym, ap, ◌∙◌, subst}
 use Rattle.std.proofs.lemmas.List.{take_more, take_all}
 use Rattle.std.proofs.lemmas.Result.{IfOk-weaker}
-use Rattle.lock_model.specs.declared.events.Event.{Event}
-use Rattle.lock_model.specs.World.{World, opening}
-use Rattle.lock_model.specs.Happens.{Next, Runs}
+use Rattle.lock_world.specs.declared.events.Event.{Event}
+use Rattle.lock_world.specs.World.{World, opening}
+use Rattle.lock_world.specs.Happens.{Next, Runs}
 use Rattle.lock_model.specs.Shows.{Shows}
-use Rattle.lock_model.proofs.SafeRuns.{opening-safe, Next-safe, Runs-push}
+use Rattle.lock_world.proofs.SafeRuns.{opening-safe, Next-safe, Runs-push}
 use Rattle.lock_model.proofs.machine.run_events.Goals as goal
 
 pub loop-event-preserved : goal.loop-event-preserved

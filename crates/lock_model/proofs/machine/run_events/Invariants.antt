@@ -1,7 +1,7 @@
 use Rattle.std.proofs.Common.{take}
-use Rattle.lock_model.specs.World.{World, opening}
-use Rattle.lock_model.specs.Happens.{Runs}
-use Rattle.lock_model.specs.Safe.{Safe}
+use Rattle.lock_world.specs.World.{World, opening}
+use Rattle.lock_world.specs.Happens.{Runs}
+use Rattle.lock_world.specs.Safe.{Safe}
 use Rattle.lock_model.specs.Shows.{Shows}
 use Rattle.lock_model.proofs.machine.run_events.Given as goal
 

@@ -1,6 +1,7 @@
 use super::{FREE, HELD, asks, closes, grant, loads, object, opens, puts, release, session, takes};
 use crate::machine::{Plain, run_events};
-use crate::{Event, Move, Step, Word};
+use lock_table::Move;
+use lock_world::{Event, Step, Word};
 use modes_core::{Mode, ModeSet, SessionId, Tag};
 use std::process::Abort;
 use std::test::Fail;

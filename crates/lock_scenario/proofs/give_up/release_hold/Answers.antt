@@ -1,10 +1,10 @@
 use Rattle.std.proofs.Common.{◌≡◌, ◌∙◌, ℕ, List, ap, subst, slice_set, slice_index_or}
 use Rattle.modes_core.specs.declared.modes.Mode.{Mode}
 use Rattle.modes_core.specs.Tag.{partition_of}
-use Rattle.lock_model.specs.declared.events.Move.TheVariants.{Release}
-use Rattle.lock_model.specs.Content.{Content}
-use Rattle.lock_model.specs.Moves.{Moves}
-use Rattle.lock_model.specs.PartView.{PartView, content_of}
+use Rattle.lock_table.specs.declared.moves.Move.TheVariants.{Release}
+use Rattle.lock_table.specs.Content.{Content}
+use Rattle.lock_table.specs.Moves.{Moves}
+use Rattle.lock_table.specs.PartView.{PartView, content_of}
 use Rattle.lock_scenario.specs.Parts.{no_part}
 use Rattle.lock_scenario.specs.Sessions.{marked_all}
 use Rattle.lock_scenario.proofs.DeskLemmas.{part_here}

@@ -4,10 +4,10 @@ use Rattle.modes_core.specs.declared.modes.Mode.{Mode}
 use Rattle.modes_core.specs.declared.tags.Tag.{Tag}
 use Rattle.modes_core.specs.Tag.{tag_eq}
 use Rattle.modes_core.proofs.Laws.{tag_eq-refl}
-use Rattle.lock_model.specs.Content.{Wait, Content}
-use Rattle.lock_model.specs.PartView.{content_of}
-use Rattle.lock_model.specs.Queue.{waits_there, queue_without, remove_wait}
-use Rattle.lock_model.proofs.PutLemmas.{put_here}
+use Rattle.lock_table.specs.Content.{Wait, Content}
+use Rattle.lock_table.specs.PartView.{content_of}
+use Rattle.lock_table.specs.Queue.{waits_there, queue_without, remove_wait}
+use Rattle.lock_table.proofs.PutLemmas.{put_here}
 use Rattle.wait_queue.proofs.tests.asked.Goals as goal
 
 -- Who left waits there no more.

@@ -1,6 +1,6 @@
 use Rattle.std.proofs.Common.{◌≡◌, take, ◌++◌}
 use Rattle.std.specs.Prelude.{map}
-use Rattle.lock_model.specs.Parts.{queued_of}
+use Rattle.lock_model.specs.Gathered.{queued_of}
 use Rattle.lock_model.proofs.machine.gathered.append_waits.Given as goal
 
 abbrev pub invariant-loop-wait : goal.invariant-loop-wait

@@ -1,7 +1,7 @@
 use Rattle.std.proofs.Common.{ℕ, ◌<◌, ◌≡◌, take}
 use Rattle.std.specs.List.{flat_map}
-use Rattle.lock_model.specs.PartWaits.{EachOnce}
-use Rattle.lock_model.specs.Parts.{part_at}
+use Rattle.lock_table.specs.PartWaits.{EachOnce}
+use Rattle.lock_table.specs.Parts.{part_at}
 use Rattle.lock_model.proofs.Gathering.{table_holds_of}
 use Rattle.lock_model.proofs.machine.gathered.gather_holds.Given as goal
 

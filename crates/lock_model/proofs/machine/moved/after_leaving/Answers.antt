@@ -1,8 +1,8 @@
 use Rattle.std.proofs.Common.{sym, ap, ◌∙◌, subst}
 use Rattle.std.proofs.lemmas.Bool.{not_from_true}
-use Rattle.lock_model.specs.Queue.{waits_there, Wakes, remove_wait}
-use Rattle.lock_model.specs.PartView.{content_of}
-use Rattle.lock_model.proofs.MovedLemmas.{waits_there-mode}
+use Rattle.lock_table.specs.Queue.{waits_there, Wakes, remove_wait}
+use Rattle.lock_table.specs.PartView.{content_of}
+use Rattle.lock_table.proofs.MovedLemmas.{waits_there-mode}
 use Rattle.lock_model.proofs.machine.moved.after_leaving.Goals as goal
 
 pub returns-then-is_none-clause-no_wait : goal.returns-then-is_none-clause-no_wait

@@ -1,10 +1,10 @@
 use Rattle.std.proofs.Common.{sym, [], ap, ◌∙◌, subst}
-use Rattle.lock_model.specs.Content.{remove_hold}
-use Rattle.lock_model.specs.Moves.{WakesFor}
-use Rattle.lock_model.specs.Queue.{Wakes}
-use Rattle.lock_model.specs.PartView.{content_of}
-use Rattle.lock_model.proofs.MovedLemmas.{WakesFor-some, WakesFor-nobody}
-use Rattle.lock_model.proofs.WalkLemmas.{awaited-first}
+use Rattle.lock_table.specs.Content.{remove_hold}
+use Rattle.lock_table.specs.Moves.{WakesFor}
+use Rattle.lock_table.specs.Queue.{Wakes}
+use Rattle.lock_table.specs.PartView.{content_of}
+use Rattle.lock_table.proofs.MovedLemmas.{WakesFor-some, WakesFor-nobody}
+use Rattle.lock_table.proofs.WalkLemmas.{awaited-first}
 use Rattle.lock_model.proofs.machine.moved.after_release.Goals as goal
 use Rattle.lock_model.proofs.machine.moved.after_release.Goals.{then-is_some, else-is_some}
 

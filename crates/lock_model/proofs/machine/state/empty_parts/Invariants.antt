@@ -1,7 +1,7 @@
 use Rattle.std.proofs.Common.{◌≡◌, ℕ, length, None, ◌≤◌}
 use Rattle.std.specs.Prelude.{vec_capacity}
-use Rattle.lock_model.specs.Content.{empty_content}
-use Rattle.lock_model.specs.Parts.{part_at, contents_in}
+use Rattle.lock_table.specs.Content.{empty_content}
+use Rattle.lock_table.specs.Parts.{part_at, contents_in}
 use Rattle.lock_model.proofs.machine.state.empty_parts.Given as goal
 
 -- As many parts are made as rounds are past, with nothing in any, and there is room for sixteen.

@@ -1,8 +1,8 @@
 use Rattle.std.proofs.Common.{◌≡◌, ◌∙◌, Option, Some, None, true, false, sym, ap, subst, length, arith, refl, rules}
 use Rattle.local_locks.specs.Owned.{with_one_more}
 use Rattle.std.specs.Prelude.{IfSome}
-use Rattle.lock_model.specs.World.{set_at}
-use Rattle.lock_model.proofs.PutLemmas.{set_at-here, set_at-same}
+use Rattle.lock_table.specs.Put.{set_at}
+use Rattle.lock_table.proofs.PutLemmas.{set_at-here, set_at-same}
 use Rattle.lock_scenario.specs.declared.sessions.OwnWait.{OwnWait}
 use Rattle.lock_scenario.specs.declared.sessions.DeskSession.{DeskSession}
 use Rattle.lock_scenario.specs.Sessions.{entries_in, waits_in}

@@ -1,6 +1,6 @@
 use Rattle.std.proofs.Common.{◌≡◌, length, None}
 use Rattle.local_locks.specs.Owned.{ended_by, left_by}
-use Rattle.lock_model.specs.World.{set_at}
+use Rattle.lock_table.specs.Put.{set_at}
 use Rattle.lock_scenario.specs.Waiting.{Shared, ReleasesAll}
 use Rattle.lock_scenario.specs.Desk.{issued_of, entries_of, wait_of, shared_of}
 use Rattle.lock_scenario.proofs.desk.Desk.end_all.Given as goal

@@ -3,7 +3,7 @@ use Rattle.std.specs.List.{IsDistinct}
 use Rattle.modes_core.specs.Tag.{partition_of}
 use Rattle.local_locks.specs.declared.records.Entry.{Entry}
 use Rattle.local_locks.specs.Owned.{has_entry, ended_by, with_next_ended, are_of_same}
-use Rattle.lock_model.specs.World.{set_at}
+use Rattle.lock_table.specs.Put.{set_at}
 use Rattle.lock_scenario.specs.declared.sessions.DeskSession.{DeskSession}
 use Rattle.lock_scenario.specs.Parts.{content_in}
 use Rattle.lock_scenario.specs.Sessions.{waits_in}

@@ -1,8 +1,8 @@
 use Rattle.std.proofs.Common.{◌≡◌, ℕ, ◌++◌, ◌∙◌, ap, sym, subst, take, drop, length, List, arith}
 use Rattle.std.proofs.Math.Seq.{take-append_seam}
 use Rattle.std.proofs.lemmas.List.Sorted.{length_permutation}
-use Rattle.lock_model.specs.declared.rows.TableRow.{TableRow}
-use Rattle.lock_model.specs.Listing.{IsListing}
+use Rattle.lock_table.specs.declared.rows.TableRow.{TableRow}
+use Rattle.lock_table.specs.Listing.{IsListing}
 use Rattle.lock_scenario.specs.Desk.{DeskView, contents_of, whole_of}
 use Rattle.lock_scenario.proofs.ListLemmas.{Lists, Lists-step, IsListing-sorted}
 use Rattle.lock_scenario.proofs.desk.Desk.list.Goals as goal

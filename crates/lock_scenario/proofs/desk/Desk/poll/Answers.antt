@@ -1,6 +1,6 @@
 use Rattle.std.proofs.Common.{◌≡◌, ◌∙◌, Some, None, true, sym, ap, rules}
 use Rattle.local_locks.specs.Owned.{with_one_more}
-use Rattle.lock_model.specs.World.{set_at}
+use Rattle.lock_table.specs.Put.{set_at}
 use Rattle.lock_scenario.specs.declared.sessions.DeskSession.{DeskSession}
 use Rattle.lock_scenario.specs.Sessions.{entries_in, waits_in}
 use Rattle.lock_scenario.specs.Desk.{DeskView, wait_of}

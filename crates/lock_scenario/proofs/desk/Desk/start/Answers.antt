@@ -2,10 +2,10 @@ use Rattle.std.proofs.Common.{◌≡◌, ◌<◌, ◌∙◌, ℕ, List, sym, ap,
 use Rattle.modes_core.specs.Tag.{partition_of}
 use Rattle.local_locks.specs.Owned.{has_entry}
 use Rattle.local_locks.specs.declared.records.Entry.{Entry}
-use Rattle.lock_model.specs.Content.{Content}
-use Rattle.lock_model.specs.PartView.{content_of}
-use Rattle.lock_model.specs.World.{set_at}
-use Rattle.lock_model.proofs.PutLemmas.{set_at-here}
+use Rattle.lock_table.specs.Content.{Content}
+use Rattle.lock_table.specs.PartView.{content_of}
+use Rattle.lock_table.specs.Put.{set_at}
+use Rattle.lock_table.proofs.PutLemmas.{set_at-here}
 use Rattle.lock_scenario.specs.Parts.{content_in}
 use Rattle.lock_scenario.specs.Sessions.{waits_in}
 use Rattle.lock_scenario.specs.Started.{IsStarted, wait_started}

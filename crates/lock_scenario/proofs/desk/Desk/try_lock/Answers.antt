@@ -1,8 +1,8 @@
 use Rattle.std.proofs.Common.{◌≡◌, ◌<◌, ◌∙◌, ap, length, arith, refl, None}
 use Rattle.modes_core.specs.Tag.{partition_of}
-use Rattle.lock_model.specs.Content.{add_hold}
-use Rattle.lock_model.specs.PartView.{content_of}
-use Rattle.lock_model.specs.World.{set_at}
+use Rattle.lock_table.specs.Content.{add_hold}
+use Rattle.lock_table.specs.PartView.{content_of}
+use Rattle.lock_table.specs.Put.{set_at}
 use Rattle.local_locks.specs.Owned.{has_entry}
 use Rattle.lock_scenario.specs.Sessions.{waits_in}
 use Rattle.lock_scenario.specs.Desk.{DeskView, wait_of, contents_of, IsReadyFor}

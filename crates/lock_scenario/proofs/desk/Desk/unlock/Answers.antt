@@ -2,7 +2,7 @@ use Rattle.std.proofs.Common.{◌≡◌, ◌<◌, ◌∙◌, List, sym, ap, subs
 use Rattle.modes_core.specs.Tag.{partition_of}
 use Rattle.local_locks.specs.declared.records.Entry.{Entry}
 use Rattle.local_locks.specs.Owned.{total_of, with_one_less}
-use Rattle.lock_model.specs.World.{set_at}
+use Rattle.lock_table.specs.Put.{set_at}
 use Rattle.lock_scenario.specs.declared.sessions.DeskSession.{DeskSession}
 use Rattle.lock_scenario.specs.Parts.{content_in}
 use Rattle.lock_scenario.specs.Sessions.{waits_in}

@@ -1,6 +1,6 @@
 use Rattle.std.proofs.Common.{◌≡◌, ◌<◌, true, None, length, get_or, is_some, is_none, sym, ap, ◌∙◌, arith}
-use Rattle.lock_model.specs.declared.events.Step.TheVariants.{JoinSeat}
-use Rattle.lock_model.proofs.ListLemmas.{there_not_none, not_there_none}
+use Rattle.lock_world.specs.declared.events.Step.TheVariants.{JoinSeat}
+use Rattle.lock_table.proofs.ListLemmas.{there_not_none, not_there_none}
 use Rattle.lock_model.proofs.Showing.{steps_not, some_wait_from}
 use Rattle.lock_model.proofs.Following.{skipped}
 use Rattle.lock_model.proofs.FollowingSeats.{was_closed, some_word, some_hold, keeps_somebody}

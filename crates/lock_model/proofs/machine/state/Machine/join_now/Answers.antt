@@ -1,10 +1,9 @@
 use Rattle.std.proofs.Common.{◌≡◌, ◌<◌, ◌≤◌, false, length, sym, ap, ◌∙◌, subst, arith}
 use Rattle.modes_core.specs.Tag.{partition_of}
-use Rattle.lock_model.specs.Content.{Content}
-use Rattle.lock_model.specs.PartView.{content_of}
-use Rattle.lock_model.specs.Queue.{Before, add_wait, awaits_mode, waits_there}
-use Rattle.lock_model.proofs.PlaceLemmas.{part_read}
-use Rattle.lock_model.proofs.PlaceLemmas.{get_or-one_value}
+use Rattle.lock_table.specs.Content.{Content}
+use Rattle.lock_table.specs.PartView.{content_of}
+use Rattle.lock_table.specs.Queue.{Before, add_wait, awaits_mode, waits_there}
+use Rattle.lock_model.proofs.PlaceLemmas.{part_read, get_or-one_value}
 use Rattle.lock_model.proofs.FollowingJoins.{asks_not_awaited, asks_stands_not, told_within, was_set_waiting}
 use Rattle.lock_model.proofs.machine.state.Machine.join_now.Goals as goal
 

@@ -1,6 +1,5 @@
-use Rattle.std.proofs.Common.{Some}
-use Rattle.lock_model.specs.declared.events.Step.TheVariants.{JoinSeat}
-use Rattle.std.proofs.Common.{◌≡◌, ◌≢◌, ◌<◌, length, sym, ◌∙◌, arith}
+use Rattle.std.proofs.Common.{Some, ◌≡◌, ◌≢◌, ◌<◌, length, sym, ◌∙◌, arith}
+use Rattle.lock_world.specs.declared.events.Step.TheVariants.{JoinSeat}
 use Rattle.std.proofs.lemmas.Bool.{eqb-false, not-true, not-false, eqb-true}
 use Rattle.lock_model.proofs.Showing.{steps_not}
 use Rattle.lock_model.proofs.Following.{skipped}

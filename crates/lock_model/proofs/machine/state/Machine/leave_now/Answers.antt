@@ -1,8 +1,8 @@
 use Rattle.std.proofs.Common.{◌≡◌, ◌<◌, length, ap, ◌∙◌, subst, arith}
 use Rattle.modes_core.specs.Tag.{partition_of}
-use Rattle.lock_model.specs.Content.{Content}
-use Rattle.lock_model.specs.PartView.{PartView, content_of}
-use Rattle.lock_model.specs.Queue.{Wakes, remove_wait}
+use Rattle.lock_table.specs.Content.{Content}
+use Rattle.lock_table.specs.PartView.{PartView, content_of}
+use Rattle.lock_table.specs.Queue.{Wakes, remove_wait}
 use Rattle.lock_model.specs.Shows.{names_in}
 use Rattle.lock_model.proofs.MarkLemmas.{names_in-granted}
 use Rattle.lock_model.proofs.PlaceLemmas.{part_read}

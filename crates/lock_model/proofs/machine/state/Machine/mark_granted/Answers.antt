@@ -1,5 +1,5 @@
 use Rattle.std.proofs.Common.{OnOk, subst}
-use Rattle.lock_model.specs.declared.events.Move.TheVariants.{Release, Leave}
+use Rattle.lock_table.specs.declared.moves.Move.TheVariants.{Release, Leave}
 use Rattle.lock_model.specs.Shows.{FollowsMarking}
 use Rattle.lock_model.proofs.machine.state.Machine.mark_granted.Goals as goal
 

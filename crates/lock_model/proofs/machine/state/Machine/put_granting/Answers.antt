@@ -3,16 +3,16 @@ use Rattle.std.specs.Vec.{with_item}
 use Rattle.std.proofs.lemmas.Bool.{both_ways}
 use Rattle.modes_core.specs.Tag.{partition_of}
 use Rattle.lock_model.specs.declared.machine.state.Machine.{Machine}
-use Rattle.lock_model.specs.declared.events.Move.TheVariants.{Grant}
-use Rattle.lock_model.specs.declared.events.Step.TheVariants.{PutExclusive}
-use Rattle.lock_model.specs.declared.events.Word.TheVariants.{Partition}
-use Rattle.lock_model.specs.Content.{add_hold}
-use Rattle.lock_model.specs.PartView.{content_of}
-use Rattle.lock_model.specs.Parts.{contents_in}
-use Rattle.lock_model.specs.Queue.{awaits_mode, Granted, WaitingAnswer}
-use Rattle.lock_model.specs.Told.{IsTold}
-use Rattle.lock_model.specs.World.{World}
-use Rattle.lock_model.specs.Happens.{Next}
+use Rattle.lock_table.specs.declared.moves.Move.TheVariants.{Grant}
+use Rattle.lock_world.specs.declared.events.Step.TheVariants.{PutExclusive}
+use Rattle.lock_world.specs.declared.events.Word.TheVariants.{Partition}
+use Rattle.lock_table.specs.Content.{add_hold}
+use Rattle.lock_table.specs.PartView.{content_of}
+use Rattle.lock_table.specs.Parts.{contents_in}
+use Rattle.lock_table.specs.Queue.{awaits_mode, Granted, WaitingAnswer}
+use Rattle.lock_table.specs.Told.{IsTold}
+use Rattle.lock_world.specs.World.{World}
+use Rattle.lock_world.specs.Happens.{Next}
 use Rattle.lock_model.specs.Shows.{Shows}
 use Rattle.lock_model.proofs.Following.{skipped}
 use Rattle.lock_model.proofs.FollowingPuts.{granted, granting, told-granted, exists_from, asks_not_awaited}

@@ -1,10 +1,10 @@
 use Rattle.std.proofs.Common.{◌<◌, length, sym, subst, arith}
 use Rattle.lock_model.specs.declared.machine.state.Machine.{Machine}
-use Rattle.lock_model.specs.declared.events.Move.TheVariants.{Keep}
-use Rattle.lock_model.specs.declared.events.Step.TheVariants.{PutExclusive}
-use Rattle.lock_model.specs.declared.events.Word.TheVariants.{Partition}
-use Rattle.lock_model.specs.World.{World}
-use Rattle.lock_model.specs.Happens.{Next, IsMadeByPutting}
+use Rattle.lock_table.specs.declared.moves.Move.TheVariants.{Keep}
+use Rattle.lock_world.specs.declared.events.Step.TheVariants.{PutExclusive}
+use Rattle.lock_world.specs.declared.events.Word.TheVariants.{Partition}
+use Rattle.lock_world.specs.World.{World}
+use Rattle.lock_world.specs.Happens.{Next, IsMadeByPutting}
 use Rattle.lock_model.specs.Shows.{Shows}
 use Rattle.lock_model.proofs.Following.{skipped}
 use Rattle.lock_model.proofs.FollowingPuts.{kept, only_made, exists_from}

@@ -1,15 +1,15 @@
 use Rattle.std.proofs.Common.{◌<◌, Some, length, sym, ap, ◌∙◌, subst, arith}
 use Rattle.std.proofs.lemmas.Bool.{both_ways}
-use Rattle.lock_model.specs.MoveTests.{move_eq}
+use Rattle.lock_table.specs.MoveTests.{move_eq}
 use Rattle.lock_model.specs.declared.machine.state.Machine.{Machine}
-use Rattle.lock_model.specs.declared.events.Step.TheVariants.{PutExclusive}
-use Rattle.lock_model.specs.declared.events.Word.TheVariants.{Partition}
-use Rattle.lock_model.specs.World.{World}
-use Rattle.lock_model.specs.Happens.{Next}
+use Rattle.lock_world.specs.declared.events.Step.TheVariants.{PutExclusive}
+use Rattle.lock_world.specs.declared.events.Word.TheVariants.{Partition}
+use Rattle.lock_world.specs.World.{World}
+use Rattle.lock_world.specs.Happens.{Next}
 use Rattle.lock_model.specs.Shows.{Shows}
 use Rattle.lock_model.proofs.Following.{skipped}
 use Rattle.lock_model.proofs.FollowingPuts.{recorded_put, not_in_hand, only_recorded}
-use Rattle.lock_model.proofs.MoveTests.{move_eq-same, move_eq-refl}
+use Rattle.lock_table.proofs.MoveTests.{move_eq-same, move_eq-refl}
 use Rattle.lock_model.proofs.Showing.{hand_from}
 use Rattle.lock_model.proofs.machine.state.Machine.put_partition.Goals as goal
 use Rattle.lock_model.proofs.machine.state.Machine.put_partition.Goals.{else-is_same-via-then-is_same+then-owes_nobody+else-is_over, else-is_same-via-then-is_same+else-owes_nobody, else-is_same-via-else-is_same}

@@ -5,16 +5,16 @@ use Rattle.std.proofs.lemmas.Bool.{both_ways, eqb-true}
 use Rattle.std.proofs.lemmas.List.{nil_from_length, length-map}
 use Rattle.modes_core.specs.Tag.{partition_of}
 use Rattle.lock_model.specs.declared.machine.state.Machine.{Machine}
-use Rattle.lock_model.specs.declared.events.Move.TheVariants.{Release}
-use Rattle.lock_model.specs.declared.events.Step.TheVariants.{PutExclusive}
-use Rattle.lock_model.specs.declared.events.Word.TheVariants.{Partition}
+use Rattle.lock_table.specs.declared.moves.Move.TheVariants.{Release}
+use Rattle.lock_world.specs.declared.events.Step.TheVariants.{PutExclusive}
+use Rattle.lock_world.specs.declared.events.Word.TheVariants.{Partition}
 use Rattle.lock_model.specs.MovedPart.{IsMoved}
-use Rattle.lock_model.specs.Moves.{Moves}
-use Rattle.lock_model.specs.PartView.{content_of}
-use Rattle.lock_model.specs.Parts.{part_at, contents_in}
-use Rattle.lock_model.specs.Waiter.{whose_and_mode}
-use Rattle.lock_model.specs.World.{World}
-use Rattle.lock_model.specs.Happens.{Next}
+use Rattle.lock_table.specs.Moves.{Moves}
+use Rattle.lock_table.specs.PartView.{content_of}
+use Rattle.lock_table.specs.Parts.{part_at, contents_in}
+use Rattle.lock_table.specs.Waiter.{whose_and_mode}
+use Rattle.lock_world.specs.World.{World}
+use Rattle.lock_world.specs.Happens.{Next}
 use Rattle.lock_model.specs.Shows.{Shows, IsOwnFor}
 use Rattle.lock_model.proofs.Following.{skipped}
 use Rattle.lock_model.proofs.FollowingPuts.{released, releasing, release_wakes, exists_from}

@@ -1,7 +1,7 @@
 use Rattle.std.proofs.Common.{◌≡◌, ◌<◌, length, sym, ap, ◌∙◌, subst, arith}
 use Rattle.modes_core.specs.Tag.{partition_of}
-use Rattle.lock_model.specs.PartView.{content_of}
-use Rattle.lock_model.specs.Told.{IsTold}
+use Rattle.lock_table.specs.PartView.{content_of}
+use Rattle.lock_table.specs.Told.{IsTold}
 use Rattle.lock_model.specs.Shows.{hand_of}
 use Rattle.lock_model.proofs.PlaceLemmas.{part_read}
 use Rattle.lock_model.proofs.FollowingJoins.{join_without_hand, join_after_move, join_may_not, join_not_told, asks_new}

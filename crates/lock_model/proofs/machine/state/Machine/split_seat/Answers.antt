@@ -1,5 +1,5 @@
 use Rattle.std.proofs.Common.{◌≡◌, ◌<◌, length, get_or, is_some, sym, ap, ◌∙◌, arith}
-use Rattle.lock_model.proofs.ListLemmas.{some_at}
+use Rattle.lock_table.proofs.ListLemmas.{some_at}
 use Rattle.lock_model.proofs.FollowingSeats.{was_issued, went_on}
 use Rattle.lock_model.proofs.machine.state.Machine.split_seat.Goals as goal
 

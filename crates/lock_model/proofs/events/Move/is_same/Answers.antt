@@ -1,6 +1,0 @@
-use Rattle.std.proofs.Common.{◌∙◌}
-use Rattle.lock_model.proofs.MoveTests.{move_equals}
-use Rattle.lock_model.proofs.events.Move.is_same.Goals as goal
-
-pub returns : goal.returns
-returns c = c.eq.ensures ∙ move_equals c.args.self c.args.other

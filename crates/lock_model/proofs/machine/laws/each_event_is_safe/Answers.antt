@@ -1,6 +1,0 @@
-use Rattle.lock_model.proofs.SafeRuns.{event-safe}
-use Rattle.lock_model.proofs.machine.laws.each_event_is_safe.Goals as goal
-
-pub returns : goal.returns
-returns c =
-    λ w v event safe h. event-safe w event v safe h

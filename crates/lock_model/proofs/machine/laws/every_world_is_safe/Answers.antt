@@ -1,7 +1,0 @@
-use Rattle.lock_model.specs.World.{opening}
-use Rattle.lock_model.proofs.SafeRuns.{opening-safe, Runs-safe}
-use Rattle.lock_model.proofs.machine.laws.every_world_is_safe.Goals as goal
-
-pub returns : goal.returns
-returns c =
-    λ limit events w run. Runs-safe (opening limit) events w (opening-safe limit) run

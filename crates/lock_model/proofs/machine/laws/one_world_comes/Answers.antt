@@ -1,9 +1,0 @@
-use Rattle.std.proofs.Common.{refl}
-use Rattle.lock_model.specs.World.{opening}
-use Rattle.lock_model.proofs.SafeRuns.{opening-safe}
-use Rattle.lock_model.proofs.OneWorld.{one_run}
-use Rattle.lock_model.proofs.machine.laws.one_world_comes.Goals as goal
-
-pub returns : goal.returns
-returns c =
-    λ limit events w v one two. one_run (opening limit) (opening limit) events w v (opening-safe limit) refl one two

@@ -1,6 +1,0 @@
-use Rattle.std.proofs.Common.{◌≡◌, ◌+◌, length, take}
-use Rattle.lock_model.specs.PartWaits.{waits_in}
-use Rattle.lock_model.proofs.part_waits.index_of_place.Given as goal
-
-abbrev pub invariant-loop-index : goal.invariant-loop-index
-invariant-loop-index l = l.before + length (waits_in (take l.index l.waits) l.tag) ≡ l.place

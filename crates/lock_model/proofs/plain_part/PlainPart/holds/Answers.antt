@@ -1,7 +1,0 @@
-use Rattle.std.proofs.Common.{subst}
-use Rattle.lock_model.specs.PartView.{PartView}
-use Rattle.lock_model.specs.PartWaits.{EachOnce}
-use Rattle.lock_model.proofs.plain_part.PlainPart.holds.Goals as goal
-
-pub returns-clause-each_once : goal.returns-clause-each_once
-returns-clause-each_once c = subst (λ (part : PartView). EachOnce part.holds part.waits) c.self.view_is c.self.invariant.each_once

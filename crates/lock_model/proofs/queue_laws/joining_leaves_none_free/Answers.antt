@@ -1,5 +1,0 @@
-use Rattle.lock_model.proofs.QueueLaws.{joined-none_free}
-use Rattle.lock_model.proofs.queue_laws.joining_leaves_none_free.Goals as goal
-
-pub returns : goal.returns
-returns c = λ content s tag mode place answer none. joined-none_free content s tag mode place (content.holds s tag) answer none

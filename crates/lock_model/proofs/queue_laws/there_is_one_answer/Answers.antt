@@ -1,5 +1,0 @@
-use Rattle.lock_model.proofs.OneAnswer.{waiting_answer-one}
-use Rattle.lock_model.proofs.queue_laws.there_is_one_answer.Goals as goal
-
-pub returns : goal.returns
-returns c = waiting_answer-one

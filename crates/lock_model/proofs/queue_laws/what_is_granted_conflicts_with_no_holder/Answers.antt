@@ -1,5 +1,0 @@
-use Rattle.lock_model.proofs.QueueLemmas.{granted-no_holder}
-use Rattle.lock_model.proofs.queue_laws.what_is_granted_conflicts_with_no_holder.Goals as goal
-
-pub returns : goal.returns
-returns c = λ content s tag mode answer. granted-no_holder content s tag mode answer

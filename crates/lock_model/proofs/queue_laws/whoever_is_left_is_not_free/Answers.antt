@@ -1,5 +1,0 @@
-use Rattle.lock_model.proofs.QueueLaws.{woken-none_free}
-use Rattle.lock_model.proofs.queue_laws.whoever_is_left_is_not_free.Goals as goal
-
-pub returns : goal.returns
-returns c = λ before after tag granted wakes. woken-none_free before tag granted after wakes

@@ -1,0 +1,141 @@
+use Rattle.std.proofs.Common.{◌≡◌, ℕ, ◌+◌, ◌<◌, ◌≤◌, Bool, true, false, not, ◌&&◌, ◌||◌, List, [], ◌∷◌, ◌++◌, take, length, get_or, ◌==◌, arith, refl, sym, ap, ◌∙◌, inl, inr}
+use Rattle.std.specs.Prelude.{filter, count_by, if◌then◌else◌}
+use Rattle.std.specs.List.{list_any}
+use Rattle.std.proofs.lemmas.Bool.{cases_Bool, false≢true, false_from_ne_true, eqb-true, eq-eqb}
+use Rattle.std.proofs.lemmas.List.Folds.{list_any-append}
+use Rattle.std.proofs.lemmas.List.Sums.{sum_by-cons, sum_by-append}
+use Rattle.std.proofs.Math.Bool.{or-true, or-false, or_comm}
+use Rattle.std.proofs.lemmas.Map.Views.{any-filter_same}
+use Rattle.modes_core.specs.declared.modes.Mode.{Mode}
+use Rattle.modes_core.specs.declared.tags.Tag.{Tag}
+use Rattle.lock_table.specs.declared.request.Request.{Request}
+use Rattle.lock_table.specs.Request.{is_request_of, is_request_on}
+use Rattle.lock_table.specs.Content.{set_hold}
+use Rattle.lock_table.specs.PartView.{holds_in}
+use Rattle.modes_core.specs.Mode.{mode_eq}
+use Rattle.modes_core.specs.Tag.{tag_eq}
+use Rattle.modes_core.proofs.Laws.{both_true}
+use Rattle.std.proofs.lemmas.List.{take_more}
+use Rattle.lock_table.proofs.Same.{same_triple, SameTriple-from, same_triple-comm, same_triple-refl, set_hold-here, set_hold-else}
+use Rattle.lock_table.proofs.ListLemmas.{any_weaker}
+
+-- A list with one hold more at its end has one hold more.
+push_at :
+    (xs : List Request) (s : ℕ) (o : Tag) (m : Mode) (s' : ℕ) (o' : Tag) (m' : Mode) →
+    holds_in (xs ++ record { session = s; tag = o; mode = m } ∷ []) s' o' m' ≡ set_hold (holds_in xs) s o m true s' o' m'
+push_at xs s o m s' o' m' =
+    list_any-append (λ hold. is_request_of hold s' o' m') xs (record { session = s; tag = o; mode = m } ∷ []) ∙
+    elim (cases_Bool (same_triple s' o' m' s o m)) [
+      | inl alike ↦
+          let same = SameTriple-from s' o' m' s o m alike in
+          rw (alike, or-true) (rw (same.session, same.tag, same.mode) (sym (set_hold-here (holds_in xs) s o m true)))
+      | inr apart ↦ rw (apart, or-false) (sym (set_hold-else (holds_in xs) s o m true s' o' m' apart))
+    ]
+
+pub add_hold-push :
+    (xs : List Request) (s : ℕ) (o : Tag) (m : Mode) → holds_in (xs ++ record { session = s; tag = o; mode = m } ∷ []) ≡ set_hold (holds_in xs) s o m true
+add_hold-push xs s o m = λ i s' o' m'. push_at xs s o m s' o' m' i
+
+-- A list without the hold has one hold less.
+filter_at :
+    (xs : List Request) (s : ℕ) (o : Tag) (m : Mode) (s' : ℕ) (o' : Tag) (m' : Mode) →
+    holds_in (filter (λ hold. not (is_request_of hold s o m)) xs) s' o' m' ≡ set_hold (holds_in xs) s o m false s' o' m'
+filter_at xs s o m s' o' m' =
+    elim (cases_Bool (same_triple s' o' m' s o m)) [
+      | inl alike ↦
+          let same = SameTriple-from s' o' m' s o m alike in
+          rw (same.session, same.tag, same.mode) (
+          any-filter_same (λ hold. is_request_of hold s o m) (λ hold. not (is_request_of hold s o m)) false (λ hold is. ap not is) xs ∙
+          sym (set_hold-here (holds_in xs) s o m false)
+          )
+      | inr apart ↦
+          any-filter_same (λ hold. is_request_of hold s' o' m') (λ hold. not (is_request_of hold s o m)) true (other apart) xs ∙
+          sym (set_hold-else (holds_in xs) s o m false s' o' m' apart)
+    ] where
+      other : same_triple s' o' m' s o m ≡ false → (hold : Request) → is_request_of hold s' o' m' ≡ true → not (is_request_of hold s o m) ≡ true
+      other apart hold is =
+          let same = SameTriple-from s' o' m' hold.session hold.tag hold.mode is in
+          let not_it : is_request_of hold s o m ≡ false =
+          same_triple-comm s o m hold.session hold.tag hold.mode ∙ rw (← same.session, ← same.tag, ← same.mode) apart in
+          ap not not_it
+
+pub remove_hold-filter :
+    (xs : List Request) (s : ℕ) (o : Tag) (m : Mode) → holds_in (filter (λ hold. not (is_request_of hold s o m)) xs) ≡ set_hold (holds_in xs) s o m false
+remove_hold-filter xs s o m = λ i s' o' m'. filter_at xs s o m s' o' m' i
+
+-- An element more at the front counts where it passes.
+pub count_by-cons : {X : Type 0} (test : X → Bool) (x : X) (xs : List X) → count_by test (x ∷ xs) ≡ (if test x then 1 else 0) + count_by test xs
+count_by-cons test x xs = sum_by-cons (λ y. if test y then 1 else 0) x xs
+
+-- A filter leaves no element more often than it was there.
+pub count_by-filter : {X : Type 0} (test p : X → Bool) (xs : List X) → count_by test (filter p xs) ≤ count_by test xs
+count_by-filter test p [] = omega arith
+count_by-filter test p (x ∷ xs) =
+    let less : count_by test (filter p xs) ≤ count_by test xs = count_by-filter test p xs in
+    rw (count_by-cons test x xs) (
+    elim (cases_Bool (p x)) [
+      | inl pass ↦ rw (pass, count_by-cons test x (filter p xs)) (omega arith)
+      | inr fail ↦ rw fail (omega arith)
+    ]
+    )
+
+-- Where no element passes a test, none is counted.
+pub count_by-none : {X : Type 0} (test : X → Bool) (xs : List X) → list_any test xs ≡ false → count_by test xs ≡ 0
+count_by-none test [] none = refl
+count_by-none test (x ∷ xs) none =
+    rw (count_by-cons test x xs) (
+    elim (cases_Bool (test x)) [
+      | inl pass ↦ absurd (false≢true (sym none ∙ ap (λ b. b || list_any test xs) pass))
+      | inr fail ↦ rw (fail, count_by-none test xs (sym (ap (λ b. b || list_any test xs) fail) ∙ none)) refl
+    ]
+    )
+
+pub count_by-append : {X : Type 0} (test : X → Bool) (xs ys : List X) → count_by test (xs ++ ys) ≡ count_by test xs + count_by test ys
+count_by-append test xs ys = sum_by-append (λ x. if test x then 1 else 0) xs ys
+
+-- The first i + 1 elements of a list end with the one at i.
+pub take_one_more : {X : Type 0} (xs : List X) (i : ℕ) (x : X) → i < length xs → x ≡ get_or xs i x → take (i + 1) xs ≡ take i xs ++ x ∷ []
+take_one_more xs i x within is = take_more xs i x within ∙ ap (λ y. take i xs ++ y ∷ []) (sym is)
+
+-- The modes that a session holds an object in, as the list grows by one request.
+pub held-take :
+    (xs : List Request) (r : Request) (s : ℕ) (o : Tag) (modes : Mode → Bool) → modes ≡ holds_in xs s o → is_request_on r s o ≡ true →
+    (λ m. mode_eq m r.mode || modes m) ≡ holds_in (xs ++ r ∷ []) s o
+held-take xs r s o modes so_far is = λ i m. at_mode m i where
+  at_mode : (m : Mode) → (mode_eq m r.mode || modes m) ≡ holds_in (xs ++ r ∷ []) s o m
+  at_mode m =
+      let both = both_true (s == r.session) (tag_eq o r.tag) is in
+      rw (so_far, list_any-append (λ hold. is_request_of hold s o m) xs (r ∷ []), both.0, both.1, or-false) (or_comm (mode_eq m r.mode) (holds_in xs s o m))
+
+pub held-skip : (xs : List Request) (r : Request) (s : ℕ) (o : Tag) → is_request_on r s o ≡ false → holds_in xs s o ≡ holds_in (xs ++ r ∷ []) s o
+held-skip xs r s o is_not = λ i m. at_mode m i where
+  not_it : (a b c : Bool) → (a && b) ≡ false → (a && (b && c)) ≡ false
+  not_it true true c e = absurd (false≢true (sym e))
+  not_it true false c e = refl
+  not_it false b c e = refl
+
+  at_mode : (m : Mode) → holds_in xs s o m ≡ holds_in (xs ++ r ∷ []) s o m
+  at_mode m =
+      rw (list_any-append (λ hold. is_request_of hold s o m) xs (r ∷ []), not_it (s == r.session) (tag_eq o r.tag) (mode_eq m r.mode) is_not) (sym (or-false (holds_in xs s o m)))
+
+-- A session with no hold in the list holds no object in any mode, and one with a hold holds some object in some mode.
+pub session_has-none :
+    (hs : List Request) (s : ℕ) → list_any (λ hold. hold.session == s) hs ≡ false → (o : Tag) (m : Mode) → holds_in hs s o m ≡ false
+session_has-none hs s none o m =
+    false_from_ne_true (holds_in hs s o m) (λ any. false≢true (sym none ∙ any_weaker (λ hold. is_request_of hold s o m) (λ hold. hold.session == s) hs its any)) where
+      its : (hold : Request) → is_request_of hold s o m ≡ true → (hold.session == s) ≡ true
+      its hold is = eq-eqb hold.session s (sym (SameTriple-from s o m hold.session hold.tag hold.mode is).session)
+
+pub session_has-some :
+    (hs : List Request) (s : ℕ) → list_any (λ hold. hold.session == s) hs ≡ true → (o : Tag) × (m : Mode) × (holds_in hs s o m ≡ true)
+session_has-some [] s some = absurd (false≢true some)
+session_has-some (hold ∷ hs) s some =
+    elim (cases_Bool (hold.session == s)) [
+      | inl its ↦
+          let same : hold.session ≡ s = eqb-true hold.session s its in
+          let found : is_request_of hold s hold.tag hold.mode ≡ true = rw (← same) (same_triple-refl hold.session hold.tag hold.mode) in
+          (hold.tag, hold.mode, ap (λ b. b || holds_in hs s hold.tag hold.mode) found)
+      | inr other ↦
+          let rest = session_has-some hs s (ap (λ b. b || list_any (λ h. h.session == s) hs) (sym other) ∙ some) in
+          (rest.0, rest.1, ap (λ b. is_request_of hold s rest.0 rest.1 || b) rest.2 ∙ or-true (is_request_of hold s rest.0 rest.1))
+    ]

@@ -1,0 +1,327 @@
+use Rattle.std.proofs.Common.{◌≡◌, ℕ, ◌+◌, ◌<◌, ◌≤◌, Bool, true, false, not, ◌&&◌, ◌||◌, ◌==◌, List, [], ◌∷◌, ◌++◌, length, take, drop, get_or, suc, add-one, arith, refl, sym, ap, ◌∙◌, subst, inl, inr, append_assoc, eqb}
+use Rattle.std.specs.Prelude.{map, count_by, if◌then◌else◌}
+use Rattle.std.specs.List.{list_any, remove, IsDistinct, AllByRecursion}
+use Rattle.std.proofs.lemmas.Bool.{cases_Bool, false≢true, false_from_ne_true, both_ways, eqb-true, eq-eqb}
+use Rattle.std.proofs.lemmas.List.{append-nil, map-append, length-map, take_at, drop_at, take_all, drop_all, drop_more, length-take-le}
+use Rattle.std.proofs.lemmas.List.Folds.{list_any-append, list_any_at}
+use Rattle.std.proofs.lemmas.Map.Steps.{length-le_from_distinct_below}
+use Rattle.modes_core.specs.declared.modes.Mode.{Mode}
+use Rattle.modes_core.specs.declared.tags.Tag.{Tag}
+use Rattle.modes_core.specs.Tag.{tag_eq}
+use Rattle.modes_core.specs.Conflict.{conflict}
+use Rattle.modes_core.proofs.Laws.{both_true, tag_eq-same}
+use Rattle.lock_table.specs.declared.request.Request.{Request}
+use Rattle.lock_table.specs.declared.part_waits.PartWait.{PartWait}
+use Rattle.lock_table.specs.Request.{is_request_of, is_request_on, is_in_the_way_of}
+use Rattle.lock_table.specs.Content.{Holds, Wait, set_hold}
+use Rattle.lock_table.specs.Clash.{NoConflictingHolder}
+use Rattle.lock_table.specs.Put.{put}
+use Rattle.lock_table.specs.Waiter.{wait_of, whose_and_mode}
+use Rattle.lock_table.specs.PartView.{holds_in, content_in}
+use Rattle.lock_table.specs.PartWaits.{request_of, waits_in, times_in, OneWaitEach, goes_now}
+use Rattle.lock_table.specs.Queue.{IsFree, SplitsBehind, hold_all, Wakes}
+use Rattle.lock_table.proofs.PutLemmas.{put_here, put_else}
+use Rattle.lock_table.proofs.Same.{SameTriple-from, same_triple-refl}
+use Rattle.lock_table.proofs.ListLemmas.{any_found, any_weaker, any-counted}
+use Rattle.lock_table.proofs.HoldLists.{add_hold-push, count_by-cons, count_by-append, take_one_more}
+use Rattle.lock_table.proofs.ListingLemmas.{count_by-map}
+use Rattle.lock_table.proofs.Holders.{in_the_way-from, InTheWay-from}
+use Rattle.lock_table.proofs.WaitLists.{any-kept, waits_in-on, waits_in-off, waits_in-push_on, waits_in-without, count_by-insert, times_in-hold, times_in-wait}
+
+-- Whether some hold of a list is in the way says whether there is a conflicting holder.
+no_holder-from : (hs : List Request) (s : ℕ) (t : Tag) (m : Mode) → list_any (λ hold. is_in_the_way_of hold s t (conflict m)) hs ≡ false → NoConflictingHolder (holds_in hs) s t m
+no_holder-from hs s t m none k n other has =
+    false_from_ne_true (conflict m n) (λ conflicting.
+    both_ways (list_any (λ hold. is_in_the_way_of hold s t (conflict m)) hs) none
+    (any_weaker (λ hold. is_request_of hold k t n) (λ hold. is_in_the_way_of hold s t (conflict m)) hs (λ hold is. it conflicting hold is) has)) where
+      it : conflict m n ≡ true → (hold : Request) → is_request_of hold k t n ≡ true → is_in_the_way_of hold s t (conflict m) ≡ true
+      it conflicting hold is =
+          let same = SameTriple-from k t n hold.session hold.tag hold.mode is in
+          in_the_way-from hold s t m (λ e. other (same.session ∙ e)) same.tag (ap (conflict m) (sym same.mode) ∙ conflicting)
+
+none_in_the_way-from : (hs : List Request) (s : ℕ) (t : Tag) (m : Mode) → NoConflictingHolder (holds_in hs) s t m → list_any (λ hold. is_in_the_way_of hold s t (conflict m)) hs ≡ false
+none_in_the_way-from hs s t m free =
+    false_from_ne_true (list_any (λ hold. is_in_the_way_of hold s t (conflict m)) hs) (λ any.
+    let at = any_found (λ hold. is_in_the_way_of hold s t (conflict m)) hs any in
+    let way = InTheWay-from at.1 s t m at.4 in
+    let held : is_request_of at.1 at.1.session t at.1.mode ≡ true =
+    subst (λ o. is_request_of at.1 at.1.session o at.1.mode ≡ true) (sym way.tag) (same_triple-refl at.1.session at.1.tag at.1.mode) in
+    both_ways (conflict m at.1.mode)
+    (free at.1.session at.1.mode way.another
+    (list_any_at (λ hold. is_request_of hold at.1.session t at.1.mode) hs at.0 at.1 at.2 (ap (λ hold. is_request_of hold at.1.session t at.1.mode) (at.3 at.1) ∙ held)))
+    way.conflicting)
+
+not_false : (b : Bool) → not b ≡ true → b ≡ false
+not_false true e = absurd (false≢true e)
+not_false false e = refl
+
+-- A wait that goes now is one of the object, and free; one of the object that doesn't go is not free.
+goes_now-on : (hs : List Request) (done : List PartWait) (w : PartWait) (t : Tag) → goes_now hs done w t ≡ true → t ≡ w.tag
+goes_now-on hs done w t goes = tag_eq-same t w.tag (both_true _ _ goes).0
+
+goes_now-free : (hs : List Request) (done : List PartWait) (w : PartWait) (t : Tag) → goes_now hs done w t ≡ true → IsFree (holds_in hs) w.waiter.session t w.waiter.mode (waits_in done t)
+goes_now-free hs done w t goes =
+    let parts = both_true _ _ (both_true _ _ goes).1 in
+    record {
+      beside_holders = no_holder-from hs w.waiter.session t w.waiter.mode (not_false _ parts.0);
+      behind_waiters =
+          any-kept (λ wait. conflict w.waiter.mode wait.mode) (λ (wait : PartWait). wait_of wait.waiter) (λ (wait : PartWait). tag_eq t wait.tag) done
+          ∙ not_false _ parts.1;
+    }
+
+stays-not_free : (hs : List Request) (done : List PartWait) (w : PartWait) (t : Tag) → tag_eq t w.tag ≡ true → goes_now hs done w t ≡ false → IsFree (holds_in hs) w.waiter.session t w.waiter.mode (waits_in done t) → ⊥
+stays-not_free hs done w t on stays free =
+    let holders : list_any (λ hold. is_in_the_way_of hold w.waiter.session t (conflict w.waiter.mode)) hs ≡ false =
+    none_in_the_way-from hs w.waiter.session t w.waiter.mode free.beside_holders in
+    let ahead : list_any (λ (other : PartWait). tag_eq t other.tag && conflict w.waiter.mode other.waiter.mode) done ≡ false =
+    sym (any-kept (λ wait. conflict w.waiter.mode wait.mode) (λ (wait : PartWait). wait_of wait.waiter) (λ (wait : PartWait). tag_eq t wait.tag) done) ∙ free.behind_waiters in
+    false≢true (sym stays ∙ rw (on, holders, ahead) refl)
+
+-- The holds with one wait more among those that became holds.
+hold_all-push : (granted : List Wait) (holds : Holds) (t : Tag) (w : Wait) → hold_all holds t (granted ++ w ∷ []) ≡ set_hold (hold_all holds t granted) w.session t w.mode true
+hold_all-push [] holds t w = refl
+hold_all-push (v ∷ granted) holds t w = hold_all-push granted (set_hold holds v.session t v.mode true) t w
+
+-- How far a wakeup has come, from these lists at first: what are the holds now, which waits it has passed and which are still to
+-- come, and whom it woke.
+pub record Waking (hs0 : List Request) (ws0 : List PartWait) (t : Tag) (hs : List Request) (done todo : List PartWait) (woken : List (ℕ × Mode)) : Type 0 where
+  pub granted : List Wait
+  pub told : woken ≡ map whose_and_mode granted
+  pub holds : holds_in hs ≡ hold_all (holds_in hs0) t granted
+  pub others : (o : Tag) → tag_eq o t ≡ false → waits_in (done ++ todo) o ≡ waits_in ws0 o
+  pub queue : (more left : List Wait) → SplitsBehind (waits_in done t) (holds_in hs) t (waits_in todo t) more left
+      → SplitsBehind [] (holds_in hs0) t (waits_in ws0 t) (granted ++ more) (waits_in done t ++ left)
+  pub same_requests : (s : ℕ) (o : Tag) (m : Mode) → times_in hs (done ++ todo) s o m ≡ times_in hs0 ws0 s o m
+  pub no_more_waits : (s : ℕ) (o : Tag) → count_by (λ wait. is_request_on (request_of wait) s o) (done ++ todo) ≤ count_by (λ wait. is_request_on (request_of wait) s o) ws0
+  pub each_session : (s : ℕ) → count_by (λ one. s == one.0) woken + count_by (λ wait. is_request_on (request_of wait) s t) (done ++ todo) ≤ 1
+  pub below : (s : ℕ) → list_any (λ one. s == one.0) woken ≡ true → s < 64
+
+pub Waking-start : (hs : List Request) (ws : List PartWait) (t : Tag) → OneWaitEach ws → Waking hs ws t hs [] ws []
+Waking-start hs ws t each = record {
+  granted = [];
+  told = refl;
+  holds = refl;
+  others = λ o other. refl;
+  queue = λ more left split. split;
+  same_requests = λ s o m. refl;
+  no_more_waits = λ s o. omega arith;
+  each_session = λ s. omega (arith, each s t);
+  below = λ s none. absurd (false≢true none);
+}
+
+-- A wait that doesn't go is passed.
+pub Waking-stay :
+    (hs0 : List Request) (ws0 : List PartWait) (t : Tag) (hs : List Request) (done : List PartWait) (w : PartWait) (todo : List PartWait) (woken : List (ℕ × Mode)) →
+    goes_now hs done w t ≡ false → Waking hs0 ws0 t hs done (w ∷ todo) woken → Waking hs0 ws0 t hs (done ++ w ∷ []) todo woken
+Waking-stay hs0 ws0 t hs done w todo woken stays so_far =
+    let all : (done ++ w ∷ []) ++ todo ≡ done ++ w ∷ todo = append_assoc done (w ∷ []) todo in
+    record {
+      granted = so_far.granted;
+      told = so_far.told;
+      holds = so_far.holds;
+      others = λ o other. ap (λ ws. waits_in ws o) all ∙ so_far.others o other;
+      queue = passed;
+      same_requests = λ s o m. ap (λ ws. times_in hs ws s o m) all ∙ so_far.same_requests s o m;
+      no_more_waits = rw all so_far.no_more_waits;
+      each_session = rw all so_far.each_session;
+      below = so_far.below;
+    } where
+      on_it : tag_eq t w.tag ≡ true → (more left : List Wait) → SplitsBehind (waits_in (done ++ w ∷ []) t) (holds_in hs) t (waits_in todo t) more left
+          → SplitsBehind [] (holds_in hs0) t (waits_in ws0 t) (so_far.granted ++ more) (waits_in (done ++ w ∷ []) t ++ left)
+      on_it on more left split =
+          let front : waits_in (done ++ w ∷ []) t ≡ waits_in done t ++ wait_of w.waiter ∷ [] = waits_in-push_on done w t on in
+          let rest = subst (λ ahead. SplitsBehind ahead (holds_in hs) t (waits_in todo t) more left) front split in
+          let whole : SplitsBehind (waits_in done t) (holds_in hs) t (waits_in (w ∷ todo) t) more (wait_of w.waiter ∷ left) =
+          subst (λ queue. SplitsBehind (waits_in done t) (holds_in hs) t queue more (wait_of w.waiter ∷ left)) (sym (waits_in-on w todo t on))
+          (inr (stays-not_free hs done w t on stays, (left, refl, rest))) in
+          subst (λ stay. SplitsBehind [] (holds_in hs0) t (waits_in ws0 t) (so_far.granted ++ more) stay)
+          (sym (ap (λ ws. ws ++ left) front ∙ append_assoc (waits_in done t) (wait_of w.waiter ∷ []) left))
+          (so_far.queue more (wait_of w.waiter ∷ left) whole)
+
+      off_it : tag_eq t w.tag ≡ false → (more left : List Wait) → SplitsBehind (waits_in (done ++ w ∷ []) t) (holds_in hs) t (waits_in todo t) more left
+          → SplitsBehind [] (holds_in hs0) t (waits_in ws0 t) (so_far.granted ++ more) (waits_in (done ++ w ∷ []) t ++ left)
+      off_it off more left split =
+          let front : waits_in (done ++ w ∷ []) t ≡ waits_in done t = waits_in-without done w [] t off ∙ ap (λ ws. waits_in ws t) (append-nil done) in
+          let whole : SplitsBehind (waits_in done t) (holds_in hs) t (waits_in (w ∷ todo) t) more left =
+          subst (λ queue. SplitsBehind (waits_in done t) (holds_in hs) t queue more left) (sym (waits_in-off w todo t off))
+          (subst (λ ahead. SplitsBehind ahead (holds_in hs) t (waits_in todo t) more left) front split) in
+          subst (λ ahead. SplitsBehind [] (holds_in hs0) t (waits_in ws0 t) (so_far.granted ++ more) (ahead ++ left)) (sym front) (so_far.queue more left whole)
+
+      passed : (more left : List Wait) → SplitsBehind (waits_in (done ++ w ∷ []) t) (holds_in hs) t (waits_in todo t) more left
+          → SplitsBehind [] (holds_in hs0) t (waits_in ws0 t) (so_far.granted ++ more) (waits_in (done ++ w ∷ []) t ++ left)
+      passed more left split = elim (cases_Bool (tag_eq t w.tag)) [ inl on ↦ on_it on more left split | inr off ↦ off_it off more left split ]
+
+-- A wait that goes becomes a hold.
+pub Waking-go :
+    (hs0 : List Request) (ws0 : List PartWait) (t : Tag) (hs : List Request) (done : List PartWait) (w : PartWait) (todo : List PartWait) (woken : List (ℕ × Mode)) →
+    goes_now hs done w t ≡ true → w.waiter.session < 64 → Waking hs0 ws0 t hs done (w ∷ todo) woken →
+    Waking hs0 ws0 t (hs ++ request_of w ∷ []) done todo (woken ++ (w.waiter.session, w.waiter.mode) ∷ [])
+Waking-go hs0 ws0 t hs done w todo woken goes small so_far = record {
+  granted = so_far.granted ++ wait_of w.waiter ∷ [];
+  told = ap (λ ones. ones ++ (w.waiter.session, w.waiter.mode) ∷ []) so_far.told ∙ sym (map-append whose_and_mode so_far.granted (wait_of w.waiter ∷ []));
+  holds = held ∙ ap (λ holds. set_hold holds w.waiter.session t w.waiter.mode true) so_far.holds ∙ sym (hold_all-push so_far.granted (holds_in hs0) t (wait_of w.waiter));
+  others = λ o other. sym (waits_in-without done w todo o (ap (tag_eq o) (sym on) ∙ other)) ∙ so_far.others o other;
+  queue = queue;
+  same_requests = λ s o m. times_in-hold hs (done ++ todo) (request_of w) s o m ∙ sym (times_in-wait hs done todo w s o m) ∙ so_far.same_requests s o m;
+  no_more_waits = λ s o.
+      let more : count_by (λ wait. is_request_on (request_of wait) s o) (done ++ w ∷ todo) ≡ count_by (λ wait. is_request_on (request_of wait) s o) (done ++ todo) + (if is_request_on (request_of w) s o then 1 else 0) =
+      count_by-insert (λ wait. is_request_on (request_of wait) s o) w done todo in
+      omega (arith, so_far.no_more_waits s o);
+  each_session = each;
+  below = small_ones;
+} where
+  on : t ≡ w.tag
+  on = goes_now-on hs done w t goes
+
+  on_it : tag_eq t w.tag ≡ true
+  on_it = (both_true _ _ goes).0
+
+  held : holds_in (hs ++ request_of w ∷ []) ≡ set_hold (holds_in hs) w.waiter.session t w.waiter.mode true
+  held = add_hold-push hs w.waiter.session w.tag w.waiter.mode ∙ ap (λ o. set_hold (holds_in hs) w.waiter.session o w.waiter.mode true) (sym on)
+
+  queue : (more left : List Wait) → SplitsBehind (waits_in done t) (holds_in (hs ++ request_of w ∷ [])) t (waits_in todo t) more left
+      → SplitsBehind [] (holds_in hs0) t (waits_in ws0 t) ((so_far.granted ++ wait_of w.waiter ∷ []) ++ more) (waits_in done t ++ left)
+  queue more left split =
+      let rest = subst (λ holds. SplitsBehind (waits_in done t) holds t (waits_in todo t) more left) held split in
+      let whole : SplitsBehind (waits_in done t) (holds_in hs) t (waits_in (w ∷ todo) t) (wait_of w.waiter ∷ more) left =
+      subst (λ queue. SplitsBehind (waits_in done t) (holds_in hs) t queue (wait_of w.waiter ∷ more) left) (sym (waits_in-on w todo t on_it))
+      (inl (goes_now-free hs done w t goes, (more, refl, rest))) in
+      subst (λ granted. SplitsBehind [] (holds_in hs0) t (waits_in ws0 t) granted (waits_in done t ++ left))
+      (sym (append_assoc so_far.granted (wait_of w.waiter ∷ []) more)) (so_far.queue (wait_of w.waiter ∷ more) left whole)
+
+  is_its : (s : ℕ) → is_request_on (request_of w) s t ≡ (s == w.waiter.session)
+  is_its s = rw on_it and_true where
+    and_true : ((s == w.waiter.session) && true) ≡ (s == w.waiter.session)
+    and_true = elim (cases_Bool (s == w.waiter.session)) [ inl same ↦ rw same refl | inr other ↦ rw other refl ]
+
+  each : (s : ℕ) → count_by (λ one. s == one.0) (woken ++ (w.waiter.session, w.waiter.mode) ∷ []) + count_by (λ wait. is_request_on (request_of wait) s t) (done ++ todo) ≤ 1
+  each s =
+      let more : count_by (λ wait. is_request_on (request_of wait) s t) (done ++ w ∷ todo) ≡ count_by (λ wait. is_request_on (request_of wait) s t) (done ++ todo) + (if is_request_on (request_of w) s t then 1 else 0) =
+      count_by-insert (λ wait. is_request_on (request_of wait) s t) w done todo in
+      let same : ◌≡◌ {A = ℕ} (if is_request_on (request_of w) s t then 1 else 0) (if s == w.waiter.session then 1 else 0) = ap (λ b. if b then 1 else 0) (is_its s) in
+      let whole : count_by (λ (one : ℕ × Mode). s == one.0) (woken ++ (w.waiter.session, w.waiter.mode) ∷ []) ≡ count_by (λ (one : ℕ × Mode). s == one.0) woken + count_by (λ (one : ℕ × Mode). s == one.0) ((w.waiter.session, w.waiter.mode) ∷ []) =
+      count_by-append (λ (one : ℕ × Mode). s == one.0) woken ((w.waiter.session, w.waiter.mode) ∷ []) in
+      let one : count_by (λ (one : ℕ × Mode). s == one.0) ((w.waiter.session, w.waiter.mode) ∷ []) ≡ (if s == w.waiter.session then 1 else 0) + 0 = count_by-cons (λ (one : ℕ × Mode). s == one.0) (w.waiter.session, w.waiter.mode) [] in
+      omega (arith, so_far.each_session s)
+
+  small_ones : (s : ℕ) → list_any (λ one. s == one.0) (woken ++ (w.waiter.session, w.waiter.mode) ∷ []) ≡ true → s < 64
+  small_ones s any =
+      elim (cases_Bool (list_any (λ (one : ℕ × Mode). s == one.0) woken)) [
+        | inl before ↦ so_far.below s before
+        | inr not_before ↦
+            let last : (s == w.waiter.session) ≡ true = or_last _ _ not_before (sym (list_any-append (λ (one : ℕ × Mode). s == one.0) woken ((w.waiter.session, w.waiter.mode) ∷ [])) ∙ any) in
+            let same : s ≡ w.waiter.session = eqb-true s w.waiter.session last in
+            omega arith
+      ] where
+        or_last : (a b : Bool) → a ≡ false → (a || (b || false)) ≡ true → b ≡ true
+        or_last true b e any = absurd (false≢true (sym e))
+        or_last false true e any = refl
+        or_last false false e any = any
+
+-- At the end of the list the wakeup is whole.
+pub Waking-end :
+    (hs0 : List Request) (ws0 : List PartWait) (t : Tag) (hs : List Request) (ws : List PartWait) (woken : List (ℕ × Mode)) →
+    Waking hs0 ws0 t hs ws [] woken → (granted : List Wait) × Wakes (content_in hs0 ws0) t granted (content_in hs ws) × (woken ≡ map whose_and_mode granted)
+Waking-end hs0 ws0 t hs ws woken all = (
+  all.granted,
+  record {
+    left = waits_in ws t;
+    split =
+        subst (λ granted. SplitsBehind [] (holds_in hs0) t (waits_in ws0 t) granted (waits_in ws t)) (append-nil all.granted)
+        (subst (λ left. SplitsBehind [] (holds_in hs0) t (waits_in ws0 t) (all.granted ++ []) left) (append-nil (waits_in ws t)) (all.queue [] [] (refl, refl)));
+    holds = all.holds;
+    waits = λ i o. at o i;
+  },
+  all.told,
+) where
+  at : (o : Tag) → waits_in ws o ≡ put tag_eq (waits_in ws0) t (waits_in ws t) o
+  at o =
+      elim (cases_Bool (tag_eq o t)) [
+        | inl same ↦ ap (waits_in ws) (tag_eq-same o t same) ∙ sym (put_here tag_eq (waits_in ws0) t (waits_in ws t) o same)
+        | inr other ↦ ap (λ xs. waits_in xs o) (sym (append-nil ws)) ∙ all.others o other ∙ sym (put_else tag_eq (waits_in ws0) t (waits_in ws t) o other)
+      ]
+
+-- Numbers of which each is there once at most are distinct.
+none_alike : (x : ℕ) (xs : List ℕ) → list_any (eqb x) xs ≡ false → AllByRecursion (λ y. eqb x y ≡ false) xs
+none_alike x [] none = tt
+none_alike x (y ∷ xs) none =
+    elim (cases_Bool (eqb x y)) [
+      | inl same ↦ absurd (false≢true (sym none ∙ ap (λ b. b || list_any (eqb x) xs) same))
+      | inr other ↦ (other, none_alike x xs (sym (ap (λ b. b || list_any (eqb x) xs) other) ∙ none))
+    ]
+
+distinct-from : (xs : List ℕ) → ((x : ℕ) → count_by (eqb x) xs ≤ 1) → IsDistinct eqb xs
+unfolding IsDistinct
+distinct-from [] once = tt
+distinct-from (x ∷ xs) once = (none_alike x xs none, distinct-from xs (λ y. fewer y)) where
+  none : list_any (eqb x) xs ≡ false
+  none = false_from_ne_true (list_any (eqb x) xs) (λ any.
+      let more : 0 < count_by (eqb x) xs = any-counted (eqb x) xs any in
+      let sum : count_by (eqb x) (x ∷ xs) ≡ (if eqb x x then 1 else 0) + count_by (eqb x) xs = count_by-cons (eqb x) x xs in
+      let one : ◌≡◌ {A = ℕ} (if eqb x x then 1 else 0) 1 = rw (eq-eqb x x refl) refl in
+      omega (arith, once x))
+
+  fewer : (y : ℕ) → count_by (eqb y) xs ≤ 1
+  fewer y =
+      let sum : count_by (eqb y) (x ∷ xs) ≡ (if eqb y x then 1 else 0) + count_by (eqb y) xs = count_by-cons (eqb y) x xs in
+      omega (arith, once y)
+
+-- At most as many are woken as there are sessions.
+pub woken_fit :
+    (hs0 : List Request) (ws0 : List PartWait) (t : Tag) (hs : List Request) (done todo : List PartWait) (woken : List (ℕ × Mode)) →
+    Waking hs0 ws0 t hs done todo woken → length woken ≤ 64
+woken_fit hs0 ws0 t hs done todo woken so_far =
+    let fit : length (map (λ (one : ℕ × Mode). one.0) woken) ≤ 64 =
+    length-le_from_distinct_below (map (λ (one : ℕ × Mode). one.0) woken) 64 (distinct-from (map (λ (one : ℕ × Mode). one.0) woken) once)
+    (λ s any. so_far.below s (sym (any-map s woken) ∙ any)) in
+    let same : length (map (λ (one : ℕ × Mode). one.0) woken) ≡ length woken = length-map woken (λ (one : ℕ × Mode). one.0) in
+    omega arith where
+      once : (s : ℕ) → count_by (eqb s) (map (λ (one : ℕ × Mode). one.0) woken) ≤ 1
+      once s =
+          let same : count_by (eqb s) (map (λ (one : ℕ × Mode). one.0) woken) ≡ count_by (λ (one : ℕ × Mode). eqb s one.0) woken = count_by-map (eqb s) (λ (one : ℕ × Mode). one.0) woken in
+          omega (arith, so_far.each_session s)
+
+      any-map : (s : ℕ) (ones : List (ℕ × Mode)) → list_any (eqb s) (map (λ (one : ℕ × Mode). one.0) ones) ≡ list_any (λ (one : ℕ × Mode). s == one.0) ones
+      any-map s [] = refl
+      any-map s (one ∷ ones) = ap (λ b. eqb s one.0 || b) (any-map s ones)
+
+-- The same at a place of the list.
+pub Waking-stay_at :
+    (hs0 : List Request) (ws0 : List PartWait) (t : Tag) (hs : List Request) (ws : List PartWait) (i : ℕ) (w : PartWait) (woken : List (ℕ × Mode)) →
+    i < length ws → w ≡ get_or ws i w → goes_now hs (take i ws) w t ≡ false →
+    Waking hs0 ws0 t hs (take i ws) (drop i ws) woken → Waking hs0 ws0 t hs (take (i + 1) ws) (drop (i + 1) ws) woken
+Waking-stay_at hs0 ws0 t hs ws i w woken within is stays so_far =
+    subst (λ done. Waking hs0 ws0 t hs done (drop (i + 1) ws) woken) (sym (take_one_more ws i w within is))
+    (Waking-stay hs0 ws0 t hs (take i ws) w (drop (i + 1) ws) woken stays
+    (subst (λ todo. Waking hs0 ws0 t hs (take i ws) todo woken) (drop_more ws i w within ∙ ap (λ v. v ∷ drop (i + 1) ws) (sym is)) so_far))
+
+pub Waking-go_at :
+    (hs0 : List Request) (ws0 : List PartWait) (t : Tag) (hs : List Request) (ws : List PartWait) (i : ℕ) (w : PartWait) (woken : List (ℕ × Mode)) →
+    i < length ws → w ≡ get_or ws i w → goes_now hs (take i ws) w t ≡ true → w.waiter.session < 64 → Waking hs0 ws0 t hs (take i ws) (drop i ws) woken →
+    Waking hs0 ws0 t (hs ++ request_of w ∷ []) (take i (remove ws i)) (drop i (remove ws i)) (woken ++ (w.waiter.session, w.waiter.mode) ∷ [])
+Waking-go_at hs0 ws0 t hs ws i w woken within is goes small so_far =
+    let front : length (take i ws) ≡ i = length-take-le i ws (omega arith) in
+    let done : take i (remove ws i) ≡ take i ws = take_at (take i ws) (drop (suc i) ws) i front in
+    let todo : drop i (remove ws i) ≡ drop (i + 1) ws = drop_at (take i ws) (drop (suc i) ws) i front ∙ ap (λ n. drop n ws) (sym (add-one i)) in
+    rw (done, todo)
+    (Waking-go hs0 ws0 t hs (take i ws) w (drop (i + 1) ws) woken goes small
+    (subst (λ rest. Waking hs0 ws0 t hs (take i ws) rest woken) (drop_more ws i w within ∙ ap (λ v. v ∷ drop (i + 1) ws) (sym is)) so_far))
+
+pub Waking-end_at :
+    (hs0 : List Request) (ws0 : List PartWait) (t : Tag) (hs : List Request) (ws : List PartWait) (i : ℕ) (woken : List (ℕ × Mode)) →
+    length ws ≤ i → Waking hs0 ws0 t hs (take i ws) (drop i ws) woken → Waking hs0 ws0 t hs ws [] woken
+Waking-end_at hs0 ws0 t hs ws i woken past so_far =
+    subst (λ todo. Waking hs0 ws0 t hs ws todo woken) (drop_all i ws past)
+    (subst (λ done. Waking hs0 ws0 t hs done (drop i ws) woken) (take_all i ws past) so_far)
+
+-- The two lists have the same requests at the end as at first, and each session one wait at most on an object.
+pub same_requests-end :
+    (hs0 : List Request) (ws0 : List PartWait) (t : Tag) (hs : List Request) (ws : List PartWait) (woken : List (ℕ × Mode)) →
+    Waking hs0 ws0 t hs ws [] woken → (s : ℕ) (o : Tag) (m : Mode) → times_in hs ws s o m ≡ times_in hs0 ws0 s o m
+same_requests-end hs0 ws0 t hs ws woken all s o m = ap (λ xs. times_in hs xs s o m) (sym (append-nil ws)) ∙ all.same_requests s o m
+
+pub one_wait_each-end :
+    (hs0 : List Request) (ws0 : List PartWait) (t : Tag) (hs : List Request) (ws : List PartWait) (woken : List (ℕ × Mode)) →
+    OneWaitEach ws0 → Waking hs0 ws0 t hs ws [] woken → OneWaitEach ws
+one_wait_each-end hs0 ws0 t hs ws woken each all =
+    subst OneWaitEach (append-nil ws) (λ s o. let fewer : count_by (λ wait. is_request_on (request_of wait) s o) (ws ++ []) ≤ count_by (λ wait. is_request_on (request_of wait) s o) ws0 = all.no_more_waits s o in omega (arith, each s o))

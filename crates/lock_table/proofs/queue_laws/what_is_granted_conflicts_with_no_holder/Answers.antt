@@ -1,0 +1,5 @@
+use Rattle.lock_table.proofs.QueueLemmas.{granted-no_holder}
+use Rattle.lock_table.proofs.queue_laws.what_is_granted_conflicts_with_no_holder.Goals as goal
+
+pub returns : goal.returns
+returns c = λ content s tag mode answer. granted-no_holder content s tag mode answer

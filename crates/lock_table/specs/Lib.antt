@@ -1,0 +1,17 @@
+pub mod Put
+pub mod Content
+pub mod Clash
+pub mod Request
+pub mod Listing
+pub mod PartView
+pub mod PartWaits
+pub mod PlainPart
+pub mod Queue
+pub mod Walk
+pub mod Standing
+pub mod Told
+pub mod Moves
+pub mod Waiter
+pub mod OwnWait
+pub mod MoveTests
+pub mod Parts

@@ -1,0 +1,30 @@
+use Rattle.std.specs.Prelude.{true, List, Option}
+use Rattle.std.specs.List.{list_any}
+use Rattle.lock_table.specs.declared.request.Request.{Request}
+use Rattle.lock_table.specs.declared.rows.TableRow.{TableRow}
+use Rattle.lock_table.specs.declared.part_waits.PartWait.{PartWait}
+use Rattle.lock_table.specs.Request.{is_request_of}
+use Rattle.lock_table.specs.Content.{Holds, Content}
+use Rattle.lock_table.specs.PartWaits.{waits_in}
+
+-- what contracts see of a `PlainPart`: its list of holds, its list of waits, and the request that is begun
+pub record PartView : Type 0 where
+  pub holds : List Request
+  pub waits : List PartWait
+  pub begun : Option Request
+
+-- the holds of a list
+abbrev pub holds_in : List Request → Holds
+holds_in holds session tag mode = list_any (λ hold. is_request_of hold session tag mode) holds
+
+-- the content that these holds and these waits stand for
+abbrev pub content_in : List Request → List PartWait → Content
+content_in holds waits = record { holds = holds_in holds; waits = waits_in waits }
+
+-- the content that the part stands for
+abbrev pub content_of : PartView → Content
+content_of part = content_in part.holds part.waits
+
+-- the row of a hold
+abbrev pub row_of : Request → TableRow
+row_of hold = record { session = hold.session; tag = hold.tag; mode = hold.mode; granted = true }

@@ -1,0 +1,25 @@
+use Rattle.std.specs.Prelude.{◌≡◌, ◌≢◌, ℕ, true, List, [], None, slice_index_or}
+use Rattle.modes_core.specs.declared.modes.Mode.{Mode}
+use Rattle.modes_core.specs.declared.tags.Tag.{Tag}
+use Rattle.modes_core.specs.Tag.{partition_of}
+use Rattle.lock_table.specs.Content.{Content}
+use Rattle.lock_table.specs.PartView.{PartView, content_of}
+
+-- The partitions of a lock table, as a list of parts, the partition with number 0 first.
+
+-- a partition with nothing in it
+abbrev pub no_part : PartView
+no_part = record { holds = []; waits = []; begun = None }
+
+-- the part with this number
+abbrev pub part_at : List PartView → ℕ → PartView
+part_at parts p = slice_index_or parts p no_part
+
+-- what stands in the partition with this number
+abbrev pub contents_in : List PartView → ℕ → Content
+contents_in parts p = content_of (part_at parts p)
+
+-- Each hold and each wait stands in the partition that its object lies in.
+pub record AreAtHome (parts : List PartView) : Type 0 where
+  pub holds : (p session : ℕ) (tag : Tag) (mode : Mode) → (contents_in parts p).holds session tag mode ≡ true → partition_of tag ≡ p
+  pub waits : (p : ℕ) (tag : Tag) → partition_of tag ≢ p → (contents_in parts p).waits tag ≡ []

@@ -1,0 +1,60 @@
+ghost use Rattle.std.specs.Prelude.{◌≡◌, option_map};
+ghost use Rattle.modes_core.specs.ModeSet.{set_has};
+ghost use Rattle.lock_table.specs.Clash.{first_waiter};
+ghost use Rattle.lock_table.specs.Queue.{conflicts_with_some};
+ghost use Rattle.lock_table.specs.Waiter.{wait_of};
+ghost use Rattle.lock_table.specs.Walk.{WalksUntil};
+
+use crate::part_table::PartTable;
+use crate::waits::Waiter;
+use modes_core::{Mode, ModeSet, Tag, conflicts};
+
+/// How far a walk along a queue came.
+#[derive(Clone, Copy)]
+pub struct Walk {
+    /// The waiter that ended it, or none where it passed the whole queue.
+    pub met: Option<Waiter>,
+    /// How many waiters it passed.
+    pub place: usize,
+    /// The modes that they await.
+    pub ahead: ModeSet,
+}
+
+/// Whether the mode conflicts with one of these.
+pub fn is_against(mode: Mode, modes: ModeSet) -> bool
+    ensures { result ≡ conflicts_with_some mode (set_has modes) }
+{
+    modes.meets(conflicts(mode))
+}
+
+/// Walks along the object's queue, from its front up to the first waiter whose mode conflicts with one
+/// of these (the loop over `waitProcs` of `ProcSleep` in proc.c).
+pub fn walk_until<P: PartTable>(part: &P, tag: Tag, modes: ModeSet) -> Walk
+    ensures { WalksUntil (set_has modes) ((P.content part.now).waits tag) result }
+{
+    let mut place = 0;
+    let mut ahead = ModeSet::empty();
+    while let Some(waiter) = part.waiter(tag, place) {
+        if is_against(waiter.mode, modes) {
+            return Walk {
+                met: Some(waiter),
+                place,
+                ahead,
+            };
+        }
+        ahead = ahead.with(waiter.mode);
+        place += 1;
+    }
+    Walk {
+        met: None,
+        place,
+        ahead,
+    }
+}
+
+/// The first waiter of the object's queue that awaits a mode in conflict with this one.
+pub fn first_against<P: PartTable>(part: &P, tag: Tag, mode: Mode) -> Option<Waiter>
+    ensures { option_map wait_of result ≡ first_waiter ((P.content part.now).waits tag) mode }
+{
+    walk_until(part, tag, ModeSet::empty().with(mode)).met
+}

@@ -1,0 +1,41 @@
+use modes_core::{Mode, Tag};
+
+/// What a session does to a partition's content between taking it and putting it back.
+#[derive(Clone, Copy, Debug, PartialEq, Eq)]
+pub enum Move {
+    /// Nothing.
+    Keep,
+    /// It adds a hold of its own (`GrantLock` in lock.c).
+    Grant { tag: Tag, mode: Mode },
+    /// It joins the object's wait queue at its place, with the modes of the object that it holds
+    /// (`JoinWaitQueue`, in version 16 a part of `ProcSleep` in proc.c).
+    Join { tag: Tag, mode: Mode },
+    /// It takes a hold of its own away, and wakes who may go then (`UnGrantLock` and `CleanUpLock` in
+    /// lock.c).
+    Release { tag: Tag, mode: Mode },
+    /// It takes its wait out of the object's queue, and wakes who may go then (`RemoveFromWaitQueue` in
+    /// lock.c).
+    Leave { tag: Tag },
+}
+
+impl Move {
+    ghost use Rattle.std.specs.Prelude.{◌≡◌};
+    ghost use Rattle.lock_table.specs.MoveTests.{move_eq, is_leave};
+
+    /// Whether both are the same move.
+    pub fn is_same(self, other: Self) -> bool
+        ensures { result ≡ move_eq self other }
+    {
+        self == other
+    }
+
+    /// Whether it is a leave.
+    pub fn is_leave(self) -> bool
+        ensures { result ≡ is_leave self }
+    {
+        match self {
+            Move::Leave { tag: _ } => true,
+            _ => false,
+        }
+    }
+}

@@ -1,0 +1,191 @@
+//! The waits of a partition, in one list. The queue of an object is the sub-list of its own.
+
+ghost use Rattle.std.specs.Prelude.{◌≡◌, ◌≤◌, ◌<◌, ◌+◌, ℕ, List, not, length, take, map, filter, find, option_map, slice_get, vec_len, vec_capacity};
+ghost use Rattle.std.specs.List.{list_any};
+ghost use Rattle.modes_core.specs.declared.modes.Mode.{Mode};
+ghost use Rattle.modes_core.specs.declared.tags.Tag.{Tag};
+ghost use Rattle.modes_core.specs.ModeSet.{set_has};
+ghost use Rattle.lock_table.specs.Content.{Wait};
+ghost use Rattle.lock_table.specs.Queue.{Wakes};
+ghost use Rattle.lock_table.specs.Waiter.{wait_of, whose_and_mode};
+ghost use Rattle.lock_table.specs.Request.{is_request_on, is_in_the_way_of};
+ghost use Rattle.lock_table.specs.PartView.{content_in};
+ghost use Rattle.lock_table.specs.PartWaits.{request_of, awaited_row_of, waits_in, times_in, OneWaitEach, awaits_one_of, goes_now};
+
+use crate::request::Request;
+use crate::rows::TableRow;
+use crate::waits::{Waiter, Woken};
+use modes_core::{Mode, ModeSet, SessionId, Tag, conflicts};
+
+/// A wait of a partition: on which object, and what the object's queue has of it.
+#[derive(Clone, Copy, Debug, PartialEq, Eq)]
+pub struct PartWait {
+    pub tag: Tag,
+    pub waiter: Waiter,
+}
+
+impl PartWait {
+    /// The request that it is for, which becomes a hold.
+    pub fn request(&self) -> Request
+        ensures { result ≡ request_of self.now }
+    {
+        Request {
+            session: self.waiter.session,
+            tag: self.tag,
+            mode: self.waiter.mode,
+        }
+    }
+
+    /// What a wakeup tells of it. There are at most 64 sessions.
+    pub fn whose(&self) -> (SessionId, Mode)
+        ensures value { result ≡ whose_and_mode (wait_of self.now.waiter) }
+        ensures within { self.now.waiter.session < 64 }
+    {
+        // A session's number is known to be below 64 where it was asked for.
+        let _number = self.waiter.session.number();
+        (self.waiter.session, self.waiter.mode)
+    }
+
+    /// Its row of a listing.
+    pub fn row(&self) -> TableRow
+        ensures { result ≡ awaited_row_of self.now }
+    {
+        let Request { session, tag, mode } = self.request();
+        TableRow {
+            session,
+            tag,
+            mode,
+            granted: false,
+        }
+    }
+
+    /// Whether this is the session's wait on the object.
+    pub fn is_on(&self, session: SessionId, tag: Tag) -> bool
+        ensures { result ≡ is_request_on (request_of self.now) session tag }
+    {
+        if self.waiter.session != session {
+            return false;
+        }
+        tag.is_same(self.tag)
+    }
+
+    /// Whether it waits on the object for one of these modes.
+    pub fn awaits_one(&self, tag: Tag, modes: ModeSet) -> bool
+        ensures { result ≡ awaits_one_of self.now tag (set_has modes) }
+    {
+        if !tag.is_same(self.tag) {
+            return false;
+        }
+        modes.has(self.waiter.mode)
+    }
+}
+
+/// The wait at this place of the object's queue, counted from the front.
+pub fn waiter_at(waits: &[PartWait], tag: Tag, place: usize) -> Option<Waiter>
+    ensures { option_map wait_of result ≡ slice_get (waits_in waits.now tag) place }
+{
+    let mut before = place;
+    for wait in waits {
+        if tag.is_same(wait.tag) {
+            if before == 0 {
+                return Some(wait.waiter);
+            }
+            before -= 1;
+        }
+    }
+    None
+}
+
+/// For which mode the session waits on the object, if it does.
+pub fn awaited_mode(waits: &[PartWait], session: SessionId, tag: Tag) -> Option<Mode>
+    ensures { result ≡ option_map (λ wait. wait.waiter.mode) (find (λ wait. is_request_on (request_of wait) session tag) waits.now) }
+{
+    waits
+        .iter()
+        .find(|wait| wait.is_on(session, tag))
+        .map(|wait| wait.waiter.mode)
+}
+
+/// Takes the session's wait on the object out.
+pub fn take_out(waits: &mut Vec<PartWait>, session: SessionId, tag: Tag)
+    ensures items { waits.new.items ≡ filter (λ wait. not (is_request_on (request_of wait) session tag)) waits.old.items }
+    ensures len { vec_len waits.new ≤ vec_len waits.old }
+    ensures capacity { vec_capacity waits.new ≡ vec_capacity waits.old }
+{
+    waits.retain(|wait| !wait.is_on(session, tag));
+}
+
+/// The index in the list before which a new wait stands at this place of the object's queue.
+pub fn index_of_place(waits: &[PartWait], tag: Tag, place: usize) -> usize
+    requires { place ≤ length (waits_in waits.now tag) }
+    ensures within { result ≤ length waits.now }
+    ensures before { length (waits_in (take result waits.now) tag) ≡ place }
+{
+    let mut before = place;
+    for (index, wait) in waits.iter().enumerate() {
+        if before == 0 {
+            return index;
+        }
+        if tag.is_same(wait.tag) {
+            before -= 1;
+        }
+    }
+    waits.len()
+}
+
+/// Whether another session holds the object in one of these modes.
+fn is_held_by_another(holds: &[Request], session: SessionId, tag: Tag, modes: ModeSet) -> bool
+    ensures { result ≡ list_any (λ hold. is_in_the_way_of hold session tag (set_has modes)) holds.now }
+{
+    holds
+        .iter()
+        .any(|hold| hold.is_in_the_way(session, tag, modes))
+}
+
+/// Whether the object is awaited in one of these modes.
+fn is_awaited(waits: &[PartWait], tag: Tag, modes: ModeSet) -> bool
+    ensures { result ≡ list_any (λ wait. awaits_one_of wait tag (set_has modes)) waits.now }
+{
+    waits.iter().any(|wait| wait.awaits_one(tag, modes))
+}
+
+/// Whether the wait is on the object and free to go, beside these holds and behind these waits.
+fn goes(holds: &[Request], ahead: &[PartWait], wait: PartWait, tag: Tag) -> bool
+    ensures { result ≡ goes_now holds.now ahead.now wait tag }
+{
+    if !tag.is_same(wait.tag) {
+        return false;
+    }
+    let conflicting = conflicts(wait.waiter.mode);
+    if is_held_by_another(holds, wait.waiter.session, tag, conflicting) {
+        return false;
+    }
+    !is_awaited(ahead, tag, conflicting)
+}
+
+/// Makes holds of the object's waits that are free to go, from the front, each beside those granted before
+/// it and behind those left before it. The two lists together keep their length.
+pub fn wake_in(holds: &mut Vec<Request>, waits: &mut Vec<PartWait>, tag: Tag) -> Woken
+    requires one_wait_each { OneWaitEach waits.old.items }
+    requires room { vec_len holds.old + vec_len waits.old ≤ vec_capacity holds.old }
+    ensures woken { (granted : List Wait) × Wakes (content_in holds.old.items waits.old.items) tag granted (content_in holds.new.items waits.new.items) × (result.items ≡ map whose_and_mode granted) }
+    ensures same_requests { (session : ℕ) (tag : Tag) (mode : Mode) → times_in holds.new.items waits.new.items session tag mode ≡ times_in holds.old.items waits.old.items session tag mode }
+    ensures one_wait_each { OneWaitEach waits.new.items }
+    ensures len { vec_len holds.new + vec_len waits.new ≡ vec_len holds.old + vec_len waits.old }
+    ensures fewer { vec_len waits.new ≤ vec_len waits.old }
+    ensures capacity { (vec_capacity holds.new ≡ vec_capacity holds.old) × (vec_capacity waits.new ≡ vec_capacity waits.old) }
+{
+    let mut woken = Woken::new();
+    let mut place = 0;
+    while place < waits.len() {
+        let wait = waits[place];
+        if goes(holds.as_slice(), &waits[..place], wait, tag) {
+            waits.remove(place);
+            holds.push_reserved(wait.request());
+            woken.push(wait.whose());
+        } else {
+            place += 1;
+        }
+    }
+    woken
+}

@@ -1,0 +1,74 @@
+//! What the rules of an object's wait queue are for. Each function here is a law: its clause is proved
+//! of all contents, and its body is empty.
+
+ghost use Rattle.std.specs.Prelude.{◌≡◌, ◌==◌, ℕ, List, [], false};
+ghost use Rattle.std.specs.List.{list_any};
+ghost use Rattle.modes_core.specs.declared.modes.Mode.{Mode};
+ghost use Rattle.modes_core.specs.declared.tags.Tag.{Tag};
+ghost use Rattle.lock_table.specs.Content.{Wait, Content, remove_hold};
+ghost use Rattle.lock_table.specs.Clash.{NoConflictingHolder};
+ghost use Rattle.lock_table.specs.Queue.{Place, Answer, Granted, Queued, some_awaits_conflict, joined, ConditionalAnswer, WaitingAnswer, Wakes, NoneFreeBehind, NoneFree, NoConflictAmong, IsSplitOf};
+
+/// A request that may wait and is granted conflicts with no other session's hold.
+pub fn what_is_granted_conflicts_with_no_holder()
+    ensures { (content : Content) (session : ℕ) (tag : Tag) (mode : Mode) →
+        WaitingAnswer content session tag mode Granted → NoConflictingHolder content.holds session tag mode }
+{}
+
+/// A conditional request that is granted conflicts with no other session's hold and with no wait.
+pub fn what_is_granted_at_once_conflicts_with_nothing()
+    ensures { (content : Content) (session : ℕ) (tag : Tag) (mode : Mode) →
+        ConditionalAnswer content session tag mode Granted →
+        NoConflictingHolder content.holds session tag mode × (some_awaits_conflict (content.waits tag) mode ≡ false) }
+{}
+
+/// Where no two sessions' holds conflict, none do after a wakeup.
+pub fn a_wakeup_makes_no_conflict()
+    ensures { (before after : Content) (tag : Tag) (granted : List Wait) →
+        Wakes before tag granted after → NoConflictAmong before.holds → NoConflictAmong after.holds }
+{}
+
+/// After a wakeup nobody who was left is free to go.
+pub fn whoever_is_left_is_not_free()
+    ensures { (before after : Content) (tag : Tag) (granted : List Wait) →
+        Wakes before tag granted after → NoneFree after tag }
+{}
+
+/// A wakeup splits the queue into those granted and those left, and both keep its order.
+pub fn a_wakeup_splits_the_queue()
+    ensures { (before after : Content) (tag : Tag) (granted : List Wait) →
+        Wakes before tag granted after → IsSplitOf (before.waits tag) granted (after.waits tag) }
+{}
+
+/// There is one answer to a request that may wait.
+pub fn there_is_one_answer()
+    ensures { (content : Content) (session : ℕ) (tag : Tag) (mode : Mode) (answer other : Answer) →
+        WaitingAnswer content session tag mode answer → WaitingAnswer content session tag mode other → answer ≡ other }
+{}
+
+/// There is one wakeup of a queue.
+pub fn there_is_one_wakeup()
+    ensures { (before after its : Content) (tag : Tag) (granted other : List Wait) →
+        Wakes before tag granted after → Wakes before tag other its → (granted ≡ other) × (after ≡ its) }
+{}
+
+/// Waking again changes nothing.
+pub fn waking_again_changes_nothing()
+    ensures { (before after again : Content) (tag : Tag) (granted more : List Wait) →
+        Wakes before tag granted after → Wakes after tag more again → (more ≡ []) × (again ≡ after) }
+{}
+
+/// Where nobody in the queue is free to go, nobody is once a request has joined it at its place.
+pub fn joining_leaves_none_free()
+    ensures { (content : Content) (session : ℕ) (tag : Tag) (mode : Mode) (place : Place) →
+        WaitingAnswer content session tag mode (Queued place) → NoneFree content tag →
+        NoneFreeBehind [] content.holds tag
+        (joined place (record { session = session; mode = mode; held = content.holds session tag }) (content.waits tag)) }
+{}
+
+/// A release wakes no wait of the session that makes it: what was in its way is still there.
+pub fn a_release_wakes_none_of_its_own()
+    ensures { (before after : Content) (session : ℕ) (tag : Tag) (mode : Mode) (granted : List Wait) →
+        NoneFree before tag → Wakes (remove_hold before session tag mode) tag granted after →
+        list_any (λ wait. wait.session == session) granted ≡ false }
+{}

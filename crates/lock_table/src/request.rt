@@ -1,0 +1,51 @@
+ghost use Rattle.std.specs.Prelude.{◌≡◌};
+ghost use Rattle.modes_core.specs.ModeSet.{set_has};
+ghost use Rattle.lock_table.specs.Request.{is_request_of, is_request_on, is_in_the_way_of};
+
+use modes_core::{Mode, ModeSet, SessionId, Tag};
+
+/// What a session asks for or holds: a mode on an object.
+#[derive(Clone, Copy, Debug, PartialEq, Eq)]
+pub struct Request {
+    pub session: SessionId,
+    pub tag: Tag,
+    pub mode: Mode,
+}
+
+impl Request {
+    /// Whether this is the session's request for the mode on the object.
+    pub fn is_of(&self, session: SessionId, tag: Tag, mode: Mode) -> bool
+        ensures { result ≡ is_request_of self.now session tag mode }
+    {
+        if self.session != session {
+            return false;
+        }
+        if !tag.is_same(self.tag) {
+            return false;
+        }
+        mode.is_same(self.mode)
+    }
+
+    /// Whether this is a request of the session on the object.
+    pub fn is_on(&self, session: SessionId, tag: Tag) -> bool
+        ensures { result ≡ is_request_on self.now session tag }
+    {
+        if self.session != session {
+            return false;
+        }
+        tag.is_same(self.tag)
+    }
+
+    /// Whether this is another session's request on the object for one of these modes.
+    pub fn is_in_the_way(&self, session: SessionId, tag: Tag, modes: ModeSet) -> bool
+        ensures { result ≡ is_in_the_way_of self.now session tag (set_has modes) }
+    {
+        if self.session == session {
+            return false;
+        }
+        if !tag.is_same(self.tag) {
+            return false;
+        }
+        modes.has(self.mode)
+    }
+}

@@ -1,0 +1,30 @@
+ghost use Rattle.std.specs.Prelude.{◌≡◌, IsSorted, IsPermutation};
+ghost use Rattle.lock_table.specs.Listing.{row_key, row_cmp};
+
+use modes_core::{Mode, SessionId, Tag};
+
+/// One row of a listing (`pg_locks`): a session holds an object in a mode, or awaits it.
+#[derive(Clone, Copy, Debug, PartialEq, Eq)]
+pub struct TableRow {
+    pub session: SessionId,
+    pub tag: Tag,
+    pub mode: Mode,
+    pub granted: bool,
+}
+
+impl TableRow {
+    /// The listing's order: by tag, then by session, granted before awaited, then by mode.
+    pub fn order(&self) -> (Tag, SessionId, bool, u8)
+        ensures { result ≡ row_key self.now }
+    {
+        (self.tag, self.session, !self.granted, self.mode.number())
+    }
+}
+
+/// Brings rows into the listing's order, in place.
+pub fn sort_rows(rows: &mut [TableRow])
+    ensures in_order { IsSorted row_cmp rows.new }
+    ensures same_rows { IsPermutation rows.old rows.new }
+{
+    rows.sort_unstable_by_key(|row| row.order());
+}

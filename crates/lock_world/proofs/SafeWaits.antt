@@ -1,0 +1,457 @@
+use Rattle.std.proofs.Common.{[], ◌≡◌, ◌≢◌, ◌⊎◌, ℕ, Bool, true, false, List, Option, Some, None, if◌then◌else◌, refl, sym, ap, ◌∙◌, subst, inl, inr, arith}
+use Rattle.std.specs.Prelude.{◌==◌, ◌&&◌, not}
+use Rattle.std.proofs.lemmas.Bool.{cases_Bool, cases_eq, both_ways, eq-eqb, ne_eqb, cond-true, cond-false, and_parts, and_left, and_right, false≢true, false_from_ne_true}
+use Rattle.modes_core.specs.declared.modes.Mode.{Mode}
+use Rattle.modes_core.specs.declared.tags.Tag.{Tag}
+use Rattle.modes_core.specs.Tag.{tag_eq, partition_of}
+use Rattle.modes_core.proofs.Laws.{tag_eq-refl}
+use Rattle.lock_table.specs.declared.moves.Move.{Move}
+use Rattle.lock_table.specs.declared.moves.Move.TheVariants.{Keep, Grant, Join, Release, Leave}
+use Rattle.lock_table.specs.Content.{Holds, Wait, Content, set_hold}
+use Rattle.lock_table.specs.Queue.{waits_there}
+use Rattle.lock_table.specs.Moves.{Moves, IsInPartition, FitsOwn}
+use Rattle.lock_table.specs.OwnWait.{OwnWait, Stage, InQueue, WasGranted, HasLeft}
+use Rattle.lock_world.specs.WaitWord.{wait_state, granted_word}
+use Rattle.lock_world.specs.World.{Hand, recorded_in, owes}
+use Rattle.lock_table.specs.Put.{set_at}
+use Rattle.lock_world.specs.Making.{own_after, recording, without}
+use Rattle.lock_world.specs.Happens.{IsMadeByPutting}
+use Rattle.lock_world.specs.Safe.{is_hand_of, is_leave_of, stage_by_hand, stage_of, NoConflictingHolds, AreInOnePlace, NobodyIsFree, WaitWordsShowWaits, OwesByItsMove}
+use Rattle.lock_table.proofs.PutLemmas.{set_at-here, set_at-else, set_at-each}
+use Rattle.lock_world.proofs.Moving.{stage_by_move, stage_after, awaited_after, Moved, StoodInQueue, AreInOnePlace-stage, moved, granted-stood, granted-another, taken-one_place, left-one_place, queued-stood}
+use Rattle.lock_world.proofs.Stages.{hand-left, hand-no_leave, hand-queued, hand-unrecorded, hand-same, stage-granted, stage-by_hand, stage-owed, queued-state, stage_of-set, is_hand_of-else, recording-hand, recording-recorded, recording-owes, recording-by_move}
+
+-- What is safe of contents, waits, wait words and hands, over plain functions, and what each kind of step leaves of it.
+
+-- The word shows its session's wait.
+pub record ShowsWait (n : ℕ) (o : Option OwnWait) (seen : Bool) : Type 0 where
+  pub idle : o ≡ None → wait_state n ≡ 0
+  pub waiting : (wait : OwnWait) → o ≡ Some wait → (wait_state n ≡ 1) ⊎ (wait_state n ≡ 2)
+  pub seen_is_shown : seen ≡ true → wait_state n ≡ 2
+
+-- The session may be owed word of a grant by this hand of the partition.
+pub record MayBeOwed (n : ℕ) (o : Option OwnWait) (hand : Option Hand) (p k : ℕ) : Type 0 where
+  pub wait : OwnWait
+  pub is_wait : o ≡ Some wait
+  pub in_partition : partition_of wait.tag ≡ p
+  pub not_told : wait_state n ≡ 1
+  pub by_another : is_hand_of hand k ≡ false
+
+abbrev pub OwesWell : (ℕ → ℕ) → (ℕ → Option OwnWait) → ℕ → Option Hand → Type 0
+OwesWell word awaited p hand = (k : ℕ) → owes hand k ≡ true → MayBeOwed (word k) (awaited k) hand p k
+
+pub record WaitsAreSafe (now : ℕ → Content) (own : Holds) (awaited : ℕ → Option OwnWait) (seen : ℕ → Bool) (word : ℕ → ℕ) (hand : ℕ → Option Hand) : Type 0 where
+  pub no_conflict : NoConflictingHolds now
+  pub one_place : AreInOnePlace now own awaited (λ k. stage_of (word k) hand k (awaited k))
+  pub none_free : NobodyIsFree now
+  pub showing : (k : ℕ) → ShowsWait (word k) (awaited k) (seen k)
+  pub owing : (p : ℕ) → OwesWell word awaited p (hand p)
+  pub by_move : OwesByItsMove hand
+
+-- The same as it is said of a World.
+pub shows_from : (now : ℕ → Content) (own : Holds) (awaited : ℕ → Option OwnWait) (seen : ℕ → Bool) (word : ℕ → ℕ) (hand : ℕ → Option Hand) → WaitsAreSafe now own awaited seen word hand → WaitWordsShowWaits word awaited seen hand
+shows_from now own awaited seen word hand safe = record {
+  idle = λ k. (safe.showing k).idle;
+  waiting = λ k. (safe.showing k).waiting;
+  seen_is_shown = λ k. (safe.showing k).seen_is_shown;
+  owed_waits = λ p k owed. let it = safe.owing p k owed in (it.wait, it.is_wait, it.in_partition);
+  owed_is_not_told = λ p k owed. (safe.owing p k owed).not_told;
+  owed_by_another = λ p k owed. (safe.owing p k owed).by_another;
+}
+
+pub safe_from :
+    (now : ℕ → Content) (own : Holds) (awaited : ℕ → Option OwnWait) (seen : ℕ → Bool) (word : ℕ → ℕ) (hand : ℕ → Option Hand)
+    → NoConflictingHolds now → AreInOnePlace now own awaited (λ k. stage_of (word k) hand k (awaited k)) → NobodyIsFree now
+    → WaitWordsShowWaits word awaited seen hand → OwesByItsMove hand → WaitsAreSafe now own awaited seen word hand
+safe_from now own awaited seen word hand apart one free shows by_move = record {
+  no_conflict = apart;
+  one_place = one;
+  none_free = free;
+  showing = λ k. record { idle = shows.idle k; waiting = shows.waiting k; seen_is_shown = shows.seen_is_shown k };
+  owing = λ p k owed. let waits = shows.owed_waits p k owed in
+      record { wait = waits.0; is_wait = waits.1; in_partition = waits.2; not_told = shows.owed_is_not_told p k owed; by_another = shows.owed_by_another p k owed };
+  by_move = by_move;
+}
+
+-- A session has one wait.
+pub one_wait : (o : Option OwnWait) (a b : OwnWait) → o ≡ Some a → o ≡ Some b → a ≡ b
+one_wait o a b is its = let e : Some a ≡ Some b = sym is ∙ its in cc
+
+some_wait : (o : Option OwnWait) (wait : OwnWait) → o ≡ Some wait → o ≢ None
+some_wait o wait is none = let e : Some wait ≡ None = sym is ∙ none in absurd (cc)
+
+-- The word of a session that waits has 2 in its state once it was marked.
+pub granted_word-state : (n : ℕ) → wait_state n ≡ 1 → wait_state (granted_word n) ≡ 2
+granted_word-state n one = omega (arith, one)
+
+-- Another session's word and wait are as they were.
+MayBeOwed-else :
+    (word : ℕ → ℕ) (awaited : ℕ → Option OwnWait) (s n : ℕ) (o : Option OwnWait) (hand : Option Hand) (p k : ℕ) → k ≢ s
+    → MayBeOwed (word k) (awaited k) hand p k → MayBeOwed (set_at word s n k) (set_at awaited s o k) hand p k
+MayBeOwed-else word awaited s n o hand p k other owed =
+    subst (λ x. MayBeOwed x (set_at awaited s o k) hand p k) (sym (set_at-else word s n k other))
+    (subst (λ x. MayBeOwed (word k) x hand p k) (sym (set_at-else awaited s o k other)) owed)
+
+ShowsWait-set :
+    (word : ℕ → ℕ) (awaited : ℕ → Option OwnWait) (seen : ℕ → Bool) (s n : ℕ) (o : Option OwnWait) (b : Bool) → ShowsWait n o b
+    → ((k : ℕ) → ShowsWait (word k) (awaited k) (seen k)) → (k : ℕ) → ShowsWait (set_at word s n k) (set_at awaited s o k) (set_at seen s b k)
+ShowsWait-set word awaited seen s n o b here there k =
+    elim (cases_eq k s) [
+      | inl same ↦ subst (λ x. ShowsWait x (set_at awaited s o k) (set_at seen s b k)) (sym (set_at-here word s n k same))
+          (subst (λ x. ShowsWait n x (set_at seen s b k)) (sym (set_at-here awaited s o k same)) (subst (ShowsWait n o) (sym (set_at-here seen s b k same)) here))
+      | inr other ↦ subst (λ x. ShowsWait x (set_at awaited s o k) (set_at seen s b k)) (sym (set_at-else word s n k other))
+          (subst (λ x. ShowsWait (word k) x (set_at seen s b k)) (sym (set_at-else awaited s o k other)) (subst (ShowsWait (word k) (awaited k)) (sym (set_at-else seen s b k other)) (there k)))
+    ]
+
+-- Those to be told without one: the others are as they were.
+without-else : (due : ℕ → Bool) (told k : ℕ) → k ≢ told → without due told k ≡ due k
+without-else due told k other = ap (λ b. due k && not b) (ne_eqb k told other) ∙ and_true (due k) where
+  and_true : (b : Bool) → (b && true) ≡ b
+  and_true true = refl
+  and_true false = refl
+
+without-parts : (due : ℕ → Bool) (told k : ℕ) → without due told k ≡ true → (k ≢ told) × (due k ≡ true)
+without-parts due told k is =
+    let parts = and_parts (due k) (not (k == told)) is in
+    (λ same. both_ways (not (k == told)) (ap not (eq-eqb k told same)) parts.1, parts.0)
+
+-- A move that is made by steps on the words of those whom it grants.
+abbrev pub GrantsOthers : Move → Type 0
+GrantsOthers Keep = ⊥
+GrantsOthers (Grant t m) = ⊥
+GrantsOthers (Join t m) = ⊥
+GrantsOthers (Release t m) = Unit {0}
+GrantsOthers (Leave t) = Unit {0}
+
+module _ (now : ℕ → Content) (own : Holds) (awaited : ℕ → Option OwnWait) (seen : ℕ → Bool) (word : ℕ → ℕ) (hand : ℕ → Option Hand) (safe : WaitsAreSafe now own awaited seen word hand) where
+  abbrev stage : ℕ → Stage
+  stage k = stage_of (word k) hand k (awaited k)
+
+  -- A wait that stands in the queue has not been told of a grant.
+  pub queued-waits : (k : ℕ) (wait : OwnWait) → awaited k ≡ Some wait → stage k ≡ InQueue → wait_state (word k) ≡ 1
+  queued-waits k wait is in_queue =
+      elim ((safe.showing k).waiting wait is) [
+        | inl one ↦ one
+        | inr two ↦ absurd (queued-state (word k) hand k wait (ap (stage_of (word k) hand k) (sym is) ∙ in_queue) two)
+      ]
+
+  -- No hand owes word of a grant to a session that has the partition of its wait's object in its own hand.
+  pub own_hand-not_owed : (s : ℕ) (wait : OwnWait) → awaited s ≡ Some wait → is_hand_of (hand (partition_of wait.tag)) s ≡ true → (q : ℕ) → owes (hand q) s ≡ false
+  own_hand-not_owed s wait is its q = false_from_ne_true (owes (hand q) s) (λ owed.
+      let it = safe.owing q s owed in
+      let one : it.wait ≡ wait = one_wait (awaited s) it.wait wait it.is_wait is in
+      let here : q ≡ partition_of wait.tag = sym it.in_partition ∙ ap (λ own_wait. partition_of own_wait.tag) one in
+      both_ways (is_hand_of (hand q) s) it.by_another (ap (λ p. is_hand_of (hand p) s) here ∙ its))
+
+  -- Nor to a session whose word shows that its wait was granted.
+  pub granted-not_owed : (s : ℕ) → wait_state (word s) ≡ 2 → (q : ℕ) → owes (hand q) s ≡ false
+  granted-not_owed s two q = false_from_ne_true (owes (hand q) s) (λ owed. let one : wait_state (word s) ≡ 1 = (safe.owing q s owed).not_told in omega (arith, one, two))
+
+  -- Changes of words and of what was seen that leave whether each session waits.
+  pub same_states-safe : (word' : ℕ → ℕ) → ((k : ℕ) → wait_state (word' k) ≡ wait_state (word k)) → WaitsAreSafe now own awaited seen word' hand
+  same_states-safe word' same = record {
+    no_conflict = safe.no_conflict;
+    one_place = AreInOnePlace-stage now own awaited stage (λ k. stage_of (word' k) hand k (awaited k)) (λ k wait is. stage_is k (awaited k)) safe.one_place;
+    none_free = safe.none_free;
+    showing = λ k. record {
+      idle = λ none. same k ∙ (safe.showing k).idle none;
+      waiting = λ wait is. elim ((safe.showing k).waiting wait is) [ inl one ↦ inl (same k ∙ one) | inr two ↦ inr (same k ∙ two) ];
+      seen_is_shown = λ was_seen. same k ∙ (safe.showing k).seen_is_shown was_seen;
+    };
+    owing = λ p k owed. let it = safe.owing p k owed in
+        record { wait = it.wait; is_wait = it.is_wait; in_partition = it.in_partition; not_told = same k ∙ it.not_told; by_another = it.by_another };
+    by_move = safe.by_move;
+  } where
+    stage_is : (k : ℕ) (o : Option OwnWait) → stage_of (word k) hand k o ≡ stage_of (word' k) hand k o
+    stage_is k None = refl
+    stage_is k (Some wait) = ap (λ n. if n == 2 then WasGranted else stage_by_hand (hand (partition_of wait.tag)) k wait.tag) (sym (same k))
+
+  pub seeing-safe : (s : ℕ) (b : Bool) → (b ≡ true → wait_state (word s) ≡ 2) → WaitsAreSafe now own awaited (set_at seen s b) word hand
+  seeing-safe s b shown = record {
+    no_conflict = safe.no_conflict;
+    one_place = safe.one_place;
+    none_free = safe.none_free;
+    showing = set_at-each (λ k x. ShowsWait (word k) (awaited k) x) seen s b
+        (record { idle = (safe.showing s).idle; waiting = (safe.showing s).waiting; seen_is_shown = shown }) (λ k _. safe.showing k);
+    owing = safe.owing;
+    by_move = safe.by_move;
+  }
+
+  -- A partition's hand changes for one that owes nobody and tells the same of each wait.
+  pub quiet_hand-safe :
+      (p : ℕ) (new : Option Hand) → ((k : ℕ) → owes new k ≡ false)
+      → ((k : ℕ) (wait : OwnWait) → awaited k ≡ Some wait → partition_of wait.tag ≡ p → stage_by_hand (hand p) k wait.tag ≡ stage_by_hand new k wait.tag)
+      → WaitsAreSafe now own awaited seen word (set_at hand p new)
+  quiet_hand-safe p new quiet same = record {
+    no_conflict = safe.no_conflict;
+    one_place = AreInOnePlace-stage now own awaited stage (λ k. stage_of (word k) (set_at hand p new) k (awaited k))
+        (λ k wait is. stage_of-set (word k) hand p new k (awaited k) (same k)) safe.one_place;
+    none_free = safe.none_free;
+    showing = safe.showing;
+    owing = set_at-each (λ q h. OwesWell word awaited q h) hand p new (λ k owed. absurd (both_ways (owes new k) (quiet k) owed)) (λ q _. safe.owing q);
+    by_move = set_at-each (λ _ h. recorded_in h ≡ None → (k : ℕ) → owes h k ≡ false) hand p new (λ _. quiet) (λ q _. safe.by_move q);
+  }
+
+  -- A move that is made by putting.
+  pub made_by_putting-safe :
+      (p s : ℕ) (done : Move) (content : Content) → IsMadeByPutting done → IsInPartition p done → FitsOwn own (awaited s) s done → Moves (now p) s done [] content
+      → WaitsAreSafe (set_at now p content) (own_after own s done) awaited seen word hand
+  made_by_putting-safe p s done content by_putting object fits moves = record {
+    no_conflict = after.no_conflict;
+    one_place = one done by_putting after.one_place;
+    none_free = after.none_free;
+    showing = safe.showing;
+    owing = safe.owing;
+    by_move = safe.by_move;
+  } where
+    after : Moved now own awaited stage p s done [] content
+    after = moved now own awaited stage p s done [] content safe.one_place safe.none_free object fits moves safe.no_conflict
+
+    one : (made : Move) → IsMadeByPutting made → AreInOnePlace (set_at now p content) (own_after own s made) (awaited_after (now p) awaited s made) (stage_after stage s made [])
+        → AreInOnePlace (set_at now p content) (own_after own s made) awaited stage
+    one Keep by_it it = it
+    one (Grant t m) by_it it = it
+    one (Join t m) by_it it = absurd by_it
+    one (Release t m) by_it it = it
+    one (Leave t) by_it it = absurd by_it
+
+  -- A move of a release or a leave is recorded, and all whom it grants are due.
+  module _ (p s : ℕ) (done : Move) (granted : List Wait) (content : Content) (grants : GrantsOthers done) (unrecorded : recorded_in (hand p) ≡ None) (its : is_hand_of (hand p) s ≡ true)
+      (object : IsInPartition p done) (fits : FitsOwn own (awaited s) s done) (moves : Moves (now p) s done granted content) where
+    abbrev new : Option Hand
+    new = recording (hand p) done (waits_there granted)
+
+    after : Moved now own awaited stage p s done granted content
+    after = moved now own awaited stage p s done granted content safe.one_place safe.none_free object fits moves safe.no_conflict
+
+    stood : (k : ℕ) → waits_there granted k ≡ true → StoodInQueue awaited stage p k
+    stood = granted-stood now own awaited stage p s done granted content safe.one_place safe.none_free object fits moves
+
+    pub none_own : waits_there granted s ≡ false
+    none_own = granted-another now own awaited stage p s done granted content safe.one_place safe.none_free object fits moves
+
+    owed_by_new : (k : ℕ) → owes new k ≡ waits_there granted k
+    owed_by_new = recording-owes (hand p) done (waits_there granted) s its
+
+    tells_nothing : (k : ℕ) (t : Tag) → stage_by_hand (hand p) k t ≡ InQueue
+    tells_nothing k t = hand-unrecorded (hand p) k t (safe.by_move p unrecorded k) unrecorded
+
+    -- the stage of a session that was granted
+    stage_granted : (k : ℕ) → waits_there granted k ≡ true → stage_of (word k) (set_at hand p new) k (awaited k) ≡ WasGranted
+    stage_granted k among =
+        let it = stood k among in
+        let owed : owes (set_at hand p new (partition_of it.wait.tag)) k ≡ true =
+        ap (λ h. owes h k) (set_at-here hand p new (partition_of it.wait.tag) it.in_partition) ∙ owed_by_new k ∙ among in
+        ap (stage_of (word k) (set_at hand p new) k) it.is_wait ∙ stage-owed (word k) (set_at hand p new) k it.wait owed
+
+    -- the stage of one that was not, and whose wait has not left
+    stage_kept : (k : ℕ) → waits_there granted k ≡ false → ((t : Tag) → (is_hand_of new k && is_leave_of (recorded_in new) t) ≡ false) → stage k ≡ stage_of (word k) (set_at hand p new) k (awaited k)
+    stage_kept k not_among not_left = stage_of-set (word k) hand p new k (awaited k)
+        (λ wait is here. tells_nothing k wait.tag ∙ sym (hand-queued new k wait.tag (owed_by_new k ∙ not_among) (not_left wait.tag)))
+
+    recorded : recorded_in new ≡ Some done
+    recorded = recording-recorded (hand p) done (waits_there granted) s its
+
+    -- the stage of the own wait that has left
+    pub stage_left : (t : Tag) → done ≡ Leave t → stage_of (word s) (set_at hand p new) s (awaited s) ≡ HasLeft
+    stage_left t is_leave =
+        let in_p : partition_of t ≡ p = subst (λ made. IsInPartition p made) is_leave object in
+        let left = subst (λ made. Moves (now p) s made granted content) is_leave moves in
+        let it = queued-stood now own awaited stage p s safe.one_place t in_p left.0 in
+        let not_two = queued-state (word s) hand s it.0 (ap (stage_of (word s) hand s) (sym it.1) ∙ it.3) in
+        ap (stage_of (word s) (set_at hand p new) s) it.1 ∙ stage-by_hand (word s) (set_at hand p new) s it.0 not_two
+        ∙ ap (λ h. stage_by_hand h s it.0.tag) (set_at-here hand p new (partition_of it.0.tag) (ap partition_of it.2 ∙ in_p))
+        ∙ hand-left new s it.0.tag (owed_by_new s ∙ none_own) (recording-hand (hand p) done (waits_there granted) s ∙ its)
+        (ap (λ made. is_leave_of made it.0.tag) (recorded ∙ ap Some is_leave) ∙ ap (tag_eq t) it.2 ∙ tag_eq-refl t)
+
+    stage_by_made : (made : Move) → done ≡ made → GrantsOthers made → (k : ℕ) → waits_there granted k ≡ false → stage_by_move stage s made k ≡ stage_of (word k) (set_at hand p new) k (awaited k)
+    stage_by_made Keep is by_it k not_among = absurd by_it
+    stage_by_made (Grant t m) is by_it k not_among = absurd by_it
+    stage_by_made (Join t m) is by_it k not_among = absurd by_it
+    stage_by_made (Release t m) is by_it k not_among =
+        stage_kept k not_among (λ o. and_right (is_hand_of new k) (is_leave_of (recorded_in new) o) (ap (λ made. is_leave_of made o) (recorded ∙ ap Some is)))
+    stage_by_made (Leave t) is by_it k not_among =
+        elim (cases_eq k s) [
+          | inl same ↦ cond-true (k == s) HasLeft (stage k) (eq-eqb k s same) ∙ sym (stage_left t is)
+              ∙ ap (λ j. stage_of (word j) (set_at hand p new) j (awaited j)) (sym same)
+          | inr other ↦ cond-false (k == s) HasLeft (stage k) (ne_eqb k s other)
+              ∙ stage_kept k not_among (λ o. and_left (is_hand_of new k) (is_leave_of (recorded_in new) o)
+              (recording-hand (hand p) done (waits_there granted) k ∙ is_hand_of-else (hand p) s k its other))
+        ]
+
+    stage_moved : (k : ℕ) → stage_after stage s done granted k ≡ stage_of (word k) (set_at hand p new) k (awaited k)
+    stage_moved k =
+        elim (cases_Bool (waits_there granted k)) [
+          | inl among ↦ cond-true (waits_there granted k) WasGranted (stage_by_move stage s done k) among ∙ sym (stage_granted k among)
+          | inr not_among ↦ cond-false (waits_there granted k) WasGranted (stage_by_move stage s done k) not_among ∙ stage_by_made done refl grants k not_among
+        ]
+
+    same_waits : (made : Move) → GrantsOthers made → awaited_after (now p) awaited s made ≡ awaited
+    same_waits Keep by_it = absurd by_it
+    same_waits (Grant t m) by_it = absurd by_it
+    same_waits (Join t m) by_it = absurd by_it
+    same_waits (Release t m) by_it = refl
+    same_waits (Leave t) by_it = refl
+
+    owes_well : OwesWell word awaited p new
+    owes_well k owed =
+        let among : waits_there granted k ≡ true = sym (owed_by_new k) ∙ owed in
+        let it = stood k among in
+        let other : k ≢ s = λ same. both_ways (waits_there granted k) (ap (waits_there granted) same ∙ none_own) among in
+        record {
+          wait = it.wait;
+          is_wait = it.is_wait;
+          in_partition = it.in_partition;
+          not_told = queued-waits k it.wait it.is_wait it.in_queue;
+          by_another = recording-hand (hand p) done (waits_there granted) k ∙ is_hand_of-else (hand p) s k its other;
+        }
+
+    pub recording-safe : WaitsAreSafe (set_at now p content) (own_after own s done) awaited seen word (set_at hand p new)
+    recording-safe = record {
+      no_conflict = after.no_conflict;
+      one_place = AreInOnePlace-stage (set_at now p content) (own_after own s done) awaited (stage_after stage s done granted) (λ k. stage_of (word k) (set_at hand p new) k (awaited k))
+          (λ k wait is. stage_moved k)
+          (subst (λ waits. AreInOnePlace (set_at now p content) (own_after own s done) waits (stage_after stage s done granted)) (same_waits done grants) after.one_place);
+      none_free = after.none_free;
+      showing = safe.showing;
+      owing = set_at-each (λ q h. OwesWell word awaited q h) hand p new owes_well (λ q _. safe.owing q);
+      by_move = set_at-each (λ _ h. recorded_in h ≡ None → (k : ℕ) → owes h k ≡ false) hand p new (recording-by_move (hand p) done (waits_there granted)) (λ q _. safe.by_move q);
+    }
+
+  -- A session to whom a hand owes word of its grant is told.
+  module _ (p k : ℕ) (told : Option Hand) (owed : owes (hand p) k ≡ true) (owes_less : (j : ℕ) → owes told j ≡ without (owes (hand p)) k j)
+      (same_holder : (j : ℕ) → is_hand_of (hand p) j ≡ is_hand_of told j) (same_move : recorded_in (hand p) ≡ recorded_in told) where
+    abbrev word_told : ℕ → ℕ
+    word_told = set_at word k (granted_word (word k))
+
+    was_owed : MayBeOwed (word k) (awaited k) (hand p) p k
+    was_owed = safe.owing p k owed
+
+    is_told : wait_state (granted_word (word k)) ≡ 2
+    is_told = granted_word-state (word k) was_owed.not_told
+
+    stage_told : (j : ℕ) (wait : OwnWait) → awaited j ≡ Some wait → stage j ≡ stage_of (word_told j) (set_at hand p told) j (awaited j)
+    stage_told j wait is =
+        elim (cases_eq j k) [
+          | inl same ↦
+              let one : was_owed.wait ≡ wait = one_wait (awaited k) was_owed.wait wait was_owed.is_wait (ap awaited (sym same) ∙ is) in
+              let here : partition_of wait.tag ≡ p = ap (λ own_wait. partition_of own_wait.tag) (sym one) ∙ was_owed.in_partition in
+              ap (stage_of (word j) hand j) is ∙ stage-owed (word j) hand j wait (ap (λ q. owes (hand q) j) here ∙ ap (owes (hand p)) same ∙ owed)
+              ∙ sym (ap (stage_of (word_told j) (set_at hand p told) j) is
+              ∙ stage-granted (word_told j) (set_at hand p told) j wait (ap wait_state (set_at-here word k (granted_word (word k)) j same) ∙ is_told))
+          | inr other ↦
+              stage_of-set (word j) hand p told j (awaited j)
+              (λ its_wait _ _. hand-same (hand p) told j its_wait.tag (sym (owes_less j ∙ without-else (owes (hand p)) k j other)) (same_holder j) same_move)
+              ∙ ap (λ n. stage_of n (set_at hand p told) j (awaited j)) (sym (set_at-else word k (granted_word (word k)) j other))
+        ]
+
+    -- whom else a hand owes word
+    still_owed : (q j : ℕ) (h : Option Hand) → j ≢ k → is_hand_of (hand q) j ≡ is_hand_of h j → owes (hand q) j ≡ true → MayBeOwed (word_told j) (awaited j) h q j
+    still_owed q j h other same old =
+        let it = safe.owing q j old in
+        record {
+          wait = it.wait;
+          is_wait = it.is_wait;
+          in_partition = it.in_partition;
+          not_told = ap wait_state (set_at-else word k (granted_word (word k)) j other) ∙ it.not_told;
+          by_another = sym same ∙ it.by_another;
+        }
+
+    owed_by_told : (j : ℕ) → owes told j ≡ true → (j ≢ k) × (owes (hand p) j ≡ true)
+    owed_by_told j now_owed = without-parts (owes (hand p)) k j (sym (owes_less j) ∙ now_owed)
+
+    elsewhere : (q j : ℕ) → q ≢ p → owes (hand q) j ≡ true → j ≢ k
+    elsewhere q j other its same =
+        let it = safe.owing q j its in
+        let one : it.wait ≡ was_owed.wait = one_wait (awaited k) it.wait was_owed.wait (ap awaited (sym same) ∙ it.is_wait) was_owed.is_wait in
+        other (sym it.in_partition ∙ ap (λ own_wait. partition_of own_wait.tag) one ∙ was_owed.in_partition)
+
+    pub telling-safe : WaitsAreSafe now own awaited seen word_told (set_at hand p told)
+    telling-safe = record {
+      no_conflict = safe.no_conflict;
+      one_place = AreInOnePlace-stage now own awaited stage (λ j. stage_of (word_told j) (set_at hand p told) j (awaited j)) stage_told safe.one_place;
+      none_free = safe.none_free;
+      showing = set_at-each (λ j n. ShowsWait n (awaited j) (seen j)) word k (granted_word (word k))
+          (record { idle = λ none. absurd (some_wait (awaited k) was_owed.wait was_owed.is_wait none); waiting = λ wait is. inr is_told; seen_is_shown = λ _. is_told })
+          (λ j _. safe.showing j);
+      owing = set_at-each (λ q h. OwesWell word_told awaited q h) hand p told
+          (λ j its. let parts = owed_by_told j its in still_owed p j told parts.0 (same_holder j) parts.1)
+          (λ q other j its. still_owed q j (hand q) (elsewhere q j other its) refl its);
+      by_move = set_at-each (λ _ h. recorded_in h ≡ None → (j : ℕ) → owes h j ≡ false) hand p told
+          (λ none j. false_from_ne_true (owes told j) (λ its. both_ways (owes (hand p) j) (safe.by_move p (same_move ∙ none) j) (owed_by_told j its).1))
+          (λ q _. safe.by_move q);
+    }
+
+  -- A wait ends that no hand owes word of.
+  module _ (s : ℕ) (not_owed : (q : ℕ) → owes (hand q) s ≡ false) where
+    stage_else : (k : ℕ) → k ≢ s → stage k ≡ stage_of (set_at word s 0 k) hand k (set_at awaited s None k)
+    stage_else k other = sym (λ i. stage_of (set_at-else word s 0 k other i) hand k (set_at-else awaited s None k other i))
+
+    cleared-safe : (own' : Holds) → AreInOnePlace now own' (set_at awaited s None) (λ k. stage_of (set_at word s 0 k) hand k (set_at awaited s None k))
+        → WaitsAreSafe now own' (set_at awaited s None) (set_at seen s false) (set_at word s 0) hand
+    cleared-safe own' one = record {
+      no_conflict = safe.no_conflict;
+      one_place = one;
+      none_free = safe.none_free;
+      showing = ShowsWait-set word awaited seen s 0 None false
+          (record { idle = λ _. refl; waiting = λ wait is. absurd (some_wait None wait is refl); seen_is_shown = λ e. absurd (false≢true e) }) safe.showing;
+      owing = λ q k its. MayBeOwed-else word awaited s 0 None (hand q) q k (λ same. both_ways (owes (hand q) k) (ap (owes (hand q)) same ∙ not_owed q) its) (safe.owing q k its);
+      by_move = safe.by_move;
+    }
+
+    -- What it was granted is the session's own from then on.
+    pub taking_over-safe : (wait : OwnWait) → awaited s ≡ Some wait → stage s ≡ WasGranted
+        → WaitsAreSafe now (set_hold own s wait.tag wait.mode true) (set_at awaited s None) (set_at seen s false) (set_at word s 0) hand
+    taking_over-safe wait is granted = cleared-safe (set_hold own s wait.tag wait.mode true)
+        (taken-one_place now own awaited stage s s safe.one_place wait (λ k. stage_of (set_at word s 0 k) hand k (set_at awaited s None k)) is granted stage_else)
+
+    -- It had left the queue.
+    pub ending-safe : (wait : OwnWait) → awaited s ≡ Some wait → stage s ≡ HasLeft
+        → WaitsAreSafe now own (set_at awaited s None) (set_at seen s false) (set_at word s 0) hand
+    ending-safe wait is left = cleared-safe own
+        (left-one_place now own awaited stage s s safe.one_place wait (λ k. stage_of (set_at word s 0 k) hand k (set_at awaited s None k)) is left stage_else)
+
+  -- A session joins the queue, and its wait stands recorded.
+  module _ (p s : ℕ) (t : Tag) (m : Mode) (content : Content) (unrecorded : recorded_in (hand p) ≡ None) (its : is_hand_of (hand p) s ≡ true)
+      (object : partition_of t ≡ p) (fits : (awaited s ≡ None) × (own s t m ≡ false)) (moves : Moves (now p) s (Join t m) [] content) where
+    abbrev recorded_wait : OwnWait
+    recorded_wait = record { tag = t; mode = m; held = (now p).holds s t }
+
+    abbrev joined : Option Hand
+    joined = recording (hand p) (Join t m) (λ _. false)
+
+    owes_nobody : (k : ℕ) → owes joined k ≡ false
+    owes_nobody = recording-owes (hand p) (Join t m) (λ _. false) s its
+
+    tells_queued : (k : ℕ) (o : Tag) → stage_by_hand joined k o ≡ InQueue
+    tells_queued k o = hand-no_leave joined k o (owes_nobody k) (ap (λ made. is_leave_of made o) (recording-recorded (hand p) (Join t m) (λ _. false) s its))
+
+    stage_joined : (k : ℕ) → stage_after stage s (Join t m) [] k ≡ stage_of (set_at word s 1 k) (set_at hand p joined) k (set_at awaited s (Some recorded_wait) k)
+    stage_joined k =
+        elim (cases_eq k s) [
+          | inl same ↦ cond-true (k == s) InQueue (stage k) (eq-eqb k s same)
+              ∙ sym ((λ i. stage_of (set_at-here word s 1 k same i) (set_at hand p joined) k (set_at-here awaited s (Some recorded_wait) k same i))
+              ∙ ap (λ h. stage_by_hand h k t) (set_at-here hand p joined (partition_of t) object) ∙ tells_queued k t)
+          | inr other ↦ cond-false (k == s) InQueue (stage k) (ne_eqb k s other)
+              ∙ stage_of-set (word k) hand p joined k (awaited k)
+              (λ wait _ _. hand-unrecorded (hand p) k wait.tag (safe.by_move p unrecorded k) unrecorded ∙ sym (tells_queued k wait.tag))
+              ∙ sym (λ i. stage_of (set_at-else word s 1 k other i) (set_at hand p joined) k (set_at-else awaited s (Some recorded_wait) k other i))
+        ]
+
+    moved_by_join : Moved now own awaited stage p s (Join t m) [] content
+    moved_by_join = moved now own awaited stage p s (Join t m) [] content safe.one_place safe.none_free object fits moves safe.no_conflict
+
+    pub joining_queue-safe : WaitsAreSafe (set_at now p content) own (set_at awaited s (Some recorded_wait)) (set_at seen s false) (set_at word s 1) (set_at hand p joined)
+    joining_queue-safe = record {
+      no_conflict = moved_by_join.no_conflict;
+      one_place = AreInOnePlace-stage (set_at now p content) own (set_at awaited s (Some recorded_wait)) (stage_after stage s (Join t m) [])
+          (λ k. stage_of (set_at word s 1 k) (set_at hand p joined) k (set_at awaited s (Some recorded_wait) k)) (λ k wait is. stage_joined k) moved_by_join.one_place;
+      none_free = moved_by_join.none_free;
+      showing = ShowsWait-set word awaited seen s 1 (Some recorded_wait) false
+          (record { idle = λ none. absurd (some_wait (Some recorded_wait) recorded_wait refl none); waiting = λ wait is. inl refl; seen_is_shown = λ e. absurd (false≢true e) }) safe.showing;
+      owing = set_at-each (λ q h. OwesWell (set_at word s 1) (set_at awaited s (Some recorded_wait)) q h) hand p joined
+          (λ k owed_one. absurd (both_ways (owes joined k) (owes_nobody k) owed_one))
+          (λ q _ k owed_one. let it = safe.owing q k owed_one in
+          MayBeOwed-else word awaited s 1 (Some recorded_wait) (hand q) q k (λ same. some_wait (awaited k) it.wait it.is_wait (ap awaited same ∙ fits.0)) it);
+      by_move = set_at-each (λ _ h. recorded_in h ≡ None → (k : ℕ) → owes h k ≡ false) hand p joined (λ _. owes_nobody) (λ q _. safe.by_move q);
+    }

@@ -1,0 +1,184 @@
+use Rattle.std.proofs.Common.{◌≡◌, ◌≢◌, ◌⊎◌, ℕ, Bool, true, false, Option, Some, None, refl, sym, subst, inl, inr}
+use Rattle.std.specs.Prelude.{if◌then◌else◌}
+use Rattle.std.proofs.lemmas.Bool.{cases_eq}
+use Rattle.modes_core.specs.declared.modes.Mode.{Mode}
+use Rattle.modes_core.specs.declared.tags.Tag.{Tag}
+use Rattle.modes_core.specs.Tag.{partition_of}
+use Rattle.lock_world.specs.declared.events.Event.{Event}
+use Rattle.lock_table.specs.declared.moves.Move.{Move}
+use Rattle.lock_table.specs.declared.moves.Move.TheVariants.{Keep, Grant, Join, Release, Leave}
+use Rattle.lock_world.specs.declared.events.Step.{Step}
+use Rattle.lock_world.specs.declared.events.Step.TheVariants.{TakeExclusive, PutExclusive, SplitSeat, JoinSeat, AskCancel, LoadWait, SetWaiting, MarkGranted, ClearWait}
+use Rattle.lock_world.specs.declared.events.Word.{Word}
+use Rattle.lock_world.specs.declared.events.Word.TheVariants.{Partition, Fast, Database, Slot, Wait, Strong, Sleep}
+use Rattle.lock_table.specs.Content.{Holds, set_hold}
+use Rattle.lock_world.specs.WaitWord.{wait_state, asked_word, granted_word}
+use Rattle.lock_world.specs.World.{World}
+use Rattle.lock_table.specs.Put.{set_at}
+use Rattle.lock_table.specs.OwnWait.{OwnWait}
+use Rattle.lock_world.specs.Making.{after_clearing}
+use Rattle.lock_world.specs.Happens.{Happens, HappensStep, HappensTaking, HappensPutting, HappensJoining, HappensMarking, HappensMarkingIn, HappensClearing}
+use Rattle.lock_table.proofs.HoldLemmas.{set_hold-other_session}
+use Rattle.lock_table.proofs.PutLemmas.{set_at-here, set_at-else, row-else}
+use Rattle.lock_world.proofs.SafePutting.{own_after-else}
+
+-- What a session has is the same in two Worlds.
+abbrev pub IsSameOf : ℕ → World → World → Type 0
+IsSameOf k w v =
+    ((tag : Tag) (mode : Mode) → v.sessions.own k tag mode ≡ w.sessions.own k tag mode)
+    × ((p : ℕ) → v.sessions.holds_partition k p ≡ w.sessions.holds_partition k p)
+    × (v.sessions.awaited k ≡ w.sessions.awaited k)
+    × (v.sessions.seen k ≡ w.sessions.seen k)
+    × (v.sessions.trace k ≡ w.sessions.trace k)
+
+same : (k : ℕ) (w u v : World) → v ≡ u → IsSameOf k w u → IsSameOf k w v
+same k w u v e h = subst (IsSameOf k w) (sym e) h
+
+-- What a session takes over leaves the own holds of others.
+taken_stays : (own : Holds) (s : ℕ) (o : Tag) (n : Mode) (taken : Bool) (k : ℕ) (t : Tag) (m : Mode) → k ≢ s → (if taken then set_hold own s o n true else own) k t m ≡ own k t m
+taken_stays own s o n true k t m other = set_hold-other_session own s o n true k t m other
+taken_stays own s o n false k t m other = refl
+
+taking : (w : World) (s : ℕ) (word : Word) (v : World) (k : ℕ) → k ≢ s → HappensTaking w s word v → IsSameOf k w v
+taking w s (Partition p) v k other h =
+    same k w _ v h.1 (λ t m. refl, λ q. row-else w.sessions.holds_partition s p true k q other, refl, refl, set_at-else w.sessions.trace s _ k other)
+taking w s (Fast o) v k other h = absurd h
+taking w s (Database o) v k other h = absurd h
+taking w s (Slot o i) v k other h = absurd h
+taking w s (Wait o) v k other h = absurd h
+taking w s (Strong i) v k other h = absurd h
+taking w s (Sleep o) v k other h = absurd h
+
+putting : (w : World) (s : ℕ) (word : Word) (done : Move) (v : World) (k : ℕ) → k ≢ s → HappensPutting w s word done v → IsSameOf k w v
+putting w s (Partition p) done v k other (inl h) = same k w _ v h.2 (
+  λ t m. own_after-else w.sessions.own s done k t m other,
+  λ q. row-else w.sessions.holds_partition s p false k q other,
+  refl,
+  refl,
+  set_at-else w.sessions.trace s _ k other,
+)
+putting w s (Partition p) done v k other (inr h) =
+    same k w _ v h.1 (λ t m. refl, λ q. row-else w.sessions.holds_partition s p false k q other, refl, refl, set_at-else w.sessions.trace s _ k other)
+putting w s (Fast o) done v k other h = absurd h
+putting w s (Database o) done v k other h = absurd h
+putting w s (Slot o i) done v k other h = absurd h
+putting w s (Wait o) done v k other h = absurd h
+putting w s (Strong i) done v k other h = absurd h
+putting w s (Sleep o) done v k other h = absurd h
+
+joining : (w : World) (s : ℕ) (joiner : Option ℕ) (v : World) (k : ℕ) → HappensJoining w s joiner v → IsSameOf k w v
+joining w s (Some j) v k h = same k w _ v h.1 (λ t m. refl, λ q. refl, refl, refl, refl)
+joining w s None v k h = same k w _ v h.1 (λ t m. refl, λ q. refl, refl, refl, refl)
+
+marking_in : (w : World) (s marked p : ℕ) (done : Move) (v : World) (k : ℕ) → k ≢ s → HappensMarkingIn w s marked p done v → IsSameOf k w v
+marking_in w s marked p done v k other (inl h) = same k w _ v h.3 (λ t m. own_after-else w.sessions.own s done k t m other, λ q. refl, refl, refl, refl)
+marking_in w s marked p done v k other (inr h) = same k w _ v h.1 (λ t m. refl, λ q. refl, refl, refl, refl)
+
+marking : (w : World) (s marked : ℕ) (done : Move) (v : World) (k : ℕ) → k ≢ s → HappensMarking w s marked done v → IsSameOf k w v
+marking w s marked Keep v k other h = absurd h
+marking w s marked (Grant t m) v k other h = absurd h
+marking w s marked (Join t m) v k other h = absurd h
+marking w s marked (Release t m) v k other h = marking_in w s marked (partition_of t) (Release t m) v k other h
+marking w s marked (Leave t) v k other h = marking_in w s marked (partition_of t) (Leave t) v k other h
+
+cleared : (w : World) (s : ℕ) (wait : OwnWait) (v : World) (k : ℕ) → k ≢ s → v ≡ after_clearing w s wait → IsSameOf k w v
+cleared w s wait v k other e = same k w _ v e (
+  λ t m. taken_stays w.sessions.own s wait.tag wait.mode _ k t m other,
+  λ q. refl,
+  set_at-else w.sessions.awaited s None k other,
+  set_at-else w.sessions.seen s false k other,
+  refl,
+)
+
+clearing : (w : World) (s : ℕ) (leaving : Bool) (v : World) (k : ℕ) → k ≢ s → HappensClearing w s leaving v → IsSameOf k w v
+clearing w s false v k other h = cleared w s h.0 v k other h.2
+clearing w s true v k other (inl h) =
+    same k w _ v h.4 (λ t m. refl, λ q. refl, set_at-else w.sessions.awaited s None k other, set_at-else w.sessions.seen s false k other, refl)
+clearing w s true v k other (inr h) = cleared w s h.0 v k other h.3
+
+step_by : (w : World) (s : ℕ) (step : Step) (v : World) (k : ℕ) → k ≢ s → HappensStep w s step v → IsSameOf k w v
+step_by w s (TakeExclusive word) v k other h = taking w s word v k other h
+step_by w s (PutExclusive word done) v k other h = putting w s word done v k other h
+step_by w s SplitSeat v k other (inl h) = same k w _ v h.1 (λ t m. refl, λ q. refl, refl, refl, refl)
+step_by w s SplitSeat v k other (inr h) = same k w _ v h.1 (λ t m. refl, λ q. refl, refl, refl, refl)
+step_by w s (JoinSeat joiner) v k other h = joining w s joiner v k h
+step_by w s (AskCancel o) v k other h = same k w _ v h.1 (λ t m. refl, λ q. refl, refl, refl, set_at-else w.sessions.trace s _ k other)
+step_by w s (LoadWait n) v k other h =
+    same k w _ v h.1 (λ t m. refl, λ q. refl, refl, set_at-else w.sessions.seen s _ k other, set_at-else w.sessions.trace s _ k other)
+step_by w s (SetWaiting t m) v k other h =
+    same k w _ v h.2 (λ t m. refl, λ q. refl, set_at-else w.sessions.awaited s _ k other, set_at-else w.sessions.seen s false k other, refl)
+step_by w s (MarkGranted marked done) v k other h = marking w s marked done v k other h
+step_by w s (ClearWait leaving) v k other h = clearing w s leaving v k other h
+
+-- An event leaves what other sessions have.
+pub untouched : (w v : World) (event : Event) (other : ℕ) → Happens w event v → other ≢ event.session → IsSameOf other w v
+untouched w v event other h apart = step_by w event.session event.step v other apart h
+
+-- What becomes of another session's wait word: it stays, or it is asked to cancel, or its wait is marked granted.
+abbrev pub IsLeftOrTold : ℕ → ℕ → Type 0
+IsLeftOrTold before after = (after ≡ before) ⊎ ((after ≡ asked_word before) ⊎ ((wait_state before ≡ 1) × (after ≡ granted_word before)))
+
+word : (k : ℕ) (w u v : World) → v ≡ u → IsLeftOrTold (w.words.wait k) (u.words.wait k) → IsLeftOrTold (w.words.wait k) (v.words.wait k)
+word k w u v e h = subst (λ (z : World). IsLeftOrTold (w.words.wait k) (z.words.wait k)) (sym e) h
+
+-- One word is set, to what leaves it or tells it something.
+word-set : (waits : ℕ → ℕ) (j : ℕ) (after : ℕ) (k : ℕ) → IsLeftOrTold (waits j) after → IsLeftOrTold (waits k) (set_at waits j after k)
+word-set waits j after k told =
+    elim (cases_eq k j) [
+      | inl e ↦ subst (λ (i : ℕ). IsLeftOrTold (waits i) (set_at waits j after k)) (sym e) (subst (λ (b : ℕ). IsLeftOrTold (waits j) b) (sym (set_at-here waits j after k e)) told)
+      | inr n ↦ inl (set_at-else waits j after k n)
+    ]
+
+word-taking : (w : World) (s : ℕ) (taken : Word) (v : World) (k : ℕ) → HappensTaking w s taken v → IsLeftOrTold (w.words.wait k) (v.words.wait k)
+word-taking w s (Partition p) v k h = word k w _ v h.1 (inl refl)
+word-taking w s (Fast o) v k h = absurd h
+word-taking w s (Database o) v k h = absurd h
+word-taking w s (Slot o i) v k h = absurd h
+word-taking w s (Wait o) v k h = absurd h
+word-taking w s (Strong i) v k h = absurd h
+word-taking w s (Sleep o) v k h = absurd h
+
+word-putting : (w : World) (s : ℕ) (put : Word) (done : Move) (v : World) (k : ℕ) → HappensPutting w s put done v → IsLeftOrTold (w.words.wait k) (v.words.wait k)
+word-putting w s (Partition p) done v k (inl h) = word k w _ v h.2 (inl refl)
+word-putting w s (Partition p) done v k (inr h) = word k w _ v h.1 (inl refl)
+word-putting w s (Fast o) done v k h = absurd h
+word-putting w s (Database o) done v k h = absurd h
+word-putting w s (Slot o i) done v k h = absurd h
+word-putting w s (Wait o) done v k h = absurd h
+word-putting w s (Strong i) done v k h = absurd h
+word-putting w s (Sleep o) done v k h = absurd h
+
+word-joining : (w : World) (s : ℕ) (joiner : Option ℕ) (v : World) (k : ℕ) → HappensJoining w s joiner v → IsLeftOrTold (w.words.wait k) (v.words.wait k)
+word-joining w s (Some j) v k h = word k w _ v h.1 (inl refl)
+word-joining w s None v k h = word k w _ v h.1 (inl refl)
+
+word-marking_in : (w : World) (s marked p : ℕ) (done : Move) (v : World) (k : ℕ) → HappensMarkingIn w s marked p done v → IsLeftOrTold (w.words.wait k) (v.words.wait k)
+word-marking_in w s marked p done v k (inl h) = word k w _ v h.3 (word-set w.words.wait marked _ k (inr (inr (h.2.may_mark.waiting, refl))))
+word-marking_in w s marked p done v k (inr h) = word k w _ v h.1 (word-set w.words.wait marked _ k (inr (inr (h.0.may_mark.waiting, refl))))
+
+word-marking : (w : World) (s marked : ℕ) (done : Move) (v : World) (k : ℕ) → HappensMarking w s marked done v → IsLeftOrTold (w.words.wait k) (v.words.wait k)
+word-marking w s marked Keep v k h = absurd h
+word-marking w s marked (Grant t m) v k h = absurd h
+word-marking w s marked (Join t m) v k h = absurd h
+word-marking w s marked (Release t m) v k h = word-marking_in w s marked (partition_of t) (Release t m) v k h
+word-marking w s marked (Leave t) v k h = word-marking_in w s marked (partition_of t) (Leave t) v k h
+
+word-clearing : (w : World) (s : ℕ) (leaving : Bool) (v : World) (k : ℕ) → k ≢ s → HappensClearing w s leaving v → IsLeftOrTold (w.words.wait k) (v.words.wait k)
+word-clearing w s false v k other h = word k w _ v h.2 (inl (set_at-else w.words.wait s 0 k other))
+word-clearing w s true v k other (inl h) = word k w _ v h.4 (inl (set_at-else w.words.wait s 0 k other))
+word-clearing w s true v k other (inr h) = word k w _ v h.3 (inl (set_at-else w.words.wait s 0 k other))
+
+word-step_by : (w : World) (s : ℕ) (step : Step) (v : World) (k : ℕ) → k ≢ s → HappensStep w s step v → IsLeftOrTold (w.words.wait k) (v.words.wait k)
+word-step_by w s (TakeExclusive taken) v k other h = word-taking w s taken v k h
+word-step_by w s (PutExclusive put done) v k other h = word-putting w s put done v k h
+word-step_by w s SplitSeat v k other (inl h) = word k w _ v h.1 (inl refl)
+word-step_by w s SplitSeat v k other (inr h) = word k w _ v h.1 (inl refl)
+word-step_by w s (JoinSeat joiner) v k other h = word-joining w s joiner v k h
+word-step_by w s (AskCancel o) v k other h = word k w _ v h.1 (word-set w.words.wait o _ k (inr (inl refl)))
+word-step_by w s (LoadWait n) v k other h = word k w _ v h.1 (inl refl)
+word-step_by w s (SetWaiting t m) v k other h = word k w _ v h.2 (inl (set_at-else w.words.wait s 1 k other))
+word-step_by w s (MarkGranted marked done) v k other h = word-marking w s marked done v k h
+word-step_by w s (ClearWait leaving) v k other h = word-clearing w s leaving v k other h
+
+pub left_or_told : (w v : World) (event : Event) (other : ℕ) → Happens w event v → other ≢ event.session → IsLeftOrTold (w.words.wait other) (v.words.wait other)
+left_or_told w v event other h apart = word-step_by w event.session event.step v other apart h

@@ -1,0 +1,17 @@
+use Rattle.lock_world.specs.World.{opening}
+use Rattle.lock_world.specs.Safe.{Safe}
+use Rattle.lock_world.proofs.SafeRuns.{opening-safe, Runs-safe}
+use Rattle.lock_world.proofs.LawsOfSafe.{held-own_or_pending, own_or_pending-held}
+use Rattle.lock_world.proofs.laws.each_hold_in_one_place.Goals as goal
+
+pub returns-clause-own_or_pending : goal.returns-clause-own_or_pending
+returns-clause-own_or_pending c =
+    λ limit events w run p s t m.
+    let safe : Safe w = Runs-safe (opening limit) events w (opening-safe limit) run in
+    (λ has. held-own_or_pending w safe p s t m has, λ is. own_or_pending-held w safe p s t m is.0 is.1)
+
+pub returns-clause-never_both : goal.returns-clause-never_both
+returns-clause-never_both c =
+    λ limit events w run s t m awaits.
+    let safe : Safe w = Runs-safe (opening limit) events w (opening-safe limit) run in
+    safe.promise.one_place.awaited_is_not_own s t m awaits

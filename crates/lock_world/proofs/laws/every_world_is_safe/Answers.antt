@@ -1,0 +1,7 @@
+use Rattle.lock_world.specs.World.{opening}
+use Rattle.lock_world.proofs.SafeRuns.{opening-safe, Runs-safe}
+use Rattle.lock_world.proofs.laws.every_world_is_safe.Goals as goal
+
+pub returns : goal.returns
+returns c =
+    λ limit events w run. Runs-safe (opening limit) events w (opening-safe limit) run

@@ -1,0 +1,9 @@
+use Rattle.std.proofs.Common.{refl}
+use Rattle.lock_world.specs.World.{opening}
+use Rattle.lock_world.proofs.SafeRuns.{opening-safe}
+use Rattle.lock_world.proofs.OneWorld.{one_run}
+use Rattle.lock_world.proofs.laws.one_world_comes.Goals as goal
+
+pub returns : goal.returns
+returns c =
+    λ limit events w v one two. one_run (opening limit) (opening limit) events w v (opening-safe limit) refl one two

@@ -1,0 +1,6 @@
+pub mod LightweightWord
+pub mod WaitWord
+pub mod World
+pub mod Making
+pub mod Happens
+pub mod Safe

@@ -1,0 +1,150 @@
+use Rattle.std.specs.Prelude.{◌≡◌, ◌≢◌, ℕ, ◌==◌, ◌||◌, ◌&&◌, not, Bool, true, false, List, Option, Some, None, if◌then◌else◌}
+use Rattle.modes_core.specs.declared.modes.Mode.{Mode}
+use Rattle.modes_core.specs.declared.tags.Tag.{Tag}
+use Rattle.modes_core.specs.Tag.{partition_of}
+use Rattle.lock_table.specs.declared.moves.Move.{Move}
+use Rattle.lock_table.specs.declared.moves.Move.TheVariants.{Keep, Grant, Join, Release, Leave}
+use Rattle.lock_table.specs.Content.{Holds, Wait, Content, set_hold}
+use Rattle.lock_table.specs.Queue.{waits_there}
+use Rattle.lock_table.specs.Moves.{Moves, IsInPartition, FitsOwn}
+use Rattle.lock_table.specs.OwnWait.{OwnWait}
+use Rattle.lock_world.specs.WaitWord.{wait_state, granted_word}
+use Rattle.lock_world.specs.World.{World, Hand, MakesSteps, recorded_in, owes}
+use Rattle.lock_table.specs.Put.{set_at}
+
+-- The moves that a session makes on a content in its hand, one at most each time that it has it: where each is lawful, and
+-- the World after it. A join, a leave and a release that wakes somebody are made by steps on wait words, and stand recorded
+-- in the hand until the partition is put back.
+
+-- The session has the partition in hand, has made no move on it, and this one leads to the content and grants these waits.
+pub record MayMove (w : World) (session partition : ℕ) (done : Move) (granted : List Wait) (content : Content) : Type 0 where
+  pub steps : MakesSteps w.numbers session
+  pub holding : w.sessions.holds_partition session partition ≡ true
+  pub unrecorded : recorded_in (w.contents.hand partition) ≡ None
+  pub object : IsInPartition partition done
+  pub own : FitsOwn w.sessions.own (w.sessions.awaited session) session done
+  pub moved : Moves (w.contents.now partition) session done granted content
+
+-- own holds follow the move
+abbrev pub own_after : Holds → ℕ → Move → Holds
+own_after own session Keep = own
+own_after own session (Grant tag mode) = set_hold own session tag mode true
+own_after own session (Join tag mode) = own
+own_after own session (Release tag mode) = set_hold own session tag mode false
+own_after own session (Leave tag) = own
+
+-- the hand, with a move recorded and those whom it granted to be told
+abbrev pub recording : Option Hand → Move → (ℕ → Bool) → Option Hand
+recording None done due = None
+recording (Some hand) done due = Some (record hand { recorded = Some done; due = due })
+
+-- those to be told of a grant, without one
+abbrev pub without : (ℕ → Bool) → ℕ → ℕ → Bool
+without due told session = due session && not (session == told)
+
+-- Setting the own wait word to waiting: the join is made, the wait recorded.
+abbrev pub after_setting_waiting : World → ℕ → Tag → Mode → Content → World
+after_setting_waiting w session tag mode content = record {
+  words = record (w.words) { wait = set_at w.words.wait session 1 };
+  contents = record {
+    now = set_at w.contents.now (partition_of tag) content;
+    hand = set_at w.contents.hand (partition_of tag) (recording (w.contents.hand (partition_of tag)) (Join tag mode) (λ _. false));
+  };
+  sessions = record (w.sessions) {
+    awaited = set_at w.sessions.awaited session
+        (Some (record { tag = tag; mode = mode; held = (w.contents.now (partition_of tag)).holds session tag }));
+    seen = set_at w.sessions.seen session false;
+  };
+  numbers = w.numbers;
+}
+
+-- Marking the wait of another session granted, which waits: by the first such step the move is made; by each further one
+-- one more of those whom it granted is told, until nobody is due.
+pub record MayMark (w : World) (session other : ℕ) : Type 0 where
+  pub another : other ≢ session
+  pub waiting : wait_state (w.words.wait other) ≡ 1
+
+pub record MayMarkFirst (w : World) (session other partition : ℕ) (done : Move) (granted : List Wait) (content : Content) : Type 0 where
+  pub may_move : MayMove w session partition done granted content
+  pub may_mark : MayMark w session other
+  pub among : waits_there granted other ≡ true
+
+abbrev pub after_marking_first : World → ℕ → ℕ → ℕ → Move → List Wait → Content → World
+after_marking_first w session other partition done granted content = record {
+  words = record (w.words) { wait = set_at w.words.wait other (granted_word (w.words.wait other)) };
+  contents = record {
+    now = set_at w.contents.now partition content;
+    hand = set_at w.contents.hand partition (recording (w.contents.hand partition) done (without (waits_there granted) other));
+  };
+  sessions = record (w.sessions) { own = own_after w.sessions.own session done };
+  numbers = w.numbers;
+}
+
+pub record MayMarkNext (w : World) (session other partition : ℕ) (done : Move) : Type 0 where
+  pub steps : MakesSteps w.numbers session
+  pub holding : w.sessions.holds_partition session partition ≡ true
+  pub recorded : recorded_in (w.contents.hand partition) ≡ Some done
+  pub may_mark : MayMark w session other
+  pub is_due : owes (w.contents.hand partition) other ≡ true
+
+abbrev pub after_marking_next : World → ℕ → ℕ → Move → World
+after_marking_next w other partition done = record {
+  words = record (w.words) { wait = set_at w.words.wait other (granted_word (w.words.wait other)) };
+  contents = record (w.contents) {
+    hand = set_at w.contents.hand partition
+        (recording (w.contents.hand partition) done (without (owes (w.contents.hand partition)) other));
+  };
+  sessions = w.sessions;
+  numbers = w.numbers;
+}
+
+-- Clearing the own wait word: the session has seen the grant, or it has the partition in hand and its wait is not in the
+-- queue. What was granted is its own from then on.
+pub record MayClearSeen (w : World) (session : ℕ) (wait : OwnWait) : Type 0 where
+  pub steps : MakesSteps w.numbers session
+  pub is_wait : w.sessions.awaited session ≡ Some wait
+  pub seen : w.sessions.seen session ≡ true
+
+pub record MayClearInHand (w : World) (session : ℕ) (wait : OwnWait) : Type 0 where
+  pub steps : MakesSteps w.numbers session
+  pub is_wait : w.sessions.awaited session ≡ Some wait
+  pub holding : w.sessions.holds_partition session (partition_of wait.tag) ≡ true
+  pub gone : waits_there ((w.contents.now (partition_of wait.tag)).waits wait.tag) session ≡ false
+
+-- own holds with what the wait was granted, if it was
+abbrev pub taken_over : World → ℕ → OwnWait → Holds
+taken_over w session wait =
+    if w.sessions.seen session || (w.contents.now (partition_of wait.tag)).holds session wait.tag wait.mode
+    then set_hold w.sessions.own session wait.tag wait.mode true else w.sessions.own
+
+abbrev pub after_clearing : World → ℕ → OwnWait → World
+after_clearing w session wait = record {
+  words = record (w.words) { wait = set_at w.words.wait session 0 };
+  contents = w.contents;
+  sessions = record (w.sessions) {
+    own = taken_over w session wait;
+    awaited = set_at w.sessions.awaited session None;
+    seen = set_at w.sessions.seen session false;
+  };
+  numbers = w.numbers;
+}
+
+-- The same by a step that takes the wait out of the queue itself.
+pub record MayLeave (w : World) (session : ℕ) (wait : OwnWait) (granted : List Wait) (content : Content) : Type 0 where
+  pub is_wait : w.sessions.awaited session ≡ Some wait
+  pub may_move : MayMove w session (partition_of wait.tag) (Leave wait.tag) granted content
+
+abbrev pub after_leaving : World → ℕ → OwnWait → List Wait → Content → World
+after_leaving w session wait granted content = record {
+  words = record (w.words) { wait = set_at w.words.wait session 0 };
+  contents = record {
+    now = set_at w.contents.now (partition_of wait.tag) content;
+    hand = set_at w.contents.hand (partition_of wait.tag)
+        (recording (w.contents.hand (partition_of wait.tag)) (Leave wait.tag) (waits_there granted));
+  };
+  sessions = record (w.sessions) {
+    awaited = set_at w.sessions.awaited session None;
+    seen = set_at w.sessions.seen session false;
+  };
+  numbers = w.numbers;
+}

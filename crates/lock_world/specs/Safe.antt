@@ -1,0 +1,143 @@
+use Rattle.std.specs.Prelude.{◌≡◌, ◌≢◌, ◌⊎◌, ℕ, ◌<◌, ◌≤◌, Bool, true, false, ◌==◌, ◌&&◌, ◌||◌, [], filter, Option, Some, None, if◌then◌else◌}
+use Rattle.modes_core.specs.declared.modes.Mode.{Mode}
+use Rattle.modes_core.specs.declared.tags.Tag.{Tag}
+use Rattle.modes_core.specs.Conflict.{conflict}
+use Rattle.modes_core.specs.Tag.{tag_eq, partition_of}
+use Rattle.lock_table.specs.declared.moves.Move.{Move}
+use Rattle.lock_table.specs.declared.moves.Move.TheVariants.{Keep, Grant, Join, Release, Leave}
+use Rattle.lock_table.specs.Content.{Holds, Content}
+use Rattle.lock_world.specs.LightweightWord.{free_word, IsHeldExclusively, shared_count}
+use Rattle.lock_table.specs.OwnWait.{OwnWait, Stage, InQueue, WasGranted, HasLeft, is_for, is_pending, queued_by}
+use Rattle.lock_table.specs.Queue.{NoneFree}
+use Rattle.lock_world.specs.WaitWord.{wait_state}
+use Rattle.lock_world.specs.World.{World, Words, Hand, Numbers, recorded_in, owes}
+
+-- What holds between any two atomic steps: the promise, and the facts that carry it from one step to the next.
+
+-- How far each wait has come, as its word and the hand that has its partition tell.
+
+-- whether the hand is this session's
+abbrev pub is_hand_of : Option Hand → ℕ → Bool
+is_hand_of None session = false
+is_hand_of (Some hand) session = hand.holder == session
+
+-- whether the move is a leave of the object's queue
+abbrev pub is_leave_of : Option Move → Tag → Bool
+is_leave_of None tag = false
+is_leave_of (Some Keep) tag = false
+is_leave_of (Some (Grant other mode)) tag = false
+is_leave_of (Some (Join other mode)) tag = false
+is_leave_of (Some (Release other mode)) tag = false
+is_leave_of (Some (Leave other)) tag = tag_eq other tag
+
+-- the stage of a wait by the hand alone: granted where the hand owes word of it, and left where its own session's hand has
+-- recorded that
+abbrev pub stage_by_hand : Option Hand → ℕ → Tag → Stage
+stage_by_hand hand session tag =
+    if owes hand session then WasGranted
+    else (if is_hand_of hand session && is_leave_of (recorded_in hand) tag then HasLeft else InQueue)
+
+-- the stage of a session's wait: granted where its word shows it, else by the hand that has the partition
+abbrev pub stage_of : ℕ → (ℕ → Option Hand) → ℕ → Option OwnWait → Stage
+stage_of word hand session None = InQueue
+stage_of word hand session (Some wait) =
+    if wait_state word == 2 then WasGranted else stage_by_hand (hand (partition_of wait.tag)) session wait.tag
+
+abbrev pub stages : World → ℕ → Stage
+stages w session = stage_of (w.words.wait session) w.contents.hand session (w.sessions.awaited session)
+
+-- The promise.
+
+-- No two holds of different sessions on one object conflict.
+abbrev pub NoConflictingHolds : (ℕ → Content) → Type 0
+NoConflictingHolds now =
+    (p : ℕ) (session other : ℕ) (tag : Tag) (mode its : Mode) → session ≢ other
+    → (now p).holds session tag mode ≡ true → (now p).holds other tag its ≡ true → conflict mode its ≡ false
+
+-- On one object the content and the sessions' own accounts agree: each own hold is there, and nothing else but pending
+-- grants; and a session has in the queue just the wait that it recorded, while that waits, with what it recorded.
+pub record AgreesOn (content : Content) (tag : Tag) (own : Holds) (awaited : ℕ → Option OwnWait) (stage : ℕ → Stage) : Type 0 where
+  pub held : (session : ℕ) (mode : Mode) → content.holds session tag mode ≡ (own session tag mode || is_pending (awaited session) (stage session) tag mode)
+  pub in_queue : (session : ℕ) → filter (λ wait. wait.session == session) (content.waits tag) ≡ queued_by session (awaited session) (stage session) tag
+
+-- Each own hold, each pending grant and each wait of a session is in exactly one place, the content of the object's
+-- partition, and the contents have nothing else. What a session awaits is no own hold of it.
+pub record AreInOnePlace (now : ℕ → Content) (own : Holds) (awaited : ℕ → Option OwnWait) (stage : ℕ → Stage) : Type 0 where
+  pub on_object : (tag : Tag) → AgreesOn (now (partition_of tag)) tag own awaited stage
+  pub no_hold_elsewhere : (p session : ℕ) (tag : Tag) (mode : Mode) → (now p).holds session tag mode ≡ true → partition_of tag ≡ p
+  pub no_wait_elsewhere : (p : ℕ) (tag : Tag) → partition_of tag ≢ p → (now p).waits tag ≡ []
+  pub awaited_is_not_own : (session : ℕ) (tag : Tag) (mode : Mode) → is_for (awaited session) tag mode ≡ true → own session tag mode ≡ false
+
+-- No wait is free to go, behind those before it.
+abbrev pub NobodyIsFree : (ℕ → Content) → Type 0
+NobodyIsFree now = (p : ℕ) (tag : Tag) → NoneFree (now p) tag
+
+-- A lightweight word shows exactly the sessions that hold it: its bit 24 is set exactly where one session, and no more,
+-- holds it exclusively, and its count is the number of those that hold it shared, so far none.
+pub record ShowsHolders (word : ℕ) (holds : ℕ → Bool) : Type 0 where
+  pub held_is_shown : (session : ℕ) → holds session ≡ true → IsHeldExclusively word
+  pub shown_is_held : IsHeldExclusively word → (session : ℕ) × (holds session ≡ true)
+  pub by_one : (session other : ℕ) → holds session ≡ true → holds other ≡ true → session ≡ other
+  pub by_none_shared : shared_count word ≡ 0
+
+abbrev pub WordsShowHolders : (ℕ → ℕ) → (ℕ → ℕ → Bool) → Type 0
+WordsShowHolders word holds = (p : ℕ) → ShowsHolders (word p) (λ session. holds session p)
+
+-- A wait word shows 0 where its session has no wait, else that it waits or that its wait was granted. A session has seen a
+-- grant only where its word shows it; and a hand owes word of a grant only to a session that waits on an object of its
+-- partition, and whose hand it is not.
+pub record WaitWordsShowWaits (word : ℕ → ℕ) (awaited : ℕ → Option OwnWait) (seen : ℕ → Bool) (hand : ℕ → Option Hand) : Type 0 where
+  pub idle : (session : ℕ) → awaited session ≡ None → wait_state (word session) ≡ 0
+  pub waiting : (session : ℕ) (wait : OwnWait) → awaited session ≡ Some wait → (wait_state (word session) ≡ 1) ⊎ (wait_state (word session) ≡ 2)
+  pub seen_is_shown : (session : ℕ) → seen session ≡ true → wait_state (word session) ≡ 2
+  pub owed_waits : (p session : ℕ) → owes (hand p) session ≡ true → (wait : OwnWait) × (awaited session ≡ Some wait) × (partition_of wait.tag ≡ p)
+  pub owed_is_not_told : (p session : ℕ) → owes (hand p) session ≡ true → wait_state (word session) ≡ 1
+  pub owed_by_another : (p session : ℕ) → owes (hand p) session ≡ true → is_hand_of (hand p) session ≡ false
+
+-- A session number that is not live has no hold, no wait and no word.
+pub record SpentHaveNothing (live : ℕ → Bool) (own : Holds) (awaited : ℕ → Option OwnWait) (holds : ℕ → ℕ → Bool) : Type 0 where
+  pub no_hold : (session : ℕ) (tag : Tag) (mode : Mode) → live session ≡ false → own session tag mode ≡ false
+  pub no_wait : (session : ℕ) → live session ≡ false → awaited session ≡ None
+  pub no_word : (session p : ℕ) → live session ≡ false → holds session p ≡ false
+
+pub record Promise (w : World) : Type 0 where
+  pub no_conflict : NoConflictingHolds w.contents.now
+  pub one_place : AreInOnePlace w.contents.now w.sessions.own w.sessions.awaited (stages w)
+  pub none_free : NobodyIsFree w.contents.now
+  pub wait_words : WaitWordsShowWaits w.words.wait w.sessions.awaited w.sessions.seen w.contents.hand
+  pub words : WordsShowHolders w.words.partition w.sessions.holds_partition
+  pub spent : SpentHaveNothing w.numbers.live w.sessions.own w.sessions.awaited w.sessions.holds_partition
+
+-- The facts that carry the promise.
+
+-- A content is in a session's hand exactly where the session holds the partition's word.
+abbrev pub HandsAreHolders : (ℕ → Option Hand) → (ℕ → ℕ → Bool) → Type 0
+HandsAreHolders hand holds = (p session : ℕ) → holds session p ≡ is_hand_of (hand p) session
+
+-- Live numbers are given out, no more than there are, and only live sessions are kept apart.
+pub record NumbersAreInOrder (numbers : Numbers) : Type 0 where
+  pub live_is_issued : (session : ℕ) → numbers.live session ≡ true → session < numbers.issued
+  pub within : numbers.issued ≤ numbers.limit
+  pub kept_is_live : (session joiner : ℕ) → numbers.kept_by session ≡ Some joiner → numbers.live session ≡ true
+
+-- A hand that has recorded no move owes nobody.
+abbrev pub OwesByItsMove : (ℕ → Option Hand) → Type 0
+OwesByItsMove hand = (p : ℕ) → recorded_in (hand p) ≡ None → (session : ℕ) → owes (hand p) session ≡ false
+
+-- The words that no event so far changes show what they opened with.
+pub record NotYetUsed (words : Words) : Type 0 where
+  pub fast : (session : ℕ) → words.fast session ≡ free_word
+  pub database : (session : ℕ) → words.database session ≡ 0
+  pub slot : (session place : ℕ) → words.slot session place ≡ 0
+  pub strong : (index : ℕ) → words.strong index ≡ 0
+  pub sleep : (session : ℕ) → words.sleep session ≡ 0
+
+pub record Carriers (w : World) : Type 0 where
+  pub hands : HandsAreHolders w.contents.hand w.sessions.holds_partition
+  pub numbers : NumbersAreInOrder w.numbers
+  pub owes_by_move : OwesByItsMove w.contents.hand
+  pub not_yet : NotYetUsed w.words
+
+pub record Safe (w : World) : Type 0 where
+  pub promise : Promise w
+  pub carriers : Carriers w

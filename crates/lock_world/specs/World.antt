@@ -1,0 +1,114 @@
+use Rattle.std.specs.Prelude.{◌≡◌, ℕ, ◌==◌, Bool, true, false, List, [], Option, Some, None}
+use Rattle.lock_table.specs.declared.moves.Move.{Move}
+use Rattle.lock_table.specs.Content.{Holds, Content, empty_content}
+use Rattle.lock_world.specs.LightweightWord.{free_word}
+use Rattle.lock_table.specs.OwnWait.{OwnWait}
+
+-- The World is all that there is between two atomic steps: what each word shows, each content wherever it is, what each
+-- session has by its own account, and which session numbers are in use.
+
+-- What the words of the shared table show, a field for each range of words.
+pub record Words : Type 0 where
+  -- the lightweight lock of each partition
+  pub partition : ℕ → ℕ
+  -- the lightweight lock of each session's fast-path slots
+  pub fast : ℕ → ℕ
+  -- the database of each session
+  pub database : ℕ → ℕ
+  -- each session's fast-path slots
+  pub slot : ℕ → ℕ → ℕ
+  -- each session's wait word
+  pub wait : ℕ → ℕ
+  -- the strong lock counters
+  pub strong : ℕ → ℕ
+  -- each session's sleep word
+  pub sleep : ℕ → ℕ
+
+-- A partition's content in a session's hand: whose hand it is, the content as it was taken, and what the session has made
+-- of it.
+pub record Hand : Type 0 where
+  pub holder : ℕ
+  pub taken : Content
+  -- the move that it has made and that stands recorded in the content, if any
+  pub recorded : Option Move
+  -- those whom that move granted and who have not been told
+  pub due : ℕ → Bool
+
+-- The contents of the partitions.
+pub record Contents : Type 0 where
+  -- the content as it is now, at home or, as its holder has recorded it, in hand
+  pub now : ℕ → Content
+  -- nothing where the content is at home
+  pub hand : ℕ → Option Hand
+
+-- What a session has seen and done, in the order of its steps.
+pub data TraceEntry : Type 0 where
+  -- it took the partition with this content
+  Took : (partition : ℕ) → (taken : Content) → TraceEntry
+  -- it put the partition back: the content taken, and the content put
+  Episode : (partition : ℕ) → (taken : Content) → (put_back : Content) → TraceEntry
+  -- it asked the session to cancel, whose wait word showed this before
+  AskedToCancel : (other : ℕ) → (before : ℕ) → TraceEntry
+  -- its own wait word showed this
+  LoadedWait : (shown : ℕ) → TraceEntry
+
+-- What each session has by its own account.
+pub record Sessions : Type 0 where
+  -- its own holds
+  pub own : Holds
+  -- the partition words that it holds exclusively
+  pub holds_partition : ℕ → ℕ → Bool
+  -- its wait, until it has cleared its wait word
+  pub awaited : ℕ → Option OwnWait
+  -- it has seen its wait word show that this wait was granted
+  pub seen : ℕ → Bool
+  pub trace : ℕ → List TraceEntry
+
+-- The session numbers.
+pub record Numbers : Type 0 where
+  -- how many numbers there are
+  pub limit : ℕ
+  -- the numbers below this one have been given out, and it is the next
+  pub issued : ℕ
+  -- the numbers given out and not closed
+  pub live : ℕ → Bool
+  -- the session that keeps this one apart, if any
+  pub kept_by : ℕ → Option ℕ
+
+pub record World : Type 0 where
+  pub words : Words
+  pub contents : Contents
+  pub sessions : Sessions
+  pub numbers : Numbers
+
+-- the move that a hand has recorded
+abbrev pub recorded_in : Option Hand → Option Move
+recorded_in None = None
+recorded_in (Some hand) = hand.recorded
+
+-- whether a hand owes the session word that its wait was granted
+abbrev pub owes : Option Hand → ℕ → Bool
+owes None session = false
+owes (Some hand) session = hand.due session
+
+-- The session makes steps of its own: it is live, and no other session keeps it apart.
+pub record MakesSteps (numbers : Numbers) (session : ℕ) : Type 0 where
+  pub live : numbers.live session ≡ true
+  pub by_itself : numbers.kept_by session ≡ None
+
+-- The World before the first step: all is empty, and only release-ok is set, in each lightweight word.
+abbrev pub opening : ℕ → World
+opening limit = record {
+  words = record {
+    partition = λ _. free_word;
+    fast = λ _. free_word;
+    database = λ _. 0;
+    slot = λ _ _. 0;
+    wait = λ _. 0;
+    strong = λ _. 0;
+    sleep = λ _. 0;
+  };
+  contents = record { now = λ _. empty_content; hand = λ _. None };
+  sessions = record { own = λ _ _ _. false; holds_partition = λ _ _. false; awaited = λ _. None; seen = λ _. false; trace = λ _. [] };
+  numbers = record { limit = limit; issued = 0; live = λ _. false; kept_by = λ _. None };
+}

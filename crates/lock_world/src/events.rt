@@ -1,0 +1,63 @@
+use lock_table::Move;
+use modes_core::{Mode, SessionId, Tag};
+
+/// A word of the shared table. Every atomic step is on one word.
+#[derive(Clone, Copy, Debug, PartialEq, Eq)]
+pub enum Word {
+    /// The lightweight lock of a partition, 0 to 15 (`LockHashPartitionLockByIndex` in lock.h).
+    Partition(u8),
+    /// The lightweight lock of a session's fast-path slots (`fpInfoLock` in proc.h).
+    Fast(SessionId),
+    /// The database of a session (`databaseId` in proc.h).
+    Database(SessionId),
+    /// A fast-path slot of a session, 0 to 15, with its relation and three bits for modes (`fpRelId`
+    /// and `fpLockBits` in proc.h).
+    Slot(SessionId, u8),
+    /// Whether a session waits, and whether it was asked to stop waiting (`waitStatus` in proc.h).
+    Wait(SessionId),
+    /// A counter of strong locks, 0 to 1023 (`FastPathStrongRelationLocks` in lock.c).
+    Strong(u16),
+    /// Whether a session sleeps for a lightweight lock (`lwWaiting` in proc.h).
+    Sleep(SessionId),
+}
+
+/// One atomic step.
+#[derive(Clone, Copy, Debug, PartialEq, Eq)]
+pub enum Step {
+    /// Take a lightweight lock exclusively, by a compare-exchange; the content of a partition comes
+    /// with its word (`LWLockAcquire` in lwlock.c).
+    TakeExclusive { word: Word },
+    /// Put a lightweight lock that is held exclusively, by a fetch-and-subtract; the content of a
+    /// partition goes home with its word, after one move (`LWLockRelease` in lwlock.c).
+    PutExclusive { word: Word, done: Move },
+    /// Split a seat: a session number is issued, or a session that was kept apart goes on by itself
+    /// (`InitProcess` in proc.c).
+    SplitSeat,
+    /// Join a seat: another session keeps this one apart, or with no joiner the session is closed
+    /// (`ProcKill` in proc.c).
+    JoinSeat { joiner: Option<SessionId> },
+    /// Ask a session to cancel its wait, by a fetch-or of bit 2 of its wait word: any session number,
+    /// issued or not, closed or not, the own too (`pg_cancel_backend` in signalfuncs.c, which leads to the
+    /// flag `QueryCancelPending` that is looked at while `ProcSleep` waits).
+    AskCancel { other: SessionId },
+    /// Load the own wait word, which shows this value (`waitStatus` in proc.h, as `ProcSleep` in proc.c
+    /// reads it).
+    LoadWait { shown: u8 },
+    /// Store in the own wait word that the session waits, with the object's partition in hand: its join is
+    /// made (`ProcSleep` in proc.c sets `waitStatus` so).
+    SetWaiting { tag: Tag, mode: Mode },
+    /// Add 1 to another session's wait word, which turns waiting into granted, with the partition in hand:
+    /// its wait was granted by this move (`ProcWakeup` in proc.c sets `waitStatus` so).
+    MarkGranted { other: SessionId, done: Move },
+    /// Clear the own wait word: the wait is over, and what was granted is the session's own from then on.
+    /// With `leaving` this very step takes the wait out of the queue, with the partition in hand
+    /// (`LockErrorCleanup` in proc.c).
+    ClearWait { leaving: bool },
+}
+
+/// One atomic step of one session.
+#[derive(Clone, Copy, Debug, PartialEq, Eq)]
+pub struct Event {
+    pub session: SessionId,
+    pub step: Step,
+}

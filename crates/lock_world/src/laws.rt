@@ -1,0 +1,157 @@
+//! What holds in every World that a list of events leads to. Each function here is a law: its clause is
+//! proved of all lists of events, and its body is empty.
+
+ghost use Rattle.std.specs.Prelude.{◌≡◌, ◌≢◌, ◌↔◌, ◌⊎◌, ◌<◌, ◌≤◌, ◌+◌, ◌==◌, ℕ, List, true, false, if◌then◌else◌, Some, None, slice_get, count_by};
+ghost use Rattle.modes_core.specs.declared.modes.Mode.{Mode};
+ghost use Rattle.modes_core.specs.declared.tags.Tag.{Tag};
+ghost use Rattle.modes_core.specs.Conflict.{conflict};
+ghost use Rattle.modes_core.specs.Tag.{partition_of};
+ghost use Rattle.lock_world.specs.declared.events.Event.{Event};
+ghost use Rattle.lock_table.specs.Content.{Wait};
+ghost use Rattle.lock_world.specs.LightweightWord.{IsHeldExclusively};
+ghost use Rattle.lock_table.specs.OwnWait.{OwnWait, entry_of, is_for};
+ghost use Rattle.lock_table.specs.Queue.{NoneFree, waits_there};
+ghost use Rattle.lock_world.specs.WaitWord.{wait_state, is_asked, asked_word, granted_word};
+ghost use Rattle.lock_world.specs.World.{World, opening, owes};
+ghost use Rattle.lock_world.specs.Happens.{Happens, Runs};
+ghost use Rattle.lock_world.specs.Safe.{Safe};
+
+/// The World before the first event is safe.
+pub fn opening_is_safe()
+    ensures { (limit : ℕ) → Safe (opening limit) }
+{}
+
+/// Where an event is lawful in a safe World, the World after it is safe.
+pub fn each_event_is_safe()
+    ensures { (w v : World) (event : Event) → Safe w → Happens w event v → Safe v }
+{}
+
+/// Whatever list of events comes, lawful or not, the World after it is safe. Each World on the way is
+/// the World after a front of the list, so this says it of all of them.
+pub fn every_world_is_safe()
+    ensures { (limit : ℕ) (events : List Event) (w : World) → Runs (opening limit) events w → Safe w }
+{}
+
+/// A list of events leads to one World and no other.
+pub fn one_world_comes()
+    ensures { (limit : ℕ) (events : List Event) (w v : World) →
+        Runs (opening limit) events w → Runs (opening limit) events v → w ≡ v }
+{}
+
+/// In every World no two sessions hold conflicting modes on one object, by the contents of the partitions,
+/// and so by their own accounts.
+pub fn no_two_conflicting_holds()
+    ensures in_contents { (limit : ℕ) (events : List Event) (w : World) → Runs (opening limit) events w →
+        (p session other : ℕ) (tag : Tag) (mode its : Mode) → session ≢ other →
+        (w.contents.now p).holds session tag mode ≡ true → (w.contents.now p).holds other tag its ≡ true → conflict mode its ≡ false }
+    ensures own { (limit : ℕ) (events : List Event) (w : World) → Runs (opening limit) events w →
+        (session other : ℕ) (tag : Tag) (mode its : Mode) → session ≢ other →
+        w.sessions.own session tag mode ≡ true → w.sessions.own other tag its ≡ true → conflict mode its ≡ false }
+{}
+
+/// In every World a hold stands in a content exactly where the object is of that partition and the hold is
+/// the session's own or its pending grant: what it awaits, where its wait word shows that this was granted,
+/// or the hand that has the partition owes it word of that. What a session awaits is no own hold of it, so
+/// no hold is both.
+pub fn each_hold_in_one_place()
+    ensures own_or_pending { (limit : ℕ) (events : List Event) (w : World) → Runs (opening limit) events w →
+        (p session : ℕ) (tag : Tag) (mode : Mode) →
+        ((w.contents.now p).holds session tag mode ≡ true)
+        ↔ ((partition_of tag ≡ p)
+        × ((w.sessions.own session tag mode ≡ true)
+        ⊎ ((is_for (w.sessions.awaited session) tag mode ≡ true)
+        × ((wait_state (w.words.wait session) ≡ 2) ⊎ (owes (w.contents.hand p) session ≡ true))))) }
+    ensures never_both { (limit : ℕ) (events : List Event) (w : World) → Runs (opening limit) events w →
+        (session : ℕ) (tag : Tag) (mode : Mode) → is_for (w.sessions.awaited session) tag mode ≡ true → w.sessions.own session tag mode ≡ false }
+{}
+
+/// In every World nobody who waits is free to go: each waits for a holder in its way, or for somebody
+/// before it in the queue.
+pub fn nobody_who_waits_is_free()
+    ensures { (limit : ℕ) (events : List Event) (w : World) → Runs (opening limit) events w →
+        (p : ℕ) (tag : Tag) → NoneFree (w.contents.now p) tag }
+{}
+
+/// In every World each entry of a queue, at any place, is the wait that its session has recorded, on that
+/// object, which is of that partition. A session stands at most once in a queue, and in one queue at most.
+pub fn a_session_waits_once()
+    ensures recorded { (limit : ℕ) (events : List Event) (w : World) → Runs (opening limit) events w →
+        (p place : ℕ) (tag : Tag) (entry : Wait) → slice_get ((w.contents.now p).waits tag) place ≡ Some entry →
+        (partition_of tag ≡ p)
+        × ((wait : OwnWait) × (w.sessions.awaited entry.session ≡ Some wait) × (wait.tag ≡ tag) × (entry ≡ entry_of entry.session wait)) }
+    ensures once { (limit : ℕ) (events : List Event) (w : World) → Runs (opening limit) events w →
+        (p session : ℕ) (tag : Tag) → count_by (λ wait. wait.session == session) ((w.contents.now p).waits tag) ≤ 1 }
+    ensures in_one_queue { (limit : ℕ) (events : List Event) (w : World) → Runs (opening limit) events w →
+        (p q session : ℕ) (tag other : Tag) →
+        waits_there ((w.contents.now p).waits tag) session ≡ true → waits_there ((w.contents.now q).waits other) session ≡ true →
+        (p ≡ q) × (tag ≡ other) }
+{}
+
+/// In every World a wait word shows 0 exactly where its session has no wait. It shows waiting where the
+/// session stands in a queue, and where it shows that and the partition is at home, the session stands in
+/// its object's queue. Where it shows granted, what the session awaits is a hold in the content, and not
+/// its own yet.
+pub fn wait_words_tell()
+    ensures idle { (limit : ℕ) (events : List Event) (w : World) → Runs (opening limit) events w →
+        (session : ℕ) → (wait_state (w.words.wait session) ≡ 0) ↔ (w.sessions.awaited session ≡ None) }
+    ensures queued { (limit : ℕ) (events : List Event) (w : World) → Runs (opening limit) events w →
+        (p session : ℕ) (tag : Tag) → waits_there ((w.contents.now p).waits tag) session ≡ true → wait_state (w.words.wait session) ≡ 1 }
+    ensures waiting { (limit : ℕ) (events : List Event) (w : World) → Runs (opening limit) events w →
+        (session : ℕ) (wait : OwnWait) → w.sessions.awaited session ≡ Some wait → w.contents.hand (partition_of wait.tag) ≡ None →
+        wait_state (w.words.wait session) ≡ 1 → waits_there ((w.contents.now (partition_of wait.tag)).waits wait.tag) session ≡ true }
+    ensures granted { (limit : ℕ) (events : List Event) (w : World) → Runs (opening limit) events w →
+        (session : ℕ) → wait_state (w.words.wait session) ≡ 2 →
+        (wait : OwnWait) × (w.sessions.awaited session ≡ Some wait)
+        × ((w.contents.now (partition_of wait.tag)).holds session wait.tag wait.mode ≡ true)
+        × (w.sessions.own session wait.tag wait.mode ≡ false) }
+{}
+
+/// In every World a partition's word shows an exclusive holder exactly where a session has the partition
+/// in hand.
+pub fn partition_words_show_the_hand()
+    ensures { (limit : ℕ) (events : List Event) (w : World) → Runs (opening limit) events w →
+        (p : ℕ) → IsHeldExclusively (w.words.partition p) ↔ ((session : ℕ) × (w.sessions.holds_partition session p ≡ true)) }
+{}
+
+/// In every World no two sessions have one partition in hand.
+pub fn one_hand_at_a_time()
+    ensures { (limit : ℕ) (events : List Event) (w : World) → Runs (opening limit) events w →
+        (p session other : ℕ) → w.sessions.holds_partition session p ≡ true → w.sessions.holds_partition other p ≡ true → session ≡ other }
+{}
+
+/// In every World a session number that is not live has no hold, by its own account and in each content,
+/// no wait, recorded or in a queue, and no partition in hand.
+pub fn spent_sessions_have_nothing()
+    ensures no_hold { (limit : ℕ) (events : List Event) (w : World) → Runs (opening limit) events w →
+        (session p : ℕ) (tag : Tag) (mode : Mode) → w.numbers.live session ≡ false →
+        (w.sessions.own session tag mode ≡ false) × ((w.contents.now p).holds session tag mode ≡ false) }
+    ensures no_wait { (limit : ℕ) (events : List Event) (w : World) → Runs (opening limit) events w →
+        (session p : ℕ) (tag : Tag) → w.numbers.live session ≡ false →
+        (w.sessions.awaited session ≡ None) × (waits_there ((w.contents.now p).waits tag) session ≡ false) }
+    ensures no_hand { (limit : ℕ) (events : List Event) (w : World) → Runs (opening limit) events w →
+        (session p : ℕ) → w.numbers.live session ≡ false → w.sessions.holds_partition session p ≡ false }
+{}
+
+/// Asking a session to cancel sets bit 2 of its wait word, whatever the word is: it is asked from then
+/// on, whether it waits stays as it was, and asking again changes nothing.
+pub fn asking_sets_one_bit()
+    ensures asked { (word : ℕ) → is_asked (asked_word word) ≡ true }
+    ensures same_state { (word : ℕ) → wait_state (asked_word word) ≡ wait_state word }
+    ensures sum { (word : ℕ) → asked_word word ≡ (if is_asked word then word else word + 4) }
+{}
+
+/// An event changes what its own session has, and no other session's own holds, words held, recorded
+/// wait, what it has seen of that, and trace. Another session's wait word it leaves, or asks it there to
+/// cancel, or turns waiting into granted.
+pub fn others_are_untouched()
+    ensures account { (w v : World) (event : Event) (other : ℕ) → Happens w event v → other ≢ event.session →
+        ((tag : Tag) (mode : Mode) → v.sessions.own other tag mode ≡ w.sessions.own other tag mode)
+        × ((p : ℕ) → v.sessions.holds_partition other p ≡ w.sessions.holds_partition other p)
+        × (v.sessions.awaited other ≡ w.sessions.awaited other)
+        × (v.sessions.seen other ≡ w.sessions.seen other)
+        × (v.sessions.trace other ≡ w.sessions.trace other) }
+    ensures wait_word { (w v : World) (event : Event) (other : ℕ) → Happens w event v → other ≢ event.session →
+        (v.words.wait other ≡ w.words.wait other)
+        ⊎ ((v.words.wait other ≡ asked_word (w.words.wait other))
+        ⊎ ((wait_state (w.words.wait other) ≡ 1) × (v.words.wait other ≡ granted_word (w.words.wait other)))) }
+{}

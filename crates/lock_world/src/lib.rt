@@ -1,0 +1,8 @@
+//! The World of a lock manager's atomic steps: where each step is lawful, what is there after it, and what
+//! is safe between any two of them.
+#![tactic(auto)]
+
+pub mod events;
+pub mod laws;
+
+pub use events::{Event, Step, Word};
