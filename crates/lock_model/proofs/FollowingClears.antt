@@ -19,7 +19,7 @@ use Rattle.lock_world.specs.World.{World, recorded_in, MakesSteps}
 use Rattle.lock_world.specs.Making.{MayMove, recording, MayClearSeen, MayClearInHand, after_clearing, after_leaving}
 use Rattle.lock_world.specs.Happens.{Next, HappensClearing}
 use Rattle.lock_world.specs.Safe.{Safe}
-use Rattle.lock_model.specs.Shows.{Shows, is_due, hand_of, awaited_of, makes_steps}
+use Rattle.lock_model.specs.Shows.{Shows, is_unmarked_in, hand_of, awaited_of, makes_steps}
 use Rattle.lock_model.proofs.FollowingWaiting.{shown_with}
 use Rattle.lock_model.proofs.MarkLemmas.{recording-shown, awaited-set_at, contents-set_at, begun-set_at, awaited-some}
 use Rattle.lock_model.proofs.Following.{get_or-set_at, skipped}
@@ -152,12 +152,12 @@ module _ (m : Machine) (w : World) (safe : Safe w) (shows : Shows m w) where
   -- Leaving by this step.
   pub left : (s : ℕ) (a : Awaited) (t : Tag) (shown : InHand) (part : PartView) (granted : List Wait) (marks : List Bool) → get_or m.awaited s None ≡ Some a → a.tag ≡ t → hand_of m s (partition_of t) ≡ Some shown → shown.recorded ≡ None
       → waits_there ((contents_in m.parts.items (partition_of t)).waits t) s ≡ true → Wakes (remove_wait (contents_in m.parts.items (partition_of t)) s t) t granted (content_of part) → part.begun ≡ None
-      → ((k : ℕ) → is_due marks k ≡ waits_there granted k) → s < length m.wait_words → s < length m.awaited → s < length m.seen
+      → ((k : ℕ) → is_unmarked_in marks k ≡ waits_there granted k) → s < length m.wait_words → s < length m.awaited → s < length m.seen
       → (v : World) × Next w (record { session = s; step = ClearWait true }) v
       × Shows
       (record m {
         wait_words = set m.wait_words s 0;
-        hands = set m.hands (partition_of t) (Some (record { holder = shown.holder; recorded = Some (Leave t); due = marks }));
+        hands = set m.hands (partition_of t) (Some (record { holder = shown.holder; recorded = Some (Leave t); unmarked = marks }));
         parts = with_item m.parts (partition_of t) part;
         awaited = set m.awaited s None;
         seen = set m.seen s false;
@@ -167,7 +167,7 @@ module _ (m : Machine) (w : World) (safe : Safe w) (shows : Shows m w) where
         after : Machine
         after = record m {
           wait_words = set m.wait_words s 0;
-          hands = set m.hands (partition_of t) (Some (record { holder = shown.holder; recorded = Some (Leave t); due = marks }));
+          hands = set m.hands (partition_of t) (Some (record { holder = shown.holder; recorded = Some (Leave t); unmarked = marks }));
           parts = with_item m.parts (partition_of t) part;
           awaited = set m.awaited s None;
           seen = set m.seen s false;
@@ -179,7 +179,7 @@ module _ (m : Machine) (w : World) (safe : Safe w) (shows : Shows m w) where
             × Shows
             (record m {
               wait_words = set m.wait_words s 0;
-              hands = set m.hands (partition_of wait.tag) (Some (record { holder = shown.holder; recorded = Some (Leave wait.tag); due = marks }));
+              hands = set m.hands (partition_of wait.tag) (Some (record { holder = shown.holder; recorded = Some (Leave wait.tag); unmarked = marks }));
               parts = with_item m.parts (partition_of wait.tag) part;
               awaited = set m.awaited s None;
               seen = set m.seen s false;
@@ -205,7 +205,7 @@ module _ (m : Machine) (w : World) (safe : Safe w) (shows : Shows m w) where
               inl (inl (wait, granted, content_of part, record { is_wait = is; may_move = may }, refl)),
               shown_with m _ w _ shows (record { numbers = refl; partition = refl; issued = refl; live = refl; kept_by = refl; words = refl; hands = length-set m.hands p _ }) (record {
                 wait_word = get_or-set_at m.wait_words s 0 0 w.words.wait in_wait_words shows.wait_word;
-                hand = hand-set_at m.hands p (Some (record { holder = shown.holder; recorded = Some (Leave wait.tag); due = marks })) (recording (w.contents.hand p) (Leave wait.tag) (waits_there granted)) w.contents.hand in_hands
+                hand = hand-set_at m.hands p (Some (record { holder = shown.holder; recorded = Some (Leave wait.tag); unmarked = marks })) (recording (w.contents.hand p) (Leave wait.tag) (waits_there granted)) w.contents.hand in_hands
                     (recording-shown (w.contents.hand p) has.hand shown.holder (Leave wait.tag) marks (waits_there granted) has.is_hand has.shows.holder marked) shows.hand;
                 sixteen = length-set m.parts.items p part ∙ shows.sixteen;
                 content = contents-set_at m.parts.items p part (content_of part) w.contents.now in_parts refl shows.content;
@@ -221,7 +221,7 @@ module _ (m : Machine) (w : World) (safe : Safe w) (shows : Shows m w) where
             × Shows
             (record m {
               wait_words = set m.wait_words s 0;
-              hands = set m.hands (partition_of x) (Some (record { holder = shown.holder; recorded = Some (Leave x); due = marks }));
+              hands = set m.hands (partition_of x) (Some (record { holder = shown.holder; recorded = Some (Leave x); unmarked = marks }));
               parts = with_item m.parts (partition_of x) part;
               awaited = set m.awaited s None;
               seen = set m.seen s false;

@@ -24,7 +24,7 @@ use Rattle.lock_world.specs.World.{World}
 use Rattle.lock_world.specs.Making.{MayMove, recording, after_setting_waiting}
 use Rattle.lock_world.specs.Happens.{Next}
 use Rattle.lock_world.specs.Safe.{Safe}
-use Rattle.lock_model.specs.Shows.{Shows, is_due, hand_of, awaits, awaited_of}
+use Rattle.lock_model.specs.Shows.{Shows, is_unmarked_in, hand_of, awaits, awaited_of}
 use Rattle.lock_model.proofs.FollowingWaiting.{shown_with}
 use Rattle.lock_model.proofs.MarkLemmas.{recording-shown, awaited-set_at, contents-set_at, begun-set_at}
 use Rattle.lock_table.proofs.OneAnswer.{waiting_answer-one}
@@ -54,9 +54,9 @@ answer_within c s t m n answer = at answer.0 answer.2 where
   at None e = absurd (cc)
   at (Some clash) found = at_place found.0 found.1 found.2
 
-pub told_within : (c : Content) (s : ℕ) (t : Tag) (m : Mode) (n : ℕ) → IsTold c s t m (InQueue n) → n ≤ length (c.waits t)
-told_within c s t m n (inl before) = answer_within c s t m n before
-told_within c s t m n (inr last) = let place : n ≡ length (c.waits t) = last.1 in omega arith
+pub marked_within : (c : Content) (s : ℕ) (t : Tag) (m : Mode) (n : ℕ) → IsTold c s t m (InQueue n) → n ≤ length (c.waits t)
+marked_within c s t m n (inl before) = answer_within c s t m n before
+marked_within c s t m n (inr last) = let place : n ≡ length (c.waits t) = last.1 in omega arith
 
 -- It is the place of the answer.
 pub told_place : (c : Content) (s : ℕ) (t : Tag) (m : Mode) (n : ℕ) → IsTold c s t m (InQueue n) → (place : Place) × WaitingAnswer c s t m (Queued place) × (add_wait c s t m (Before n) ≡ add_wait c s t m place)
@@ -95,12 +95,12 @@ module _ (m : Machine) (w : World) (safe : Safe w) (shows : Shows m w) where
 
   pub was_set_waiting : (s : ℕ) (t : Tag) (n : Mode) (shown : InHand) (place : ℕ) (part : PartView) (marks : List Bool) → hand_of m s (partition_of t) ≡ Some shown → shown.recorded ≡ None
       → is_none (get_or m.awaited s None) ≡ true → (contents_in m.parts.items (partition_of t)).holds s t n ≡ false → IsTold (contents_in m.parts.items (partition_of t)) s t n (InQueue place)
-      → content_of part ≡ add_wait (contents_in m.parts.items (partition_of t)) s t n (Before place) → part.begun ≡ None → ((k : ℕ) → is_due marks k ≡ false) → s < length m.wait_words → s < length m.awaited → s < length m.seen
+      → content_of part ≡ add_wait (contents_in m.parts.items (partition_of t)) s t n (Before place) → part.begun ≡ None → ((k : ℕ) → is_unmarked_in marks k ≡ false) → s < length m.wait_words → s < length m.awaited → s < length m.seen
       → (v : World) × Next w (record { session = s; step = SetWaiting t n }) v
       × Shows
       (record m {
         wait_words = set m.wait_words s 1;
-        hands = set m.hands (partition_of t) (Some (record { holder = shown.holder; recorded = Some (Join t n); due = marks }));
+        hands = set m.hands (partition_of t) (Some (record { holder = shown.holder; recorded = Some (Join t n); unmarked = marks }));
         parts = with_item m.parts (partition_of t) part;
         awaited = set m.awaited s (Some (record { tag = t; mode = n }));
         seen = set m.seen s false;
@@ -110,7 +110,7 @@ module _ (m : Machine) (w : World) (safe : Safe w) (shows : Shows m w) where
     inl (content, may, refl),
     shown_with m _ w _ shows (record { numbers = refl; partition = refl; issued = refl; live = refl; kept_by = refl; words = refl; hands = length-set m.hands p _ }) (record {
       wait_word = get_or-set_at m.wait_words s 1 0 w.words.wait in_wait_words shows.wait_word;
-      hand = hand-set_at m.hands p (Some (record { holder = shown.holder; recorded = Some (Join t n); due = marks })) (recording (w.contents.hand p) (Join t n) (λ _. false)) w.contents.hand in_hands
+      hand = hand-set_at m.hands p (Some (record { holder = shown.holder; recorded = Some (Join t n); unmarked = marks })) (recording (w.contents.hand p) (Join t n) (λ _. false)) w.contents.hand in_hands
           (recording-shown (w.contents.hand p) has.hand shown.holder (Join t n) marks (λ _. false) has.is_hand has.shows.holder unmarked) shows.hand;
       sixteen = length-set m.parts.items p part ∙ shows.sixteen;
       content = contents-set_at m.parts.items p part content w.contents.now in_parts (is ∙ found.2 ∙ ap (λ (c : Content). add_wait c s t n found.0) same) shows.content;

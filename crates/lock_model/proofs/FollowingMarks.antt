@@ -17,19 +17,19 @@ use Rattle.lock_table.specs.Parts.{part_at, contents_in}
 use Rattle.lock_table.specs.PartView.{content_of}
 use Rattle.lock_table.specs.Queue.{waits_there}
 use Rattle.lock_world.specs.WaitWord.{wait_state}
-use Rattle.lock_world.specs.World.{World, recorded_in, owes}
+use Rattle.lock_world.specs.World.{World, recorded_in, is_unmarked}
 use Rattle.lock_table.specs.Put.{set_at}
 use Rattle.lock_world.specs.Making.{MayMove, MayMark, recording, without, after_marking_first, after_marking_next}
 use Rattle.lock_world.specs.Happens.{HappensMarkingIn}
 use Rattle.lock_world.specs.Safe.{Safe}
-use Rattle.lock_model.specs.Shows.{Shows, is_due, names_in, hand_of, awaits, IsWaking, IsOwnFor, CannotMake}
+use Rattle.lock_model.specs.Shows.{Shows, is_unmarked_in, names_in, hand_of, awaits, IsWaking, IsOwnFor, CannotMake}
 use Rattle.lock_model.proofs.FollowingWaiting.{shown_with}
 use Rattle.lock_model.proofs.MarkLemmas.{names_in-granted, marks-without, recording-shown, contents-set_at, begun-set_at}
 use Rattle.lock_table.proofs.MoveTests.{move_eq-same, move_eq-refl}
 use Rattle.lock_table.proofs.OneMove.{one_moved}
 use Rattle.lock_model.proofs.Following.{get_or-set_at}
 use Rattle.lock_model.proofs.PlaceLemmas.{hand-set_at}
-use Rattle.lock_model.proofs.Showing.{HasInHand, recorded_from, owes_from, hand_from, hand_not, own_from}
+use Rattle.lock_model.proofs.Showing.{HasInHand, recorded_from, unmarked_from, hand_from, hand_not, own_from}
 
 -- Marking the wait of another session granted.
 
@@ -37,19 +37,19 @@ use Rattle.lock_model.proofs.Showing.{HasInHand, recorded_from, owes_from, hand_
 abbrev pub Marks : World → ℕ → ℕ → ℕ → Move → Machine → Type 0
 Marks w s k p done n = (v : World) × (HappensMarkingIn w s k p done v ⊎ (((u : World) × HappensMarkingIn w s k p done u → ⊥) × (v ≡ w))) × Shows n v
 
--- the machine, once it has told the session
-abbrev pub told_by : Machine → ℕ → InHand → ℕ → Move → List Bool → Machine
-told_by m p hand k done due = record m {
-  hands = set m.hands p (Some (record { holder = hand.holder; recorded = Some done; due = set due k false }));
+-- the machine, once it has marked the session
+abbrev pub marked_by : Machine → ℕ → InHand → ℕ → Move → List Bool → Machine
+marked_by m p hand k done unmarked = record m {
+  hands = set m.hands p (Some (record { holder = hand.holder; recorded = Some done; unmarked = set unmarked k false }));
   wait_words = set m.wait_words k (get_or m.wait_words k 0 + 1);
 }
 
 -- Who is marked, and whose word shows something, is one of the list.
-due_within : (due : List Bool) (k : ℕ) → is_due due k ≡ true → k < length due
-due_within due k e =
-    elim (cases_lt k (length due)) [
+unmarked_within : (unmarked : List Bool) (k : ℕ) → is_unmarked_in unmarked k ≡ true → k < length unmarked
+unmarked_within unmarked k e =
+    elim (cases_lt k (length unmarked)) [
       | inl within ↦ within
-      | inr past ↦ absurd (both_ways (is_due due k) (get_or_past due k false past) e)
+      | inr past ↦ absurd (both_ways (is_unmarked_in unmarked k) (get_or_past unmarked k false past) e)
     ]
 
 word_within : (words : List ℕ) (k : ℕ) → wait_state (get_or words k 0) ≡ 1 → k < length words
@@ -76,8 +76,8 @@ module _ (m : Machine) (w : World) (safe : Safe w) (shows : Shows m w) where
     never u (inl first) = hand_not m w safe shows s p none first.2.may_move.steps first.2.may_move.holding
     never u (inr next) = hand_not m w safe shows s p none next.0.steps next.0.holding
 
-  -- A move stands recorded, and it is another one, or the session isn't due.
-  pub mark_of_another : (s k p : ℕ) (hand : InHand) (recorded done : Move) → hand_of m s p ≡ Some hand → hand.recorded ≡ Some recorded → (move_eq recorded done ≡ false) ⊎ (is_due hand.due k ≡ false) → Marks w s k p done m
+  -- A move stands recorded, and it is another one, or the session isn't unmarked.
+  pub mark_of_another : (s k p : ℕ) (hand : InHand) (recorded done : Move) → hand_of m s p ≡ Some hand → hand.recorded ≡ Some recorded → (move_eq recorded done ≡ false) ⊎ (is_unmarked_in hand.unmarked k ≡ false) → Marks w s k p done m
   mark_of_another s k p hand recorded done in_hand is_recorded not_so = not_lawful s k p done never where
     has : HasInHand w s p hand
     has = hand_from m w safe shows s p hand in_hand
@@ -85,13 +85,13 @@ module _ (m : Machine) (w : World) (safe : Safe w) (shows : Shows m w) where
     recorded_is : recorded_in (w.contents.hand p) ≡ Some recorded
     recorded_is = recorded_from w s p hand has ∙ is_recorded
 
-    refused : (move_eq recorded done ≡ false) ⊎ (is_due hand.due k ≡ false) → recorded_in (w.contents.hand p) ≡ Some done → owes (w.contents.hand p) k ≡ true → ⊥
-    refused (inl another) made due = both_ways (move_eq recorded done) another (recorded_one (recorded_in (w.contents.hand p)) recorded done recorded_is made)
-    refused (inr not_due) made due = both_ways (is_due hand.due k) not_due (sym (owes_from w s p hand has k) ∙ due)
+    refused : (move_eq recorded done ≡ false) ⊎ (is_unmarked_in hand.unmarked k ≡ false) → recorded_in (w.contents.hand p) ≡ Some done → is_unmarked (w.contents.hand p) k ≡ true → ⊥
+    refused (inl another) made unmarked = both_ways (move_eq recorded done) another (recorded_one (recorded_in (w.contents.hand p)) recorded done recorded_is made)
+    refused (inr not_unmarked) made unmarked = both_ways (is_unmarked_in hand.unmarked k) not_unmarked (sym (unmarked_from w s p hand has k) ∙ unmarked)
 
     never : (u : World) → HappensMarkingIn w s k p done u → ⊥
     never u (inl first) = recorded_some (recorded_in (w.contents.hand p)) recorded recorded_is first.2.may_move.unrecorded
-    never u (inr next) = refused not_so next.0.recorded next.0.is_due
+    never u (inr next) = refused not_so next.0.recorded next.0.is_unmarked_in
 
   may_mark : (s k : ℕ) → k ≢ s → wait_state (get_or m.wait_words k 0) ≡ 1 → MayMark w s k
   may_mark s k another waiting = record { another = another; waiting = ap wait_state (sym (shows.wait_word k)) ∙ waiting }
@@ -101,10 +101,10 @@ module _ (m : Machine) (w : World) (safe : Safe w) (shows : Shows m w) where
       get_or-set_at m.wait_words k (get_or m.wait_words k 0 + 1) 0 w.words.wait (word_within m.wait_words k waiting) shows.wait_word j
       ∙ ap (λ n. set_at w.words.wait k (n + 1) j) (shows.wait_word k)
 
-  -- One more of those is told whom the recorded move granted.
-  pub mark_next : (s k p : ℕ) (hand : InHand) (recorded done : Move) → hand_of m s p ≡ Some hand → hand.recorded ≡ Some recorded → move_eq recorded done ≡ true → is_due hand.due k ≡ true → k ≢ s → wait_state (get_or m.wait_words k 0) ≡ 1
-      → Marks w s k p done (told_by m p hand k done hand.due)
-  mark_next s k p hand recorded done in_hand is_recorded same due another waiting = (
+  -- One more of those is marked whom the recorded move granted.
+  pub mark_next : (s k p : ℕ) (hand : InHand) (recorded done : Move) → hand_of m s p ≡ Some hand → hand.recorded ≡ Some recorded → move_eq recorded done ≡ true → is_unmarked_in hand.unmarked k ≡ true → k ≢ s → wait_state (get_or m.wait_words k 0) ≡ 1
+      → Marks w s k p done (marked_by m p hand k done hand.unmarked)
+  mark_next s k p hand recorded done in_hand is_recorded same unmarked another waiting = (
     after_marking_next w k p done,
     inl
         (inr (
@@ -113,15 +113,15 @@ module _ (m : Machine) (w : World) (safe : Safe w) (shows : Shows m w) where
             holding = has.holding;
             recorded = recorded_from w s p hand has ∙ is_recorded ∙ ap Some (move_eq-same recorded done same);
             may_mark = may_mark s k another waiting;
-            is_due = owes_from w s p hand has k ∙ due;
+            is_unmarked_in = unmarked_from w s p hand has k ∙ unmarked;
           },
           refl,
         )),
     shown_with m _ w _ shows (record { numbers = refl; partition = refl; issued = refl; live = refl; kept_by = refl; words = refl; hands = length-set m.hands p _ }) (record {
       wait_word = words_after k waiting;
-      hand = hand-set_at m.hands p _ (recording (w.contents.hand p) done (without (owes (w.contents.hand p)) k)) w.contents.hand (subst (λ n. p < n) (sym shows.sixteen_hands) has.exists)
-          (recording-shown (w.contents.hand p) has.hand hand.holder done (set hand.due k false) (without (owes (w.contents.hand p)) k) has.is_hand has.shows.holder
-          (marks-without hand.due (owes (w.contents.hand p)) k (due_within hand.due k due) (λ j. sym (owes_from w s p hand has j)))) shows.hand;
+      hand = hand-set_at m.hands p _ (recording (w.contents.hand p) done (without (is_unmarked (w.contents.hand p)) k)) w.contents.hand (subst (λ n. p < n) (sym shows.sixteen_hands) has.exists)
+          (recording-shown (w.contents.hand p) has.hand hand.holder done (set hand.unmarked k false) (without (is_unmarked (w.contents.hand p)) k) has.is_hand has.shows.holder
+          (marks-without hand.unmarked (is_unmarked (w.contents.hand p)) k (unmarked_within hand.unmarked k unmarked) (λ j. sym (unmarked_from w s p hand has j)))) shows.hand;
       sixteen = shows.sixteen;
       content = shows.content;
       none_begun = shows.none_begun;
@@ -145,18 +145,18 @@ module _ (m : Machine) (w : World) (safe : Safe w) (shows : Shows m w) where
       own_from m w safe shows s t n ∙ and_from _ _ (ap (λ q. (w.contents.now q).holds s t n) object ∙ moves.0) (ap not own)
   fits_own s p (Leave t) granted after object wakes own moves = tt
 
-  -- The move is made, and one of those is told whom it granted.
-  pub mark_first : (s k p : ℕ) (hand : InHand) (done : Move) (after : MovedPart) (due : List Bool) → hand_of m s p ≡ Some hand → hand.recorded ≡ None → IsInPartition p done → IsWaking done
-      → IsMoved (part_at m.parts.items p) s done after → IsOwnFor (get_or m.awaited s None) done → names_in after.woken.items k ≡ true → ((j : ℕ) → is_due due j ≡ names_in after.woken.items j) → k ≢ s
-      → wait_state (get_or m.wait_words k 0) ≡ 1 → Marks w s k p done (told_by (record m { parts = with_item m.parts p after.part }) p hand k done due)
-  mark_first s k p hand done after due in_hand unmoved object wakes moved own among marks another waiting = (
+  -- The move is made, and one of those is marked whom it granted.
+  pub mark_first : (s k p : ℕ) (hand : InHand) (done : Move) (after : MovedPart) (unmarked : List Bool) → hand_of m s p ≡ Some hand → hand.recorded ≡ None → IsInPartition p done → IsWaking done
+      → IsMoved (part_at m.parts.items p) s done after → IsOwnFor (get_or m.awaited s None) done → names_in after.woken.items k ≡ true → ((j : ℕ) → is_unmarked_in unmarked j ≡ names_in after.woken.items j) → k ≢ s
+      → wait_state (get_or m.wait_words k 0) ≡ 1 → Marks w s k p done (marked_by (record m { parts = with_item m.parts p after.part }) p hand k done unmarked)
+  mark_first s k p hand done after unmarked in_hand unmoved object wakes moved own among marks another waiting = (
     after_marking_first w s k p done moved.granted (content_of after.part),
     inl (inl (moved.granted, content_of after.part, record { may_move = may_move; may_mark = may_mark s k another waiting; among = sym (granted_named k) ∙ among }, refl)),
     shown_with m _ w _ shows (record { numbers = refl; partition = refl; issued = refl; live = refl; kept_by = refl; words = refl; hands = length-set m.hands p _ }) (record {
       wait_word = words_after k waiting;
       hand = hand-set_at m.hands p _ (recording (w.contents.hand p) done (without (waits_there moved.granted) k)) w.contents.hand (subst (λ n. p < n) (sym shows.sixteen_hands) has.exists)
-          (recording-shown (w.contents.hand p) has.hand hand.holder done (set due k false) (without (waits_there moved.granted) k) has.is_hand has.shows.holder
-          (marks-without due (waits_there moved.granted) k (due_within due k (marks k ∙ among)) (λ j. marks j ∙ granted_named j))) shows.hand;
+          (recording-shown (w.contents.hand p) has.hand hand.holder done (set unmarked k false) (without (waits_there moved.granted) k) has.is_hand has.shows.holder
+          (marks-without unmarked (waits_there moved.granted) k (unmarked_within unmarked k (marks k ∙ among)) (λ j. marks j ∙ granted_named j))) shows.hand;
       sixteen = length-set m.parts.items p after.part ∙ shows.sixteen;
       content = contents-set_at m.parts.items p after.part (content_of after.part) w.contents.now in_parts refl shows.content;
       none_begun = begun-set_at m.parts.items p after.part in_parts (moved.begun ∙ shows.none_begun p) shows.none_begun;

@@ -24,13 +24,13 @@ use Rattle.lock_world.specs.World.{World}
 use Rattle.lock_table.specs.Put.{set_at}
 use Rattle.lock_world.specs.Happens.{Lawful, Next, MayTakePartition, after_taking_partition, IsMadeByPutting, MayPutPartition, after_putting_partition, WaitIsOver, MayPutRecorded, after_putting_recorded}
 use Rattle.lock_world.specs.Safe.{Safe}
-use Rattle.lock_model.specs.Shows.{Shows, is_due, owes_nobody, makes_steps, hand_of, awaits, awaited_of, HasUnmoved, is_over, CannotMake}
+use Rattle.lock_model.specs.Shows.{Shows, is_unmarked_in, none_unmarked, makes_steps, hand_of, awaits, awaited_of, HasUnmoved, is_over, CannotMake}
 use Rattle.lock_model.proofs.Following.{get_or-set_at}
 use Rattle.lock_table.proofs.OneAnswer.{waiting_answer-one}
-use Rattle.lock_model.proofs.PlaceLemmas.{hand-set_at, owes_nobody-none, none-owes_nobody, IsChangedAt, changed_nowhere}
+use Rattle.lock_model.proofs.PlaceLemmas.{hand-set_at, none_unmarked-each, each-none_unmarked, IsChangedAt, changed_nowhere}
 use Rattle.lock_table.proofs.PutLemmas.{set_at-here, set_at-else}
 use Rattle.lock_table.proofs.QueueLaws.{one_wakes}
-use Rattle.lock_model.proofs.Showing.{recorded_from, owes_from, steps_from, hand_from, hand_not, own_from, content_from, awaits_from, no_wait_from, some_wait_from, awaits_not}
+use Rattle.lock_model.proofs.Showing.{recorded_from, unmarked_from, steps_from, hand_from, hand_not, own_from, content_from, awaits_from, no_wait_from, some_wait_from, awaits_not}
 
 -- What the code asks of the own wait before a leave is put is what the World asks.
 over_from : (awaited : Option OwnWait) (p : ℕ) (done : Move) → is_over (option_map awaited_of awaited) p done ≡ true → WaitIsOver awaited p done
@@ -69,10 +69,10 @@ WakesFor-one m before t granted other after its one two =
     ]
 
 module _ (m : Machine) (w : World) (safe : Safe w) (shows : Shows m w) where
-  pub taken : (s p : ℕ) (due : List Bool) → makes_steps m s ≡ true → p < 16 → p < length m.words → p < length m.hands → get_or m.words p free_word % 33554432 ≡ 0 → ((k : ℕ) → is_due due k ≡ false)
+  pub taken : (s p : ℕ) (unmarked : List Bool) → makes_steps m s ≡ true → p < 16 → p < length m.words → p < length m.hands → get_or m.words p free_word % 33554432 ≡ 0 → ((k : ℕ) → is_unmarked_in unmarked k ≡ false)
       → (v : World) × Next w (record { session = s; step = TakeExclusive (Partition p) }) v
-      × Shows (record m { words = set m.words p (get_or m.words p free_word + 16777216); hands = set m.hands p (Some (record { holder = s; recorded = None; due = due })) }) v
-  taken s p due steps exists in_words in_hands free none =
+      × Shows (record m { words = set m.words p (get_or m.words p free_word + 16777216); hands = set m.hands p (Some (record { holder = s; recorded = None; unmarked = unmarked })) }) v
+  taken s p unmarked steps exists in_words in_hands free none =
       let may : MayTakePartition w s p = record {
         steps = steps_from m w safe shows s steps;
         exists = exists;
@@ -88,9 +88,9 @@ module _ (m : Machine) (w : World) (safe : Safe w) (shows : Shows m w) where
           word = λ q. get_or-set_at m.words p (get_or m.words p free_word + 16777216) free_word w.words.partition in_words shows.word q
               ∙ ap (λ n. set_at w.words.partition p (n + 16777216) q) (shows.word p);
           wait_word = shows.wait_word;
-          hand = hand-set_at m.hands p (Some (record { holder = s; recorded = None; due = due })) (Some (record { holder = s; taken = w.contents.now p; recorded = None; due = λ _. false })) w.contents.hand in_hands
-              (record { holder = refl; recorded = refl; due = none }) shows.hand;
-          sixteen_hands = length-set m.hands p (Some (record { holder = s; recorded = None; due = due })) ∙ shows.sixteen_hands;
+          hand = hand-set_at m.hands p (Some (record { holder = s; recorded = None; unmarked = unmarked })) (Some (record { holder = s; taken = w.contents.now p; recorded = None; unmarked = λ _. false })) w.contents.hand in_hands
+              (record { holder = refl; recorded = refl; unmarked = none }) shows.hand;
+          sixteen_hands = length-set m.hands p (Some (record { holder = s; recorded = None; unmarked = unmarked })) ∙ shows.sixteen_hands;
           sixteen = shows.sixteen;
           content = shows.content;
           none_begun = shows.none_begun;
@@ -126,7 +126,7 @@ module _ (m : Machine) (w : World) (safe : Safe w) (shows : Shows m w) where
   }
 
   -- A put with the move that stands recorded.
-  pub recorded_put : (s p : ℕ) (done : Move) (shown : InHand) → hand_of m s p ≡ Some shown → shown.recorded ≡ Some done → owes_nobody shown.due ≡ true → is_over (get_or m.awaited s None) p done ≡ true → p < length m.words
+  pub recorded_put : (s p : ℕ) (done : Move) (shown : InHand) → hand_of m s p ≡ Some shown → shown.recorded ≡ Some done → none_unmarked shown.unmarked ≡ true → is_over (get_or m.awaited s None) p done ≡ true → p < length m.words
       → (v : World) × Next w (record { session = s; step = PutExclusive (Partition p) done }) v
       × Shows (record m { words = set m.words p (put_word (get_or m.words p free_word)); hands = set m.hands p None }) v
   recorded_put s p done shown in_hand recorded nobody over in_words =
@@ -135,7 +135,7 @@ module _ (m : Machine) (w : World) (safe : Safe w) (shows : Shows m w) where
         steps = has.steps;
         holding = has.holding;
         recorded = recorded_from w s p shown has ∙ recorded;
-        all_told = λ other. owes_from w s p shown has other ∙ owes_nobody-none shown.due nobody other;
+        all_marked = λ other. unmarked_from w s p shown has other ∙ none_unmarked-each shown.unmarked nobody other;
         wait_is_over = over_from (w.sessions.awaited s) p done (sym (ap (λ o. is_over o p done) (shows.awaited s)) ∙ over);
       } in (
         after_putting_recorded w s p,
@@ -150,7 +150,7 @@ module _ (m : Machine) (w : World) (safe : Safe w) (shows : Shows m w) where
 
   -- With a move recorded, no other one is put, and that one only once all is done that it asks.
   pub only_recorded : (s p : ℕ) (done other : Move) (shown : InHand) → hand_of m s p ≡ Some shown → shown.recorded ≡ Some other → Lawful w (record { session = s; step = PutExclusive (Partition p) done })
-      → (other ≡ done) × (owes_nobody shown.due ≡ true) × (is_over (get_or m.awaited s None) p done ≡ true)
+      → (other ≡ done) × (none_unmarked shown.unmarked ≡ true) × (is_over (get_or m.awaited s None) p done ≡ true)
   only_recorded s p done other shown in_hand recorded (v, inl made) =
       let has = hand_from m w safe shows s p shown in_hand in
       let none : Some other ≡ None = sym recorded ∙ sym (recorded_from w s p shown has) ∙ made.1.may_move.unrecorded in
@@ -160,7 +160,7 @@ module _ (m : Machine) (w : World) (safe : Safe w) (shows : Shows m w) where
       let same : Some other ≡ Some done = sym recorded ∙ sym (recorded_from w s p shown has) ∙ put.0.recorded in
       let it : other ≡ done = cc in (
         it,
-        none-owes_nobody shown.due (λ k. sym (owes_from w s p shown has k) ∙ put.0.all_told k),
+        each-none_unmarked shown.unmarked (λ k. sym (unmarked_from w s p shown has k) ∙ put.0.all_marked k),
         ap (λ o. is_over o p done) (shows.awaited s) ∙ from_over (w.sessions.awaited s) p done put.0.wait_is_over,
       )
 

@@ -13,7 +13,7 @@ use Rattle.lock_world.specs.Making.{recording, without}
 use Rattle.lock_table.specs.Parts.{no_part, part_at, contents_in}
 use Rattle.lock_table.specs.PartView.{PartView, content_of}
 use Rattle.lock_table.specs.Queue.{waits_there}
-use Rattle.lock_model.specs.Shows.{ShowsHandIfAny, is_due, names_in, awaited_of}
+use Rattle.lock_model.specs.Shows.{ShowsHandIfAny, is_unmarked_in, names_in, awaited_of}
 use Rattle.lock_table.specs.Waiter.{whose_and_mode}
 use Rattle.lock_world.specs.World.{Hand}
 use Rattle.lock_table.specs.Put.{set_at}
@@ -21,11 +21,11 @@ use Rattle.lock_table.proofs.PutLemmas.{set_at-here, set_at-else}
 
 -- One of those woken marked, with those before it.
 pub marks-one_more : (marks : List Bool) (woken : List (ℕ × Mode)) (n : ℕ) (whose : ℕ × Mode) (i : ℕ) → i < length marks → i ≡ whose.0 → n < length woken → whose ≡ get_or woken n whose
-    → ((k : ℕ) → is_due marks k ≡ names_in (take n woken) k) → (k : ℕ) → is_due (set marks i true) k ≡ names_in (take (n + 1) woken) k
+    → ((k : ℕ) → is_unmarked_in marks k ≡ names_in (take n woken) k) → (k : ℕ) → is_unmarked_in (set marks i true) k ≡ names_in (take (n + 1) woken) k
 marks-one_more marks woken n whose i within place in_woken is so_far k =
     elim (cases_eq k i) [
       | inl same ↦
-          ap (is_due (set marks i true)) same ∙ get_or-set_same marks i true false within
+          ap (is_unmarked_in (set marks i true)) same ∙ get_or-set_same marks i true false within
           ∙ sym (more ∙ ap (λ b. names_in (take n woken) k || b) (eq-eqb whose.0 k (sym place ∙ sym same)) ∙ or_true (names_in (take n woken) k))
       | inr other ↦
           get_or-set_other marks i k true false other ∙ so_far k
@@ -42,21 +42,21 @@ marks-one_more marks woken n whose i within place in_woken is so_far k =
       or_false true = refl
       or_false false = refl
 
--- Those told of a wakeup are those whose waits it granted.
+-- Those that a wakeup names are those whose waits it granted.
 pub names_in-granted : (granted : List Wait) (k : ℕ) → names_in (map whose_and_mode granted) k ≡ waits_there granted k
 names_in-granted [] k = refl
 names_in-granted (wait ∷ granted) k = ap (λ b. (wait.session == k) || b) (names_in-granted granted k)
 
--- Marks without one are those of whom all but this one are to be told.
-pub marks-without : (marks : List Bool) (due : ℕ → Bool) (told : ℕ) → told < length marks → ((k : ℕ) → is_due marks k ≡ due k) → (k : ℕ) → is_due (set marks told false) k ≡ without due told k
-marks-without marks due told within is k =
-    elim (cases_eq k told) [
+-- Marks without one are those of all but this one.
+pub marks-without : (marks : List Bool) (unmarked : ℕ → Bool) (marked : ℕ) → marked < length marks → ((k : ℕ) → is_unmarked_in marks k ≡ unmarked k) → (k : ℕ) → is_unmarked_in (set marks marked false) k ≡ without unmarked marked k
+marks-without marks unmarked marked within is k =
+    elim (cases_eq k marked) [
       | inl same ↦
-          ap (is_due (set marks told false)) same ∙ get_or-set_same marks told false false within
-          ∙ sym (ap (λ b. due k && not b) (eq-eqb k told same) ∙ and_false (due k))
+          ap (is_unmarked_in (set marks marked false)) same ∙ get_or-set_same marks marked false false within
+          ∙ sym (ap (λ b. unmarked k && not b) (eq-eqb k marked same) ∙ and_false (unmarked k))
       | inr other ↦
-          get_or-set_other marks told k false false other ∙ is k
-          ∙ sym (ap (λ b. due k && not b) (ne_eqb k told other) ∙ and_true (due k))
+          get_or-set_other marks marked k false false other ∙ is k
+          ∙ sym (ap (λ b. unmarked k && not b) (ne_eqb k marked other) ∙ and_true (unmarked k))
     ] where
       and_false : (b : Bool) → (b && false) ≡ false
       and_false true = refl
@@ -67,11 +67,11 @@ marks-without marks due told within is k =
       and_true false = refl
 
 -- A hand that records a move is shown by the machine's hand that does.
-pub recording-shown : (h : Option Hand) (hand : Hand) (holder : ℕ) (done : Move) (marks : List Bool) (due : ℕ → Bool) → h ≡ Some hand → holder ≡ hand.holder → ((k : ℕ) → is_due marks k ≡ due k)
-    → ShowsHandIfAny (Some (record { holder = holder; recorded = Some done; due = marks })) (recording h done due)
-recording-shown h hand holder done marks due is whose same =
-    subst (λ (o : Option Hand). ShowsHandIfAny (Some (record { holder = holder; recorded = Some done; due = marks })) (recording o done due)) (sym is)
-    (record { holder = whose; recorded = refl; due = same })
+pub recording-shown : (h : Option Hand) (hand : Hand) (holder : ℕ) (done : Move) (marks : List Bool) (unmarked : ℕ → Bool) → h ≡ Some hand → holder ≡ hand.holder → ((k : ℕ) → is_unmarked_in marks k ≡ unmarked k)
+    → ShowsHandIfAny (Some (record { holder = holder; recorded = Some done; unmarked = marks })) (recording h done unmarked)
+recording-shown h hand holder done marks unmarked is whose same =
+    subst (λ (o : Option Hand). ShowsHandIfAny (Some (record { holder = holder; recorded = Some done; unmarked = marks })) (recording o done unmarked)) (sym is)
+    (record { holder = whose; recorded = refl; unmarked = same })
 
 -- A list of waits with one place written.
 pub awaited-set_at : (xs : List (Option Awaited)) (k : ℕ) (a : Option Awaited) (o : Option OwnWait) (f : ℕ → Option OwnWait) → k < length xs → a ≡ option_map awaited_of o → ((j : ℕ) → get_or xs j None ≡ option_map awaited_of (f j))

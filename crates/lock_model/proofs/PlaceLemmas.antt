@@ -10,7 +10,7 @@ use Rattle.lock_table.specs.Put.{set_at}
 use Rattle.lock_table.specs.Content.{Content}
 use Rattle.lock_table.specs.PartView.{PartView, content_of}
 use Rattle.lock_table.specs.Parts.{no_part, part_at}
-use Rattle.lock_model.specs.Shows.{ShowsHandIfAny, is_due, owes_nobody}
+use Rattle.lock_model.specs.Shows.{ShowsHandIfAny, is_unmarked_in, none_unmarked}
 use Rattle.lock_table.proofs.ListLemmas.{found_within}
 use Rattle.lock_table.proofs.PutLemmas.{set_at-here, set_at-else}
 
@@ -35,15 +35,15 @@ get_or-one_value n a k =
     ]
 
 -- Marks that owe nobody have nobody marked, and the other way round.
-pub owes_nobody-none : (due : List Bool) → owes_nobody due ≡ true → (k : ℕ) → is_due due k ≡ false
-owes_nobody-none due e k = false_from_ne_true _ (λ marked. both_ways (list_any (λ b. b) due) (not-true _ e) (found_within (λ b. b) due k false refl marked))
+pub none_unmarked-each : (unmarked : List Bool) → none_unmarked unmarked ≡ true → (k : ℕ) → is_unmarked_in unmarked k ≡ false
+none_unmarked-each unmarked e k = false_from_ne_true _ (λ marked. both_ways (list_any (λ b. b) unmarked) (not-true _ e) (found_within (λ b. b) unmarked k false refl marked))
 
-none_marked : (due : List Bool) → ((k : ℕ) → is_due due k ≡ false) → list_any (λ b. b) due ≡ false
+none_marked : (unmarked : List Bool) → ((k : ℕ) → is_unmarked_in unmarked k ≡ false) → list_any (λ b. b) unmarked ≡ false
 none_marked [] none = refl
-none_marked (b ∷ due) none = or_from b (list_any (λ b. b) due) (none zero) (none_marked due (λ k. none (suc k)))
+none_marked (b ∷ unmarked) none = or_from b (list_any (λ b. b) unmarked) (none zero) (none_marked unmarked (λ k. none (suc k)))
 
-pub none-owes_nobody : (due : List Bool) → ((k : ℕ) → is_due due k ≡ false) → owes_nobody due ≡ true
-none-owes_nobody due none = not_from_false _ (none_marked due none)
+pub each-none_unmarked : (unmarked : List Bool) → ((k : ℕ) → is_unmarked_in unmarked k ≡ false) → none_unmarked unmarked ≡ true
+each-none_unmarked unmarked none = not_from_false _ (none_marked unmarked none)
 
 -- Of the parts one alone was changed, with this content now, and no request is begun in it.
 pub record IsChangedAt (before after : List PartView) (p : ℕ) (now : Content) : Type 0 where

@@ -10,9 +10,9 @@ use Rattle.lock_model.specs.declared.machine.state.Machine.{Machine}
 use Rattle.lock_table.specs.OwnWait.{OwnWait, Stage, InQueue, WasGranted, HasLeft, is_for, is_pending, queued_by}
 use Rattle.lock_table.specs.Parts.{contents_in}
 use Rattle.lock_table.specs.Queue.{waits_there, awaits_mode}
-use Rattle.lock_world.specs.World.{World, Hand, MakesSteps, recorded_in, owes}
+use Rattle.lock_world.specs.World.{World, Hand, MakesSteps, recorded_in, is_unmarked}
 use Rattle.lock_world.specs.Safe.{Safe, is_hand_of, stages}
-use Rattle.lock_model.specs.Shows.{Shows, ShowsHand, ShowsHandIfAny, is_due, is_holder, makes_steps, hand_of, awaits, awaited_of}
+use Rattle.lock_model.specs.Shows.{Shows, ShowsHand, ShowsHandIfAny, is_unmarked_in, is_holder, makes_steps, hand_of, awaits, awaited_of}
 use Rattle.lock_table.proofs.ListLemmas.{any_weaker, filter_nothing}
 
 -- What the machine's looks tell of a safe World that it shows.
@@ -30,8 +30,8 @@ pub record HasInHand (w : World) (s p : ℕ) (shown : InHand) : Type 0 where
 pub recorded_from : (w : World) (s p : ℕ) (shown : InHand) → HasInHand w s p shown → recorded_in (w.contents.hand p) ≡ shown.recorded
 recorded_from w s p shown has = ap recorded_in has.is_hand ∙ sym has.shows.recorded
 
-pub owes_from : (w : World) (s p : ℕ) (shown : InHand) → HasInHand w s p shown → (k : ℕ) → owes (w.contents.hand p) k ≡ is_due shown.due k
-owes_from w s p shown has k = ap (λ h. owes h k) has.is_hand ∙ sym (has.shows.due k)
+pub unmarked_from : (w : World) (s p : ℕ) (shown : InHand) → HasInHand w s p shown → (k : ℕ) → is_unmarked (w.contents.hand p) k ≡ is_unmarked_in shown.unmarked k
+unmarked_from w s p shown has k = ap (λ h. is_unmarked h k) has.is_hand ∙ sym (has.shows.unmarked k)
 
 none_of : {A : Type 0} (o : Option A) → is_none o ≡ true → o ≡ None
 none_of None e = refl

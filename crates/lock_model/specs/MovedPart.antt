@@ -6,7 +6,7 @@ use Rattle.lock_table.specs.Moves.{Moves}
 use Rattle.lock_table.specs.PartView.{PartView, content_of}
 use Rattle.lock_table.specs.Waiter.{whose_and_mode}
 
--- The part was moved: this is what the session's move makes of it, with those told whom the move granted.
+-- The part was moved: this is what the session's move makes of it, with those named whom the move granted.
 pub record IsMoved (before : PartView) (session : ℕ) (done : Move) (after : MovedPart) : Type 0 where
   pub granted : List Wait
   pub moves : Moves (content_of before) session done granted (content_of after.part)

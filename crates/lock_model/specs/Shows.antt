@@ -33,13 +33,13 @@ ListsHolds list holds = (session : ℕ) (tag : Tag) (mode : Mode) → count_by (
 abbrev pub AreInTable : List Hold → Type 0
 AreInTable list = All (λ hold. hold.spot ≡ Table) list
 
--- whether the session is marked as one to be told
-abbrev pub is_due : List Bool → ℕ → Bool
-is_due due session = slice_index_or due session false
+-- whether the session is one of those unmarked
+abbrev pub is_unmarked_in : List Bool → ℕ → Bool
+is_unmarked_in unmarked session = slice_index_or unmarked session false
 
 -- whether no session is marked
-abbrev pub owes_nobody : List Bool → Bool
-owes_nobody due = not (list_any (λ b. b) due)
+abbrev pub none_unmarked : List Bool → Bool
+none_unmarked unmarked = not (list_any (λ b. b) unmarked)
 
 -- whether the session is among those woken
 abbrev pub names_in : List (ℕ × Mode) → ℕ → Bool
@@ -49,7 +49,7 @@ names_in woken session = list_any (λ whose. whose.0 == session) woken
 pub record ShowsHand (shown : InHand) (hand : Hand) : Type 0 where
   pub holder : shown.holder ≡ hand.holder
   pub recorded : shown.recorded ≡ hand.recorded
-  pub due : (session : ℕ) → is_due shown.due session ≡ hand.due session
+  pub unmarked : (session : ℕ) → is_unmarked_in shown.unmarked session ≡ hand.unmarked session
 
 abbrev pub ShowsHandIfAny : Option InHand → Option Hand → Type 0
 ShowsHandIfAny None None = Unit {0}

@@ -81,33 +81,33 @@ hold_all-other_object (w ∷ granted) holds t k o n other =
 -- ---- a session after a wakeup of the object's queue
 
 -- the stage of a wait, with those granted
-abbrev pub told_as : Bool → Stage → Stage
-told_as b st = if b then WasGranted else st
+abbrev pub granted_as : Bool → Stage → Stage
+granted_as b st = if b then WasGranted else st
 
-abbrev pub told : (ℕ → Stage) → List Wait → ℕ → Stage
-told stage granted k = if waits_there granted k then WasGranted else stage k
+abbrev pub with_granted : (ℕ → Stage) → List Wait → ℕ → Stage
+with_granted stage granted k = if waits_there granted k then WasGranted else stage k
 
 -- What is so of a session after the wakeup: what it still has in the queue, what it was granted, and that nothing changed
 -- for it on other objects.
-record IsTold (k : ℕ) (own : Option OwnWait) (st after : Stage) (t : Tag) (granted left : List Wait) : Type 0 where
+record IsWoken (k : ℕ) (own : Option OwnWait) (st after : Stage) (t : Tag) (granted left : List Wait) : Type 0 where
   pub in_queue : of_session k left ≡ queued_by k own after t
   pub pending : (m : Mode) → is_pending own after t m ≡ (is_pending own st t m || awaits_mode granted k m)
   pub queued_elsewhere : (o : Tag) → tag_eq o t ≡ false → queued_by k own after o ≡ queued_by k own st o
   pub pending_elsewhere : (o : Tag) (m : Mode) → tag_eq o t ≡ false → is_pending own after o m ≡ is_pending own st o m
 
-IsTold-not : (k : ℕ) (own : Option OwnWait) (st : Stage) (t : Tag) (granted left : List Wait) → of_session k granted ≡ [] → of_session k left ≡ queued_by k own st t → IsTold k own st (told_as (waits_there granted k) st) t granted left
-IsTold-not k own st t granted left none stays =
-    subst (λ b. IsTold k own st (told_as b st) t granted left) (sym (none-there k granted none)) (record {
+IsWoken-not : (k : ℕ) (own : Option OwnWait) (st : Stage) (t : Tag) (granted left : List Wait) → of_session k granted ≡ [] → of_session k left ≡ queued_by k own st t → IsWoken k own st (granted_as (waits_there granted k) st) t granted left
+IsWoken-not k own st t granted left none stays =
+    subst (λ b. IsWoken k own st (granted_as b st) t granted left) (sym (none-there k granted none)) (record {
       in_queue = stays;
       pending = λ m. sym (ap (λ b. is_pending own st t m || b) (awaits-of k m granted ∙ ap (list_any (λ w. mode_eq w.mode m)) none) ∙ or-false (is_pending own st t m));
       queued_elsewhere = λ o other. refl;
       pending_elsewhere = λ o m other. refl;
     })
 
-IsTold-granted : (k : ℕ) (wait : OwnWait) (t : Tag) (granted left : List Wait) → wait.tag ≡ t → of_session k granted ≡ entry_of k wait ∷ [] → of_session k left ≡ [] →
-    IsTold k (Some wait) InQueue (told_as (waits_there granted k) InQueue) t granted left
-IsTold-granted k wait t granted left tag one none =
-    subst (λ b. IsTold k (Some wait) InQueue (told_as b InQueue) t granted left) (sym (one-there k granted [] (entry_of k wait) one)) (record {
+IsWoken-granted : (k : ℕ) (wait : OwnWait) (t : Tag) (granted left : List Wait) → wait.tag ≡ t → of_session k granted ≡ entry_of k wait ∷ [] → of_session k left ≡ [] →
+    IsWoken k (Some wait) InQueue (granted_as (waits_there granted k) InQueue) t granted left
+IsWoken-granted k wait t granted left tag one none =
+    subst (λ b. IsWoken k (Some wait) InQueue (granted_as b InQueue) t granted left) (sym (one-there k granted [] (entry_of k wait) one)) (record {
       in_queue = none;
       pending = λ m.
           ap (λ b. b && mode_eq wait.mode m) (ap (λ x. tag_eq x t) tag ∙ tag_eq-refl t) ∙
@@ -118,37 +118,37 @@ IsTold-granted k wait t granted left tag one none =
       off : (o : Tag) → tag_eq o t ≡ false → tag_eq wait.tag o ≡ false
       off o other = ap (λ x. tag_eq x o) tag ∙ tag_eq-turned o t other
 
-IsTold-nothing : (k : ℕ) (own : Option OwnWait) (st : Stage) (t : Tag) (queue granted left : List Wait) → IsSplitOf queue granted left → of_session k queue ≡ queued_by k own st t → queued_by k own st t ≡ [] →
-    IsTold k own st (told_as (waits_there granted k) st) t granted left
-IsTold-nothing k own st t queue granted left split is nothing_there =
+IsWoken-nothing : (k : ℕ) (own : Option OwnWait) (st : Stage) (t : Tag) (queue granted left : List Wait) → IsSplitOf queue granted left → of_session k queue ≡ queued_by k own st t → queued_by k own st t ≡ [] →
+    IsWoken k own st (granted_as (waits_there granted k) st) t granted left
+IsWoken-nothing k own st t queue granted left split is nothing_there =
     let parts = split-none k queue granted left split (is ∙ nothing_there) in
-    IsTold-not k own st t granted left parts.0 (parts.1 ∙ sym nothing_there)
+    IsWoken-not k own st t granted left parts.0 (parts.1 ∙ sym nothing_there)
 
-IsTold-waiting : (k : ℕ) (wait : OwnWait) (t : Tag) (queue granted left : List Wait) → IsSplitOf queue granted left → of_session k queue ≡ queued_by k (Some wait) InQueue t → wait.tag ≡ t →
-    IsTold k (Some wait) InQueue (told_as (waits_there granted k) InQueue) t granted left
-IsTold-waiting k wait t queue granted left split is tag = at (split-one k queue granted left (entry_of k wait) split (is ∙ one)) where
+IsWoken-waiting : (k : ℕ) (wait : OwnWait) (t : Tag) (queue granted left : List Wait) → IsSplitOf queue granted left → of_session k queue ≡ queued_by k (Some wait) InQueue t → wait.tag ≡ t →
+    IsWoken k (Some wait) InQueue (granted_as (waits_there granted k) InQueue) t granted left
+IsWoken-waiting k wait t queue granted left split is tag = at (split-one k queue granted left (entry_of k wait) split (is ∙ one)) where
   one : queued_by k (Some wait) InQueue t ≡ entry_of k wait ∷ []
   one = cond-true (tag_eq wait.tag t) (entry_of k wait ∷ []) [] (ap (λ x. tag_eq x t) tag ∙ tag_eq-refl t)
 
-  at : ((of_session k granted ≡ entry_of k wait ∷ []) × (of_session k left ≡ [])) ⊎ ((of_session k granted ≡ []) × (of_session k left ≡ entry_of k wait ∷ [])) → IsTold k (Some wait) InQueue (told_as (waits_there granted k) InQueue) t granted left
-  at (inl goes) = IsTold-granted k wait t granted left tag goes.0 goes.1
-  at (inr stays) = IsTold-not k (Some wait) InQueue t granted left stays.0 (stays.1 ∙ sym one)
+  at : ((of_session k granted ≡ entry_of k wait ∷ []) × (of_session k left ≡ [])) ⊎ ((of_session k granted ≡ []) × (of_session k left ≡ entry_of k wait ∷ [])) → IsWoken k (Some wait) InQueue (granted_as (waits_there granted k) InQueue) t granted left
+  at (inl goes) = IsWoken-granted k wait t granted left tag goes.0 goes.1
+  at (inr stays) = IsWoken-not k (Some wait) InQueue t granted left stays.0 (stays.1 ∙ sym one)
 
-is_told : (k : ℕ) (own : Option OwnWait) (st : Stage) (t : Tag) (queue granted left : List Wait) → IsSplitOf queue granted left → of_session k queue ≡ queued_by k own st t → IsTold k own st (told_as (waits_there granted k) st) t granted left
-is_told k None st t queue granted left split is = IsTold-nothing k None st t queue granted left split is refl
-is_told k (Some wait) WasGranted t queue granted left split is = IsTold-nothing k (Some wait) WasGranted t queue granted left split is refl
-is_told k (Some wait) HasLeft t queue granted left split is = IsTold-nothing k (Some wait) HasLeft t queue granted left split is refl
-is_told k (Some wait) InQueue t queue granted left split is =
+is_woken : (k : ℕ) (own : Option OwnWait) (st : Stage) (t : Tag) (queue granted left : List Wait) → IsSplitOf queue granted left → of_session k queue ≡ queued_by k own st t → IsWoken k own st (granted_as (waits_there granted k) st) t granted left
+is_woken k None st t queue granted left split is = IsWoken-nothing k None st t queue granted left split is refl
+is_woken k (Some wait) WasGranted t queue granted left split is = IsWoken-nothing k (Some wait) WasGranted t queue granted left split is refl
+is_woken k (Some wait) HasLeft t queue granted left split is = IsWoken-nothing k (Some wait) HasLeft t queue granted left split is refl
+is_woken k (Some wait) InQueue t queue granted left split is =
     elim (cases_Bool (tag_eq wait.tag t)) [
-      | inl same ↦ IsTold-waiting k wait t queue granted left split is (tag_eq-same wait.tag t same)
-      | inr other ↦ IsTold-nothing k (Some wait) InQueue t queue granted left split is (cond-false (tag_eq wait.tag t) (entry_of k wait ∷ []) [] other)
+      | inl same ↦ IsWoken-waiting k wait t queue granted left split is (tag_eq-same wait.tag t same)
+      | inr other ↦ IsWoken-nothing k (Some wait) InQueue t queue granted left split is (cond-false (tag_eq wait.tag t) (entry_of k wait ∷ []) [] other)
     ]
 
 -- ---- the object of a change
 
--- After a wakeup the object's content and the sessions told of it agree.
+-- After a wakeup the object's content and the sessions with_granted of it agree.
 pub AgreesOn-wakes : (before after : Content) (t : Tag) (granted : List Wait) (own : Holds) (awaited : ℕ → Option OwnWait) (stage : ℕ → Stage) →
-    AgreesOn before t own awaited stage → Wakes before t granted after → AgreesOn after t own awaited (told stage granted)
+    AgreesOn before t own awaited stage → Wakes before t granted after → AgreesOn after t own awaited (with_granted stage granted)
 AgreesOn-wakes before after t granted own awaited stage agrees wakes =
     record {
       held = λ s m.
@@ -156,8 +156,8 @@ AgreesOn-wakes before after t granted own awaited stage agrees wakes =
           regroup (own s t m) (is_pending (awaited s) (stage s) t m) (awaits_mode granted s m) ∙ ap (λ b. own s t m || b) (sym ((it s).pending m));
       in_queue = λ s. (it s).in_queue;
     } where
-      it : (s : ℕ) → IsTold s (awaited s) (stage s) (told stage granted s) t granted (after.waits t)
-      it s = is_told s (awaited s) (stage s) t (before.waits t) granted (after.waits t) (woken-split before t granted after wakes) (agrees.in_queue s)
+      it : (s : ℕ) → IsWoken s (awaited s) (stage s) (with_granted stage granted s) t granted (after.waits t)
+      it s = is_woken s (awaited s) (stage s) t (before.waits t) granted (after.waits t) (woken-split before t granted after wakes) (agrees.in_queue s)
 
       regroup : (a b c : Bool) → ((a || b) || c) ≡ (a || (b || c))
       regroup true b c = refl
@@ -274,17 +274,17 @@ AreInOnePlace-change now own own_after awaited awaited_after stage stage_after p
 pub AreInOnePlace-wakes : (now : ℕ → Content) (own own_after : Holds) (awaited : ℕ → Option OwnWait) (stage stage_between : ℕ → Stage) (p : ℕ) (t : Tag) (between after : Content) (granted : List Wait) →
     AreInOnePlace now own awaited stage → partition_of t ≡ p → ChangesOnly (now p) between t → SameElsewhere own own_after awaited awaited stage stage_between t →
     AgreesOn between t own_after awaited stage_between → NotOwn own_after awaited → Wakes between t granted after →
-    AreInOnePlace (set_at now p after) own_after awaited (told stage_between granted)
+    AreInOnePlace (set_at now p after) own_after awaited (with_granted stage_between granted)
 AreInOnePlace-wakes now own own_after awaited stage stage_between p t between after granted one object only same on_it not_own wakes =
-    AreInOnePlace-change now own own_after awaited awaited stage (told stage_between granted) p t after one object
+    AreInOnePlace-change now own own_after awaited awaited stage (with_granted stage_between granted) p t after one object
     (ChangesOnly-both (now p) between after t only (ChangesOnly-wakes between after t granted wakes))
     (record {
       held = λ s o m other. ap (λ b. own_after s o m || b) ((it s).pending_elsewhere o m other) ∙ same.held s o m other;
       queued = λ s o other. (it s).queued_elsewhere o other ∙ same.queued s o other;
     })
     (AgreesOn-wakes between after t granted own_after awaited stage_between on_it wakes) not_own where
-      it : (s : ℕ) → IsTold s (awaited s) (stage_between s) (told stage_between granted s) t granted (after.waits t)
-      it s = is_told s (awaited s) (stage_between s) t (between.waits t) granted (after.waits t) (woken-split between t granted after wakes) (on_it.in_queue s)
+      it : (s : ℕ) → IsWoken s (awaited s) (stage_between s) (with_granted stage_between granted s) t granted (after.waits t)
+      it s = is_woken s (awaited s) (stage_between s) t (between.waits t) granted (after.waits t) (woken-split between t granted after wakes) (on_it.in_queue s)
 
 -- A hold set or gone, where no wait is for it or it is gone, leaves no own hold awaited.
 pub NotOwn-set : (own : Holds) (awaited : ℕ → Option OwnWait) (s : ℕ) (t : Tag) (m : Mode) (there : Bool) → (is_for (awaited s) t m ≡ true → there ≡ false) → NotOwn own awaited → NotOwn (set_hold own s t m there) awaited

@@ -17,7 +17,7 @@ use Rattle.lock_table.proofs.QueueLaws.{HasMore-set, NoneFreeBehind-more, NoneFr
 use Rattle.lock_table.proofs.QueueLemmas.{granted-no_holder}
 use Rattle.lock_world.proofs.OnePlaceLemmas.{NoConflictIn, NoConflictingHolds-set, NoConflictIn-added, NoConflictIn-removed}
 use Rattle.lock_table.proofs.QueuesOf.{of_session, IsInQueue, at_end, ahead_of, joined-its, joined-other, without-its, without-other}
-use Rattle.lock_world.proofs.AgreeingMoves.{tag_eq-turned, not_pending, told, AgreesOn-set, ChangesOnly, ChangesOnly-set, ChangesOnly-both, ChangesOnly-wakes, SameElsewhere, SameElsewhere-set, NotOwn, NotOwn-set, AreInOnePlace-change, AreInOnePlace-wakes, NoneFree-change, NobodyIsFree-set, Standing, standing, nothing, waiting}
+use Rattle.lock_world.proofs.AgreeingMoves.{tag_eq-turned, not_pending, with_granted, AgreesOn-set, ChangesOnly, ChangesOnly-set, ChangesOnly-both, ChangesOnly-wakes, SameElsewhere, SameElsewhere-set, NotOwn, NotOwn-set, AreInOnePlace-change, AreInOnePlace-wakes, NoneFree-change, NobodyIsFree-set, Standing, standing, nothing, waiting}
 
 -- What each move leaves: no conflict, each in one place, nobody free.
 
@@ -94,7 +94,7 @@ module _ (now : ℕ → Content) (own : Holds) (awaited : ℕ → Option OwnWait
     }
 
     -- a release with a wakeup
-    pub LeavesSafe-woken : (granted : List Wait) (after : Content) → Wakes (remove_hold (now p) s t m) t granted after → LeavesSafe (set_at now p after) (set_hold own s t m false) awaited (told stage granted)
+    pub LeavesSafe-woken : (granted : List Wait) (after : Content) → Wakes (remove_hold (now p) s t m) t granted after → LeavesSafe (set_at now p after) (set_hold own s t m false) awaited (with_granted stage granted)
     LeavesSafe-woken granted after wakes = record {
       no_conflict = NoConflictingHolds-set now p after (woken-no_conflict (remove_hold (now p) s t m) t granted after wakes no_conflict) safe.no_conflict;
       one_place = AreInOnePlace-wakes now own (set_hold own s t m false) awaited stage stage p t (remove_hold (now p) s t m) after granted safe.one_place object only
@@ -165,7 +165,7 @@ module _ (now : ℕ → Content) (own : Holds) (awaited : ℕ → Option OwnWait
         ];
       }
 
-  pub LeavesSafe-left : (granted : List Wait) (after : Content) → Wakes (remove_wait (now p) s t) t granted after → LeavesSafe (set_at now p after) own awaited (told (set_stage stage s HasLeft) granted)
+  pub LeavesSafe-left : (granted : List Wait) (after : Content) → Wakes (remove_wait (now p) s t) t granted after → LeavesSafe (set_at now p after) own awaited (with_granted (set_stage stage s HasLeft) granted)
   LeavesSafe-left granted after wakes =
       let only = ChangesOnly-queue (now p) t (queue_without ((now p).waits t) s) in
       record {

@@ -13,7 +13,7 @@ use Rattle.lock_table.specs.Content.{Wait}
 use Rattle.lock_table.specs.OwnWait.{OwnWait, Stage, InQueue, WasGranted, HasLeft, entry_of, is_for, is_pending, queued_by}
 use Rattle.lock_table.specs.Queue.{waits_there}
 use Rattle.lock_world.specs.WaitWord.{wait_state}
-use Rattle.lock_world.specs.World.{World, Hand, owes, recorded_in}
+use Rattle.lock_world.specs.World.{World, Hand, is_unmarked, recorded_in}
 use Rattle.lock_world.specs.Safe.{Safe, stage_of, stage_by_hand, stages, is_hand_of, is_leave_of}
 use Rattle.lock_table.proofs.Options.{one_some}
 
@@ -99,15 +99,15 @@ stage-not_shown word hand s wait not_shown =
 stage-queued : (word : ℕ) (hand : ℕ → Option Hand) (s : ℕ) (wait : OwnWait) → stage_of word hand s (Some wait) ≡ InQueue → wait_state word ≢ 2
 stage-queued word hand s wait in_queue shown = let granted : stage_of word hand s (Some wait) ≡ WasGranted = stage-shown word hand s wait shown in cc
 
--- A wait was granted where its word shows it, or where the hand owes word of it.
-abbrev pub IsTold : ℕ → Option Hand → ℕ → Type 0
-IsTold word hand s = (wait_state word ≡ 2) ⊎ (owes hand s ≡ true)
+-- A wait was granted where its word shows it, or where the grant stands unmarked in the hand.
+abbrev pub IsGranted : ℕ → Option Hand → ℕ → Type 0
+IsGranted word hand s = (wait_state word ≡ 2) ⊎ (is_unmarked hand s ≡ true)
 
-granted-by_hand : (hand : Option Hand) (s : ℕ) (t : Tag) → stage_by_hand hand s t ≡ WasGranted → owes hand s ≡ true
+granted-by_hand : (hand : Option Hand) (s : ℕ) (t : Tag) → stage_by_hand hand s t ≡ WasGranted → is_unmarked hand s ≡ true
 granted-by_hand hand s t granted =
-    elim (cases_Bool (owes hand s)) [
-      | inl owed ↦ owed
-      | inr not_owed ↦ absurd (not_left (is_hand_of hand s && is_leave_of (recorded_in hand) t) (sym (cond-false (owes hand s) WasGranted _ not_owed) ∙ granted))
+    elim (cases_Bool (is_unmarked hand s)) [
+      | inl stands_unmarked ↦ stands_unmarked
+      | inr not_unmarked ↦ absurd (not_left (is_hand_of hand s && is_leave_of (recorded_in hand) t) (sym (cond-false (is_unmarked hand s) WasGranted _ not_unmarked) ∙ granted))
     ] where
       not_left : (left : Bool) → cond left HasLeft InQueue ≡ WasGranted → ⊥
       not_left true e = cc
@@ -118,38 +118,38 @@ pending-parts awaited InQueue t m pending = absurd (false≢true pending)
 pending-parts awaited WasGranted t m pending = (refl, pending)
 pending-parts awaited HasLeft t m pending = absurd (false≢true pending)
 
-pending-told : (word : ℕ) (hand : ℕ → Option Hand) (s : ℕ) (awaited : Option OwnWait) (t : Tag) (m : Mode) → is_pending awaited (stage_of word hand s awaited) t m ≡ true
-    → (is_for awaited t m ≡ true) × IsTold word (hand (partition_of t)) s
-pending-told word hand s None t m pending = absurd (false≢true pending)
-pending-told word hand s (Some wait) t m pending = (parts.1, told) where
+pending-granted : (word : ℕ) (hand : ℕ → Option Hand) (s : ℕ) (awaited : Option OwnWait) (t : Tag) (m : Mode) → is_pending awaited (stage_of word hand s awaited) t m ≡ true
+    → (is_for awaited t m ≡ true) × IsGranted word (hand (partition_of t)) s
+pending-granted word hand s None t m pending = absurd (false≢true pending)
+pending-granted word hand s (Some wait) t m pending = (parts.1, is_granted) where
   parts : (stage_of word hand s (Some wait) ≡ WasGranted) × (is_for (Some wait) t m ≡ true)
   parts = pending-parts (Some wait) (stage_of word hand s (Some wait)) t m pending
 
   on : wait.tag ≡ t
   on = tag_eq-same wait.tag t (and_parts (tag_eq wait.tag t) (mode_eq wait.mode m) parts.1).0
 
-  told : IsTold word (hand (partition_of t)) s
-  told =
+  is_granted : IsGranted word (hand (partition_of t)) s
+  is_granted =
       elim (cases_eq (wait_state word) 2) [
         | inl shown ↦ inl shown
-        | inr not_shown ↦ inr (subst (λ (o : Tag). owes (hand (partition_of o)) s ≡ true) on
+        | inr not_shown ↦ inr (subst (λ (o : Tag). is_unmarked (hand (partition_of o)) s ≡ true) on
             (granted-by_hand (hand (partition_of wait.tag)) s wait.tag (sym (stage-not_shown word hand s wait not_shown) ∙ parts.0)))
       ]
 
-told-pending : (word : ℕ) (hand : ℕ → Option Hand) (s : ℕ) (awaited : Option OwnWait) (t : Tag) (m : Mode) → is_for awaited t m ≡ true → IsTold word (hand (partition_of t)) s
+granted-pending : (word : ℕ) (hand : ℕ → Option Hand) (s : ℕ) (awaited : Option OwnWait) (t : Tag) (m : Mode) → is_for awaited t m ≡ true → IsGranted word (hand (partition_of t)) s
     → is_pending awaited (stage_of word hand s awaited) t m ≡ true
-told-pending word hand s None t m awaits told = absurd (false≢true awaits)
-told-pending word hand s (Some wait) t m awaits told = subst (λ (stage : Stage). is_pending (Some wait) stage t m ≡ true) (sym (granted told)) awaits where
+granted-pending word hand s None t m awaits is_granted = absurd (false≢true awaits)
+granted-pending word hand s (Some wait) t m awaits is_granted = subst (λ (stage : Stage). is_pending (Some wait) stage t m ≡ true) (sym (granted is_granted)) awaits where
   on : wait.tag ≡ t
   on = tag_eq-same wait.tag t (and_parts (tag_eq wait.tag t) (mode_eq wait.mode m) awaits).0
 
-  granted : IsTold word (hand (partition_of t)) s → stage_of word hand s (Some wait) ≡ WasGranted
+  granted : IsGranted word (hand (partition_of t)) s → stage_of word hand s (Some wait) ≡ WasGranted
   granted (inl shown) = stage-shown word hand s wait shown
-  granted (inr owed) =
+  granted (inr stands_unmarked) =
       elim (cases_eq (wait_state word) 2) [
         | inl shown ↦ stage-shown word hand s wait shown
         | inr not_shown ↦ stage-not_shown word hand s wait not_shown
-            ∙ cond-true (owes (hand (partition_of wait.tag)) s) WasGranted _ (subst (λ (o : Tag). owes (hand (partition_of o)) s ≡ true) (sym on) owed)
+            ∙ cond-true (is_unmarked (hand (partition_of wait.tag)) s) WasGranted _ (subst (λ (o : Tag). is_unmarked (hand (partition_of o)) s ≡ true) (sym on) stands_unmarked)
       ]
 
 is_for-self : (wait : OwnWait) → is_for (Some wait) wait.tag wait.mode ≡ true
@@ -163,7 +163,7 @@ queued-is s awaited stage wait is in_queue =
 -- A hold is the session's own or its pending grant.
 abbrev pub IsOwnOrPending : World → ℕ → ℕ → Tag → Mode → Type 0
 IsOwnOrPending w p s t m =
-    (w.sessions.own s t m ≡ true) ⊎ ((is_for (w.sessions.awaited s) t m ≡ true) × IsTold (w.words.wait s) (w.contents.hand p) s)
+    (w.sessions.own s t m ≡ true) ⊎ ((is_for (w.sessions.awaited s) t m ≡ true) × IsGranted (w.words.wait s) (w.contents.hand p) s)
 
 module _ (w : World) (safe : Safe w) where
   -- An own hold is in the content of its object's partition.
@@ -189,16 +189,16 @@ module _ (w : World) (safe : Safe w) where
     at : (w.sessions.own s t m ≡ true) ⊎ (is_pending (w.sessions.awaited s) (stages w s) t m ≡ true) → IsOwnOrPending w p s t m
     at (inl own) = inl own
     at (inr granted) =
-        let told = pending-told (w.words.wait s) w.contents.hand s (w.sessions.awaited s) t m granted in
-        inr (told.0, subst (λ (q : ℕ). IsTold (w.words.wait s) (w.contents.hand q) s) home told.1)
+        let is_granted = pending-granted (w.words.wait s) w.contents.hand s (w.sessions.awaited s) t m granted in
+        inr (is_granted.0, subst (λ (q : ℕ). IsGranted (w.words.wait s) (w.contents.hand q) s) home is_granted.1)
 
   pub own_or_pending-held : (p s : ℕ) (t : Tag) (m : Mode) → partition_of t ≡ p → IsOwnOrPending w p s t m → (w.contents.now p).holds s t m ≡ true
   own_or_pending-held p s t m home (inl own) = ap (λ (q : ℕ). (w.contents.now q).holds s t m) (sym home) ∙ own-held s t m own
   own_or_pending-held p s t m home (inr granted) =
       ap (λ (q : ℕ). (w.contents.now q).holds s t m) (sym home) ∙ (safe.promise.one_place.on_object t).held s m
       ∙ or_right (w.sessions.own s t m) (is_pending (w.sessions.awaited s) (stages w s) t m)
-      (told-pending (w.words.wait s) w.contents.hand s (w.sessions.awaited s) t m granted.0
-      (subst (λ (q : ℕ). IsTold (w.words.wait s) (w.contents.hand q) s) (sym home) granted.1))
+      (granted-pending (w.words.wait s) w.contents.hand s (w.sessions.awaited s) t m granted.0
+      (subst (λ (q : ℕ). IsGranted (w.words.wait s) (w.contents.hand q) s) (sym home) granted.1))
 
   -- An entry of a queue is its session's recorded wait, on an object of the partition.
   pub entry-stands : (p i : ℕ) (t : Tag) (entry : Wait) → slice_get ((w.contents.now p).waits t) i ≡ Some entry

@@ -9,7 +9,7 @@ use Rattle.lock_table.specs.Content.{Holds, Wait, Content, set_hold}
 use Rattle.lock_table.specs.Queue.{waits_there}
 use Rattle.lock_table.specs.OwnWait.{OwnWait, WasGranted, HasLeft}
 use Rattle.lock_world.specs.WaitWord.{wait_state}
-use Rattle.lock_world.specs.World.{World, Hand, owes}
+use Rattle.lock_world.specs.World.{World, Hand, is_unmarked}
 use Rattle.lock_table.specs.Put.{set_at}
 use Rattle.lock_world.specs.Making.{recording, MayClearSeen, MayClearInHand, taken_over, after_clearing, MayLeave, after_leaving}
 use Rattle.lock_world.specs.Safe.{Safe, is_hand_of, stage_of, stages}
@@ -17,12 +17,12 @@ use Rattle.lock_table.proofs.PutLemmas.{set_at-else}
 use Rattle.lock_table.proofs.HoldLemmas.{set_hold-other_session}
 use Rattle.lock_world.proofs.Moving.{granted-held, left-not_held, gone-stage}
 use Rattle.lock_world.proofs.Stages.{stage-granted, left-state}
-use Rattle.lock_world.proofs.SafeWaits.{WaitsAreSafe, own_hand-not_owed, granted-not_owed, recording-safe, stage_left, taking_over-safe, ending-safe}
+use Rattle.lock_world.proofs.SafeWaits.{WaitsAreSafe, own_hand-not_unmarked, granted-not_unmarked, recording-safe, stage_left, taking_over-safe, ending-safe}
 use Rattle.lock_world.proofs.WithWaits.{waits_of, SpentHaveNothing-own, with_waits-safe}
 use Rattle.lock_world.proofs.SafeWaiting.{recording-holders}
 
--- The session's wait ends, and no hand owes word of it.
-module _ (w : World) (s : ℕ) (wait : OwnWait) (safe : Safe w) (live : w.numbers.live s ≡ true) (is : w.sessions.awaited s ≡ Some wait) (not_owed : (q : ℕ) → owes (w.contents.hand q) s ≡ false) where
+-- The session's wait ends, and it is unmarked in no hand.
+module _ (w : World) (s : ℕ) (wait : OwnWait) (safe : Safe w) (live : w.numbers.live s ≡ true) (is : w.sessions.awaited s ≡ Some wait) (not_unmarked : (q : ℕ) → is_unmarked (w.contents.hand q) s ≡ false) where
   abbrev holds_it : Bool
   holds_it = (w.contents.now (partition_of wait.tag)).holds s wait.tag wait.mode
 
@@ -48,18 +48,18 @@ module _ (w : World) (s : ℕ) (wait : OwnWait) (safe : Safe w) (live : w.number
   clearing_granted-safe granted has = clearing-safe
       (subst (λ own. WaitsAreSafe w.contents.now own (set_at w.sessions.awaited s None) (set_at w.sessions.seen s false) (set_at w.words.wait s 0) w.contents.hand)
       (sym (cond-true (w.sessions.seen s || holds_it) with_it w.sessions.own has))
-      (taking_over-safe w.contents.now w.sessions.own w.sessions.awaited w.sessions.seen w.words.wait w.contents.hand (waits_of w safe) s not_owed wait is granted))
+      (taking_over-safe w.contents.now w.sessions.own w.sessions.awaited w.sessions.seen w.words.wait w.contents.hand (waits_of w safe) s not_unmarked wait is granted))
 
   clearing_left-safe : stages w s ≡ HasLeft → (w.sessions.seen s || holds_it) ≡ false → Safe (after_clearing w s wait)
   clearing_left-safe left not_has = clearing-safe
       (subst (λ own. WaitsAreSafe w.contents.now own (set_at w.sessions.awaited s None) (set_at w.sessions.seen s false) (set_at w.words.wait s 0) w.contents.hand)
       (sym (cond-false (w.sessions.seen s || holds_it) with_it w.sessions.own not_has))
-      (ending-safe w.contents.now w.sessions.own w.sessions.awaited w.sessions.seen w.words.wait w.contents.hand (waits_of w safe) s not_owed wait is left))
+      (ending-safe w.contents.now w.sessions.own w.sessions.awaited w.sessions.seen w.words.wait w.contents.hand (waits_of w safe) s not_unmarked wait is left))
 
 -- Clearing the own wait word after it was seen to show a grant is safe.
 pub clearing_seen-safe : (w : World) (s : ℕ) (wait : OwnWait) → Safe w → MayClearSeen w s wait → Safe (after_clearing w s wait)
 clearing_seen-safe w s wait safe may = clearing_granted-safe w s wait safe may.steps.live may.is_wait
-    (granted-not_owed w.contents.now w.sessions.own w.sessions.awaited w.sessions.seen w.words.wait w.contents.hand (waits_of w safe) s two)
+    (granted-not_unmarked w.contents.now w.sessions.own w.sessions.awaited w.sessions.seen w.words.wait w.contents.hand (waits_of w safe) s two)
     (ap (stage_of (w.words.wait s) w.contents.hand s) may.is_wait ∙ stage-granted (w.words.wait s) w.contents.hand s wait two)
     (or_left (w.sessions.seen s) _ may.seen) where
       two : wait_state (w.words.wait s) ≡ 2
@@ -69,17 +69,17 @@ clearing_seen-safe w s wait safe may = clearing_granted-safe w s wait safe may.s
 pub clearing_in_hand-safe : (w : World) (s : ℕ) (wait : OwnWait) → Safe w → MayClearInHand w s wait → Safe (after_clearing w s wait)
 clearing_in_hand-safe w s wait safe may =
     elim (gone-stage w.contents.now w.sessions.own w.sessions.awaited (stages w) p s safe.promise.one_place wait may.is_wait may.gone) [
-      | inl granted ↦ clearing_granted-safe w s wait safe may.steps.live may.is_wait not_owed granted
+      | inl granted ↦ clearing_granted-safe w s wait safe may.steps.live may.is_wait not_unmarked granted
           (or_right (w.sessions.seen s) _ (granted-held w.contents.now w.sessions.own w.sessions.awaited (stages w) p s safe.promise.one_place wait may.is_wait granted))
-      | inr left ↦ clearing_left-safe w s wait safe may.steps.live may.is_wait not_owed left
+      | inr left ↦ clearing_left-safe w s wait safe may.steps.live may.is_wait not_unmarked left
           (or_from (w.sessions.seen s) _ (false_from_ne_true (w.sessions.seen s) (not_seen left))
           (left-not_held w.contents.now w.sessions.own w.sessions.awaited (stages w) p s safe.promise.one_place wait may.is_wait left))
     ] where
       p : ℕ
       p = partition_of wait.tag
 
-      not_owed : (q : ℕ) → owes (w.contents.hand q) s ≡ false
-      not_owed = own_hand-not_owed w.contents.now w.sessions.own w.sessions.awaited w.sessions.seen w.words.wait w.contents.hand (waits_of w safe) s wait may.is_wait
+      not_unmarked : (q : ℕ) → is_unmarked (w.contents.hand q) s ≡ false
+      not_unmarked = own_hand-not_unmarked w.contents.now w.sessions.own w.sessions.awaited w.sessions.seen w.words.wait w.contents.hand (waits_of w safe) s wait may.is_wait
           (sym (safe.carriers.hands p s) ∙ may.holding)
 
       not_seen : stages w s ≡ HasLeft → w.sessions.seen s ≡ true → ⊥
@@ -90,7 +90,7 @@ clearing_in_hand-safe w s wait safe may =
 pub leaving-safe : (w : World) (s : ℕ) (wait : OwnWait) (granted : List Wait) (content : Content) → Safe w → MayLeave w s wait granted content → Safe (after_leaving w s wait granted content)
 leaving-safe w s wait granted content safe may = with_waits-safe w (set_at w.contents.now p content) w.sessions.own _ _ _ hand w.sessions.trace safe
     (ending-safe (set_at w.contents.now p content) w.sessions.own w.sessions.awaited w.sessions.seen w.words.wait hand left s
-    (own_hand-not_owed (set_at w.contents.now p content) w.sessions.own w.sessions.awaited w.sessions.seen w.words.wait hand left s wait may.is_wait (same p s ∙ its)) wait may.is_wait
+    (own_hand-not_unmarked (set_at w.contents.now p content) w.sessions.own w.sessions.awaited w.sessions.seen w.words.wait hand left s wait may.is_wait (same p s ∙ its)) wait may.is_wait
     (stage_left w.contents.now w.sessions.own w.sessions.awaited w.sessions.seen w.words.wait w.contents.hand (waits_of w safe) p s (Leave wait.tag) granted content tt may.may_move.unrecorded its
     may.may_move.object may.may_move.own may.may_move.moved wait.tag refl))
     (SpentHaveNothing-own w.numbers.live w.sessions.own w.sessions.own w.sessions.awaited _ w.sessions.holds_partition s may.may_move.steps.live (λ _ _ _ _. refl)

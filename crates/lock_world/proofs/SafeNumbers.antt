@@ -20,7 +20,7 @@ with_numbers-safe w numbers safe spent order = record {
     words = safe.promise.words;
     spent = spent;
   };
-  carriers = record { hands = safe.carriers.hands; numbers = order; owes_by_move = safe.carriers.owes_by_move; not_yet = safe.carriers.not_yet };
+  carriers = record { hands = safe.carriers.hands; numbers = order; unmarked_by_move = safe.carriers.unmarked_by_move; not_yet = safe.carriers.not_yet };
 }
 
 -- Issuing a number is safe.

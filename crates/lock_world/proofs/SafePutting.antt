@@ -63,7 +63,7 @@ with_put-safe w s p now own trace safe live holding same_own waits = record {
   carriers = record {
     hands = HandsAreHolders-set w.contents.hand holds s p false None nobody safe.carriers.hands;
     numbers = safe.carriers.numbers;
-    owes_by_move = waits.by_move;
+    unmarked_by_move = waits.by_move;
     not_yet = record {
       fast = safe.carriers.not_yet.fast;
       database = safe.carriers.not_yet.database;
@@ -96,7 +96,7 @@ pub putting_partition-safe : (w : World) (s p : ℕ) (done : Move) (content : Co
 putting_partition-safe w s p done content safe may = with_put-safe w s p (set_at w.contents.now p content) (own_after w.sessions.own s done) _ safe may.may_move.steps.live may.may_move.holding
     (own_after-else w.sessions.own s done)
     (quiet_hand-safe (set_at w.contents.now p content) (own_after w.sessions.own s done) w.sessions.awaited w.sessions.seen w.words.wait w.contents.hand made p None (λ _. refl)
-    (λ k wait _ _. hand-unrecorded (w.contents.hand p) k wait.tag (safe.carriers.owes_by_move p may.may_move.unrecorded k) may.may_move.unrecorded)) where
+    (λ k wait _ _. hand-unrecorded (w.contents.hand p) k wait.tag (safe.carriers.unmarked_by_move p may.may_move.unrecorded k) may.may_move.unrecorded)) where
       made : WaitsAreSafe (set_at w.contents.now p content) (own_after w.sessions.own s done) w.sessions.awaited w.sessions.seen w.words.wait w.contents.hand
       made = made_by_putting-safe w.contents.now w.sessions.own w.sessions.awaited w.sessions.seen w.words.wait w.contents.hand (waits_of w safe) p s done content
           may.by_putting may.may_move.object may.may_move.own may.may_move.moved
@@ -109,12 +109,12 @@ over-no_leave o p (Join t m) wait over is here = refl
 over-no_leave o p (Release t m) wait over is here = refl
 over-no_leave o p (Leave t) wait over is here = absurd (over wait is here)
 
--- Putting a partition with a move recorded is safe: nobody is due, and no wait of it has left and is not over.
+-- Putting a partition with a move recorded is safe: nobody is unmarked, and no wait of it has left and is not over.
 pub putting_recorded-safe : (w : World) (s p : ℕ) (done : Move) → Safe w → MayPutRecorded w s p done → Safe (after_putting_recorded w s p)
 putting_recorded-safe w s p done safe may = with_put-safe w s p (set_at w.contents.now p (w.contents.now p)) w.sessions.own _ safe may.steps.live may.holding (λ _ _ _ _. refl)
     (subst (λ now. WaitsAreSafe now w.sessions.own w.sessions.awaited w.sessions.seen w.words.wait (set_at w.contents.hand p None)) (sym (set_at-same w.contents.now p (w.contents.now p) refl))
     (quiet_hand-safe w.contents.now w.sessions.own w.sessions.awaited w.sessions.seen w.words.wait w.contents.hand (waits_of w safe) p None (λ _. refl)
-    (λ k wait is here. hand-queued (w.contents.hand p) k wait.tag (may.all_told k) (false_from_ne_true _ (not_left k wait is here))))) where
+    (λ k wait is here. hand-queued (w.contents.hand p) k wait.tag (may.all_marked k) (false_from_ne_true _ (not_left k wait is here))))) where
       not_left : (k : ℕ) (wait : OwnWait) → w.sessions.awaited k ≡ Some wait → partition_of wait.tag ≡ p
           → (is_hand_of (w.contents.hand p) k && is_leave_of (recorded_in (w.contents.hand p)) wait.tag) ≡ true → ⊥
       not_left k wait is here left =

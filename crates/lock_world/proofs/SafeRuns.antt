@@ -35,9 +35,9 @@ opening-safe limit = record {
       idle = λ k none. refl;
       waiting = λ k wait is. absurd (cc);
       seen_is_shown = λ k seen. absurd (false≢true seen);
-      owed_waits = λ p k owed. absurd (false≢true owed);
-      owed_is_not_told = λ p k owed. absurd (false≢true owed);
-      owed_by_another = λ p k owed. absurd (false≢true owed);
+      unmarked_waits = λ p k stands_unmarked. absurd (false≢true stands_unmarked);
+      unmarked_shows_waiting = λ p k stands_unmarked. absurd (false≢true stands_unmarked);
+      unmarked_of_another = λ p k stands_unmarked. absurd (false≢true stands_unmarked);
     };
     words = λ p. record {
       held_is_shown = λ k held. absurd (false≢true held);
@@ -54,7 +54,7 @@ opening-safe limit = record {
       within = omega arith;
       kept_is_live = λ k j kept. absurd (cc);
     };
-    owes_by_move = λ p none k. refl;
+    unmarked_by_move = λ p none k. refl;
     not_yet = record {
       fast = λ k. refl;
       database = λ k. refl;

@@ -32,7 +32,7 @@ taking_partition-safe w s p safe may = record {
   carriers = record {
     hands = HandsAreHolders-set w.contents.hand holds s p true taken hand safe.carriers.hands;
     numbers = safe.carriers.numbers;
-    owes_by_move = waits.by_move;
+    unmarked_by_move = waits.by_move;
     not_yet = record {
       fast = safe.carriers.not_yet.fast;
       database = safe.carriers.not_yet.database;
@@ -46,7 +46,7 @@ taking_partition-safe w s p safe may = record {
   holds = w.sessions.holds_partition
 
   taken : Option Hand
-  taken = Some (record { holder = s; taken = w.contents.now p; recorded = None; due = λ _. false })
+  taken = Some (record { holder = s; taken = w.contents.now p; recorded = None; unmarked = λ _. false })
 
   not_held : (k : ℕ) → holds k p ≡ false
   not_held k = false_from_ne_true (holds k p) (free-not_held (w.words.partition p) (λ j. holds j p) (safe.promise.words p) may.free k)

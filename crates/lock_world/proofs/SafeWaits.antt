@@ -12,14 +12,14 @@ use Rattle.lock_table.specs.Queue.{waits_there}
 use Rattle.lock_table.specs.Moves.{Moves, IsInPartition, FitsOwn}
 use Rattle.lock_table.specs.OwnWait.{OwnWait, Stage, InQueue, WasGranted, HasLeft}
 use Rattle.lock_world.specs.WaitWord.{wait_state, granted_word}
-use Rattle.lock_world.specs.World.{Hand, recorded_in, owes}
+use Rattle.lock_world.specs.World.{Hand, recorded_in, is_unmarked}
 use Rattle.lock_table.specs.Put.{set_at}
 use Rattle.lock_world.specs.Making.{own_after, recording, without}
 use Rattle.lock_world.specs.Happens.{IsMadeByPutting}
-use Rattle.lock_world.specs.Safe.{is_hand_of, is_leave_of, stage_by_hand, stage_of, NoConflictingHolds, AreInOnePlace, NobodyIsFree, WaitWordsShowWaits, OwesByItsMove}
+use Rattle.lock_world.specs.Safe.{is_hand_of, is_leave_of, stage_by_hand, stage_of, NoConflictingHolds, AreInOnePlace, NobodyIsFree, WaitWordsShowWaits, UnmarkedByItsMove}
 use Rattle.lock_table.proofs.PutLemmas.{set_at-here, set_at-else, set_at-each}
 use Rattle.lock_world.proofs.Moving.{stage_by_move, stage_after, awaited_after, Moved, StoodInQueue, AreInOnePlace-stage, moved, granted-stood, granted-another, taken-one_place, left-one_place, queued-stood}
-use Rattle.lock_world.proofs.Stages.{hand-left, hand-no_leave, hand-queued, hand-unrecorded, hand-same, stage-granted, stage-by_hand, stage-owed, queued-state, stage_of-set, is_hand_of-else, recording-hand, recording-recorded, recording-owes, recording-by_move}
+use Rattle.lock_world.proofs.Stages.{hand-left, hand-no_leave, hand-queued, hand-unrecorded, hand-same, stage-granted, stage-by_hand, stage-unmarked, queued-state, stage_of-set, is_hand_of-else, recording-hand, recording-recorded, recording-unmarked, recording-by_move}
 
 -- What is safe of contents, waits, wait words and hands, over plain functions, and what each kind of step leaves of it.
 
@@ -29,24 +29,24 @@ pub record ShowsWait (n : ℕ) (o : Option OwnWait) (seen : Bool) : Type 0 where
   pub waiting : (wait : OwnWait) → o ≡ Some wait → (wait_state n ≡ 1) ⊎ (wait_state n ≡ 2)
   pub seen_is_shown : seen ≡ true → wait_state n ≡ 2
 
--- The session may be owed word of a grant by this hand of the partition.
-pub record MayBeOwed (n : ℕ) (o : Option OwnWait) (hand : Option Hand) (p k : ℕ) : Type 0 where
+-- A grant of the session may stand unmarked in this hand of the partition.
+pub record MayBeUnmarked (n : ℕ) (o : Option OwnWait) (hand : Option Hand) (p k : ℕ) : Type 0 where
   pub wait : OwnWait
   pub is_wait : o ≡ Some wait
   pub in_partition : partition_of wait.tag ≡ p
-  pub not_told : wait_state n ≡ 1
+  pub shows_waiting : wait_state n ≡ 1
   pub by_another : is_hand_of hand k ≡ false
 
-abbrev pub OwesWell : (ℕ → ℕ) → (ℕ → Option OwnWait) → ℕ → Option Hand → Type 0
-OwesWell word awaited p hand = (k : ℕ) → owes hand k ≡ true → MayBeOwed (word k) (awaited k) hand p k
+abbrev pub UnmarkedWell : (ℕ → ℕ) → (ℕ → Option OwnWait) → ℕ → Option Hand → Type 0
+UnmarkedWell word awaited p hand = (k : ℕ) → is_unmarked hand k ≡ true → MayBeUnmarked (word k) (awaited k) hand p k
 
 pub record WaitsAreSafe (now : ℕ → Content) (own : Holds) (awaited : ℕ → Option OwnWait) (seen : ℕ → Bool) (word : ℕ → ℕ) (hand : ℕ → Option Hand) : Type 0 where
   pub no_conflict : NoConflictingHolds now
   pub one_place : AreInOnePlace now own awaited (λ k. stage_of (word k) hand k (awaited k))
   pub none_free : NobodyIsFree now
   pub showing : (k : ℕ) → ShowsWait (word k) (awaited k) (seen k)
-  pub owing : (p : ℕ) → OwesWell word awaited p (hand p)
-  pub by_move : OwesByItsMove hand
+  pub owing : (p : ℕ) → UnmarkedWell word awaited p (hand p)
+  pub by_move : UnmarkedByItsMove hand
 
 -- The same as it is said of a World.
 pub shows_from : (now : ℕ → Content) (own : Holds) (awaited : ℕ → Option OwnWait) (seen : ℕ → Bool) (word : ℕ → ℕ) (hand : ℕ → Option Hand) → WaitsAreSafe now own awaited seen word hand → WaitWordsShowWaits word awaited seen hand
@@ -54,22 +54,22 @@ shows_from now own awaited seen word hand safe = record {
   idle = λ k. (safe.showing k).idle;
   waiting = λ k. (safe.showing k).waiting;
   seen_is_shown = λ k. (safe.showing k).seen_is_shown;
-  owed_waits = λ p k owed. let it = safe.owing p k owed in (it.wait, it.is_wait, it.in_partition);
-  owed_is_not_told = λ p k owed. (safe.owing p k owed).not_told;
-  owed_by_another = λ p k owed. (safe.owing p k owed).by_another;
+  unmarked_waits = λ p k stands_unmarked. let it = safe.owing p k stands_unmarked in (it.wait, it.is_wait, it.in_partition);
+  unmarked_shows_waiting = λ p k stands_unmarked. (safe.owing p k stands_unmarked).shows_waiting;
+  unmarked_of_another = λ p k stands_unmarked. (safe.owing p k stands_unmarked).by_another;
 }
 
 pub safe_from :
     (now : ℕ → Content) (own : Holds) (awaited : ℕ → Option OwnWait) (seen : ℕ → Bool) (word : ℕ → ℕ) (hand : ℕ → Option Hand)
     → NoConflictingHolds now → AreInOnePlace now own awaited (λ k. stage_of (word k) hand k (awaited k)) → NobodyIsFree now
-    → WaitWordsShowWaits word awaited seen hand → OwesByItsMove hand → WaitsAreSafe now own awaited seen word hand
+    → WaitWordsShowWaits word awaited seen hand → UnmarkedByItsMove hand → WaitsAreSafe now own awaited seen word hand
 safe_from now own awaited seen word hand apart one free shows by_move = record {
   no_conflict = apart;
   one_place = one;
   none_free = free;
   showing = λ k. record { idle = shows.idle k; waiting = shows.waiting k; seen_is_shown = shows.seen_is_shown k };
-  owing = λ p k owed. let waits = shows.owed_waits p k owed in
-      record { wait = waits.0; is_wait = waits.1; in_partition = waits.2; not_told = shows.owed_is_not_told p k owed; by_another = shows.owed_by_another p k owed };
+  owing = λ p k stands_unmarked. let waits = shows.unmarked_waits p k stands_unmarked in
+      record { wait = waits.0; is_wait = waits.1; in_partition = waits.2; shows_waiting = shows.unmarked_shows_waiting p k stands_unmarked; by_another = shows.unmarked_of_another p k stands_unmarked };
   by_move = by_move;
 }
 
@@ -85,12 +85,12 @@ pub granted_word-state : (n : ℕ) → wait_state n ≡ 1 → wait_state (grante
 granted_word-state n one = omega (arith, one)
 
 -- Another session's word and wait are as they were.
-MayBeOwed-else :
+MayBeUnmarked-else :
     (word : ℕ → ℕ) (awaited : ℕ → Option OwnWait) (s n : ℕ) (o : Option OwnWait) (hand : Option Hand) (p k : ℕ) → k ≢ s
-    → MayBeOwed (word k) (awaited k) hand p k → MayBeOwed (set_at word s n k) (set_at awaited s o k) hand p k
-MayBeOwed-else word awaited s n o hand p k other owed =
-    subst (λ x. MayBeOwed x (set_at awaited s o k) hand p k) (sym (set_at-else word s n k other))
-    (subst (λ x. MayBeOwed (word k) x hand p k) (sym (set_at-else awaited s o k other)) owed)
+    → MayBeUnmarked (word k) (awaited k) hand p k → MayBeUnmarked (set_at word s n k) (set_at awaited s o k) hand p k
+MayBeUnmarked-else word awaited s n o hand p k other stands_unmarked =
+    subst (λ x. MayBeUnmarked x (set_at awaited s o k) hand p k) (sym (set_at-else word s n k other))
+    (subst (λ x. MayBeUnmarked (word k) x hand p k) (sym (set_at-else awaited s o k other)) stands_unmarked)
 
 ShowsWait-set :
     (word : ℕ → ℕ) (awaited : ℕ → Option OwnWait) (seen : ℕ → Bool) (s n : ℕ) (o : Option OwnWait) (b : Bool) → ShowsWait n o b
@@ -103,17 +103,17 @@ ShowsWait-set word awaited seen s n o b here there k =
           (subst (λ x. ShowsWait (word k) x (set_at seen s b k)) (sym (set_at-else awaited s o k other)) (subst (ShowsWait (word k) (awaited k)) (sym (set_at-else seen s b k other)) (there k)))
     ]
 
--- Those to be told without one: the others are as they were.
-without-else : (due : ℕ → Bool) (told k : ℕ) → k ≢ told → without due told k ≡ due k
-without-else due told k other = ap (λ b. due k && not b) (ne_eqb k told other) ∙ and_true (due k) where
+-- Those to be marked without one: the others are as they were.
+without-else : (unmarked : ℕ → Bool) (marked k : ℕ) → k ≢ marked → without unmarked marked k ≡ unmarked k
+without-else unmarked marked k other = ap (λ b. unmarked k && not b) (ne_eqb k marked other) ∙ and_true (unmarked k) where
   and_true : (b : Bool) → (b && true) ≡ b
   and_true true = refl
   and_true false = refl
 
-without-parts : (due : ℕ → Bool) (told k : ℕ) → without due told k ≡ true → (k ≢ told) × (due k ≡ true)
-without-parts due told k is =
-    let parts = and_parts (due k) (not (k == told)) is in
-    (λ same. both_ways (not (k == told)) (ap not (eq-eqb k told same)) parts.1, parts.0)
+without-parts : (unmarked : ℕ → Bool) (marked k : ℕ) → without unmarked marked k ≡ true → (k ≢ marked) × (unmarked k ≡ true)
+without-parts unmarked marked k is =
+    let parts = and_parts (unmarked k) (not (k == marked)) is in
+    (λ same. both_ways (not (k == marked)) (ap not (eq-eqb k marked same)) parts.1, parts.0)
 
 -- A move that is made by steps on the words of those whom it grants.
 abbrev pub GrantsOthers : Move → Type 0
@@ -127,7 +127,7 @@ module _ (now : ℕ → Content) (own : Holds) (awaited : ℕ → Option OwnWait
   abbrev stage : ℕ → Stage
   stage k = stage_of (word k) hand k (awaited k)
 
-  -- A wait that stands in the queue has not been told of a grant.
+  -- A wait that stands in the queue has not been marked of a grant.
   pub queued-waits : (k : ℕ) (wait : OwnWait) → awaited k ≡ Some wait → stage k ≡ InQueue → wait_state (word k) ≡ 1
   queued-waits k wait is in_queue =
       elim ((safe.showing k).waiting wait is) [
@@ -135,17 +135,17 @@ module _ (now : ℕ → Content) (own : Holds) (awaited : ℕ → Option OwnWait
         | inr two ↦ absurd (queued-state (word k) hand k wait (ap (stage_of (word k) hand k) (sym is) ∙ in_queue) two)
       ]
 
-  -- No hand owes word of a grant to a session that has the partition of its wait's object in its own hand.
-  pub own_hand-not_owed : (s : ℕ) (wait : OwnWait) → awaited s ≡ Some wait → is_hand_of (hand (partition_of wait.tag)) s ≡ true → (q : ℕ) → owes (hand q) s ≡ false
-  own_hand-not_owed s wait is its q = false_from_ne_true (owes (hand q) s) (λ owed.
-      let it = safe.owing q s owed in
+  -- No grant stands unmarked of a session that has the partition of its wait's object in its own hand.
+  pub own_hand-not_unmarked : (s : ℕ) (wait : OwnWait) → awaited s ≡ Some wait → is_hand_of (hand (partition_of wait.tag)) s ≡ true → (q : ℕ) → is_unmarked (hand q) s ≡ false
+  own_hand-not_unmarked s wait is its q = false_from_ne_true (is_unmarked (hand q) s) (λ stands_unmarked.
+      let it = safe.owing q s stands_unmarked in
       let one : it.wait ≡ wait = one_wait (awaited s) it.wait wait it.is_wait is in
       let here : q ≡ partition_of wait.tag = sym it.in_partition ∙ ap (λ own_wait. partition_of own_wait.tag) one in
       both_ways (is_hand_of (hand q) s) it.by_another (ap (λ p. is_hand_of (hand p) s) here ∙ its))
 
   -- Nor to a session whose word shows that its wait was granted.
-  pub granted-not_owed : (s : ℕ) → wait_state (word s) ≡ 2 → (q : ℕ) → owes (hand q) s ≡ false
-  granted-not_owed s two q = false_from_ne_true (owes (hand q) s) (λ owed. let one : wait_state (word s) ≡ 1 = (safe.owing q s owed).not_told in omega (arith, one, two))
+  pub granted-not_unmarked : (s : ℕ) → wait_state (word s) ≡ 2 → (q : ℕ) → is_unmarked (hand q) s ≡ false
+  granted-not_unmarked s two q = false_from_ne_true (is_unmarked (hand q) s) (λ stands_unmarked. let one : wait_state (word s) ≡ 1 = (safe.owing q s stands_unmarked).shows_waiting in omega (arith, one, two))
 
   -- Changes of words and of what was seen that leave whether each session waits.
   pub same_states-safe : (word' : ℕ → ℕ) → ((k : ℕ) → wait_state (word' k) ≡ wait_state (word k)) → WaitsAreSafe now own awaited seen word' hand
@@ -158,8 +158,8 @@ module _ (now : ℕ → Content) (own : Holds) (awaited : ℕ → Option OwnWait
       waiting = λ wait is. elim ((safe.showing k).waiting wait is) [ inl one ↦ inl (same k ∙ one) | inr two ↦ inr (same k ∙ two) ];
       seen_is_shown = λ was_seen. same k ∙ (safe.showing k).seen_is_shown was_seen;
     };
-    owing = λ p k owed. let it = safe.owing p k owed in
-        record { wait = it.wait; is_wait = it.is_wait; in_partition = it.in_partition; not_told = same k ∙ it.not_told; by_another = it.by_another };
+    owing = λ p k stands_unmarked. let it = safe.owing p k stands_unmarked in
+        record { wait = it.wait; is_wait = it.is_wait; in_partition = it.in_partition; shows_waiting = same k ∙ it.shows_waiting; by_another = it.by_another };
     by_move = safe.by_move;
   } where
     stage_is : (k : ℕ) (o : Option OwnWait) → stage_of (word k) hand k o ≡ stage_of (word' k) hand k o
@@ -177,9 +177,9 @@ module _ (now : ℕ → Content) (own : Holds) (awaited : ℕ → Option OwnWait
     by_move = safe.by_move;
   }
 
-  -- A partition's hand changes for one that owes nobody and tells the same of each wait.
+  -- A partition's hand changes for one in which nobody is unmarked and that tells the same of each wait.
   pub quiet_hand-safe :
-      (p : ℕ) (new : Option Hand) → ((k : ℕ) → owes new k ≡ false)
+      (p : ℕ) (new : Option Hand) → ((k : ℕ) → is_unmarked new k ≡ false)
       → ((k : ℕ) (wait : OwnWait) → awaited k ≡ Some wait → partition_of wait.tag ≡ p → stage_by_hand (hand p) k wait.tag ≡ stage_by_hand new k wait.tag)
       → WaitsAreSafe now own awaited seen word (set_at hand p new)
   quiet_hand-safe p new quiet same = record {
@@ -188,8 +188,8 @@ module _ (now : ℕ → Content) (own : Holds) (awaited : ℕ → Option OwnWait
         (λ k wait is. stage_of-set (word k) hand p new k (awaited k) (same k)) safe.one_place;
     none_free = safe.none_free;
     showing = safe.showing;
-    owing = set_at-each (λ q h. OwesWell word awaited q h) hand p new (λ k owed. absurd (both_ways (owes new k) (quiet k) owed)) (λ q _. safe.owing q);
-    by_move = set_at-each (λ _ h. recorded_in h ≡ None → (k : ℕ) → owes h k ≡ false) hand p new (λ _. quiet) (λ q _. safe.by_move q);
+    owing = set_at-each (λ q h. UnmarkedWell word awaited q h) hand p new (λ k stands_unmarked. absurd (both_ways (is_unmarked new k) (quiet k) stands_unmarked)) (λ q _. safe.owing q);
+    by_move = set_at-each (λ _ h. recorded_in h ≡ None → (k : ℕ) → is_unmarked h k ≡ false) hand p new (λ _. quiet) (λ q _. safe.by_move q);
   }
 
   -- A move that is made by putting.
@@ -215,7 +215,7 @@ module _ (now : ℕ → Content) (own : Holds) (awaited : ℕ → Option OwnWait
     one (Release t m) by_it it = it
     one (Leave t) by_it it = absurd by_it
 
-  -- A move of a release or a leave is recorded, and all whom it grants are due.
+  -- A move of a release or a leave is recorded, and all whom it grants are unmarked.
   module _ (p s : ℕ) (done : Move) (granted : List Wait) (content : Content) (grants : GrantsOthers done) (unrecorded : recorded_in (hand p) ≡ None) (its : is_hand_of (hand p) s ≡ true)
       (object : IsInPartition p done) (fits : FitsOwn own (awaited s) s done) (moves : Moves (now p) s done granted content) where
     abbrev new : Option Hand
@@ -230,8 +230,8 @@ module _ (now : ℕ → Content) (own : Holds) (awaited : ℕ → Option OwnWait
     pub none_own : waits_there granted s ≡ false
     none_own = granted-another now own awaited stage p s done granted content safe.one_place safe.none_free object fits moves
 
-    owed_by_new : (k : ℕ) → owes new k ≡ waits_there granted k
-    owed_by_new = recording-owes (hand p) done (waits_there granted) s its
+    unmarked_by_new : (k : ℕ) → is_unmarked new k ≡ waits_there granted k
+    unmarked_by_new = recording-unmarked (hand p) done (waits_there granted) s its
 
     tells_nothing : (k : ℕ) (t : Tag) → stage_by_hand (hand p) k t ≡ InQueue
     tells_nothing k t = hand-unrecorded (hand p) k t (safe.by_move p unrecorded k) unrecorded
@@ -240,14 +240,14 @@ module _ (now : ℕ → Content) (own : Holds) (awaited : ℕ → Option OwnWait
     stage_granted : (k : ℕ) → waits_there granted k ≡ true → stage_of (word k) (set_at hand p new) k (awaited k) ≡ WasGranted
     stage_granted k among =
         let it = stood k among in
-        let owed : owes (set_at hand p new (partition_of it.wait.tag)) k ≡ true =
-        ap (λ h. owes h k) (set_at-here hand p new (partition_of it.wait.tag) it.in_partition) ∙ owed_by_new k ∙ among in
-        ap (stage_of (word k) (set_at hand p new) k) it.is_wait ∙ stage-owed (word k) (set_at hand p new) k it.wait owed
+        let stands_unmarked : is_unmarked (set_at hand p new (partition_of it.wait.tag)) k ≡ true =
+        ap (λ h. is_unmarked h k) (set_at-here hand p new (partition_of it.wait.tag) it.in_partition) ∙ unmarked_by_new k ∙ among in
+        ap (stage_of (word k) (set_at hand p new) k) it.is_wait ∙ stage-unmarked (word k) (set_at hand p new) k it.wait stands_unmarked
 
     -- the stage of one that was not, and whose wait has not left
     stage_kept : (k : ℕ) → waits_there granted k ≡ false → ((t : Tag) → (is_hand_of new k && is_leave_of (recorded_in new) t) ≡ false) → stage k ≡ stage_of (word k) (set_at hand p new) k (awaited k)
     stage_kept k not_among not_left = stage_of-set (word k) hand p new k (awaited k)
-        (λ wait is here. tells_nothing k wait.tag ∙ sym (hand-queued new k wait.tag (owed_by_new k ∙ not_among) (not_left wait.tag)))
+        (λ wait is here. tells_nothing k wait.tag ∙ sym (hand-queued new k wait.tag (unmarked_by_new k ∙ not_among) (not_left wait.tag)))
 
     recorded : recorded_in new ≡ Some done
     recorded = recording-recorded (hand p) done (waits_there granted) s its
@@ -261,7 +261,7 @@ module _ (now : ℕ → Content) (own : Holds) (awaited : ℕ → Option OwnWait
         let not_two = queued-state (word s) hand s it.0 (ap (stage_of (word s) hand s) (sym it.1) ∙ it.3) in
         ap (stage_of (word s) (set_at hand p new) s) it.1 ∙ stage-by_hand (word s) (set_at hand p new) s it.0 not_two
         ∙ ap (λ h. stage_by_hand h s it.0.tag) (set_at-here hand p new (partition_of it.0.tag) (ap partition_of it.2 ∙ in_p))
-        ∙ hand-left new s it.0.tag (owed_by_new s ∙ none_own) (recording-hand (hand p) done (waits_there granted) s ∙ its)
+        ∙ hand-left new s it.0.tag (unmarked_by_new s ∙ none_own) (recording-hand (hand p) done (waits_there granted) s ∙ its)
         (ap (λ made. is_leave_of made it.0.tag) (recorded ∙ ap Some is_leave) ∙ ap (tag_eq t) it.2 ∙ tag_eq-refl t)
 
     stage_by_made : (made : Move) → done ≡ made → GrantsOthers made → (k : ℕ) → waits_there granted k ≡ false → stage_by_move stage s made k ≡ stage_of (word k) (set_at hand p new) k (awaited k)
@@ -293,16 +293,16 @@ module _ (now : ℕ → Content) (own : Holds) (awaited : ℕ → Option OwnWait
     same_waits (Release t m) by_it = refl
     same_waits (Leave t) by_it = refl
 
-    owes_well : OwesWell word awaited p new
-    owes_well k owed =
-        let among : waits_there granted k ≡ true = sym (owed_by_new k) ∙ owed in
+    unmarked_well : UnmarkedWell word awaited p new
+    unmarked_well k stands_unmarked =
+        let among : waits_there granted k ≡ true = sym (unmarked_by_new k) ∙ stands_unmarked in
         let it = stood k among in
         let other : k ≢ s = λ same. both_ways (waits_there granted k) (ap (waits_there granted) same ∙ none_own) among in
         record {
           wait = it.wait;
           is_wait = it.is_wait;
           in_partition = it.in_partition;
-          not_told = queued-waits k it.wait it.is_wait it.in_queue;
+          shows_waiting = queued-waits k it.wait it.is_wait it.in_queue;
           by_another = recording-hand (hand p) done (waits_there granted) k ∙ is_hand_of-else (hand p) s k its other;
         }
 
@@ -314,76 +314,76 @@ module _ (now : ℕ → Content) (own : Holds) (awaited : ℕ → Option OwnWait
           (subst (λ waits. AreInOnePlace (set_at now p content) (own_after own s done) waits (stage_after stage s done granted)) (same_waits done grants) after.one_place);
       none_free = after.none_free;
       showing = safe.showing;
-      owing = set_at-each (λ q h. OwesWell word awaited q h) hand p new owes_well (λ q _. safe.owing q);
-      by_move = set_at-each (λ _ h. recorded_in h ≡ None → (k : ℕ) → owes h k ≡ false) hand p new (recording-by_move (hand p) done (waits_there granted)) (λ q _. safe.by_move q);
+      owing = set_at-each (λ q h. UnmarkedWell word awaited q h) hand p new unmarked_well (λ q _. safe.owing q);
+      by_move = set_at-each (λ _ h. recorded_in h ≡ None → (k : ℕ) → is_unmarked h k ≡ false) hand p new (recording-by_move (hand p) done (waits_there granted)) (λ q _. safe.by_move q);
     }
 
-  -- A session to whom a hand owes word of its grant is told.
-  module _ (p k : ℕ) (told : Option Hand) (owed : owes (hand p) k ≡ true) (owes_less : (j : ℕ) → owes told j ≡ without (owes (hand p)) k j)
-      (same_holder : (j : ℕ) → is_hand_of (hand p) j ≡ is_hand_of told j) (same_move : recorded_in (hand p) ≡ recorded_in told) where
-    abbrev word_told : ℕ → ℕ
-    word_told = set_at word k (granted_word (word k))
+  -- A session that is unmarked in a hand is marked.
+  module _ (p k : ℕ) (marked : Option Hand) (stands_unmarked : is_unmarked (hand p) k ≡ true) (unmarked_less : (j : ℕ) → is_unmarked marked j ≡ without (is_unmarked (hand p)) k j)
+      (same_holder : (j : ℕ) → is_hand_of (hand p) j ≡ is_hand_of marked j) (same_move : recorded_in (hand p) ≡ recorded_in marked) where
+    abbrev word_marked : ℕ → ℕ
+    word_marked = set_at word k (granted_word (word k))
 
-    was_owed : MayBeOwed (word k) (awaited k) (hand p) p k
-    was_owed = safe.owing p k owed
+    was_unmarked : MayBeUnmarked (word k) (awaited k) (hand p) p k
+    was_unmarked = safe.owing p k stands_unmarked
 
     is_told : wait_state (granted_word (word k)) ≡ 2
-    is_told = granted_word-state (word k) was_owed.not_told
+    is_told = granted_word-state (word k) was_unmarked.shows_waiting
 
-    stage_told : (j : ℕ) (wait : OwnWait) → awaited j ≡ Some wait → stage j ≡ stage_of (word_told j) (set_at hand p told) j (awaited j)
-    stage_told j wait is =
+    stage_marked : (j : ℕ) (wait : OwnWait) → awaited j ≡ Some wait → stage j ≡ stage_of (word_marked j) (set_at hand p marked) j (awaited j)
+    stage_marked j wait is =
         elim (cases_eq j k) [
           | inl same ↦
-              let one : was_owed.wait ≡ wait = one_wait (awaited k) was_owed.wait wait was_owed.is_wait (ap awaited (sym same) ∙ is) in
-              let here : partition_of wait.tag ≡ p = ap (λ own_wait. partition_of own_wait.tag) (sym one) ∙ was_owed.in_partition in
-              ap (stage_of (word j) hand j) is ∙ stage-owed (word j) hand j wait (ap (λ q. owes (hand q) j) here ∙ ap (owes (hand p)) same ∙ owed)
-              ∙ sym (ap (stage_of (word_told j) (set_at hand p told) j) is
-              ∙ stage-granted (word_told j) (set_at hand p told) j wait (ap wait_state (set_at-here word k (granted_word (word k)) j same) ∙ is_told))
+              let one : was_unmarked.wait ≡ wait = one_wait (awaited k) was_unmarked.wait wait was_unmarked.is_wait (ap awaited (sym same) ∙ is) in
+              let here : partition_of wait.tag ≡ p = ap (λ own_wait. partition_of own_wait.tag) (sym one) ∙ was_unmarked.in_partition in
+              ap (stage_of (word j) hand j) is ∙ stage-unmarked (word j) hand j wait (ap (λ q. is_unmarked (hand q) j) here ∙ ap (is_unmarked (hand p)) same ∙ stands_unmarked)
+              ∙ sym (ap (stage_of (word_marked j) (set_at hand p marked) j) is
+              ∙ stage-granted (word_marked j) (set_at hand p marked) j wait (ap wait_state (set_at-here word k (granted_word (word k)) j same) ∙ is_told))
           | inr other ↦
-              stage_of-set (word j) hand p told j (awaited j)
-              (λ its_wait _ _. hand-same (hand p) told j its_wait.tag (sym (owes_less j ∙ without-else (owes (hand p)) k j other)) (same_holder j) same_move)
-              ∙ ap (λ n. stage_of n (set_at hand p told) j (awaited j)) (sym (set_at-else word k (granted_word (word k)) j other))
+              stage_of-set (word j) hand p marked j (awaited j)
+              (λ its_wait _ _. hand-same (hand p) marked j its_wait.tag (sym (unmarked_less j ∙ without-else (is_unmarked (hand p)) k j other)) (same_holder j) same_move)
+              ∙ ap (λ n. stage_of n (set_at hand p marked) j (awaited j)) (sym (set_at-else word k (granted_word (word k)) j other))
         ]
 
-    -- whom else a hand owes word
-    still_owed : (q j : ℕ) (h : Option Hand) → j ≢ k → is_hand_of (hand q) j ≡ is_hand_of h j → owes (hand q) j ≡ true → MayBeOwed (word_told j) (awaited j) h q j
-    still_owed q j h other same old =
+    -- who else is unmarked in a hand
+    still_unmarked : (q j : ℕ) (h : Option Hand) → j ≢ k → is_hand_of (hand q) j ≡ is_hand_of h j → is_unmarked (hand q) j ≡ true → MayBeUnmarked (word_marked j) (awaited j) h q j
+    still_unmarked q j h other same old =
         let it = safe.owing q j old in
         record {
           wait = it.wait;
           is_wait = it.is_wait;
           in_partition = it.in_partition;
-          not_told = ap wait_state (set_at-else word k (granted_word (word k)) j other) ∙ it.not_told;
+          shows_waiting = ap wait_state (set_at-else word k (granted_word (word k)) j other) ∙ it.shows_waiting;
           by_another = sym same ∙ it.by_another;
         }
 
-    owed_by_told : (j : ℕ) → owes told j ≡ true → (j ≢ k) × (owes (hand p) j ≡ true)
-    owed_by_told j now_owed = without-parts (owes (hand p)) k j (sym (owes_less j) ∙ now_owed)
+    unmarked_by_marked : (j : ℕ) → is_unmarked marked j ≡ true → (j ≢ k) × (is_unmarked (hand p) j ≡ true)
+    unmarked_by_marked j now_unmarked = without-parts (is_unmarked (hand p)) k j (sym (unmarked_less j) ∙ now_unmarked)
 
-    elsewhere : (q j : ℕ) → q ≢ p → owes (hand q) j ≡ true → j ≢ k
+    elsewhere : (q j : ℕ) → q ≢ p → is_unmarked (hand q) j ≡ true → j ≢ k
     elsewhere q j other its same =
         let it = safe.owing q j its in
-        let one : it.wait ≡ was_owed.wait = one_wait (awaited k) it.wait was_owed.wait (ap awaited (sym same) ∙ it.is_wait) was_owed.is_wait in
-        other (sym it.in_partition ∙ ap (λ own_wait. partition_of own_wait.tag) one ∙ was_owed.in_partition)
+        let one : it.wait ≡ was_unmarked.wait = one_wait (awaited k) it.wait was_unmarked.wait (ap awaited (sym same) ∙ it.is_wait) was_unmarked.is_wait in
+        other (sym it.in_partition ∙ ap (λ own_wait. partition_of own_wait.tag) one ∙ was_unmarked.in_partition)
 
-    pub telling-safe : WaitsAreSafe now own awaited seen word_told (set_at hand p told)
-    telling-safe = record {
+    pub marking-safe : WaitsAreSafe now own awaited seen word_marked (set_at hand p marked)
+    marking-safe = record {
       no_conflict = safe.no_conflict;
-      one_place = AreInOnePlace-stage now own awaited stage (λ j. stage_of (word_told j) (set_at hand p told) j (awaited j)) stage_told safe.one_place;
+      one_place = AreInOnePlace-stage now own awaited stage (λ j. stage_of (word_marked j) (set_at hand p marked) j (awaited j)) stage_marked safe.one_place;
       none_free = safe.none_free;
       showing = set_at-each (λ j n. ShowsWait n (awaited j) (seen j)) word k (granted_word (word k))
-          (record { idle = λ none. absurd (some_wait (awaited k) was_owed.wait was_owed.is_wait none); waiting = λ wait is. inr is_told; seen_is_shown = λ _. is_told })
+          (record { idle = λ none. absurd (some_wait (awaited k) was_unmarked.wait was_unmarked.is_wait none); waiting = λ wait is. inr is_told; seen_is_shown = λ _. is_told })
           (λ j _. safe.showing j);
-      owing = set_at-each (λ q h. OwesWell word_told awaited q h) hand p told
-          (λ j its. let parts = owed_by_told j its in still_owed p j told parts.0 (same_holder j) parts.1)
-          (λ q other j its. still_owed q j (hand q) (elsewhere q j other its) refl its);
-      by_move = set_at-each (λ _ h. recorded_in h ≡ None → (j : ℕ) → owes h j ≡ false) hand p told
-          (λ none j. false_from_ne_true (owes told j) (λ its. both_ways (owes (hand p) j) (safe.by_move p (same_move ∙ none) j) (owed_by_told j its).1))
+      owing = set_at-each (λ q h. UnmarkedWell word_marked awaited q h) hand p marked
+          (λ j its. let parts = unmarked_by_marked j its in still_unmarked p j marked parts.0 (same_holder j) parts.1)
+          (λ q other j its. still_unmarked q j (hand q) (elsewhere q j other its) refl its);
+      by_move = set_at-each (λ _ h. recorded_in h ≡ None → (j : ℕ) → is_unmarked h j ≡ false) hand p marked
+          (λ none j. false_from_ne_true (is_unmarked marked j) (λ its. both_ways (is_unmarked (hand p) j) (safe.by_move p (same_move ∙ none) j) (unmarked_by_marked j its).1))
           (λ q _. safe.by_move q);
     }
 
-  -- A wait ends that no hand owes word of.
-  module _ (s : ℕ) (not_owed : (q : ℕ) → owes (hand q) s ≡ false) where
+  -- A wait ends that is unmarked in no hand.
+  module _ (s : ℕ) (not_unmarked : (q : ℕ) → is_unmarked (hand q) s ≡ false) where
     stage_else : (k : ℕ) → k ≢ s → stage k ≡ stage_of (set_at word s 0 k) hand k (set_at awaited s None k)
     stage_else k other = sym (λ i. stage_of (set_at-else word s 0 k other i) hand k (set_at-else awaited s None k other i))
 
@@ -395,7 +395,7 @@ module _ (now : ℕ → Content) (own : Holds) (awaited : ℕ → Option OwnWait
       none_free = safe.none_free;
       showing = ShowsWait-set word awaited seen s 0 None false
           (record { idle = λ _. refl; waiting = λ wait is. absurd (some_wait None wait is refl); seen_is_shown = λ e. absurd (false≢true e) }) safe.showing;
-      owing = λ q k its. MayBeOwed-else word awaited s 0 None (hand q) q k (λ same. both_ways (owes (hand q) k) (ap (owes (hand q)) same ∙ not_owed q) its) (safe.owing q k its);
+      owing = λ q k its. MayBeUnmarked-else word awaited s 0 None (hand q) q k (λ same. both_ways (is_unmarked (hand q) k) (ap (is_unmarked (hand q)) same ∙ not_unmarked q) its) (safe.owing q k its);
       by_move = safe.by_move;
     }
 
@@ -420,11 +420,11 @@ module _ (now : ℕ → Content) (own : Holds) (awaited : ℕ → Option OwnWait
     abbrev joined : Option Hand
     joined = recording (hand p) (Join t m) (λ _. false)
 
-    owes_nobody : (k : ℕ) → owes joined k ≡ false
-    owes_nobody = recording-owes (hand p) (Join t m) (λ _. false) s its
+    none_unmarked : (k : ℕ) → is_unmarked joined k ≡ false
+    none_unmarked = recording-unmarked (hand p) (Join t m) (λ _. false) s its
 
     tells_queued : (k : ℕ) (o : Tag) → stage_by_hand joined k o ≡ InQueue
-    tells_queued k o = hand-no_leave joined k o (owes_nobody k) (ap (λ made. is_leave_of made o) (recording-recorded (hand p) (Join t m) (λ _. false) s its))
+    tells_queued k o = hand-no_leave joined k o (none_unmarked k) (ap (λ made. is_leave_of made o) (recording-recorded (hand p) (Join t m) (λ _. false) s its))
 
     stage_joined : (k : ℕ) → stage_after stage s (Join t m) [] k ≡ stage_of (set_at word s 1 k) (set_at hand p joined) k (set_at awaited s (Some recorded_wait) k)
     stage_joined k =
@@ -449,9 +449,9 @@ module _ (now : ℕ → Content) (own : Holds) (awaited : ℕ → Option OwnWait
       none_free = moved_by_join.none_free;
       showing = ShowsWait-set word awaited seen s 1 (Some recorded_wait) false
           (record { idle = λ none. absurd (some_wait (Some recorded_wait) recorded_wait refl none); waiting = λ wait is. inl refl; seen_is_shown = λ e. absurd (false≢true e) }) safe.showing;
-      owing = set_at-each (λ q h. OwesWell (set_at word s 1) (set_at awaited s (Some recorded_wait)) q h) hand p joined
-          (λ k owed_one. absurd (both_ways (owes joined k) (owes_nobody k) owed_one))
-          (λ q _ k owed_one. let it = safe.owing q k owed_one in
-          MayBeOwed-else word awaited s 1 (Some recorded_wait) (hand q) q k (λ same. some_wait (awaited k) it.wait it.is_wait (ap awaited same ∙ fits.0)) it);
-      by_move = set_at-each (λ _ h. recorded_in h ≡ None → (k : ℕ) → owes h k ≡ false) hand p joined (λ _. owes_nobody) (λ q _. safe.by_move q);
+      owing = set_at-each (λ q h. UnmarkedWell (set_at word s 1) (set_at awaited s (Some recorded_wait)) q h) hand p joined
+          (λ k unmarked_one. absurd (both_ways (is_unmarked joined k) (none_unmarked k) unmarked_one))
+          (λ q _ k unmarked_one. let it = safe.owing q k unmarked_one in
+          MayBeUnmarked-else word awaited s 1 (Some recorded_wait) (hand q) q k (λ same. some_wait (awaited k) it.wait it.is_wait (ap awaited same ∙ fits.0)) it);
+      by_move = set_at-each (λ _ h. recorded_in h ≡ None → (k : ℕ) → is_unmarked h k ≡ false) hand p joined (λ _. none_unmarked) (λ q _. safe.by_move q);
     }

@@ -6,7 +6,7 @@ use Rattle.modes_core.specs.Tag.{partition_of}
 use Rattle.lock_table.specs.declared.moves.Move.{Move}
 use Rattle.lock_table.specs.OwnWait.{OwnWait, InQueue, WasGranted, HasLeft}
 use Rattle.lock_world.specs.WaitWord.{wait_state}
-use Rattle.lock_world.specs.World.{Hand, recorded_in, owes}
+use Rattle.lock_world.specs.World.{Hand, recorded_in, is_unmarked}
 use Rattle.lock_table.specs.Put.{set_at}
 use Rattle.lock_world.specs.Making.{recording}
 use Rattle.lock_world.specs.Safe.{is_hand_of, is_leave_of, stage_by_hand, stage_of}
@@ -15,24 +15,24 @@ use Rattle.lock_table.proofs.PutLemmas.{set_at-here, set_at-else}
 -- How far a wait has come: what the hand of the partition and the wait's word tell.
 
 -- by the hand
-pub hand-owed : (hand : Option Hand) (k : ℕ) (t : Tag) → owes hand k ≡ true → stage_by_hand hand k t ≡ WasGranted
-hand-owed hand k t owed = cond-true (owes hand k) WasGranted _ owed
+pub hand-unmarked : (hand : Option Hand) (k : ℕ) (t : Tag) → is_unmarked hand k ≡ true → stage_by_hand hand k t ≡ WasGranted
+hand-unmarked hand k t stands_unmarked = cond-true (is_unmarked hand k) WasGranted _ stands_unmarked
 
-pub hand-left : (hand : Option Hand) (k : ℕ) (t : Tag) → owes hand k ≡ false → is_hand_of hand k ≡ true → is_leave_of (recorded_in hand) t ≡ true → stage_by_hand hand k t ≡ HasLeft
-hand-left hand k t not_owed its leave =
-    cond-false (owes hand k) WasGranted _ not_owed ∙ cond-true (is_hand_of hand k && is_leave_of (recorded_in hand) t) HasLeft InQueue (ap (λ b. b && is_leave_of (recorded_in hand) t) its ∙ leave)
+pub hand-left : (hand : Option Hand) (k : ℕ) (t : Tag) → is_unmarked hand k ≡ false → is_hand_of hand k ≡ true → is_leave_of (recorded_in hand) t ≡ true → stage_by_hand hand k t ≡ HasLeft
+hand-left hand k t not_unmarked its leave =
+    cond-false (is_unmarked hand k) WasGranted _ not_unmarked ∙ cond-true (is_hand_of hand k && is_leave_of (recorded_in hand) t) HasLeft InQueue (ap (λ b. b && is_leave_of (recorded_in hand) t) its ∙ leave)
 
-pub hand-queued : (hand : Option Hand) (k : ℕ) (t : Tag) → owes hand k ≡ false → (is_hand_of hand k && is_leave_of (recorded_in hand) t) ≡ false → stage_by_hand hand k t ≡ InQueue
-hand-queued hand k t not_owed not_left = cond-false (owes hand k) WasGranted _ not_owed ∙ cond-false (is_hand_of hand k && is_leave_of (recorded_in hand) t) HasLeft InQueue not_left
+pub hand-queued : (hand : Option Hand) (k : ℕ) (t : Tag) → is_unmarked hand k ≡ false → (is_hand_of hand k && is_leave_of (recorded_in hand) t) ≡ false → stage_by_hand hand k t ≡ InQueue
+hand-queued hand k t not_unmarked not_left = cond-false (is_unmarked hand k) WasGranted _ not_unmarked ∙ cond-false (is_hand_of hand k && is_leave_of (recorded_in hand) t) HasLeft InQueue not_left
 
-pub hand-no_leave : (hand : Option Hand) (k : ℕ) (t : Tag) → owes hand k ≡ false → is_leave_of (recorded_in hand) t ≡ false → stage_by_hand hand k t ≡ InQueue
-hand-no_leave hand k t not_owed no_leave = hand-queued hand k t not_owed (and_right (is_hand_of hand k) (is_leave_of (recorded_in hand) t) no_leave)
+pub hand-no_leave : (hand : Option Hand) (k : ℕ) (t : Tag) → is_unmarked hand k ≡ false → is_leave_of (recorded_in hand) t ≡ false → stage_by_hand hand k t ≡ InQueue
+hand-no_leave hand k t not_unmarked no_leave = hand-queued hand k t not_unmarked (and_right (is_hand_of hand k) (is_leave_of (recorded_in hand) t) no_leave)
 
-pub hand-unrecorded : (hand : Option Hand) (k : ℕ) (t : Tag) → owes hand k ≡ false → recorded_in hand ≡ None → stage_by_hand hand k t ≡ InQueue
-hand-unrecorded hand k t not_owed unrecorded = hand-no_leave hand k t not_owed (ap (λ move. is_leave_of move t) unrecorded)
+pub hand-unrecorded : (hand : Option Hand) (k : ℕ) (t : Tag) → is_unmarked hand k ≡ false → recorded_in hand ≡ None → stage_by_hand hand k t ≡ InQueue
+hand-unrecorded hand k t not_unmarked unrecorded = hand-no_leave hand k t not_unmarked (ap (λ move. is_leave_of move t) unrecorded)
 
--- Two hands of one session, with one move recorded and alike in whether they owe it, tell the same.
-pub hand-same : (hand hand' : Option Hand) (k : ℕ) (t : Tag) → owes hand k ≡ owes hand' k → is_hand_of hand k ≡ is_hand_of hand' k → recorded_in hand ≡ recorded_in hand' → stage_by_hand hand k t ≡ stage_by_hand hand' k t
+-- Two hands of one session, with one move recorded and alike in whether it is unmarked there, tell the same.
+pub hand-same : (hand hand' : Option Hand) (k : ℕ) (t : Tag) → is_unmarked hand k ≡ is_unmarked hand' k → is_hand_of hand k ≡ is_hand_of hand' k → recorded_in hand ≡ recorded_in hand' → stage_by_hand hand k t ≡ stage_by_hand hand' k t
 hand-same hand hand' k t owing its recorded i =
     if owing i then WasGranted else (if its i && is_leave_of (recorded i) t then HasLeft else InQueue)
 
@@ -44,11 +44,11 @@ module _ (n : ℕ) (hand : ℕ → Option Hand) (k : ℕ) (wait : OwnWait) where
   pub stage-by_hand : wait_state n ≢ 2 → stage_of n hand k (Some wait) ≡ stage_by_hand (hand (partition_of wait.tag)) k wait.tag
   stage-by_hand not_two = cond-false (wait_state n == 2) WasGranted _ (ne_eqb (wait_state n) 2 not_two)
 
-  pub stage-owed : owes (hand (partition_of wait.tag)) k ≡ true → stage_of n hand k (Some wait) ≡ WasGranted
-  stage-owed owed =
+  pub stage-unmarked : is_unmarked (hand (partition_of wait.tag)) k ≡ true → stage_of n hand k (Some wait) ≡ WasGranted
+  stage-unmarked stands_unmarked =
       elim (cases_eq (wait_state n) 2) [
         | inl two ↦ stage-granted two
-        | inr not_two ↦ stage-by_hand not_two ∙ hand-owed (hand (partition_of wait.tag)) k wait.tag owed
+        | inr not_two ↦ stage-by_hand not_two ∙ hand-unmarked (hand (partition_of wait.tag)) k wait.tag stands_unmarked
       ]
 
   -- A wait whose word shows that it was granted neither stands in the queue nor has left it.
@@ -94,18 +94,18 @@ nobody's None none = refl
 nobody's (Some hand) none = absurd (false≢true (sym (none hand.holder) ∙ eq-eqb hand.holder hand.holder refl))
 
 -- A hand with a move recorded.
-pub recording-hand : (hand : Option Hand) (done : Move) (due : ℕ → Bool) (k : ℕ) → is_hand_of (recording hand done due) k ≡ is_hand_of hand k
-recording-hand None done due k = refl
-recording-hand (Some hand) done due k = refl
+pub recording-hand : (hand : Option Hand) (done : Move) (unmarked : ℕ → Bool) (k : ℕ) → is_hand_of (recording hand done unmarked) k ≡ is_hand_of hand k
+recording-hand None done unmarked k = refl
+recording-hand (Some hand) done unmarked k = refl
 
-pub recording-recorded : (hand : Option Hand) (done : Move) (due : ℕ → Bool) (s : ℕ) → is_hand_of hand s ≡ true → recorded_in (recording hand done due) ≡ Some done
-recording-recorded None done due s its = absurd (false≢true its)
-recording-recorded (Some hand) done due s its = refl
+pub recording-recorded : (hand : Option Hand) (done : Move) (unmarked : ℕ → Bool) (s : ℕ) → is_hand_of hand s ≡ true → recorded_in (recording hand done unmarked) ≡ Some done
+recording-recorded None done unmarked s its = absurd (false≢true its)
+recording-recorded (Some hand) done unmarked s its = refl
 
-pub recording-owes : (hand : Option Hand) (done : Move) (due : ℕ → Bool) (s : ℕ) → is_hand_of hand s ≡ true → (k : ℕ) → owes (recording hand done due) k ≡ due k
-recording-owes None done due s its k = absurd (false≢true its)
-recording-owes (Some hand) done due s its k = refl
+pub recording-unmarked : (hand : Option Hand) (done : Move) (unmarked : ℕ → Bool) (s : ℕ) → is_hand_of hand s ≡ true → (k : ℕ) → is_unmarked (recording hand done unmarked) k ≡ unmarked k
+recording-unmarked None done unmarked s its k = absurd (false≢true its)
+recording-unmarked (Some hand) done unmarked s its k = refl
 
-pub recording-by_move : (hand : Option Hand) (done : Move) (due : ℕ → Bool) → recorded_in (recording hand done due) ≡ None → (k : ℕ) → owes (recording hand done due) k ≡ false
-recording-by_move None done due none k = refl
-recording-by_move (Some hand) done due none k = let e : Some done ≡ None = none in absurd (cc)
+pub recording-by_move : (hand : Option Hand) (done : Move) (unmarked : ℕ → Bool) → recorded_in (recording hand done unmarked) ≡ None → (k : ℕ) → is_unmarked (recording hand done unmarked) k ≡ false
+recording-by_move None done unmarked none k = refl
+recording-by_move (Some hand) done unmarked none k = let e : Some done ≡ None = none in absurd (cc)

@@ -11,7 +11,7 @@ use Rattle.lock_world.proofs.SafeWaits.{WaitsAreSafe, safe_from, shows_from}
 -- What is safe of the waits of a World.
 pub waits_of : (w : World) → Safe w → WaitsAreSafe w.contents.now w.sessions.own w.sessions.awaited w.sessions.seen w.words.wait w.contents.hand
 waits_of w safe = safe_from w.contents.now w.sessions.own w.sessions.awaited w.sessions.seen w.words.wait w.contents.hand
-    safe.promise.no_conflict safe.promise.one_place safe.promise.none_free safe.promise.wait_words safe.carriers.owes_by_move
+    safe.promise.no_conflict safe.promise.one_place safe.promise.none_free safe.promise.wait_words safe.carriers.unmarked_by_move
 
 -- A step of one live session on own holds and waits leaves those who are not live with nothing.
 pub SpentHaveNothing-own :
@@ -52,7 +52,7 @@ with_waits-safe w now own awaited seen word hand trace safe waits spent same = r
   carriers = record {
     hands = λ p k. safe.carriers.hands p k ∙ sym (same p k);
     numbers = safe.carriers.numbers;
-    owes_by_move = waits.by_move;
+    unmarked_by_move = waits.by_move;
     not_yet = record {
       fast = safe.carriers.not_yet.fast;
       database = safe.carriers.not_yet.database;

@@ -14,7 +14,7 @@ use Rattle.lock_table.specs.Content as content
 use Rattle.lock_world.specs.LightweightWord.{IsHeldByNobody, taken_word, put_word}
 use Rattle.lock_table.specs.OwnWait.{OwnWait}
 use Rattle.lock_world.specs.WaitWord.{wait_state, asked_word}
-use Rattle.lock_world.specs.World.{World, Hand, MakesSteps, recorded_in, owes, Took, Episode, AskedToCancel, LoadedWait}
+use Rattle.lock_world.specs.World.{World, Hand, MakesSteps, recorded_in, is_unmarked, Took, Episode, AskedToCancel, LoadedWait}
 use Rattle.lock_table.specs.Put.{set_at}
 use Rattle.lock_world.specs.Making.{MayMove, own_after, after_setting_waiting, MayMarkFirst, after_marking_first, MayMarkNext, after_marking_next, MayClearSeen, MayClearInHand, after_clearing, MayLeave, after_leaving}
 
@@ -31,7 +31,7 @@ abbrev pub after_taking_partition : World → ℕ → ℕ → World
 after_taking_partition w session partition = record {
   words = record (w.words) { partition = set_at w.words.partition partition (taken_word (w.words.partition partition)) };
   contents = record (w.contents) {
-    hand = set_at w.contents.hand partition (Some (record { holder = session; taken = w.contents.now partition; recorded = None; due = λ _. false }));
+    hand = set_at w.contents.hand partition (Some (record { holder = session; taken = w.contents.now partition; recorded = None; unmarked = λ _. false }));
   };
   sessions = record (w.sessions) {
     holds_partition = set_at w.sessions.holds_partition session (set_at (w.sessions.holds_partition session) partition true);
@@ -40,7 +40,7 @@ after_taking_partition w session partition = record {
   numbers = w.numbers;
 }
 
--- Putting a partition after one move of the session's own on its content, by which nobody is granted who has not been told.
+-- Putting a partition after one move of the session's own on its content, by which nobody is granted.
 -- A join and a leave stand recorded before the partition is put.
 abbrev pub IsMadeByPutting : Move → Type 0
 IsMadeByPutting Keep = Unit {0}
@@ -72,7 +72,7 @@ after_putting_partition w session partition done content = record {
   numbers = w.numbers;
 }
 
--- Putting a partition with the move recorded in the hand: all whom it granted have been told, and after a leave the session
+-- Putting a partition with the move recorded in the hand: all whom it granted are marked, and after a leave the session
 -- has no wait on an object of the partition.
 abbrev pub WaitIsOver : Option OwnWait → ℕ → Move → Type 0
 WaitIsOver awaited partition Keep = Unit {0}
@@ -85,7 +85,7 @@ pub record MayPutRecorded (w : World) (session partition : ℕ) (done : Move) : 
   pub steps : MakesSteps w.numbers session
   pub holding : w.sessions.holds_partition session partition ≡ true
   pub recorded : recorded_in (w.contents.hand partition) ≡ Some done
-  pub all_told : (other : ℕ) → owes (w.contents.hand partition) other ≡ false
+  pub all_marked : (other : ℕ) → is_unmarked (w.contents.hand partition) other ≡ false
   pub wait_is_over : WaitIsOver (w.sessions.awaited session) partition done
 
 -- The content is as recorded, and own holds have followed.

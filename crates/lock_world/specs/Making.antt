@@ -9,7 +9,7 @@ use Rattle.lock_table.specs.Queue.{waits_there}
 use Rattle.lock_table.specs.Moves.{Moves, IsInPartition, FitsOwn}
 use Rattle.lock_table.specs.OwnWait.{OwnWait}
 use Rattle.lock_world.specs.WaitWord.{wait_state, granted_word}
-use Rattle.lock_world.specs.World.{World, Hand, MakesSteps, recorded_in, owes}
+use Rattle.lock_world.specs.World.{World, Hand, MakesSteps, recorded_in, is_unmarked}
 use Rattle.lock_table.specs.Put.{set_at}
 
 -- The moves that a session makes on a content in its hand, one at most each time that it has it: where each is lawful, and
@@ -33,14 +33,14 @@ own_after own session (Join tag mode) = own
 own_after own session (Release tag mode) = set_hold own session tag mode false
 own_after own session (Leave tag) = own
 
--- the hand, with a move recorded and those whom it granted to be told
+-- the hand, with a move recorded, and those whom it granted unmarked
 abbrev pub recording : Option Hand → Move → (ℕ → Bool) → Option Hand
-recording None done due = None
-recording (Some hand) done due = Some (record hand { recorded = Some done; due = due })
+recording None done unmarked = None
+recording (Some hand) done unmarked = Some (record hand { recorded = Some done; unmarked = unmarked })
 
--- those to be told of a grant, without one
+-- those unmarked, without one who is marked
 abbrev pub without : (ℕ → Bool) → ℕ → ℕ → Bool
-without due told session = due session && not (session == told)
+without unmarked marked session = unmarked session && not (session == marked)
 
 -- Setting the own wait word to waiting: the join is made, the wait recorded.
 abbrev pub after_setting_waiting : World → ℕ → Tag → Mode → Content → World
@@ -59,7 +59,7 @@ after_setting_waiting w session tag mode content = record {
 }
 
 -- Marking the wait of another session granted, which waits: by the first such step the move is made; by each further one
--- one more of those whom it granted is told, until nobody is due.
+-- one more of those whom it granted is marked, until nobody is unmarked.
 pub record MayMark (w : World) (session other : ℕ) : Type 0 where
   pub another : other ≢ session
   pub waiting : wait_state (w.words.wait other) ≡ 1
@@ -85,14 +85,14 @@ pub record MayMarkNext (w : World) (session other partition : ℕ) (done : Move)
   pub holding : w.sessions.holds_partition session partition ≡ true
   pub recorded : recorded_in (w.contents.hand partition) ≡ Some done
   pub may_mark : MayMark w session other
-  pub is_due : owes (w.contents.hand partition) other ≡ true
+  pub is_unmarked_in : is_unmarked (w.contents.hand partition) other ≡ true
 
 abbrev pub after_marking_next : World → ℕ → ℕ → Move → World
 after_marking_next w other partition done = record {
   words = record (w.words) { wait = set_at w.words.wait other (granted_word (w.words.wait other)) };
   contents = record (w.contents) {
     hand = set_at w.contents.hand partition
-        (recording (w.contents.hand partition) done (without (owes (w.contents.hand partition)) other));
+        (recording (w.contents.hand partition) done (without (is_unmarked (w.contents.hand partition)) other));
   };
   sessions = w.sessions;
   numbers = w.numbers;

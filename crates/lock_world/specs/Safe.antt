@@ -10,7 +10,7 @@ use Rattle.lock_world.specs.LightweightWord.{free_word, IsHeldExclusively, share
 use Rattle.lock_table.specs.OwnWait.{OwnWait, Stage, InQueue, WasGranted, HasLeft, is_for, is_pending, queued_by}
 use Rattle.lock_table.specs.Queue.{NoneFree}
 use Rattle.lock_world.specs.WaitWord.{wait_state}
-use Rattle.lock_world.specs.World.{World, Words, Hand, Numbers, recorded_in, owes}
+use Rattle.lock_world.specs.World.{World, Words, Hand, Numbers, recorded_in, is_unmarked}
 
 -- What holds between any two atomic steps: the promise, and the facts that carry it from one step to the next.
 
@@ -30,11 +30,11 @@ is_leave_of (Some (Join other mode)) tag = false
 is_leave_of (Some (Release other mode)) tag = false
 is_leave_of (Some (Leave other)) tag = tag_eq other tag
 
--- the stage of a wait by the hand alone: granted where the hand owes word of it, and left where its own session's hand has
+-- the stage of a wait by the hand alone: granted where the grant stands unmarked in the hand, and left where its own session's hand has
 -- recorded that
 abbrev pub stage_by_hand : Option Hand → ℕ → Tag → Stage
 stage_by_hand hand session tag =
-    if owes hand session then WasGranted
+    if is_unmarked hand session then WasGranted
     else (if is_hand_of hand session && is_leave_of (recorded_in hand) tag then HasLeft else InQueue)
 
 -- the stage of a session's wait: granted where its word shows it, else by the hand that has the partition
@@ -84,15 +84,15 @@ abbrev pub WordsShowHolders : (ℕ → ℕ) → (ℕ → ℕ → Bool) → Type 
 WordsShowHolders word holds = (p : ℕ) → ShowsHolders (word p) (λ session. holds session p)
 
 -- A wait word shows 0 where its session has no wait, else that it waits or that its wait was granted. A session has seen a
--- grant only where its word shows it; and a hand owes word of a grant only to a session that waits on an object of its
+-- grant only where its word shows it; and a grant stands unmarked in a hand only of a session that waits on an object of its
 -- partition, and whose hand it is not.
 pub record WaitWordsShowWaits (word : ℕ → ℕ) (awaited : ℕ → Option OwnWait) (seen : ℕ → Bool) (hand : ℕ → Option Hand) : Type 0 where
   pub idle : (session : ℕ) → awaited session ≡ None → wait_state (word session) ≡ 0
   pub waiting : (session : ℕ) (wait : OwnWait) → awaited session ≡ Some wait → (wait_state (word session) ≡ 1) ⊎ (wait_state (word session) ≡ 2)
   pub seen_is_shown : (session : ℕ) → seen session ≡ true → wait_state (word session) ≡ 2
-  pub owed_waits : (p session : ℕ) → owes (hand p) session ≡ true → (wait : OwnWait) × (awaited session ≡ Some wait) × (partition_of wait.tag ≡ p)
-  pub owed_is_not_told : (p session : ℕ) → owes (hand p) session ≡ true → wait_state (word session) ≡ 1
-  pub owed_by_another : (p session : ℕ) → owes (hand p) session ≡ true → is_hand_of (hand p) session ≡ false
+  pub unmarked_waits : (p session : ℕ) → is_unmarked (hand p) session ≡ true → (wait : OwnWait) × (awaited session ≡ Some wait) × (partition_of wait.tag ≡ p)
+  pub unmarked_shows_waiting : (p session : ℕ) → is_unmarked (hand p) session ≡ true → wait_state (word session) ≡ 1
+  pub unmarked_of_another : (p session : ℕ) → is_unmarked (hand p) session ≡ true → is_hand_of (hand p) session ≡ false
 
 -- A session number that is not live has no hold, no wait and no word.
 pub record SpentHaveNothing (live : ℕ → Bool) (own : Holds) (awaited : ℕ → Option OwnWait) (holds : ℕ → ℕ → Bool) : Type 0 where
@@ -120,9 +120,9 @@ pub record NumbersAreInOrder (numbers : Numbers) : Type 0 where
   pub within : numbers.issued ≤ numbers.limit
   pub kept_is_live : (session joiner : ℕ) → numbers.kept_by session ≡ Some joiner → numbers.live session ≡ true
 
--- A hand that has recorded no move owes nobody.
-abbrev pub OwesByItsMove : (ℕ → Option Hand) → Type 0
-OwesByItsMove hand = (p : ℕ) → recorded_in (hand p) ≡ None → (session : ℕ) → owes (hand p) session ≡ false
+-- In a hand that has recorded no move nobody is unmarked.
+abbrev pub UnmarkedByItsMove : (ℕ → Option Hand) → Type 0
+UnmarkedByItsMove hand = (p : ℕ) → recorded_in (hand p) ≡ None → (session : ℕ) → is_unmarked (hand p) session ≡ false
 
 -- The words that no event so far changes show what they opened with.
 pub record NotYetUsed (words : Words) : Type 0 where
@@ -135,7 +135,7 @@ pub record NotYetUsed (words : Words) : Type 0 where
 pub record Carriers (w : World) : Type 0 where
   pub hands : HandsAreHolders w.contents.hand w.sessions.holds_partition
   pub numbers : NumbersAreInOrder w.numbers
-  pub owes_by_move : OwesByItsMove w.contents.hand
+  pub unmarked_by_move : UnmarkedByItsMove w.contents.hand
   pub not_yet : NotYetUsed w.words
 
 pub record Safe (w : World) : Type 0 where

@@ -31,8 +31,8 @@ pub record Hand : Type 0 where
   pub taken : Content
   -- the move that it has made and that stands recorded in the content, if any
   pub recorded : Option Move
-  -- those whom that move granted and who have not been told
-  pub due : ℕ → Bool
+  -- those whom that move granted and whose wait words are not yet marked so
+  pub unmarked : ℕ → Bool
 
 -- The contents of the partitions.
 pub record Contents : Type 0 where
@@ -86,10 +86,10 @@ abbrev pub recorded_in : Option Hand → Option Move
 recorded_in None = None
 recorded_in (Some hand) = hand.recorded
 
--- whether a hand owes the session word that its wait was granted
-abbrev pub owes : Option Hand → ℕ → Bool
-owes None session = false
-owes (Some hand) session = hand.due session
+-- whether the hand has a grant of the session unmarked: its move granted the wait, and the wait word is not marked yet
+abbrev pub is_unmarked : Option Hand → ℕ → Bool
+is_unmarked None session = false
+is_unmarked (Some hand) session = hand.unmarked session
 
 -- The session makes steps of its own: it is live, and no other session keeps it apart.
 pub record MakesSteps (numbers : Numbers) (session : ℕ) : Type 0 where

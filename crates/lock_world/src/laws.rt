@@ -12,7 +12,7 @@ ghost use Rattle.lock_world.specs.LightweightWord.{IsHeldExclusively};
 ghost use Rattle.lock_table.specs.OwnWait.{OwnWait, entry_of, is_for};
 ghost use Rattle.lock_table.specs.Queue.{NoneFree, waits_there};
 ghost use Rattle.lock_world.specs.WaitWord.{wait_state, is_asked, asked_word, granted_word};
-ghost use Rattle.lock_world.specs.World.{World, opening, owes};
+ghost use Rattle.lock_world.specs.World.{World, opening, is_unmarked};
 ghost use Rattle.lock_world.specs.Happens.{Happens, Runs};
 ghost use Rattle.lock_world.specs.Safe.{Safe};
 
@@ -51,7 +51,7 @@ pub fn no_two_conflicting_holds()
 
 /// In every World a hold stands in a content exactly where the object is of that partition and the hold is
 /// the session's own or its pending grant: what it awaits, where its wait word shows that this was granted,
-/// or the hand that has the partition owes it word of that. What a session awaits is no own hold of it, so
+/// or that grant stands unmarked in the hand that has the partition. What a session awaits is no own hold of it, so
 /// no hold is both.
 pub fn each_hold_in_one_place()
     ensures own_or_pending { (limit : ℕ) (events : List Event) (w : World) → Runs (opening limit) events w →
@@ -60,7 +60,7 @@ pub fn each_hold_in_one_place()
         ↔ ((partition_of tag ≡ p)
         × ((w.sessions.own session tag mode ≡ true)
         ⊎ ((is_for (w.sessions.awaited session) tag mode ≡ true)
-        × ((wait_state (w.words.wait session) ≡ 2) ⊎ (owes (w.contents.hand p) session ≡ true))))) }
+        × ((wait_state (w.words.wait session) ≡ 2) ⊎ (is_unmarked (w.contents.hand p) session ≡ true))))) }
     ensures never_both { (limit : ℕ) (events : List Event) (w : World) → Runs (opening limit) events w →
         (session : ℕ) (tag : Tag) (mode : Mode) → is_for (w.sessions.awaited session) tag mode ≡ true → w.sessions.own session tag mode ≡ false }
 {}

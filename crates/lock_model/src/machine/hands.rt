@@ -1,7 +1,7 @@
 //! Partitions in hand, and waits by their sessions' own account, as the plain machine keeps them.
 
 ghost use Rattle.std.specs.Prelude.{◌≡◌, ℕ};
-ghost use Rattle.lock_model.specs.Shows.{is_due, owes_nobody, names_in};
+ghost use Rattle.lock_model.specs.Shows.{is_unmarked_in, none_unmarked, names_in};
 
 use lock_table::{Move, Woken};
 use modes_core::{Mode, SessionId, Tag};
@@ -12,23 +12,23 @@ pub struct InHand {
     pub holder: SessionId,
     /// The move that the session has made on the content, if any.
     pub recorded: Option<Move>,
-    /// Those whom that move granted and who have not been told.
-    pub due: [bool; 64],
+    /// Those whom that move granted and whose wait words are not yet marked so.
+    pub unmarked: [bool; 64],
 }
 
 impl InHand {
-    /// Whether nobody is to be told.
-    pub fn owes_nobody(&self) -> bool
-        ensures { result ≡ owes_nobody self.now.due }
+    /// Whether nobody is unmarked.
+    pub fn none_unmarked(&self) -> bool
+        ensures { result ≡ none_unmarked self.now.unmarked }
     {
-        !self.due.contains(&true)
+        !self.unmarked.contains(&true)
     }
 
-    /// Whether the session is to be told.
-    pub fn owes(&self, session: SessionId) -> bool
-        ensures { result ≡ is_due self.now.due session }
+    /// Whether the session is unmarked.
+    pub fn is_unmarked(&self, session: SessionId) -> bool
+        ensures { result ≡ is_unmarked_in self.now.unmarked session }
     {
-        self.due[usize::from(session.number())]
+        self.unmarked[usize::from(session.number())]
     }
 }
 
@@ -46,9 +46,9 @@ pub fn is_among(woken: &Woken, session: SessionId) -> bool
     woken.iter().any(|(other, _)| *other == session)
 }
 
-/// Those woken, as marks by session number.
-pub fn marks_of(woken: &Woken) -> [bool; 64]
-    ensures { (session : ℕ) → is_due result session ≡ names_in woken.now.items session }
+/// Those woken, by session number: their grants are unmarked so far.
+pub fn unmarked_of(woken: &Woken) -> [bool; 64]
+    ensures { (session : ℕ) → is_unmarked_in result session ≡ names_in woken.now.items session }
 {
     let mut marks = [false; 64];
     for whose in woken.as_slice() {

@@ -24,7 +24,7 @@ impl Machine {
             self.hands[index] = Some(InHand {
                 holder: session,
                 recorded: None,
-                due: [false; 64],
+                unmarked: [false; 64],
             });
         }
     }
@@ -59,7 +59,10 @@ impl Machine {
         let Some(recorded) = hand.recorded else {
             return self.put_made(session, partition, done);
         };
-        if recorded.is_same(done) && hand.owes_nobody() && self.is_over(session, partition, done) {
+        if recorded.is_same(done)
+            && hand.none_unmarked()
+            && self.is_over(session, partition, done)
+        {
             self.set_free(partition);
         }
         Ok(())

@@ -1,6 +1,6 @@
 //! The plain machine's steps on wait words.
 
-use super::hands::{Awaited, InHand, is_among, marks_of};
+use super::hands::{Awaited, InHand, is_among, unmarked_of};
 use super::moved::{MovedPart, after_leaving, after_release};
 use super::state::Machine;
 use lock_table::{Move, NoMemory, PartTable, Told, waiting_answer};
@@ -40,17 +40,17 @@ impl Machine {
         }
     }
 
-    /// Records a move in the hand that has the partition, with those to be told of it.
-    fn record(&mut self, partition: u8, hand: InHand, done: Move, due: [bool; 64])
+    /// Records a move in the hand that has the partition, with those whom it granted unmarked.
+    fn record(&mut self, partition: u8, hand: InHand, done: Move, unmarked: [bool; 64])
         requires { partition < 16 }
         ensures { self.new ≡ record self.old {
-          hands = slice_set self.old.hands partition (Some (record { holder = hand.holder; recorded = Some done; due = due }));
+          hands = slice_set self.old.hands partition (Some (record { holder = hand.holder; recorded = Some done; unmarked = unmarked }));
         } }
     {
         self.hands[usize::from(partition)] = Some(InHand {
             holder: hand.holder,
             recorded: Some(done),
-            due,
+            unmarked,
         });
     }
 
@@ -73,7 +73,7 @@ impl Machine {
         self.join_now(session, tag, mode, hand, place)
     }
 
-    /// Makes the join: the session's wait goes into the object's queue, at the place that it was told.
+    /// Makes the join: the session's wait goes into the object's queue, at the place that it was answered.
     fn join_now(
         &mut self,
         session: SessionId,
@@ -170,30 +170,37 @@ impl Machine {
         let Some(recorded) = hand.recorded else {
             return self.mark_first(session, other, partition, hand, done);
         };
-        if recorded.is_same(done) && hand.owes(other) {
-            self.tell(partition, hand, other, done, hand.due);
+        if recorded.is_same(done) && hand.is_unmarked(other) {
+            self.mark(partition, hand, other, done, hand.unmarked);
         }
         Ok(())
     }
 
-    /// Tells the other session that its wait was granted by the move: its wait word goes from waiting to
-    /// granted, and it is due no more.
-    fn tell(&mut self, partition: u8, hand: InHand, other: SessionId, done: Move, due: [bool; 64])
+    /// Marks the wait of the other session, which the move granted: its wait word goes from waiting to
+    /// granted, and it is unmarked no more.
+    fn mark(
+        &mut self,
+        partition: u8,
+        hand: InHand,
+        other: SessionId,
+        done: Move,
+        unmarked: [bool; 64],
+    )
         requires exists { partition < 16 }
         requires waiting { wait_state (slice_index_or self.old.wait_words other 0) ≡ 1 }
         ensures { self.new ≡ record self.old {
-          hands = slice_set self.old.hands partition (Some (record { holder = hand.holder; recorded = Some done; due = slice_set due other false }));
+          hands = slice_set self.old.hands partition (Some (record { holder = hand.holder; recorded = Some done; unmarked = slice_set unmarked other false }));
           wait_words = slice_set self.old.wait_words other (slice_index_or self.old.wait_words other 0 + 1);
         } }
     {
         let index = usize::from(other.number());
-        let mut due = due;
-        due[index] = false;
-        self.record(partition, hand, done, due);
+        let mut unmarked = unmarked;
+        unmarked[index] = false;
+        self.record(partition, hand, done, unmarked);
         self.wait_words[index] += 1;
     }
 
-    /// Makes the move, where it grants the other session's wait, and tells that one first.
+    /// Makes the move, where it grants the other session's wait, and marks that one first.
     fn mark_first(
         &mut self,
         session: SessionId,
@@ -215,9 +222,9 @@ impl Machine {
             return Ok(());
         };
         if is_among(&moved.woken, other) {
-            let due = marks_of(&moved.woken);
+            let unmarked = unmarked_of(&moved.woken);
             self.parts[usize::from(partition)] = moved.part;
-            self.tell(partition, hand, other, done, due);
+            self.mark(partition, hand, other, done, unmarked);
         }
         Ok(())
     }
@@ -319,7 +326,7 @@ impl Machine {
         let part = &mut self.parts[usize::from(partition)];
         part.leave(session, tag);
         let woken = part.wake(tag);
-        self.record(partition, hand, Move::Leave { tag }, marks_of(&woken));
+        self.record(partition, hand, Move::Leave { tag }, unmarked_of(&woken));
         self.end_wait(session);
     }
 }

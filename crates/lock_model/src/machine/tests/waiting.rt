@@ -231,8 +231,8 @@ fn a_wait_that_leaves_lets_others_go(rt: HostRuntime) -> Result<(), Fail> {
     let unfinished = [marks(b, c, leave()), puts(b, 15, leave())];
     let plain = leads_to(&rt, &waiting, &unfinished, words(1, 2, HELD))?;
     expect_holds(&rt, &plain, &[(a, Mode::Share), (c, Mode::Share)])?;
-    let untold = [leaves(b), puts(b, 15, leave())];
-    let plain = leads_to(&rt, &waiting, &untold, words(0, 1, HELD))?;
+    let unmarked_yet = [leaves(b), puts(b, 15, leave())];
+    let plain = leads_to(&rt, &waiting, &unmarked_yet, words(0, 1, HELD))?;
     expect_holds(&rt, &plain, &[(a, Mode::Share), (c, Mode::Share)])?;
     let mark_first = [marks(b, c, leave()), clears(b), puts(b, 15, leave())];
     leads_to(&rt, &waiting, &mark_first, words(0, 2, FREE))?;

@@ -4,7 +4,7 @@ use Rattle.lock_table.specs.Content.{Content}
 use Rattle.lock_table.specs.PartView.{content_of}
 use Rattle.lock_table.specs.Queue.{Before, add_wait, awaits_mode, waits_there}
 use Rattle.lock_model.proofs.PlaceLemmas.{part_read, get_or-one_value}
-use Rattle.lock_model.proofs.FollowingJoins.{asks_not_awaited, asks_stands_not, told_within, was_set_waiting}
+use Rattle.lock_model.proofs.FollowingJoins.{asks_not_awaited, asks_stands_not, marked_within, was_set_waiting}
 use Rattle.lock_model.proofs.machine.state.Machine.join_now.Goals as goal
 
 pub begin-requires-clause-not_awaited : goal.begin-requires-clause-not_awaited
@@ -38,7 +38,7 @@ join-requires-clause-place c =
     let within : c.from.result < length now.parts.items = omega arith in
     let part = part_read now.parts.items c.from.result (partition_of c.args.tag) c.index_mut-part.result.now place within c.index_mut-part.ensures.value in
     subst (λ (x : Content). c.args.place ≤ length (x.waits c.args.tag)) (sym (c.begin.ensures.content ∙ ap content_of part))
-    (told_within _ c.args.session c.args.tag c.args.mode c.args.place c.requires.told)
+    (marked_within _ c.args.session c.args.tag c.args.mode c.args.place c.requires.told)
 
 pub returns : goal.returns
 returns c = λ w safe shows.

@@ -26,5 +26,5 @@ returns c = λ w safe shows.
     (subst (λ (x : Content). Wakes x c.args.tag woken.0 (content_of c.wake-woken.new.self))
     (c.leave.ensures.content ∙ ap (λ (x : PartView). remove_wait (content_of x) c.args.session c.args.tag) part) woken.1)
     (c.wake-woken.ensures.begun ∙ c.leave.ensures.begun ∙ ap (λ (x : PartView). x.begun) part ∙ shows.none_begun (partition_of c.args.tag))
-    (λ k. c.marks_of.ensures k ∙ ap (λ xs. names_in xs k) woken.2 ∙ names_in-granted woken.0 k)
+    (λ k. c.unmarked_of.ensures k ∙ ap (λ xs. names_in xs k) woken.2 ∙ names_in-granted woken.0 k)
     in_wait_words in_awaited in_seen)

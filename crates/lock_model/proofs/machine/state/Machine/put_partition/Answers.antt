@@ -12,7 +12,7 @@ use Rattle.lock_model.proofs.FollowingPuts.{recorded_put, not_in_hand, only_reco
 use Rattle.lock_table.proofs.MoveTests.{move_eq-same, move_eq-refl}
 use Rattle.lock_model.proofs.Showing.{hand_from}
 use Rattle.lock_model.proofs.machine.state.Machine.put_partition.Goals as goal
-use Rattle.lock_model.proofs.machine.state.Machine.put_partition.Goals.{else-is_same-via-then-is_same+then-owes_nobody+else-is_over, else-is_same-via-then-is_same+else-owes_nobody, else-is_same-via-else-is_same}
+use Rattle.lock_model.proofs.machine.state.Machine.put_partition.Goals.{else-is_same-via-then-is_same+then-none_unmarked+else-is_over, else-is_same-via-then-is_same+else-none_unmarked, else-is_same-via-else-is_same}
 
 pub set_free-requires : goal.set_free-requires
 set_free-requires c =
@@ -34,7 +34,7 @@ returns-then-is_over c = λ w safe shows.
     let same = move_eq-same c.in-Some-recorded.recorded c.args.done (sym c.if-is_same.ensures) in
     let P : Machine → Type 0 = λ m. (v : World) × Next w (record { session = c.args.session; step = PutExclusive (Partition c.args.partition) c.args.done }) v × Shows m v in
     subst P (sym c.set_free.ensures)
-    (recorded_put now w safe shows c.args.session c.args.partition c.args.done c.in-Some.hand in_hand (c.in-Some-recorded.is ∙ ap Some same) (sym c.if-owes_nobody.ensures) (sym c.if-is_over.ensures) in_words)
+    (recorded_put now w safe shows c.args.session c.args.partition c.args.done c.in-Some.hand in_hand (c.in-Some-recorded.is ∙ ap Some same) (sym c.if-none_unmarked.ensures) (sym c.if-is_over.ensures) in_words)
 
 pub returns-else-is_same : goal.returns-else-is_same
 returns-else-is_same c = λ w safe shows.
@@ -43,7 +43,7 @@ returns-else-is_same c = λ w safe shows.
     skipped now w safe shows c.args.session (PutExclusive (Partition c.args.partition) c.args.done)
     (λ lawful. let only = only_recorded now w safe shows c.args.session c.args.partition c.args.done c.in-Some-recorded.recorded c.in-Some.hand in_hand c.in-Some-recorded.is lawful in
     elim c.else-is_same.branch [
-      | else-is_same-via-then-is_same+then-owes_nobody+else-is_over b ↦ both_ways _ (sym b.if-is_over.ensures) only.2
-      | else-is_same-via-then-is_same+else-owes_nobody b ↦ both_ways _ (sym b.if-owes_nobody.ensures) only.1
+      | else-is_same-via-then-is_same+then-none_unmarked+else-is_over b ↦ both_ways _ (sym b.if-is_over.ensures) only.2
+      | else-is_same-via-then-is_same+else-none_unmarked b ↦ both_ways _ (sym b.if-none_unmarked.ensures) only.1
       | else-is_same-via-else-is_same b ↦ both_ways _ (sym b.if-is_same.ensures) (ap (λ x. move_eq x c.args.done) only.0 ∙ move_eq-refl c.args.done)
     ])

@@ -4,7 +4,7 @@ use Rattle.std.proofs.lemmas.List.{take_all}
 use Rattle.lock_model.specs.Shows.{names_in}
 use Rattle.lock_model.proofs.PlaceLemmas.{get_or-one_value}
 use Rattle.lock_model.proofs.MarkLemmas.{marks-one_more}
-use Rattle.lock_model.proofs.machine.hands.marks_of.Goals as goal
+use Rattle.lock_model.proofs.machine.hands.unmarked_of.Goals as goal
 
 pub loop-whose-init : goal.loop-whose-init
 loop-whose-init c = (refl, λ k. get_or-one_value 64 false k)

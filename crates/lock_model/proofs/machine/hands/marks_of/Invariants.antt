@@ -1,6 +1,0 @@
-use Rattle.std.proofs.Common.{◌≡◌, ℕ, length, take}
-use Rattle.lock_model.specs.Shows.{is_due, names_in}
-use Rattle.lock_model.proofs.machine.hands.marks_of.Given as goal
-
-abbrev pub invariant-loop-whose : goal.invariant-loop-whose
-invariant-loop-whose l = (length l.marks ≡ 64) × ((session : ℕ) → is_due l.marks session ≡ names_in (take l.whose-index l.whose-items) session)
