@@ -16,8 +16,9 @@ use Rattle.lock_table.specs.PartView.{PartView, content_of}
 use Rattle.lock_table.specs.OwnWait.{OwnWait}
 use Rattle.lock_table.specs.Queue.{waits_there, Wakes, remove_wait}
 use Rattle.lock_world.specs.World.{World, recorded_in, MakesSteps}
-use Rattle.lock_world.specs.Making.{MayMove, recording, MayClearSeen, MayClearInHand, after_clearing, after_leaving}
-use Rattle.lock_world.specs.Happens.{Next, HappensClearing}
+use Rattle.lock_world.specs.Happens.Partitions.{MayMove}
+use Rattle.lock_world.specs.Happens.Waits.{recording, MayClearSeen, MayClearInHand, after_clearing, after_leaving, HappensClearing}
+use Rattle.lock_world.specs.Happens.{Next}
 use Rattle.lock_world.specs.Safe.{Safe}
 use Rattle.lock_model.specs.Shows.{Shows, is_unmarked_in, hand_of, awaited_of, makes_steps}
 use Rattle.lock_model.proofs.FollowingWaiting.{shown_with}

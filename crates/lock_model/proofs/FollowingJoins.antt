@@ -21,7 +21,8 @@ use Rattle.lock_table.specs.PartView.{PartView, content_of}
 use Rattle.lock_table.specs.Queue.{Place, Last, Before, AtOnce, Deadlock, Granted, Queued, SimpleDeadlock, answer_of_place, PlaceIs, WaitingAnswer, WaitingAnswerAt, awaits_mode, waits_there, joining_wait, with_queue, add_wait}
 use Rattle.lock_table.specs.Told.{IsTold}
 use Rattle.lock_world.specs.World.{World}
-use Rattle.lock_world.specs.Making.{MayMove, recording, after_setting_waiting}
+use Rattle.lock_world.specs.Happens.Partitions.{MayMove}
+use Rattle.lock_world.specs.Happens.Waits.{recording, after_setting_waiting}
 use Rattle.lock_world.specs.Happens.{Next}
 use Rattle.lock_world.specs.Safe.{Safe}
 use Rattle.lock_model.specs.Shows.{Shows, is_unmarked_in, hand_of, awaits, awaited_of}

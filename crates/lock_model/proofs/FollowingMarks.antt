@@ -19,8 +19,8 @@ use Rattle.lock_table.specs.Queue.{waits_there}
 use Rattle.lock_world.specs.WaitWord.{wait_state}
 use Rattle.lock_world.specs.World.{World, recorded_in, is_unmarked}
 use Rattle.lock_table.specs.Put.{set_at}
-use Rattle.lock_world.specs.Making.{MayMove, MayMark, recording, without, after_marking_first, after_marking_next}
-use Rattle.lock_world.specs.Happens.{HappensMarkingIn}
+use Rattle.lock_world.specs.Happens.Partitions.{MayMove}
+use Rattle.lock_world.specs.Happens.Waits.{MayMark, recording, without, after_marking_first, after_marking_next, HappensMarkingIn}
 use Rattle.lock_world.specs.Safe.{Safe}
 use Rattle.lock_model.specs.Shows.{Shows, is_unmarked_in, names_in, hand_of, awaits, IsWaking, IsOwnFor, CannotMake}
 use Rattle.lock_model.proofs.FollowingWaiting.{shown_with}

@@ -22,7 +22,8 @@ use Rattle.lock_table.specs.PartView.{content_of}
 use Rattle.lock_table.specs.Parts.{part_at, contents_in}
 use Rattle.lock_world.specs.World.{World}
 use Rattle.lock_table.specs.Put.{set_at}
-use Rattle.lock_world.specs.Happens.{Lawful, Next, MayTakePartition, after_taking_partition, IsMadeByPutting, MayPutPartition, after_putting_partition, WaitIsOver, MayPutRecorded, after_putting_recorded}
+use Rattle.lock_world.specs.Happens.{Lawful, Next}
+use Rattle.lock_world.specs.Happens.Partitions.{MayTakePartition, after_taking_partition, IsMadeByPutting, MayPutPartition, after_putting_partition, WaitIsOver, MayPutRecorded, after_putting_recorded}
 use Rattle.lock_world.specs.Safe.{Safe}
 use Rattle.lock_model.specs.Shows.{Shows, is_unmarked_in, none_unmarked, makes_steps, hand_of, awaits, awaited_of, HasUnmoved, is_over, CannotMake}
 use Rattle.lock_model.proofs.Following.{get_or-set_at}

@@ -14,7 +14,8 @@ use Rattle.lock_table.specs.Parts.{no_part, part_at}
 use Rattle.lock_table.specs.PartView.{PartView, holds_in}
 use Rattle.lock_table.specs.Request.{is_request_of}
 use Rattle.lock_world.specs.World.{World}
-use Rattle.lock_world.specs.Happens.{Next, MayBeIssued, after_issuing, after_going_on, MayBeKeptApart, after_keeping_apart, MayClose, after_closing}
+use Rattle.lock_world.specs.Happens.{Next}
+use Rattle.lock_world.specs.Happens.Seats.{MayBeIssued, after_issuing, after_going_on, MayBeKeptApart, after_keeping_apart, MayClose, after_closing}
 use Rattle.lock_world.specs.Safe.{Safe}
 use Rattle.lock_table.specs.OwnWait.{is_for}
 use Rattle.lock_model.specs.Shows.{Shows, is_number, is_holder, makes_steps, awaits}

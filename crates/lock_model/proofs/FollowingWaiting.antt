@@ -8,7 +8,8 @@ use Rattle.lock_table.specs.Parts.{part_at, contents_in}
 use Rattle.lock_world.specs.WaitWord.{wait_state, asked_word}
 use Rattle.lock_world.specs.World.{World}
 use Rattle.lock_table.specs.Put.{set_at}
-use Rattle.lock_world.specs.Happens.{Next, after_asking, after_loading_wait}
+use Rattle.lock_world.specs.Happens.{Next}
+use Rattle.lock_world.specs.Happens.Waits.{after_asking, after_loading_wait}
 use Rattle.lock_world.specs.Safe.{Safe}
 use Rattle.lock_model.specs.Shows.{Shows, ShowsHandIfAny, awaited_of, makes_steps}
 use Rattle.lock_model.proofs.Following.{get_or-set_at, skipped}

@@ -9,7 +9,7 @@ use Rattle.lock_table.specs.declared.moves.Move.{Move}
 use Rattle.lock_model.specs.declared.machine.hands.Awaited.{Awaited}
 use Rattle.lock_table.specs.Content.{Wait, Content}
 use Rattle.lock_table.specs.OwnWait.{OwnWait}
-use Rattle.lock_world.specs.Making.{recording, without}
+use Rattle.lock_world.specs.Happens.Waits.{recording, without}
 use Rattle.lock_table.specs.Parts.{no_part, part_at, contents_in}
 use Rattle.lock_table.specs.PartView.{PartView, content_of}
 use Rattle.lock_table.specs.Queue.{waits_there}

@@ -17,7 +17,8 @@ use Rattle.lock_world.specs.LightweightWord.{free_word}
 use Rattle.lock_table.specs.OwnWait.{OwnWait}
 use Rattle.lock_table.specs.Parts.{part_at, contents_in}
 use Rattle.lock_world.specs.World.{World, Hand}
-use Rattle.lock_world.specs.Happens.{Next, HappensMarkingIn}
+use Rattle.lock_world.specs.Happens.{Next}
+use Rattle.lock_world.specs.Happens.Waits.{HappensMarkingIn}
 use Rattle.lock_table.specs.Queue.{waits_there}
 use Rattle.lock_world.specs.Safe.{Safe}
 

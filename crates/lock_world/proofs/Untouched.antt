@@ -16,11 +16,13 @@ use Rattle.lock_world.specs.WaitWord.{wait_state, asked_word, granted_word}
 use Rattle.lock_world.specs.World.{World}
 use Rattle.lock_table.specs.Put.{set_at}
 use Rattle.lock_table.specs.OwnWait.{OwnWait}
-use Rattle.lock_world.specs.Making.{after_clearing}
-use Rattle.lock_world.specs.Happens.{Happens, HappensStep, HappensTaking, HappensPutting, HappensJoining, HappensMarking, HappensMarkingIn, HappensClearing}
+use Rattle.lock_world.specs.Happens.Waits.{after_clearing, HappensMarking, HappensMarkingIn, HappensClearing}
+use Rattle.lock_world.specs.Happens.{Happens, HappensStep}
+use Rattle.lock_world.specs.Happens.Partitions.{HappensTaking, HappensPutting}
+use Rattle.lock_world.specs.Happens.Seats.{HappensJoining}
 use Rattle.lock_table.proofs.HoldLemmas.{set_hold-other_session}
 use Rattle.lock_table.proofs.PutLemmas.{set_at-here, set_at-else, row-else}
-use Rattle.lock_world.proofs.SafePutting.{own_after-else}
+use Rattle.lock_world.proofs.Safe.Partitions.{own_after-else}
 
 -- What a session has is the same in two Worlds.
 abbrev pub IsSameOf : ℕ → World → World → Type 0

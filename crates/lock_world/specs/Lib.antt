@@ -1,6 +1,5 @@
 pub mod LightweightWord
 pub mod WaitWord
 pub mod World
-pub mod Making
 pub mod Happens
 pub mod Safe

@@ -1,7 +1,7 @@
 use Rattle.lock_world.specs.World.{opening}
 use Rattle.lock_world.specs.Safe.{Safe}
-use Rattle.lock_world.proofs.SafeRuns.{opening-safe, Runs-safe}
-use Rattle.lock_world.proofs.LawsOfSafe.{entry-stands, stands-once, stands-in_one_queue}
+use Rattle.lock_world.proofs.Safe.Runs.{opening-safe, Runs-safe}
+use Rattle.lock_world.proofs.FromSafe.{entry-stands, stands-once, stands-in_one_queue}
 use Rattle.lock_world.proofs.laws.a_session_waits_once.Goals as goal
 
 pub returns-clause-recorded : goal.returns-clause-recorded

@@ -1,7 +1,7 @@
 use Rattle.lock_world.specs.World.{opening}
 use Rattle.lock_world.specs.Safe.{Safe}
-use Rattle.lock_world.proofs.SafeRuns.{opening-safe, Runs-safe}
-use Rattle.lock_world.proofs.LawsOfSafe.{held-own_or_pending, own_or_pending-held}
+use Rattle.lock_world.proofs.Safe.Runs.{opening-safe, Runs-safe}
+use Rattle.lock_world.proofs.FromSafe.{held-own_or_pending, own_or_pending-held}
 use Rattle.lock_world.proofs.laws.each_hold_in_one_place.Goals as goal
 
 pub returns-clause-own_or_pending : goal.returns-clause-own_or_pending

@@ -1,7 +1,7 @@
 use Rattle.lock_world.specs.World.{opening}
 use Rattle.lock_world.specs.Safe.{Safe}
-use Rattle.lock_world.proofs.SafeRuns.{opening-safe, Runs-safe}
-use Rattle.lock_world.proofs.LawsOfSafe.{no_conflict-own}
+use Rattle.lock_world.proofs.Safe.Runs.{opening-safe, Runs-safe}
+use Rattle.lock_world.proofs.FromSafe.{no_conflict-own}
 use Rattle.lock_world.proofs.laws.no_two_conflicting_holds.Goals as goal
 
 pub returns-clause-in_contents : goal.returns-clause-in_contents

@@ -1,6 +1,6 @@
 use Rattle.lock_world.specs.World.{opening}
 use Rattle.lock_world.specs.Safe.{Safe}
-use Rattle.lock_world.proofs.SafeRuns.{opening-safe, Runs-safe}
+use Rattle.lock_world.proofs.Safe.Runs.{opening-safe, Runs-safe}
 use Rattle.lock_world.proofs.laws.one_hand_at_a_time.Goals as goal
 
 pub returns : goal.returns

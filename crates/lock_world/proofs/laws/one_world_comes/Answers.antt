@@ -1,7 +1,7 @@
 use Rattle.std.proofs.Common.{refl}
 use Rattle.lock_world.specs.World.{opening}
-use Rattle.lock_world.proofs.SafeRuns.{opening-safe}
-use Rattle.lock_world.proofs.OneWorld.{one_run}
+use Rattle.lock_world.proofs.Safe.Runs.{opening-safe}
+use Rattle.lock_world.proofs.Unique.Runs.{one_run}
 use Rattle.lock_world.proofs.laws.one_world_comes.Goals as goal
 
 pub returns : goal.returns

@@ -1,7 +1,7 @@
 use Rattle.lock_world.specs.World.{opening}
 use Rattle.lock_world.specs.Safe.{Safe}
-use Rattle.lock_world.proofs.SafeRuns.{opening-safe, Runs-safe}
-use Rattle.lock_world.proofs.LawsOfSafe.{spent-not_held, spent-not_queued}
+use Rattle.lock_world.proofs.Safe.Runs.{opening-safe, Runs-safe}
+use Rattle.lock_world.proofs.FromSafe.{spent-not_held, spent-not_queued}
 use Rattle.lock_world.proofs.laws.spent_sessions_have_nothing.Goals as goal
 
 pub returns-clause-no_hold : goal.returns-clause-no_hold

@@ -1,6 +1,6 @@
 use Rattle.lock_world.specs.World.{opening}
-use Rattle.lock_world.proofs.SafeRuns.{opening-safe, Runs-safe}
-use Rattle.lock_world.proofs.LawsOfSafe.{idle-shows, queued-shows, waiting-stands, granted-held}
+use Rattle.lock_world.proofs.Safe.Runs.{opening-safe, Runs-safe}
+use Rattle.lock_world.proofs.FromSafe.{idle-shows, queued-shows, waiting-stands, granted-held}
 use Rattle.lock_world.proofs.laws.wait_words_tell.Goals as goal
 
 pub returns-clause-idle : goal.returns-clause-idle

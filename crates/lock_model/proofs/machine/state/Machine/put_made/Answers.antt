@@ -4,7 +4,8 @@ use Rattle.lock_table.specs.declared.moves.Move.TheVariants.{Keep}
 use Rattle.lock_world.specs.declared.events.Step.TheVariants.{PutExclusive}
 use Rattle.lock_world.specs.declared.events.Word.TheVariants.{Partition}
 use Rattle.lock_world.specs.World.{World}
-use Rattle.lock_world.specs.Happens.{Next, IsMadeByPutting}
+use Rattle.lock_world.specs.Happens.{Next}
+use Rattle.lock_world.specs.Happens.Partitions.{IsMadeByPutting}
 use Rattle.lock_model.specs.Shows.{Shows}
 use Rattle.lock_model.proofs.Following.{skipped}
 use Rattle.lock_model.proofs.FollowingPuts.{kept, only_made, exists_from}

@@ -8,7 +8,7 @@ use Rattle.lock_table.specs.OwnWait.{OwnWait, InQueue, WasGranted, HasLeft}
 use Rattle.lock_world.specs.WaitWord.{wait_state}
 use Rattle.lock_world.specs.World.{Hand, recorded_in, is_unmarked}
 use Rattle.lock_table.specs.Put.{set_at}
-use Rattle.lock_world.specs.Making.{recording}
+use Rattle.lock_world.specs.Happens.Waits.{recording}
 use Rattle.lock_world.specs.Safe.{is_hand_of, is_leave_of, stage_by_hand, stage_of}
 use Rattle.lock_table.proofs.PutLemmas.{set_at-here, set_at-else}
 

@@ -9,15 +9,15 @@ use Rattle.lock_world.specs.declared.events.Step.TheVariants.{TakeExclusive, Put
 use Rattle.lock_world.specs.declared.events.Word.{Word}
 use Rattle.lock_world.specs.declared.events.Word.TheVariants.{Partition, Fast, Database, Slot, Wait, Strong, Sleep}
 use Rattle.lock_world.specs.World.{World, opening}
-use Rattle.lock_world.specs.Happens.{Happens, HappensStep, HappensTaking, HappensPutting, HappensJoining, HappensMarkingIn, HappensMarking, HappensClearing, Next, Runs}
+use Rattle.lock_world.specs.Happens.{Happens, HappensStep, Next, Runs}
+use Rattle.lock_world.specs.Happens.Partitions.{HappensTaking, HappensPutting}
+use Rattle.lock_world.specs.Happens.Seats.{HappensJoining}
+use Rattle.lock_world.specs.Happens.Waits.{HappensMarkingIn, HappensMarking, HappensClearing}
 use Rattle.lock_world.specs.Safe.{Safe}
-use Rattle.lock_world.proofs.SafeWaits.{GrantsOthers}
-use Rattle.lock_world.proofs.SafeTaking.{taking_partition-safe}
-use Rattle.lock_world.proofs.SafePutting.{putting_partition-safe, putting_recorded-safe}
-use Rattle.lock_world.proofs.SafeNumbers.{issuing-safe, going_on-safe, keeping_apart-safe, closing-safe}
-use Rattle.lock_world.proofs.SafeAsking.{asking-safe, loading_wait-safe}
-use Rattle.lock_world.proofs.SafeWaiting.{setting_waiting-safe, marking_first-safe, marking_next-safe}
-use Rattle.lock_world.proofs.SafeClearing.{clearing_seen-safe, clearing_in_hand-safe, leaving-safe}
+use Rattle.lock_world.proofs.Waits.Steps.{GrantsOthers}
+use Rattle.lock_world.proofs.Safe.Partitions.{taking_partition-safe, putting_partition-safe, putting_recorded-safe}
+use Rattle.lock_world.proofs.Safe.Seats.{issuing-safe, going_on-safe, keeping_apart-safe, closing-safe}
+use Rattle.lock_world.proofs.Safe.Waits.{asking-safe, loading_wait-safe, setting_waiting-safe, marking_first-safe, marking_next-safe, clearing_seen-safe, clearing_in_hand-safe, leaving-safe}
 
 -- The opening World is safe.
 pub opening-safe : (limit : ℕ) → Safe (opening limit)

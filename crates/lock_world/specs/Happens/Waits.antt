@@ -1,4 +1,4 @@
-use Rattle.std.specs.Prelude.{◌≡◌, ◌≢◌, ℕ, ◌==◌, ◌||◌, ◌&&◌, not, Bool, true, false, List, Option, Some, None, if◌then◌else◌}
+use Rattle.std.specs.Prelude.{◌≡◌, ◌≢◌, ℕ, ◌==◌, ◌||◌, ◌&&◌, not, Bool, true, false, List, Option, Some, None, if◌then◌else◌, ◌⊎◌, ◌+◌, [], ◌∷◌, ◌++◌}
 use Rattle.modes_core.specs.declared.modes.Mode.{Mode}
 use Rattle.modes_core.specs.declared.tags.Tag.{Tag}
 use Rattle.modes_core.specs.Tag.{partition_of}
@@ -6,32 +6,41 @@ use Rattle.lock_table.specs.declared.moves.Move.{Move}
 use Rattle.lock_table.specs.declared.moves.Move.TheVariants.{Keep, Grant, Join, Release, Leave}
 use Rattle.lock_table.specs.Content.{Holds, Wait, Content, set_hold}
 use Rattle.lock_table.specs.Queue.{waits_there}
-use Rattle.lock_table.specs.Moves.{Moves, IsInPartition, FitsOwn}
 use Rattle.lock_table.specs.OwnWait.{OwnWait}
-use Rattle.lock_world.specs.WaitWord.{wait_state, granted_word}
-use Rattle.lock_world.specs.World.{World, Hand, MakesSteps, recorded_in, is_unmarked}
+use Rattle.lock_world.specs.WaitWord.{wait_state, granted_word, asked_word}
+use Rattle.lock_world.specs.World.{World, Hand, MakesSteps, recorded_in, is_unmarked, AskedToCancel, LoadedWait}
 use Rattle.lock_table.specs.Put.{set_at}
+use Rattle.lock_world.specs.Happens.Partitions.{MayMove, own_after}
 
--- The moves that a session makes on a content in its hand, one at most each time that it has it: where each is lawful, and
--- the World after it. A join, a leave and a release that wakes somebody are made by steps on wait words, and stand recorded
--- in the hand until the partition is put back.
+-- Waits: steps on wait words. A join, a leave and a release that wakes somebody are made by such a step, and stand recorded in
+-- the hand until the partition is put back.
 
--- The session has the partition in hand, has made no move on it, and this one leads to the content and grants these waits.
-pub record MayMove (w : World) (session partition : ℕ) (done : Move) (granted : List Wait) (content : Content) : Type 0 where
+-- Asking a session to cancel: any number, issued or not, closed or not, the own too.
+abbrev pub after_asking : World → ℕ → ℕ → World
+after_asking w session other = record {
+  words = record (w.words) { wait = set_at w.words.wait other (asked_word (w.words.wait other)) };
+  contents = w.contents;
+  sessions = record (w.sessions) {
+    trace = set_at w.sessions.trace session (w.sessions.trace session ++ AskedToCancel other (w.words.wait other) ∷ []);
+  };
+  numbers = w.numbers;
+}
+
+-- Loading the own wait word: the value shown is the whole word, and a session sees so that its wait was granted.
+pub record MayLoadWait (w : World) (session shown : ℕ) : Type 0 where
   pub steps : MakesSteps w.numbers session
-  pub holding : w.sessions.holds_partition session partition ≡ true
-  pub unrecorded : recorded_in (w.contents.hand partition) ≡ None
-  pub object : IsInPartition partition done
-  pub own : FitsOwn w.sessions.own (w.sessions.awaited session) session done
-  pub moved : Moves (w.contents.now partition) session done granted content
+  pub is_word : shown ≡ w.words.wait session
 
--- own holds follow the move
-abbrev pub own_after : Holds → ℕ → Move → Holds
-own_after own session Keep = own
-own_after own session (Grant tag mode) = set_hold own session tag mode true
-own_after own session (Join tag mode) = own
-own_after own session (Release tag mode) = set_hold own session tag mode false
-own_after own session (Leave tag) = own
+abbrev pub after_loading_wait : World → ℕ → ℕ → World
+after_loading_wait w session shown = record {
+  words = w.words;
+  contents = w.contents;
+  sessions = record (w.sessions) {
+    seen = set_at w.sessions.seen session (w.sessions.seen session || (wait_state (w.words.wait session) == 2));
+    trace = set_at w.sessions.trace session (w.sessions.trace session ++ LoadedWait shown ∷ []);
+  };
+  numbers = w.numbers;
+}
 
 -- the hand, with a move recorded, and those whom it granted unmarked
 abbrev pub recording : Option Hand → Move → (ℕ → Bool) → Option Hand
@@ -57,6 +66,10 @@ after_setting_waiting w session tag mode content = record {
   };
   numbers = w.numbers;
 }
+
+abbrev pub HappensSetting : World → ℕ → Tag → Mode → World → Type 0
+HappensSetting w session tag mode v =
+    (content : Content) × MayMove w session (partition_of tag) (Join tag mode) [] content × (v ≡ after_setting_waiting w session tag mode content)
 
 -- Marking the wait of another session granted, which waits: by the first such step the move is made; by each further one
 -- one more of those whom it granted is marked, until nobody is unmarked.
@@ -97,6 +110,20 @@ after_marking_next w other partition done = record {
   sessions = w.sessions;
   numbers = w.numbers;
 }
+
+abbrev pub HappensMarkingIn : World → ℕ → ℕ → ℕ → Move → World → Type 0
+HappensMarkingIn w session other partition done v =
+    ((granted : List Wait) × (content : Content) × MayMarkFirst w session other partition done granted content
+    × (v ≡ after_marking_first w session other partition done granted content))
+    ⊎ (MayMarkNext w session other partition done × (v ≡ after_marking_next w other partition done))
+
+-- Only a release and a leave grant waits.
+abbrev pub HappensMarking : World → ℕ → ℕ → Move → World → Type 0
+HappensMarking w session other Keep v = ⊥
+HappensMarking w session other (Grant tag mode) v = ⊥
+HappensMarking w session other (Join tag mode) v = ⊥
+HappensMarking w session other (Release tag mode) v = HappensMarkingIn w session other (partition_of tag) (Release tag mode) v
+HappensMarking w session other (Leave tag) v = HappensMarkingIn w session other (partition_of tag) (Leave tag) v
 
 -- Clearing the own wait word: the session has seen the grant, or it has the partition in hand and its wait is not in the
 -- queue. What was granted is its own from then on.
@@ -148,3 +175,13 @@ after_leaving w session wait granted content = record {
   };
   numbers = w.numbers;
 }
+
+-- With leaving, the step makes the leave, or it stands recorded already.
+abbrev pub HappensClearing : World → ℕ → Bool → World → Type 0
+HappensClearing w session false v =
+    (wait : OwnWait) × (MayClearSeen w session wait ⊎ MayClearInHand w session wait) × (v ≡ after_clearing w session wait)
+HappensClearing w session true v =
+    ((wait : OwnWait) × (granted : List Wait) × (content : Content) × MayLeave w session wait granted content
+    × (v ≡ after_leaving w session wait granted content))
+    ⊎ ((wait : OwnWait) × MayClearInHand w session wait
+    × (recorded_in (w.contents.hand (partition_of wait.tag)) ≡ Some (Leave wait.tag)) × (v ≡ after_clearing w session wait))

@@ -2,7 +2,7 @@ use Rattle.std.proofs.Common.{◌≡◌, ℕ, ◌+◌, ◌<◌, true, false, Som
 use Rattle.std.proofs.lemmas.Bool.{cases_eq}
 use Rattle.lock_world.specs.World.{World, Numbers}
 use Rattle.lock_table.specs.Put.{set_at}
-use Rattle.lock_world.specs.Happens.{MayBeIssued, after_issuing, MayGoOn, after_going_on, MayBeKeptApart, after_keeping_apart, MayClose, after_closing}
+use Rattle.lock_world.specs.Happens.Seats.{MayBeIssued, after_issuing, MayGoOn, after_going_on, MayBeKeptApart, after_keeping_apart, MayClose, after_closing}
 use Rattle.lock_world.specs.Safe.{Safe, NumbersAreInOrder, SpentHaveNothing}
 use Rattle.lock_table.proofs.PutLemmas.{set_at-else, set_at-each}
 

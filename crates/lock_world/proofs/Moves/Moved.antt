@@ -13,14 +13,14 @@ use Rattle.lock_table.specs.Queue.{Wakes, waits_there, some_awaits_conflict, add
 use Rattle.lock_table.specs.Moves.{Moves, WakesFor, IsInPartition, FitsOwn}
 use Rattle.lock_table.specs.OwnWait.{OwnWait, Stage, InQueue, WasGranted, HasLeft, entry_of, is_for, is_pending, queued_by}
 use Rattle.lock_table.specs.Put.{set_at}
-use Rattle.lock_world.specs.Making.{own_after}
+use Rattle.lock_world.specs.Happens.Partitions.{own_after}
 use Rattle.lock_world.specs.Safe.{NoConflictingHolds, AreInOnePlace, NobodyIsFree}
 use Rattle.lock_table.proofs.PutLemmas.{put_here}
 use Rattle.lock_table.proofs.HoldLemmas.{SetHoldAt, here, elsewhere, set_hold-at, set_hold-other_session}
 use Rattle.lock_table.proofs.QueueLaws.{woken-split, release-not_own}
 use Rattle.lock_table.proofs.QueuesOf.{of_session, one-there, there-some, granted-there, without-its, without-other}
-use Rattle.lock_world.proofs.AgreeingMoves.{or-false, AreInOnePlace-same, AreInOnePlace-ended, pending-stage, queued-stage}
-use Rattle.lock_world.proofs.EachMove.{LeavesSafe, LeavesSafe-kept, LeavesSafe-granted, LeavesSafe-released, LeavesSafe-woken, LeavesSafe-left, LeavesSafe-joined, stood}
+use Rattle.lock_world.proofs.Moves.Agreeing.{or-false, AreInOnePlace-same, AreInOnePlace-ended, pending-stage, queued-stage}
+use Rattle.lock_world.proofs.Moves.Each.{LeavesSafe, LeavesSafe-kept, LeavesSafe-granted, LeavesSafe-released, LeavesSafe-woken, LeavesSafe-left, LeavesSafe-joined, stood}
 
 -- What a move leaves of the facts on contents and own accounts, over the contents, the own holds, the waits and their stages
 -- as plain functions.

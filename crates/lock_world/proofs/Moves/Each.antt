@@ -15,9 +15,9 @@ use Rattle.lock_world.specs.Safe.{AgreesOn, AreInOnePlace, NobodyIsFree, NoConfl
 use Rattle.lock_table.proofs.PutLemmas.{put_here, put_else, set_at-here, set_at-else, set_at-same}
 use Rattle.lock_table.proofs.QueueLaws.{HasMore-set, NoneFreeBehind-more, NoneFreeBehind-removed, woken-none_free, woken-no_conflict, joined-none_free}
 use Rattle.lock_table.proofs.QueueLemmas.{granted-no_holder}
-use Rattle.lock_world.proofs.OnePlaceLemmas.{NoConflictIn, NoConflictingHolds-set, NoConflictIn-added, NoConflictIn-removed}
+use Rattle.lock_world.proofs.Moves.OnePlace.{NoConflictIn, NoConflictingHolds-set, NoConflictIn-added, NoConflictIn-removed}
 use Rattle.lock_table.proofs.QueuesOf.{of_session, IsInQueue, at_end, ahead_of, joined-its, joined-other, without-its, without-other}
-use Rattle.lock_world.proofs.AgreeingMoves.{tag_eq-turned, not_pending, with_granted, AgreesOn-set, ChangesOnly, ChangesOnly-set, ChangesOnly-both, ChangesOnly-wakes, SameElsewhere, SameElsewhere-set, NotOwn, NotOwn-set, AreInOnePlace-change, AreInOnePlace-wakes, NoneFree-change, NobodyIsFree-set, Standing, standing, nothing, waiting}
+use Rattle.lock_world.proofs.Moves.Agreeing.{tag_eq-turned, not_pending, with_granted, AgreesOn-set, ChangesOnly, ChangesOnly-set, ChangesOnly-both, ChangesOnly-wakes, SameElsewhere, SameElsewhere-set, NotOwn, NotOwn-set, AreInOnePlace-change, AreInOnePlace-wakes, NoneFree-change, NobodyIsFree-set, Standing, standing, nothing, waiting}
 
 -- What each move leaves: no conflict, each in one place, nobody free.
 

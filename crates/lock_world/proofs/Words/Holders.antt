@@ -4,7 +4,7 @@ use Rattle.lock_world.specs.LightweightWord.{IsHeldByNobody, taken_word, put_wor
 use Rattle.lock_table.specs.Put.{set_at}
 use Rattle.lock_world.specs.Safe.{ShowsHolders}
 use Rattle.lock_table.proofs.PutLemmas.{set_at-here, set_at-else, column-here, column-else}
-use Rattle.lock_world.proofs.WordLemmas.{nobody-not_exclusive, taken_word-exclusive, taken_word-shared, put_word-not_exclusive, put_word-shared}
+use Rattle.lock_world.proofs.Words.Lightweight.{nobody-not_exclusive, taken_word-exclusive, taken_word-shared, put_word-not_exclusive, put_word-shared}
 
 -- Nobody holds a word that shows that nobody does.
 pub free-not_held : (word : ℕ) (holds : ℕ → Bool) → ShowsHolders word holds → IsHeldByNobody word → (k : ℕ) → holds k ≡ true → ⊥

@@ -14,12 +14,12 @@ use Rattle.lock_table.specs.OwnWait.{OwnWait, Stage, InQueue, WasGranted, HasLef
 use Rattle.lock_world.specs.WaitWord.{wait_state, granted_word}
 use Rattle.lock_world.specs.World.{Hand, recorded_in, is_unmarked}
 use Rattle.lock_table.specs.Put.{set_at}
-use Rattle.lock_world.specs.Making.{own_after, recording, without}
-use Rattle.lock_world.specs.Happens.{IsMadeByPutting}
+use Rattle.lock_world.specs.Happens.Partitions.{own_after, IsMadeByPutting}
+use Rattle.lock_world.specs.Happens.Waits.{recording, without}
 use Rattle.lock_world.specs.Safe.{is_hand_of, is_leave_of, stage_by_hand, stage_of, NoConflictingHolds, AreInOnePlace, NobodyIsFree, WaitWordsShowWaits, UnmarkedByItsMove}
 use Rattle.lock_table.proofs.PutLemmas.{set_at-here, set_at-else, set_at-each}
-use Rattle.lock_world.proofs.Moving.{stage_by_move, stage_after, awaited_after, Moved, StoodInQueue, AreInOnePlace-stage, moved, granted-stood, granted-another, taken-one_place, left-one_place, queued-stood}
-use Rattle.lock_world.proofs.Stages.{hand-left, hand-no_leave, hand-queued, hand-unrecorded, hand-same, stage-granted, stage-by_hand, stage-unmarked, queued-state, stage_of-set, is_hand_of-else, recording-hand, recording-recorded, recording-unmarked, recording-by_move}
+use Rattle.lock_world.proofs.Moves.Moved.{stage_by_move, stage_after, awaited_after, Moved, StoodInQueue, AreInOnePlace-stage, moved, granted-stood, granted-another, taken-one_place, left-one_place, queued-stood}
+use Rattle.lock_world.proofs.Waits.Stages.{hand-left, hand-no_leave, hand-queued, hand-unrecorded, hand-same, stage-granted, stage-by_hand, stage-unmarked, queued-state, stage_of-set, is_hand_of-else, recording-hand, recording-recorded, recording-unmarked, recording-by_move}
 
 -- What is safe of contents, waits, wait words and hands, over plain functions, and what each kind of step leaves of it.
 

@@ -1,0 +1,5 @@
+-- Each kind of event leads from a safe World to a safe one.
+pub mod Seats
+pub mod Partitions
+pub mod Waits
+pub mod Runs

@@ -1,0 +1,5 @@
+-- An event leads to one World.
+pub mod Seats
+pub mod Partitions
+pub mod Waits
+pub mod Runs

@@ -1,0 +1,71 @@
+use Rattle.std.specs.Prelude.{◌≡◌, ◌≢◌, ℕ, true, false, Option, Some, None, ◌⊎◌, ◌+◌, ◌<◌}
+use Rattle.modes_core.specs.declared.modes.Mode.{Mode}
+use Rattle.modes_core.specs.declared.tags.Tag.{Tag}
+use Rattle.lock_world.specs.World.{World, MakesSteps}
+use Rattle.lock_table.specs.Put.{set_at}
+
+-- Seats: session numbers are issued and closed, and sessions are kept apart and go on.
+
+-- Issuing a number: it is the lowest that was not given out.
+pub record MayBeIssued (w : World) (session : ℕ) : Type 0 where
+  pub next : session ≡ w.numbers.issued
+  pub within : session < w.numbers.limit
+
+abbrev pub after_issuing : World → ℕ → World
+after_issuing w session = record {
+  words = w.words;
+  contents = w.contents;
+  sessions = w.sessions;
+  numbers = record (w.numbers) { issued = session + 1; live = set_at w.numbers.live session true };
+}
+
+-- Going on by itself: another session keeps this one apart.
+abbrev pub MayGoOn : World → ℕ → Type 0
+MayGoOn w session = (joiner : ℕ) × (w.numbers.kept_by session ≡ Some joiner)
+
+abbrev pub after_going_on : World → ℕ → World
+after_going_on w session = record {
+  words = w.words;
+  contents = w.contents;
+  sessions = w.sessions;
+  numbers = record (w.numbers) { kept_by = set_at w.numbers.kept_by session None };
+}
+
+abbrev pub HappensSplitting : World → ℕ → World → Type 0
+HappensSplitting w session v =
+    (MayBeIssued w session × (v ≡ after_issuing w session)) ⊎ (MayGoOn w session × (v ≡ after_going_on w session))
+
+-- Being kept apart: by another session that makes steps of its own, and with no word held.
+pub record MayBeKeptApart (w : World) (session joiner : ℕ) : Type 0 where
+  pub steps : MakesSteps w.numbers session
+  pub another : joiner ≢ session
+  pub joiner_steps : MakesSteps w.numbers joiner
+  pub no_word : (partition : ℕ) → w.sessions.holds_partition session partition ≡ false
+
+abbrev pub after_keeping_apart : World → ℕ → ℕ → World
+after_keeping_apart w session joiner = record {
+  words = w.words;
+  contents = w.contents;
+  sessions = w.sessions;
+  numbers = record (w.numbers) { kept_by = set_at w.numbers.kept_by session (Some joiner) };
+}
+
+-- Closing: with no word held, no hold, no wait, and no other session kept apart.
+pub record MayClose (w : World) (session : ℕ) : Type 0 where
+  pub steps : MakesSteps w.numbers session
+  pub no_word : (partition : ℕ) → w.sessions.holds_partition session partition ≡ false
+  pub no_hold : (tag : Tag) (mode : Mode) → w.sessions.own session tag mode ≡ false
+  pub no_wait : w.sessions.awaited session ≡ None
+  pub keeps_nobody : (other : ℕ) → w.numbers.kept_by other ≢ Some session
+
+abbrev pub after_closing : World → ℕ → World
+after_closing w session = record {
+  words = w.words;
+  contents = w.contents;
+  sessions = w.sessions;
+  numbers = record (w.numbers) { live = set_at w.numbers.live session false };
+}
+
+abbrev pub HappensJoining : World → ℕ → Option ℕ → World → Type 0
+HappensJoining w session (Some joiner) v = MayBeKeptApart w session joiner × (v ≡ after_keeping_apart w session joiner)
+HappensJoining w session None v = MayClose w session × (v ≡ after_closing w session)
