@@ -16,8 +16,8 @@ returns-then-is_among c = λ w safe shows.
     let own = subst (λ found. IfSome found (λ _. IsOwnFor (get_or now.awaited c.args.session None) c.args.done)) c.in-Some.is c.in_ok-moved.ensures.own in
     subst (Marks w c.args.session c.args.other c.args.partition c.args.done) (sym c.mark.ensures)
     (rw c.from.ensures
-    (mark_first now w safe shows c.args.session c.args.other c.args.partition c.args.hand c.args.done c.in-Some.moved c.unmarked_of-is.result c.requires.in_hand c.requires.unmoved c.requires.object c.requires.wakes moved own
-    (sym c.if-is_among.ensures) c.unmarked_of-is.ensures c.requires.another c.requires.waiting))
+    (mark_first now w safe shows c.args.session c.args.other c.args.partition c.args.hand c.args.done c.in-Some.moved c.unmarked_of-unmarked.result c.requires.in_hand c.requires.unmoved c.requires.object c.requires.wakes moved own
+    (sym c.if-is_among.ensures) c.unmarked_of-unmarked.ensures c.requires.another c.requires.waiting))
 
 pub returns-else-is_among : goal.returns-else-is_among
 returns-else-is_among c = λ w safe shows.
