@@ -1,5 +1,6 @@
 //! What holds in every World that a list of events leads to. Each function here is a law: its clause is
-//! proved of all lists of events, and its body is empty.
+//! proved, and its body is empty. Every World of a run is safe (`every_world_is_safe`), so what the laws say
+//! of a safe World they say of each of these.
 
 ghost use Rattle.std.specs.Prelude.{◌≡◌, ◌≢◌, ◌↔◌, ◌⊎◌, ◌<◌, ◌≤◌, ◌+◌, ◌==◌, ℕ, List, true, false, if◌then◌else◌, Some, None, slice_get, count_by};
 ghost use Rattle.modes_core.specs.declared.modes.Mode.{Mode};
@@ -38,97 +39,97 @@ pub fn one_world_comes()
         Runs (opening limit) events w → Runs (opening limit) events v → w ≡ v }
 {}
 
-/// In every World no two sessions hold conflicting modes on one object, by the contents of the partitions,
+/// In a safe World no two sessions hold conflicting modes on one object, by the contents of the partitions,
 /// and so by their own accounts.
 pub fn no_two_conflicting_holds()
-    ensures in_contents { (limit : ℕ) (events : List Event) (w : World) → Runs (opening limit) events w →
+    ensures in_contents { (w : World) → Safe w →
         (p session other : ℕ) (tag : Tag) (mode its : Mode) → session ≢ other →
         (w.contents.now p).holds session tag mode ≡ true → (w.contents.now p).holds other tag its ≡ true → conflict mode its ≡ false }
-    ensures own { (limit : ℕ) (events : List Event) (w : World) → Runs (opening limit) events w →
+    ensures own { (w : World) → Safe w →
         (session other : ℕ) (tag : Tag) (mode its : Mode) → session ≢ other →
         w.sessions.own session tag mode ≡ true → w.sessions.own other tag its ≡ true → conflict mode its ≡ false }
 {}
 
-/// In every World a hold stands in a content exactly where the object is of that partition and the hold is
+/// In a safe World a hold stands in a content exactly where the object is of that partition and the hold is
 /// the session's own or its pending grant: what it awaits, where its wait word shows that this was granted,
 /// or that grant stands unmarked in the hand that has the partition. What a session awaits is no own hold of it, so
 /// no hold is both.
 pub fn each_hold_in_one_place()
-    ensures own_or_pending { (limit : ℕ) (events : List Event) (w : World) → Runs (opening limit) events w →
+    ensures own_or_pending { (w : World) → Safe w →
         (p session : ℕ) (tag : Tag) (mode : Mode) →
         ((w.contents.now p).holds session tag mode ≡ true)
         ↔ ((partition_of tag ≡ p)
         × ((w.sessions.own session tag mode ≡ true)
         ⊎ ((is_for (w.sessions.awaited session) tag mode ≡ true)
         × ((wait_state (w.words.wait session) ≡ 2) ⊎ (is_unmarked (w.contents.hand p) session ≡ true))))) }
-    ensures never_both { (limit : ℕ) (events : List Event) (w : World) → Runs (opening limit) events w →
+    ensures never_both { (w : World) → Safe w →
         (session : ℕ) (tag : Tag) (mode : Mode) → is_for (w.sessions.awaited session) tag mode ≡ true → w.sessions.own session tag mode ≡ false }
 {}
 
-/// In every World nobody who waits is free to go: each waits for a holder in its way, or for somebody
+/// In a safe World nobody who waits is free to go: each waits for a holder in its way, or for somebody
 /// before it in the queue.
 pub fn nobody_who_waits_is_free()
-    ensures { (limit : ℕ) (events : List Event) (w : World) → Runs (opening limit) events w →
+    ensures { (w : World) → Safe w →
         (p : ℕ) (tag : Tag) → NoneFree (w.contents.now p) tag }
 {}
 
-/// In every World each entry of a queue, at any place, is the wait that its session has recorded, on that
+/// In a safe World each entry of a queue, at any place, is the wait that its session has recorded, on that
 /// object, which is of that partition. A session stands at most once in a queue, and in one queue at most.
 pub fn a_session_waits_once()
-    ensures recorded { (limit : ℕ) (events : List Event) (w : World) → Runs (opening limit) events w →
+    ensures recorded { (w : World) → Safe w →
         (p place : ℕ) (tag : Tag) (entry : Wait) → slice_get ((w.contents.now p).waits tag) place ≡ Some entry →
         (partition_of tag ≡ p)
         × ((wait : OwnWait) × (w.sessions.awaited entry.session ≡ Some wait) × (wait.tag ≡ tag) × (entry ≡ entry_of entry.session wait)) }
-    ensures once { (limit : ℕ) (events : List Event) (w : World) → Runs (opening limit) events w →
+    ensures once { (w : World) → Safe w →
         (p session : ℕ) (tag : Tag) → count_by (λ wait. wait.session == session) ((w.contents.now p).waits tag) ≤ 1 }
-    ensures in_one_queue { (limit : ℕ) (events : List Event) (w : World) → Runs (opening limit) events w →
+    ensures in_one_queue { (w : World) → Safe w →
         (p q session : ℕ) (tag other : Tag) →
         waits_there ((w.contents.now p).waits tag) session ≡ true → waits_there ((w.contents.now q).waits other) session ≡ true →
         (p ≡ q) × (tag ≡ other) }
 {}
 
-/// In every World a wait word shows 0 exactly where its session has no wait. It shows waiting where the
+/// In a safe World a wait word shows 0 exactly where its session has no wait. It shows waiting where the
 /// session stands in a queue, and where it shows that and the partition is at home, the session stands in
 /// its object's queue. Where it shows granted, what the session awaits is a hold in the content, and not
 /// its own yet.
 pub fn wait_words_tell()
-    ensures idle { (limit : ℕ) (events : List Event) (w : World) → Runs (opening limit) events w →
+    ensures idle { (w : World) → Safe w →
         (session : ℕ) → (wait_state (w.words.wait session) ≡ 0) ↔ (w.sessions.awaited session ≡ None) }
-    ensures queued { (limit : ℕ) (events : List Event) (w : World) → Runs (opening limit) events w →
+    ensures queued { (w : World) → Safe w →
         (p session : ℕ) (tag : Tag) → waits_there ((w.contents.now p).waits tag) session ≡ true → wait_state (w.words.wait session) ≡ 1 }
-    ensures waiting { (limit : ℕ) (events : List Event) (w : World) → Runs (opening limit) events w →
+    ensures waiting { (w : World) → Safe w →
         (session : ℕ) (wait : OwnWait) → w.sessions.awaited session ≡ Some wait → w.contents.hand (partition_of wait.tag) ≡ None →
         wait_state (w.words.wait session) ≡ 1 → waits_there ((w.contents.now (partition_of wait.tag)).waits wait.tag) session ≡ true }
-    ensures granted { (limit : ℕ) (events : List Event) (w : World) → Runs (opening limit) events w →
+    ensures granted { (w : World) → Safe w →
         (session : ℕ) → wait_state (w.words.wait session) ≡ 2 →
         (wait : OwnWait) × (w.sessions.awaited session ≡ Some wait)
         × ((w.contents.now (partition_of wait.tag)).holds session wait.tag wait.mode ≡ true)
         × (w.sessions.own session wait.tag wait.mode ≡ false) }
 {}
 
-/// In every World a partition's word shows an exclusive holder exactly where a session has the partition
+/// In a safe World a partition's word shows an exclusive holder exactly where a session has the partition
 /// in hand.
 pub fn partition_words_show_the_hand()
-    ensures { (limit : ℕ) (events : List Event) (w : World) → Runs (opening limit) events w →
+    ensures { (w : World) → Safe w →
         (p : ℕ) → IsHeldExclusively (w.words.partition p) ↔ ((session : ℕ) × (w.sessions.holds_partition session p ≡ true)) }
 {}
 
-/// In every World no two sessions have one partition in hand.
+/// In a safe World no two sessions have one partition in hand.
 pub fn one_hand_at_a_time()
-    ensures { (limit : ℕ) (events : List Event) (w : World) → Runs (opening limit) events w →
+    ensures { (w : World) → Safe w →
         (p session other : ℕ) → w.sessions.holds_partition session p ≡ true → w.sessions.holds_partition other p ≡ true → session ≡ other }
 {}
 
-/// In every World a session number that is not live has no hold, by its own account and in each content,
+/// In a safe World a session number that is not live has no hold, by its own account and in each content,
 /// no wait, recorded or in a queue, and no partition in hand.
 pub fn spent_sessions_have_nothing()
-    ensures no_hold { (limit : ℕ) (events : List Event) (w : World) → Runs (opening limit) events w →
+    ensures no_hold { (w : World) → Safe w →
         (session p : ℕ) (tag : Tag) (mode : Mode) → w.numbers.live session ≡ false →
         (w.sessions.own session tag mode ≡ false) × ((w.contents.now p).holds session tag mode ≡ false) }
-    ensures no_wait { (limit : ℕ) (events : List Event) (w : World) → Runs (opening limit) events w →
+    ensures no_wait { (w : World) → Safe w →
         (session p : ℕ) (tag : Tag) → w.numbers.live session ≡ false →
         (w.sessions.awaited session ≡ None) × (waits_there ((w.contents.now p).waits tag) session ≡ false) }
-    ensures no_hand { (limit : ℕ) (events : List Event) (w : World) → Runs (opening limit) events w →
+    ensures no_hand { (w : World) → Safe w →
         (session p : ℕ) → w.numbers.live session ≡ false → w.sessions.holds_partition session p ≡ false }
 {}
 

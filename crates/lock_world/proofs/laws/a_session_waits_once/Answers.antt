@@ -1,22 +1,18 @@
-use Rattle.lock_world.specs.World.{opening}
-use Rattle.lock_world.specs.Safe.{Safe}
-use Rattle.lock_world.proofs.Safe.Runs.{opening-safe, Runs-safe}
 use Rattle.lock_world.proofs.FromSafe.{entry-stands, stands-once, stands-in_one_queue}
 use Rattle.lock_world.proofs.laws.a_session_waits_once.Goals as goal
 
 pub returns-clause-recorded : goal.returns-clause-recorded
 returns-clause-recorded c =
-    λ limit events w run p i t entry at.
-    let safe : Safe w = Runs-safe (opening limit) events w (opening-safe limit) run in
+    λ w safe p i t entry at.
     let found = entry-stands w safe p i t entry at in
     (found.0, (found.1.wait, found.1.is_wait, found.1.on, found.1.is_entry))
 
 pub returns-clause-once : goal.returns-clause-once
 returns-clause-once c =
-    λ limit events w run p s t.
-    stands-once w (Runs-safe (opening limit) events w (opening-safe limit) run) p s t
+    λ w safe p s t.
+    stands-once w safe p s t
 
 pub returns-clause-in_one_queue : goal.returns-clause-in_one_queue
 returns-clause-in_one_queue c =
-    λ limit events w run p q s t o there its.
-    stands-in_one_queue w (Runs-safe (opening limit) events w (opening-safe limit) run) p q s t o there its
+    λ w safe p q s t o there its.
+    stands-in_one_queue w safe p q s t o there its

@@ -1,17 +1,12 @@
-use Rattle.lock_world.specs.World.{opening}
-use Rattle.lock_world.specs.Safe.{Safe}
-use Rattle.lock_world.proofs.Safe.Runs.{opening-safe, Runs-safe}
 use Rattle.lock_world.proofs.FromSafe.{held-own_or_pending, own_or_pending-held}
 use Rattle.lock_world.proofs.laws.each_hold_in_one_place.Goals as goal
 
 pub returns-clause-own_or_pending : goal.returns-clause-own_or_pending
 returns-clause-own_or_pending c =
-    λ limit events w run p s t m.
-    let safe : Safe w = Runs-safe (opening limit) events w (opening-safe limit) run in
+    λ w safe p s t m.
     (λ has. held-own_or_pending w safe p s t m has, λ is. own_or_pending-held w safe p s t m is.0 is.1)
 
 pub returns-clause-never_both : goal.returns-clause-never_both
 returns-clause-never_both c =
-    λ limit events w run s t m awaits.
-    let safe : Safe w = Runs-safe (opening limit) events w (opening-safe limit) run in
+    λ w safe s t m awaits.
     safe.promise.one_place.awaited_is_not_own s t m awaits
