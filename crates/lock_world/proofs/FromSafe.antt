@@ -169,16 +169,16 @@ module _ (w : World) (safe : Safe w) where
   -- An own hold is in the content of its object's partition.
   pub own-held : (s : ℕ) (t : Tag) (m : Mode) → w.sessions.own s t m ≡ true → (w.contents.now (partition_of t)).holds s t m ≡ true
   own-held s t m own =
-      (safe.promise.one_place.on_object t).held s m ∙ or_left (w.sessions.own s t m) (is_pending (w.sessions.awaited s) (stages w s) t m) own
+      (safe.table.promise.one_place.on_object t).held s m ∙ or_left (w.sessions.own s t m) (is_pending (w.sessions.awaited s) (stages w s) t m) own
 
   pub no_conflict-own : (s k : ℕ) (t : Tag) (m n : Mode) → s ≢ k → w.sessions.own s t m ≡ true → w.sessions.own k t n ≡ true → conflict m n ≡ false
-  no_conflict-own s k t m n apart has its = safe.promise.no_conflict (partition_of t) s k t m n apart (own-held s t m has) (own-held k t n its)
+  no_conflict-own s k t m n apart has its = safe.table.promise.no_conflict (partition_of t) s k t m n apart (own-held s t m has) (own-held k t n its)
 
   -- A hold is in a content where it is own or pending, and the object is of the partition.
   pub held-own_or_pending : (p s : ℕ) (t : Tag) (m : Mode) → (w.contents.now p).holds s t m ≡ true → (partition_of t ≡ p) × IsOwnOrPending w p s t m
-  held-own_or_pending p s t m has = (home, at (or_cases (w.sessions.own s t m) pending (sym ((safe.promise.one_place.on_object t).held s m) ∙ has_at_home))) where
+  held-own_or_pending p s t m has = (home, at (or_cases (w.sessions.own s t m) pending (sym ((safe.table.promise.one_place.on_object t).held s m) ∙ has_at_home))) where
     home : partition_of t ≡ p
-    home = safe.promise.one_place.no_hold_elsewhere p s t m has
+    home = safe.table.promise.one_place.no_hold_elsewhere p s t m has
 
     has_at_home : (w.contents.now (partition_of t)).holds s t m ≡ true
     has_at_home = ap (λ (q : ℕ). (w.contents.now q).holds s t m) home ∙ has
@@ -195,7 +195,7 @@ module _ (w : World) (safe : Safe w) where
   pub own_or_pending-held : (p s : ℕ) (t : Tag) (m : Mode) → partition_of t ≡ p → IsOwnOrPending w p s t m → (w.contents.now p).holds s t m ≡ true
   own_or_pending-held p s t m home (inl own) = ap (λ (q : ℕ). (w.contents.now q).holds s t m) (sym home) ∙ own-held s t m own
   own_or_pending-held p s t m home (inr granted) =
-      ap (λ (q : ℕ). (w.contents.now q).holds s t m) (sym home) ∙ (safe.promise.one_place.on_object t).held s m
+      ap (λ (q : ℕ). (w.contents.now q).holds s t m) (sym home) ∙ (safe.table.promise.one_place.on_object t).held s m
       ∙ or_right (w.sessions.own s t m) (is_pending (w.sessions.awaited s) (stages w s) t m)
       (granted-pending (w.words.wait s) w.contents.hand s (w.sessions.awaited s) t m granted.0
       (subst (λ (q : ℕ). IsGranted (w.words.wait s) (w.contents.hand q) s) (sym home) granted.1))
@@ -206,13 +206,13 @@ module _ (w : World) (safe : Safe w) where
   entry-stands p i t entry at =
       elim (cases_eq (partition_of t) p) [
         | inl home ↦ (home, at_home (ap (λ (q : ℕ). slice_get ((w.contents.now q).waits t) i) home ∙ at))
-        | inr away ↦ let none : slice_get ((w.contents.now p).waits t) i ≡ None = ap (λ (l : List Wait). slice_get l i) (safe.promise.one_place.no_wait_elsewhere p t away) in absurd (cc)
+        | inr away ↦ let none : slice_get ((w.contents.now p).waits t) i ≡ None = ap (λ (l : List Wait). slice_get l i) (safe.table.promise.one_place.no_wait_elsewhere p t away) in absurd (cc)
       ] where
         at_home : slice_get ((w.contents.now (partition_of t)).waits t) i ≡ Some entry → Stands entry.session (w.sessions.awaited entry.session) (stages w entry.session) t entry
         at_home here =
             let place = kept (λ wait. wait.session == entry.session) ((w.contents.now (partition_of t)).waits t) i entry here (eq-eqb entry.session entry.session refl) in
             stands entry.session (w.sessions.awaited entry.session) (stages w entry.session) t place.0 entry
-            (ap (λ (l : List Wait). slice_get l place.0) (sym ((safe.promise.one_place.on_object t).in_queue entry.session)) ∙ place.1)
+            (ap (λ (l : List Wait). slice_get l place.0) (sym ((safe.table.promise.one_place.on_object t).in_queue entry.session)) ∙ place.1)
 
   -- So is what a session has in a queue.
   pub session-stands : (p s : ℕ) (t : Tag) → waits_there ((w.contents.now p).waits t) s ≡ true
@@ -230,8 +230,8 @@ module _ (w : World) (safe : Safe w) where
     few =
         elim (cases_eq (partition_of t) p) [
           | inl home ↦ subst (λ (q : ℕ). length (filter (λ wait. wait.session == s) ((w.contents.now q).waits t)) ≤ 1) home
-              (subst (λ (l : List Wait). length l ≤ 1) (sym ((safe.promise.one_place.on_object t).in_queue s)) (stands-most s (w.sessions.awaited s) (stages w s) t))
-          | inr away ↦ subst (λ (l : List Wait). length (filter (λ wait. wait.session == s) l) ≤ 1) (sym (safe.promise.one_place.no_wait_elsewhere p t away)) (omega arith)
+              (subst (λ (l : List Wait). length l ≤ 1) (sym ((safe.table.promise.one_place.on_object t).in_queue s)) (stands-most s (w.sessions.awaited s) (stages w s) t))
+          | inr away ↦ subst (λ (l : List Wait). length (filter (λ wait. wait.session == s) l) ≤ 1) (sym (safe.table.promise.one_place.no_wait_elsewhere p t away)) (omega arith)
         ]
 
   pub stands-in_one_queue : (p q s : ℕ) (t o : Tag) → waits_there ((w.contents.now p).waits t) s ≡ true → waits_there ((w.contents.now q).waits o) s ≡ true → (p ≡ q) × (t ≡ o)
@@ -244,14 +244,14 @@ module _ (w : World) (safe : Safe w) where
 
   -- What a wait word tells.
   pub idle-shows : (s : ℕ) → (wait_state (w.words.wait s) ≡ 0) ↔ (w.sessions.awaited s ≡ None)
-  idle-shows s = (at (w.sessions.awaited s) refl, safe.promise.wait_words.idle s) where
+  idle-shows s = (at (w.sessions.awaited s) refl, safe.table.promise.wait_words.idle s) where
     shows_more : (wait_state (w.words.wait s) ≡ 1) ⊎ (wait_state (w.words.wait s) ≡ 2) → wait_state (w.words.wait s) ≡ 0 → ⊥
     shows_more (inl one) none = omega arith
     shows_more (inr two) none = omega arith
 
     at : (awaited : Option OwnWait) → w.sessions.awaited s ≡ awaited → wait_state (w.words.wait s) ≡ 0 → w.sessions.awaited s ≡ None
     at None is none = is
-    at (Some wait) is none = absurd (shows_more (safe.promise.wait_words.waiting s wait is) none)
+    at (Some wait) is none = absurd (shows_more (safe.table.promise.wait_words.waiting s wait is) none)
 
   pub queued-shows : (p s : ℕ) (t : Tag) → waits_there ((w.contents.now p).waits t) s ≡ true → wait_state (w.words.wait s) ≡ 1
   queued-shows p s t there = at found.1.1.wait found.1.1.is_wait found.1.1.in_queue where
@@ -264,14 +264,14 @@ module _ (w : World) (safe : Safe w) where
 
     at : (wait : OwnWait) → w.sessions.awaited s ≡ Some wait → stages w s ≡ InQueue → wait_state (w.words.wait s) ≡ 1
     at wait is in_queue =
-        shows (safe.promise.wait_words.waiting s wait is)
+        shows (safe.table.promise.wait_words.waiting s wait is)
         (stage-queued (w.words.wait s) w.contents.hand s wait (ap (stage_of (w.words.wait s) w.contents.hand s) (sym is) ∙ in_queue))
 
   pub waiting-stands : (s : ℕ) (wait : OwnWait) → w.sessions.awaited s ≡ Some wait → w.contents.hand (partition_of wait.tag) ≡ None → wait_state (w.words.wait s) ≡ 1
       → waits_there ((w.contents.now (partition_of wait.tag)).waits wait.tag) s ≡ true
   waiting-stands s wait is home shows =
       some_passes (λ entry. entry.session == s) ((w.contents.now (partition_of wait.tag)).waits wait.tag) [] (entry_of s wait)
-      ((safe.promise.one_place.on_object wait.tag).in_queue s ∙ queued-is s (w.sessions.awaited s) (stages w s) wait is in_queue) where
+      ((safe.table.promise.one_place.on_object wait.tag).in_queue s ∙ queued-is s (w.sessions.awaited s) (stages w s) wait is in_queue) where
         not_granted : wait_state (w.words.wait s) ≢ 2
         not_granted granted = omega arith
 
@@ -285,19 +285,19 @@ module _ (w : World) (safe : Safe w) where
   granted-held s shown = at (w.sessions.awaited s) refl where
     at : (awaited : Option OwnWait) → w.sessions.awaited s ≡ awaited
         → (wait : OwnWait) × (w.sessions.awaited s ≡ Some wait) × ((w.contents.now (partition_of wait.tag)).holds s wait.tag wait.mode ≡ true) × (w.sessions.own s wait.tag wait.mode ≡ false)
-    at None is = let none : wait_state (w.words.wait s) ≡ 0 = safe.promise.wait_words.idle s is in absurd (omega arith)
+    at None is = let none : wait_state (w.words.wait s) ≡ 0 = safe.table.promise.wait_words.idle s is in absurd (omega arith)
     at (Some wait) is =
         let awaits : is_for (w.sessions.awaited s) wait.tag wait.mode ≡ true = ap (λ (a : Option OwnWait). is_for a wait.tag wait.mode) is ∙ is_for-self wait in
-        (wait, is, own_or_pending-held (partition_of wait.tag) s wait.tag wait.mode refl (inr (awaits, inl shown)), safe.promise.one_place.awaited_is_not_own s wait.tag wait.mode awaits)
+        (wait, is, own_or_pending-held (partition_of wait.tag) s wait.tag wait.mode refl (inr (awaits, inl shown)), safe.table.promise.one_place.awaited_is_not_own s wait.tag wait.mode awaits)
 
   -- A session number that is not live has no hold in a content, and stands in no queue.
   pub spent-not_held : (p s : ℕ) (t : Tag) (m : Mode) → w.numbers.live s ≡ false → (w.contents.now p).holds s t m ≡ false
   spent-not_held p s t m dead = false_from_ne_true ((w.contents.now p).holds s t m) (λ has. at (held-own_or_pending p s t m has).1) where
     at : IsOwnOrPending w p s t m → ⊥
-    at (inl own) = both_ways (w.sessions.own s t m) (safe.promise.spent.no_hold s t m dead) own
-    at (inr granted) = false≢true (sym (ap (λ (a : Option OwnWait). is_for a t m) (safe.promise.spent.no_wait s dead)) ∙ granted.0)
+    at (inl own) = both_ways (w.sessions.own s t m) (safe.table.promise.spent.no_hold s t m dead) own
+    at (inr granted) = false≢true (sym (ap (λ (a : Option OwnWait). is_for a t m) (safe.table.promise.spent.no_wait s dead)) ∙ granted.0)
 
   pub spent-not_queued : (p s : ℕ) (t : Tag) → w.numbers.live s ≡ false → waits_there ((w.contents.now p).waits t) s ≡ false
   spent-not_queued p s t dead = false_from_ne_true (waits_there ((w.contents.now p).waits t) s) (λ there. at (session-stands p s t there)) where
     at : (partition_of t ≡ p) × ((entry : Wait) × Stands s (w.sessions.awaited s) (stages w s) t entry) → ⊥
-    at found = let some : w.sessions.awaited s ≡ Some found.1.1.wait = found.1.1.is_wait in let none : w.sessions.awaited s ≡ None = safe.promise.spent.no_wait s dead in cc
+    at found = let some : w.sessions.awaited s ≡ Some found.1.1.wait = found.1.1.is_wait in let none : w.sessions.awaited s ≡ None = safe.table.promise.spent.no_wait s dead in cc

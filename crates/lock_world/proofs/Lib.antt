@@ -1,6 +1,8 @@
 pub mod Words
 pub mod Moves
 pub mod Waits
+pub mod Table
+pub mod Traces
 pub mod Safe
 pub mod Unique
 pub mod Untouched

@@ -22,7 +22,7 @@ use Rattle.lock_world.specs.Happens.Partitions.{HappensTaking, HappensPutting}
 use Rattle.lock_world.specs.Happens.Seats.{HappensJoining}
 use Rattle.lock_table.proofs.HoldLemmas.{set_hold-other_session}
 use Rattle.lock_table.proofs.PutLemmas.{set_at-here, set_at-else, row-else}
-use Rattle.lock_world.proofs.Safe.Partitions.{own_after-else}
+use Rattle.lock_world.proofs.Table.Partitions.{own_after-else}
 
 -- What a session has is the same in two Worlds.
 abbrev pub IsSameOf : ℕ → World → World → Type 0

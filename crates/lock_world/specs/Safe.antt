@@ -1,16 +1,18 @@
-use Rattle.std.specs.Prelude.{◌≡◌, ◌≢◌, ◌⊎◌, ℕ, ◌<◌, ◌≤◌, Bool, true, false, ◌==◌, ◌&&◌, ◌||◌, [], filter, Option, Some, None, if◌then◌else◌}
+use Rattle.std.specs.Prelude.{◌≡◌, ◌≢◌, ◌⊎◌, ℕ, ◌<◌, ◌≤◌, Bool, true, false, ◌==◌, ◌&&◌, ◌||◌, List, [], ◌∷◌, filter, Option, Some, None, if◌then◌else◌}
 use Rattle.modes_core.specs.declared.modes.Mode.{Mode}
 use Rattle.modes_core.specs.declared.tags.Tag.{Tag}
 use Rattle.modes_core.specs.Conflict.{conflict}
 use Rattle.modes_core.specs.Tag.{tag_eq, partition_of}
 use Rattle.lock_table.specs.declared.moves.Move.{Move}
 use Rattle.lock_table.specs.declared.moves.Move.TheVariants.{Keep, Grant, Join, Release, Leave}
-use Rattle.lock_table.specs.Content.{Holds, Content}
+use Rattle.lock_table.specs.Content.{Holds, Wait, Content}
 use Rattle.lock_world.specs.LightweightWord.{free_word, IsHeldExclusively, shared_count}
 use Rattle.lock_table.specs.OwnWait.{OwnWait, Stage, InQueue, WasGranted, HasLeft, is_for, is_pending, queued_by}
 use Rattle.lock_table.specs.Queue.{NoneFree}
 use Rattle.lock_world.specs.WaitWord.{wait_state}
-use Rattle.lock_world.specs.World.{World, Words, Hand, Numbers, recorded_in, is_unmarked}
+use Rattle.lock_table.specs.Moves.{Moves}
+use Rattle.lock_table.specs.Put.{set_at}
+use Rattle.lock_world.specs.World.{World, Words, Hand, Contents, Numbers, TraceEntry, Took, Episode, AskedToCancel, LoadedWait, recorded_in, is_unmarked}
 
 -- What holds between any two atomic steps: the promise, and the facts that carry it from one step to the next.
 
@@ -114,11 +116,12 @@ pub record Promise (w : World) : Type 0 where
 abbrev pub HandsAreHolders : (ℕ → Option Hand) → (ℕ → ℕ → Bool) → Type 0
 HandsAreHolders hand holds = (p session : ℕ) → holds session p ≡ is_hand_of (hand p) session
 
--- Live numbers are given out, no more than there are, and only live sessions are kept apart.
+-- Live numbers are given out, no more than there are, and only live sessions are kept apart, by live ones.
 pub record NumbersAreInOrder (numbers : Numbers) : Type 0 where
   pub live_is_issued : (session : ℕ) → numbers.live session ≡ true → session < numbers.issued
   pub within : numbers.issued ≤ numbers.limit
   pub kept_is_live : (session joiner : ℕ) → numbers.kept_by session ≡ Some joiner → numbers.live session ≡ true
+  pub joiner_is_live : (session joiner : ℕ) → numbers.kept_by session ≡ Some joiner → numbers.live joiner ≡ true
 
 -- In a hand that has recorded no move nobody is unmarked.
 abbrev pub UnmarkedByItsMove : (ℕ → Option Hand) → Type 0
@@ -138,6 +141,62 @@ pub record Carriers (w : World) : Type 0 where
   pub unmarked_by_move : UnmarkedByItsMove w.contents.hand
   pub not_yet : NotYetUsed w.words
 
-pub record Safe (w : World) : Type 0 where
+-- What is safe of partitions, waits and numbers.
+pub record TableIsSafe (w : World) : Type 0 where
   pub promise : Promise w
   pub carriers : Carriers w
+
+-- What the traces tell.
+
+-- what a session has in hand after this step, of each partition the content as it took it
+abbrev pub taken_after : (ℕ → Option Content) → TraceEntry → ℕ → Option Content
+taken_after taken (Took partition content) = set_at taken partition (Some content)
+taken_after taken (Episode partition content put_back) = set_at taken partition None
+taken_after taken (AskedToCancel other before) = taken
+taken_after taken (LoadedWait shown) = taken
+
+-- what it has in hand after these steps
+abbrev pub taken_by : (ℕ → Option Content) → List TraceEntry → ℕ → Option Content
+taken_by taken [] = taken
+taken_by taken (entry ∷ trace) = taken_by (taken_after taken entry) trace
+
+-- One move of the session leads from the one content to the other.
+abbrev pub IsOneMove : Content → ℕ → Content → Type 0
+IsOneMove taken session now = (done : Move) × (granted : List Wait) × Moves taken session done granted now
+
+-- An episode is of a partition that the session had in hand, with the content that it took, and puts what one move makes of it.
+abbrev pub EntryIsSound : ℕ → (ℕ → Option Content) → TraceEntry → Type 0
+EntryIsSound session taken (Took partition content) = Unit {0}
+EntryIsSound session taken (Episode partition content put_back) = (taken partition ≡ Some content) × IsOneMove content session put_back
+EntryIsSound session taken (AskedToCancel other before) = Unit {0}
+EntryIsSound session taken (LoadedWait shown) = Unit {0}
+
+abbrev pub EpisodesAreMoves : ℕ → (ℕ → Option Content) → List TraceEntry → Type 0
+EpisodesAreMoves session taken [] = Unit {0}
+EpisodesAreMoves session taken (entry ∷ trace) = EntryIsSound session taken entry × EpisodesAreMoves session (taken_after taken entry) trace
+
+-- the content that the session has taken and has in hand, if this is its hand
+abbrev pub taken_in : Option Hand → ℕ → Option Content
+taken_in None session = None
+taken_in (Some hand) session = if hand.holder == session then Some hand.taken else None
+
+-- The content in hand is the one taken, or what the recorded move has made of it.
+abbrev pub IsMadeBy : Option Move → Content → ℕ → Content → Type 0
+IsMadeBy None taken session now = now ≡ taken
+IsMadeBy (Some done) taken session now = (granted : List Wait) × Moves taken session done granted now
+
+abbrev pub HandIsOneMove : Option Hand → Content → Type 0
+HandIsOneMove None now = Unit {0}
+HandIsOneMove (Some hand) now = IsMadeBy hand.recorded hand.taken hand.holder now
+
+-- Each content in hand is the content taken after one move at most; each episode in a trace put such a content, of a partition
+-- that the session had in hand until then; and a number not yet given out has no trace.
+pub record TracesTell (contents : Contents) (trace : ℕ → List TraceEntry) (issued : ℕ) : Type 0 where
+  pub one_move : (p : ℕ) → HandIsOneMove (contents.hand p) (contents.now p)
+  pub in_hand : (session p : ℕ) → taken_by (λ _. None) (trace session) p ≡ taken_in (contents.hand p) session
+  pub episodes : (session : ℕ) → EpisodesAreMoves session (λ _. None) (trace session)
+  pub new : (session : ℕ) → issued ≤ session → trace session ≡ []
+
+pub record Safe (w : World) : Type 0 where
+  pub table : TableIsSafe w
+  pub traces : TracesTell w.contents w.sessions.trace w.numbers.issued

@@ -22,47 +22,51 @@ use Rattle.lock_world.proofs.Safe.Waits.{asking-safe, loading_wait-safe, setting
 -- The opening World is safe.
 pub opening-safe : (limit : ℕ) → Safe (opening limit)
 opening-safe limit = record {
-  promise = record {
-    no_conflict = λ p k l o m n apart has its. absurd (false≢true has);
-    one_place = record {
-      on_object = λ o. record { held = λ k n. refl; in_queue = λ k. refl };
-      no_hold_elsewhere = λ p k o n has. absurd (false≢true has);
-      no_wait_elsewhere = λ p o other. refl;
-      awaited_is_not_own = λ k o n awaits. absurd (false≢true awaits);
+  table = record {
+    promise = record {
+      no_conflict = λ p k l o m n apart has its. absurd (false≢true has);
+      one_place = record {
+        on_object = λ o. record { held = λ k n. refl; in_queue = λ k. refl };
+        no_hold_elsewhere = λ p k o n has. absurd (false≢true has);
+        no_wait_elsewhere = λ p o other. refl;
+        awaited_is_not_own = λ k o n awaits. absurd (false≢true awaits);
+      };
+      none_free = λ p o. tt;
+      wait_words = record {
+        idle = λ k none. refl;
+        waiting = λ k wait is. absurd (cc);
+        seen_is_shown = λ k seen. absurd (false≢true seen);
+        unmarked_waits = λ p k stands_unmarked. absurd (false≢true stands_unmarked);
+        unmarked_shows_waiting = λ p k stands_unmarked. absurd (false≢true stands_unmarked);
+        unmarked_of_another = λ p k stands_unmarked. absurd (false≢true stands_unmarked);
+      };
+      words = λ p. record {
+        held_is_shown = λ k held. absurd (false≢true held);
+        shown_is_held = λ shown. let none : ◌≡◌ {A = ℕ} 0 1 = shown in absurd (omega arith);
+        by_one = λ k l held its. absurd (false≢true held);
+        by_none_shared = refl;
+      };
+      spent = record { no_hold = λ k o n dead. refl; no_wait = λ k dead. refl; no_word = λ k p dead. refl };
     };
-    none_free = λ p o. tt;
-    wait_words = record {
-      idle = λ k none. refl;
-      waiting = λ k wait is. absurd (cc);
-      seen_is_shown = λ k seen. absurd (false≢true seen);
-      unmarked_waits = λ p k stands_unmarked. absurd (false≢true stands_unmarked);
-      unmarked_shows_waiting = λ p k stands_unmarked. absurd (false≢true stands_unmarked);
-      unmarked_of_another = λ p k stands_unmarked. absurd (false≢true stands_unmarked);
+    carriers = record {
+      hands = λ p k. refl;
+      numbers = record {
+        live_is_issued = λ k alive. absurd (false≢true alive);
+        within = omega arith;
+        kept_is_live = λ k j kept. absurd (cc);
+        joiner_is_live = λ k j kept. absurd (cc);
+      };
+      unmarked_by_move = λ p none k. refl;
+      not_yet = record {
+        fast = λ k. refl;
+        database = λ k. refl;
+        slot = λ k i. refl;
+        strong = λ i. refl;
+        sleep = λ k. refl;
+      };
     };
-    words = λ p. record {
-      held_is_shown = λ k held. absurd (false≢true held);
-      shown_is_held = λ shown. let none : ◌≡◌ {A = ℕ} 0 1 = shown in absurd (omega arith);
-      by_one = λ k l held its. absurd (false≢true held);
-      by_none_shared = refl;
-    };
-    spent = record { no_hold = λ k o n dead. refl; no_wait = λ k dead. refl; no_word = λ k p dead. refl };
   };
-  carriers = record {
-    hands = λ p k. refl;
-    numbers = record {
-      live_is_issued = λ k alive. absurd (false≢true alive);
-      within = omega arith;
-      kept_is_live = λ k j kept. absurd (cc);
-    };
-    unmarked_by_move = λ p none k. refl;
-    not_yet = record {
-      fast = λ k. refl;
-      database = λ k. refl;
-      slot = λ k i. refl;
-      strong = λ i. refl;
-      sleep = λ k. refl;
-    };
-  };
+  traces = record { one_move = λ p. tt; in_hand = λ k p. refl; episodes = λ k. tt; new = λ k past. refl };
 }
 
 taking-safe : (w : World) (s : ℕ) (word : Word) (v : World) → Safe w → HappensTaking w s word v → Safe v
@@ -114,8 +118,8 @@ step-safe w s (PutExclusive word done) v safe h = putting-safe w s word done v s
 step-safe w s SplitSeat v safe (inl h) = subst Safe (sym h.1) (issuing-safe w s safe h.0)
 step-safe w s SplitSeat v safe (inr h) = subst Safe (sym h.1) (going_on-safe w s safe h.0)
 step-safe w s (JoinSeat joiner) v safe h = joining-safe w s joiner v safe h
-step-safe w s (AskCancel k) v safe h = subst Safe (sym h.1) (asking-safe w s k safe)
-step-safe w s (LoadWait n) v safe h = subst Safe (sym h.1) (loading_wait-safe w s n safe)
+step-safe w s (AskCancel k) v safe h = subst Safe (sym h.1) (asking-safe w s k safe h.0)
+step-safe w s (LoadWait n) v safe h = subst Safe (sym h.1) (loading_wait-safe w s n safe h.0.steps)
 step-safe w s (SetWaiting t m) v safe h = subst Safe (sym h.2) (setting_waiting-safe w s t m h.0 safe h.1)
 step-safe w s (MarkGranted k done) v safe h = marking-safe w s k done v safe h
 step-safe w s (ClearWait leaving) v safe h = clearing-safe w s leaving v safe h

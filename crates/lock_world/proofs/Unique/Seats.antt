@@ -6,7 +6,7 @@ use Rattle.lock_world.specs.Safe.{Safe}
 -- A number that is to be issued is kept apart by nobody.
 not_both : (w : World) (s : ℕ) → Safe w → MayBeIssued w s → MayGoOn w s → ⊥
 not_both w s safe issued on =
-    let below : s < w.numbers.issued = safe.carriers.numbers.live_is_issued s (safe.carriers.numbers.kept_is_live s on.0 on.1) in
+    let below : s < w.numbers.issued = safe.table.carriers.numbers.live_is_issued s (safe.table.carriers.numbers.kept_is_live s on.0 on.1) in
     let next : s ≡ w.numbers.issued = issued.next in
     omega arith
 

@@ -5,11 +5,11 @@ use Rattle.modes_core.specs.declared.tags.Tag.{Tag}
 use Rattle.lock_table.specs.Content.{Holds, Content}
 use Rattle.lock_table.specs.OwnWait.{OwnWait}
 use Rattle.lock_world.specs.World.{World, Hand, TraceEntry}
-use Rattle.lock_world.specs.Safe.{Safe, is_hand_of, SpentHaveNothing}
+use Rattle.lock_world.specs.Safe.{TableIsSafe, is_hand_of, SpentHaveNothing}
 use Rattle.lock_world.proofs.Waits.Steps.{WaitsAreSafe, safe_from, shows_from}
 
 -- What is safe of the waits of a World.
-pub waits_of : (w : World) → Safe w → WaitsAreSafe w.contents.now w.sessions.own w.sessions.awaited w.sessions.seen w.words.wait w.contents.hand
+pub waits_of : (w : World) → TableIsSafe w → WaitsAreSafe w.contents.now w.sessions.own w.sessions.awaited w.sessions.seen w.words.wait w.contents.hand
 waits_of w safe = safe_from w.contents.now w.sessions.own w.sessions.awaited w.sessions.seen w.words.wait w.contents.hand
     safe.promise.no_conflict safe.promise.one_place safe.promise.none_free safe.promise.wait_words safe.carriers.unmarked_by_move
 
@@ -36,11 +36,11 @@ with_waits w now own awaited seen word hand trace = record {
 }
 
 -- It is safe where the waits are, where numbers that are not live have nothing, and where each hand is whose it was.
-pub with_waits-safe :
+pub with_waits-table :
     (w : World) (now : ℕ → Content) (own : Holds) (awaited : ℕ → Option OwnWait) (seen : ℕ → Bool) (word : ℕ → ℕ) (hand : ℕ → Option Hand) (trace : ℕ → List TraceEntry)
-    → Safe w → WaitsAreSafe now own awaited seen word hand → SpentHaveNothing w.numbers.live own awaited w.sessions.holds_partition
-    → ((p k : ℕ) → is_hand_of (hand p) k ≡ is_hand_of (w.contents.hand p) k) → Safe (with_waits w now own awaited seen word hand trace)
-with_waits-safe w now own awaited seen word hand trace safe waits spent same = record {
+    → TableIsSafe w → WaitsAreSafe now own awaited seen word hand → SpentHaveNothing w.numbers.live own awaited w.sessions.holds_partition
+    → ((p k : ℕ) → is_hand_of (hand p) k ≡ is_hand_of (w.contents.hand p) k) → TableIsSafe (with_waits w now own awaited seen word hand trace)
+with_waits-table w now own awaited seen word hand trace safe waits spent same = record {
   promise = record {
     no_conflict = waits.no_conflict;
     one_place = waits.one_place;

@@ -9,4 +9,4 @@ returns-clause-own_or_pending c =
 pub returns-clause-never_both : goal.returns-clause-never_both
 returns-clause-never_both c =
     λ w safe s t m awaits.
-    safe.promise.one_place.awaited_is_not_own s t m awaits
+    safe.table.promise.one_place.awaited_is_not_own s t m awaits

@@ -1,0 +1,4 @@
+-- Each kind of event keeps partitions, waits and numbers safe.
+pub mod Seats
+pub mod Partitions
+pub mod Waits

@@ -1,0 +1,245 @@
+use Rattle.std.proofs.Common.{◌≡◌, ◌≢◌, ℕ, ◌+◌, ◌<◌, ◌≤◌, Bool, true, false, List, [], ◌∷◌, ◌++◌, Option, Some, None, refl, sym, ap, ◌∙◌, subst, inl, inr, arith}
+use Rattle.std.specs.Prelude.{◌==◌, if◌then◌else◌}
+use Rattle.std.proofs.lemmas.Bool.{cases_eq, cases_Bool, cond-true, cond-false, eqb-true, eq-eqb, ne_eqb}
+use Rattle.lock_table.specs.declared.moves.Move.{Move}
+use Rattle.lock_table.specs.Content.{Wait, Content}
+use Rattle.lock_table.specs.Moves.{Moves}
+use Rattle.lock_table.specs.Put.{set_at}
+use Rattle.lock_world.specs.World.{Hand, Contents, TraceEntry, Took, Episode, AskedToCancel, LoadedWait, recorded_in}
+use Rattle.lock_world.specs.Happens.Partitions.{content_taken}
+use Rattle.lock_world.specs.Happens.Waits.{recording}
+use Rattle.lock_world.specs.Safe.{taken_after, taken_by, IsOneMove, EntryIsSound, EpisodesAreMoves, taken_in, IsMadeBy, HandIsOneMove, TracesTell, is_hand_of}
+use Rattle.lock_table.proofs.PutLemmas.{set_at-here, set_at-else, set_at-each}
+
+-- A trace with one entry more.
+
+taken_by-push : (taken : ℕ → Option Content) (trace : List TraceEntry) (entry : TraceEntry) → taken_by taken (trace ++ entry ∷ []) ≡ taken_after (taken_by taken trace) entry
+taken_by-push taken [] entry = refl
+taken_by-push taken (first ∷ trace) entry = taken_by-push (taken_after taken first) trace entry
+
+episodes-push : (s : ℕ) (taken : ℕ → Option Content) (trace : List TraceEntry) (entry : TraceEntry) → EpisodesAreMoves s taken trace → EntryIsSound s (taken_by taken trace) entry
+    → EpisodesAreMoves s taken (trace ++ entry ∷ [])
+episodes-push s taken [] entry are is = (is, tt)
+episodes-push s taken (first ∷ trace) entry are is = (are.0, episodes-push s (taken_after taken first) trace entry are.1 is)
+
+-- What a hand has taken, and who has it.
+
+pub taken_in-own : (hand : Option Hand) (s : ℕ) → is_hand_of hand s ≡ true → (h : Hand) × (hand ≡ Some h) × (h.holder ≡ s) × (taken_in hand s ≡ Some h.taken)
+taken_in-own None s holds = absurd (cc)
+taken_in-own (Some h) s holds = (h, refl, eqb-true h.holder s holds, cond-true (h.holder == s) (Some h.taken) None holds)
+
+taken_in-other : (hand : Option Hand) (s : ℕ) → is_hand_of hand s ≡ false → taken_in hand s ≡ None
+taken_in-other None s other = refl
+taken_in-other (Some h) s other = cond-false (h.holder == s) (Some h.taken) None other
+
+pub taken_in-content : (hand : Option Hand) (now : Content) (s : ℕ) → is_hand_of hand s ≡ true → taken_in hand s ≡ Some (content_taken now hand)
+taken_in-content None now s holds = absurd (cc)
+taken_in-content (Some h) now s holds = cond-true (h.holder == s) (Some h.taken) None holds
+
+-- What was taken is the same by two looks at the hand.
+pub taken-one : (hand : Option Hand) (now : Content) (s : ℕ) (taken : Content) → is_hand_of hand s ≡ true → taken_in hand s ≡ Some taken → taken ≡ content_taken now hand
+taken-one hand now s taken holds is = let same : Some taken ≡ Some (content_taken now hand) = sym is ∙ taken_in-content hand now s holds in cc
+
+-- a move recorded changes nothing of that
+taken_in-recording : (hand : Option Hand) (done : Move) (unmarked : ℕ → Bool) (s : ℕ) → taken_in (recording hand done unmarked) s ≡ taken_in hand s
+taken_in-recording None done unmarked s = refl
+taken_in-recording (Some h) done unmarked s = refl
+
+module _ (contents : Contents) (trace : ℕ → List TraceEntry) (issued : ℕ) (tell : TracesTell contents trace issued) where
+  -- More numbers are given out.
+  pub TracesTell-issued : (more : ℕ) → issued ≤ more → TracesTell contents trace more
+  TracesTell-issued more up = record {
+    one_move = tell.one_move;
+    in_hand = tell.in_hand;
+    episodes = tell.episodes;
+    new = λ k past. tell.new k (omega (arith, up, past));
+  }
+
+  -- A session that was given out has one entry more; so much of it holds whatever the hands are then.
+  module _ (s : ℕ) (given : s < issued) (entry : TraceEntry) where
+    longer : ℕ → List TraceEntry
+    longer = set_at trace s (trace s ++ entry ∷ [])
+
+    new-longer : (k : ℕ) → issued ≤ k → set_at trace s (trace s ++ entry ∷ []) k ≡ []
+    new-longer k past = set_at-else trace s (trace s ++ entry ∷ []) k (λ same. let e : k ≡ s = same in omega (arith, e, given, past)) ∙ tell.new k past
+
+    episodes-longer : EntryIsSound s (taken_by (λ _. None) (trace s)) entry → (k : ℕ) → EpisodesAreMoves k (λ _. None) (set_at trace s (trace s ++ entry ∷ []) k)
+    episodes-longer sound = set_at-each (λ k list. EpisodesAreMoves k (λ _. None) list) trace s (trace s ++ entry ∷ [])
+        (episodes-push s (λ _. None) (trace s) entry (tell.episodes s) sound) (λ k other. tell.episodes k)
+
+    in_hand-longer : (hand : ℕ → Option Hand)
+        → ((q : ℕ) → taken_after (taken_by (λ _. None) (trace s)) entry q ≡ taken_in (hand q) s)
+        → ((k q : ℕ) → k ≢ s → taken_in (contents.hand q) k ≡ taken_in (hand q) k)
+        → (k q : ℕ) → taken_by (λ _. None) (set_at trace s (trace s ++ entry ∷ []) k) q ≡ taken_in (hand q) k
+    in_hand-longer hand own others k q =
+        elim (cases_eq k s) [
+          | inl same ↦
+              ap (λ list. taken_by (λ _. None) list q) (set_at-here trace s (trace s ++ entry ∷ []) k same)
+              ∙ ap (λ f. f q) (taken_by-push (λ _. None) (trace s) entry) ∙ own q ∙ ap (taken_in (hand q)) (sym same)
+          | inr other ↦
+              ap (λ list. taken_by (λ _. None) list q) (set_at-else trace s (trace s ++ entry ∷ []) k other)
+              ∙ tell.in_hand k q ∙ others k q other
+        ]
+
+  -- An entry that is of no partition.
+  pub TracesTell-entry : (s : ℕ) → s < issued → (entry : TraceEntry) → EntryIsSound s (taken_by (λ _. None) (trace s)) entry
+      → ((q : ℕ) → taken_after (taken_by (λ _. None) (trace s)) entry q ≡ taken_by (λ _. None) (trace s) q)
+      → TracesTell contents (set_at trace s (trace s ++ entry ∷ [])) issued
+  TracesTell-entry s given entry sound neutral = record {
+    one_move = tell.one_move;
+    in_hand = in_hand-longer s given entry contents.hand (λ q. neutral q ∙ tell.in_hand s q) (λ k q other. refl);
+    episodes = episodes-longer s given entry sound;
+    new = new-longer s given entry;
+  }
+
+  -- A partition at home is taken.
+  pub TracesTell-take : (s p : ℕ) → s < issued → contents.hand p ≡ None
+      → TracesTell (record contents { hand = set_at contents.hand p (Some (record { holder = s; taken = contents.now p; recorded = None; unmarked = λ _. false })) })
+      (set_at trace s (trace s ++ Took p (contents.now p) ∷ [])) issued
+  TracesTell-take s p given home = record {
+    one_move = set_at-each (λ q hand. HandIsOneMove hand (contents.now q)) contents.hand p taken refl (λ q other. tell.one_move q);
+    in_hand = in_hand-longer s given (Took p (contents.now p)) (set_at contents.hand p taken) own others;
+    episodes = episodes-longer s given (Took p (contents.now p)) tt;
+    new = new-longer s given (Took p (contents.now p));
+  } where
+    taken : Option Hand
+    taken = Some (record { holder = s; taken = contents.now p; recorded = None; unmarked = λ _. false })
+
+    own : (q : ℕ) → set_at (taken_by (λ _. None) (trace s)) p (Some (contents.now p)) q ≡ taken_in (set_at contents.hand p taken q) s
+    own q =
+        elim (cases_eq q p) [
+          | inl same ↦
+              set_at-here (taken_by (λ _. None) (trace s)) p (Some (contents.now p)) q same
+              ∙ sym (ap (λ hand. taken_in hand s) (set_at-here contents.hand p taken q same) ∙ cond-true (s == s) (Some (contents.now p)) None (eq-eqb s s refl))
+          | inr other ↦
+              set_at-else (taken_by (λ _. None) (trace s)) p (Some (contents.now p)) q other
+              ∙ tell.in_hand s q ∙ ap (λ hand. taken_in hand s) (sym (set_at-else contents.hand p taken q other))
+        ]
+
+    others : (k q : ℕ) → k ≢ s → taken_in (contents.hand q) k ≡ taken_in (set_at contents.hand p taken q) k
+    others k q other =
+        elim (cases_eq q p) [
+          | inl same ↦
+              ap (λ j. taken_in (contents.hand j) k) same ∙ ap (λ hand. taken_in hand k) home
+              ∙ sym (ap (λ hand. taken_in hand k) (set_at-here contents.hand p taken q same) ∙ cond-false (s == k) (Some (contents.now p)) None (ne_eqb s k (λ e. other (sym e))))
+          | inr apart ↦ ap (λ hand. taken_in hand k) (sym (set_at-else contents.hand p taken q apart))
+        ]
+
+  -- A partition in hand is put, with what one move makes of the content taken.
+  pub TracesTell-put : (s p : ℕ) → s < issued → is_hand_of (contents.hand p) s ≡ true → (taken content : Content) → taken_in (contents.hand p) s ≡ Some taken → IsOneMove taken s content
+      → TracesTell (record { now = set_at contents.now p content; hand = set_at contents.hand p None }) (set_at trace s (trace s ++ Episode p taken content ∷ [])) issued
+  TracesTell-put s p given holds taken content is_taken moved = record {
+    one_move = one_move;
+    in_hand = in_hand-longer s given (Episode p taken content) (set_at contents.hand p None) own others;
+    episodes = episodes-longer s given (Episode p taken content) (tell.in_hand s p ∙ is_taken, moved);
+    new = new-longer s given (Episode p taken content);
+  } where
+    one_move : (q : ℕ) → HandIsOneMove (set_at contents.hand p None q) (set_at contents.now p content q)
+    one_move q =
+        elim (cases_eq q p) [
+          | inl same ↦ subst (λ hand. HandIsOneMove hand (set_at contents.now p content q)) (sym (set_at-here contents.hand p None q same)) tt
+          | inr other ↦
+              subst (λ hand. HandIsOneMove hand (set_at contents.now p content q)) (sym (set_at-else contents.hand p None q other))
+              (subst (HandIsOneMove (contents.hand q)) (sym (set_at-else contents.now p content q other)) (tell.one_move q))
+        ]
+
+    own : (q : ℕ) → set_at (taken_by (λ _. None) (trace s)) p None q ≡ taken_in (set_at contents.hand p None q) s
+    own q =
+        elim (cases_eq q p) [
+          | inl same ↦ set_at-here (taken_by (λ _. None) (trace s)) p None q same ∙ ap (λ hand. taken_in hand s) (sym (set_at-here contents.hand p None q same))
+          | inr other ↦ set_at-else (taken_by (λ _. None) (trace s)) p None q other ∙ tell.in_hand s q ∙ ap (λ hand. taken_in hand s) (sym (set_at-else contents.hand p None q other))
+        ]
+
+    not_theirs : (k : ℕ) → k ≢ s → taken_in (contents.hand p) k ≡ None
+    not_theirs k other = let own_hand = taken_in-own (contents.hand p) s holds in
+        ap (λ hand. taken_in hand k) own_hand.1
+        ∙ cond-false (own_hand.0.holder == k) (Some own_hand.0.taken) None (ne_eqb own_hand.0.holder k (λ e. other (sym e ∙ own_hand.2)))
+
+    others : (k q : ℕ) → k ≢ s → taken_in (contents.hand q) k ≡ taken_in (set_at contents.hand p None q) k
+    others k q other =
+        elim (cases_eq q p) [
+          | inl same ↦ ap (λ j. taken_in (contents.hand j) k) same ∙ not_theirs k other ∙ ap (λ hand. taken_in hand k) (sym (set_at-here contents.hand p None q same))
+          | inr apart ↦ ap (λ hand. taken_in hand k) (sym (set_at-else contents.hand p None q apart))
+        ]
+
+  -- A move is recorded in the hand that has the partition, and the content is what it makes of the content taken.
+  pub TracesTell-record : (p : ℕ) (done : Move) (unmarked : ℕ → Bool) (content : Content) → HandIsOneMove (recording (contents.hand p) done unmarked) content
+      → TracesTell (record { now = set_at contents.now p content; hand = set_at contents.hand p (recording (contents.hand p) done unmarked) }) trace issued
+  TracesTell-record p done unmarked content made = record {
+    one_move = one_move;
+    in_hand = λ k q. tell.in_hand k q ∙ sym (same k q);
+    episodes = tell.episodes;
+    new = tell.new;
+  } where
+    hand : Option Hand
+    hand = recording (contents.hand p) done unmarked
+
+    one_move : (q : ℕ) → HandIsOneMove (set_at contents.hand p hand q) (set_at contents.now p content q)
+    one_move q =
+        elim (cases_eq q p) [
+          | inl same ↦
+              subst (λ h. HandIsOneMove h (set_at contents.now p content q)) (sym (set_at-here contents.hand p hand q same))
+              (subst (HandIsOneMove hand) (sym (set_at-here contents.now p content q same)) made)
+          | inr other ↦
+              subst (λ h. HandIsOneMove h (set_at contents.now p content q)) (sym (set_at-else contents.hand p hand q other))
+              (subst (HandIsOneMove (contents.hand q)) (sym (set_at-else contents.now p content q other)) (tell.one_move q))
+        ]
+
+    same : (k q : ℕ) → taken_in (set_at contents.hand p hand q) k ≡ taken_in (contents.hand q) k
+    same k q =
+        elim (cases_eq q p) [
+          | inl here ↦ ap (λ h. taken_in h k) (set_at-here contents.hand p hand q here) ∙ taken_in-recording (contents.hand p) done unmarked k ∙ ap (λ j. taken_in (contents.hand j) k) (sym here)
+          | inr other ↦ ap (λ h. taken_in h k) (set_at-else contents.hand p hand q other)
+        ]
+
+  -- What the hand of a session has.
+
+  -- without a move recorded it is the content taken
+  pub unmoved-taken : (s p : ℕ) → is_hand_of (contents.hand p) s ≡ true → recorded_in (contents.hand p) ≡ None → taken_in (contents.hand p) s ≡ Some (contents.now p)
+  unmoved-taken s p holds unrecorded = at (contents.hand p) holds unrecorded (tell.one_move p) where
+    made : (recorded : Option Move) (taken : Content) (holder : ℕ) → recorded ≡ None → IsMadeBy recorded taken holder (contents.now p) → contents.now p ≡ taken
+    made None taken holder none is = is
+    made (Some done) taken holder none is = absurd (cc)
+
+    at : (hand : Option Hand) → is_hand_of hand s ≡ true → recorded_in hand ≡ None → HandIsOneMove hand (contents.now p) → taken_in hand s ≡ Some (contents.now p)
+    at None here none is = absurd (cc)
+    at (Some h) here none is = cond-true (h.holder == s) (Some h.taken) None here ∙ ap Some (sym (made h.recorded h.taken h.holder none is))
+
+  -- with one it is what that makes of it
+  pub moved-taken : (s p : ℕ) (done : Move) → is_hand_of (contents.hand p) s ≡ true → recorded_in (contents.hand p) ≡ Some done
+      → (taken : Content) × (taken_in (contents.hand p) s ≡ Some taken) × IsOneMove taken s (contents.now p)
+  moved-taken s p done holds recorded = at (contents.hand p) holds recorded (tell.one_move p) where
+    made : (recorded : Option Move) (taken : Content) (holder : ℕ) → recorded ≡ Some done → IsMadeBy recorded taken holder (contents.now p) → IsOneMove taken holder (contents.now p)
+    made None taken holder some is = absurd (cc)
+    made (Some other) taken holder some is = (other, is.0, is.1)
+
+    at : (hand : Option Hand) → is_hand_of hand s ≡ true → recorded_in hand ≡ Some done → HandIsOneMove hand (contents.now p)
+        → (taken : Content) × (taken_in hand s ≡ Some taken) × IsOneMove taken s (contents.now p)
+    at None here some is = absurd (cc)
+    at (Some h) here some is =
+        (h.taken, cond-true (h.holder == s) (Some h.taken) None here, subst (λ k. IsOneMove h.taken k (contents.now p)) (eqb-true h.holder s here) (made h.recorded h.taken h.holder some is))
+
+  -- A move made on the content taken stands in the hand as the one that made the content.
+  pub recorded-made : (s p : ℕ) (done : Move) (unmarked : ℕ → Bool) (granted : List Wait) (content : Content) → is_hand_of (contents.hand p) s ≡ true → recorded_in (contents.hand p) ≡ None
+      → Moves (contents.now p) s done granted content → HandIsOneMove (recording (contents.hand p) done unmarked) content
+  recorded-made s p done unmarked granted content holds unrecorded moves = at (contents.hand p) holds unrecorded (tell.one_move p) where
+    made : (recorded : Option Move) (taken : Content) (holder : ℕ) → recorded ≡ None → IsMadeBy recorded taken holder (contents.now p) → contents.now p ≡ taken
+    made None taken holder none is = is
+    made (Some other) taken holder none is = absurd (cc)
+
+    at : (hand : Option Hand) → is_hand_of hand s ≡ true → recorded_in hand ≡ None → HandIsOneMove hand (contents.now p) → HandIsOneMove (recording hand done unmarked) content
+    at None here none is = tt
+    at (Some h) here none is =
+        (granted, subst (λ taken. Moves taken h.holder done granted content) (made h.recorded h.taken h.holder none is)
+        (subst (λ k. Moves (contents.now p) k done granted content) (sym (eqb-true h.holder s here)) moves))
+
+  -- A recorded move that is recorded again, with others unmarked, stands as before.
+  pub recorded-again : (p : ℕ) (done : Move) (unmarked : ℕ → Bool) → recorded_in (contents.hand p) ≡ Some done → HandIsOneMove (recording (contents.hand p) done unmarked) (contents.now p)
+  recorded-again p done unmarked recorded = at (contents.hand p) recorded (tell.one_move p) where
+    made : (stands : Option Move) (taken : Content) (holder : ℕ) → stands ≡ Some done → IsMadeBy stands taken holder (contents.now p) → IsMadeBy (Some done) taken holder (contents.now p)
+    made None taken holder some is = absurd (cc)
+    made (Some other) taken holder some is = let same : other ≡ done = cc in subst (λ move. IsMadeBy (Some move) taken holder (contents.now p)) same is
+
+    at : (hand : Option Hand) → recorded_in hand ≡ Some done → HandIsOneMove hand (contents.now p) → HandIsOneMove (recording hand done unmarked) (contents.now p)
+    at None some is = tt
+    at (Some h) some is = made h.recorded h.taken h.holder some is
