@@ -5,5 +5,5 @@ pub mod Table
 pub mod Traces
 pub mod Safe
 pub mod Unique
-pub mod Untouched
+pub mod Others
 pub mod FromSafe

@@ -1,5 +1,6 @@
 pub mod LightweightWord
 pub mod WaitWord
 pub mod World
+pub mod Account
 pub mod Happens
 pub mod Safe

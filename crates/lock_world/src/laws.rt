@@ -16,6 +16,7 @@ ghost use Rattle.lock_world.specs.WaitWord.{wait_state, is_asked, asked_word, gr
 ghost use Rattle.lock_world.specs.World.{World, opening, is_unmarked};
 ghost use Rattle.lock_world.specs.Happens.{Happens, Runs};
 ghost use Rattle.lock_world.specs.Safe.{Safe};
+ghost use Rattle.lock_world.specs.Account.{IsLeftAlone};
 
 /// The World before the first event is safe.
 pub fn opening_is_safe()
@@ -141,16 +142,11 @@ pub fn asking_sets_one_bit()
     ensures sum { (word : ℕ) → asked_word word ≡ (if is_asked word then word else word + 4) }
 {}
 
-/// An event changes what its own session has, and no other session's own holds, words held, recorded
-/// wait, what it has seen of that, and trace. Another session's wait word it leaves, or asks it there to
-/// cancel, or turns waiting into granted.
+/// An event leaves every session alone that does not make it: its account, that is its own holds, its wait and what it has
+/// seen of that, what it has in hand with its contents, and its trace; the words that it holds; and whether its number is
+/// live and kept apart. Its wait word the event leaves, or asks it there to cancel, or turns waiting into granted.
 pub fn others_are_untouched()
-    ensures account { (w v : World) (event : Event) (other : ℕ) → Happens w event v → other ≢ event.session →
-        ((tag : Tag) (mode : Mode) → v.sessions.own other tag mode ≡ w.sessions.own other tag mode)
-        × ((p : ℕ) → v.sessions.holds_partition other p ≡ w.sessions.holds_partition other p)
-        × (v.sessions.awaited other ≡ w.sessions.awaited other)
-        × (v.sessions.seen other ≡ w.sessions.seen other)
-        × (v.sessions.trace other ≡ w.sessions.trace other) }
+    ensures account { (w v : World) (event : Event) (other : ℕ) → Safe w → Happens w event v → other ≢ event.session → IsLeftAlone w v other }
     ensures wait_word { (w v : World) (event : Event) (other : ℕ) → Happens w event v → other ≢ event.session →
         (v.words.wait other ≡ w.words.wait other)
         ⊎ ((v.words.wait other ≡ asked_word (w.words.wait other))

@@ -1,9 +1,10 @@
-use Rattle.lock_world.proofs.Untouched.{untouched, left_or_marked}
+use Rattle.lock_world.proofs.Others.Events.{event-others}
+use Rattle.lock_world.proofs.Others.WaitWords.{left_or_marked}
 use Rattle.lock_world.proofs.laws.others_are_untouched.Goals as goal
 
 pub returns-clause-account : goal.returns-clause-account
 returns-clause-account c =
-    λ w v event other h apart. untouched w v event other h apart
+    λ w v event other safe h apart. event-others w v event other safe h apart
 
 pub returns-clause-wait_word : goal.returns-clause-wait_word
 returns-clause-wait_word c =

@@ -1,0 +1,7 @@
+-- What an event leaves of those who do not make it.
+pub mod Hands
+pub mod Seats
+pub mod Partitions
+pub mod Waits
+pub mod Events
+pub mod WaitWords

@@ -1,0 +1,87 @@
+use Rattle.std.proofs.Common.{◌≡◌, ◌≢◌, ◌⊎◌, ℕ, Bool, true, false, Option, Some, None, refl, sym, subst, inl, inr}
+use Rattle.std.proofs.lemmas.Bool.{cases_eq}
+use Rattle.modes_core.specs.Tag.{partition_of}
+use Rattle.lock_world.specs.declared.events.Event.{Event}
+use Rattle.lock_table.specs.declared.moves.Move.{Move}
+use Rattle.lock_table.specs.declared.moves.Move.TheVariants.{Keep, Grant, Join, Release, Leave}
+use Rattle.lock_world.specs.declared.events.Step.{Step}
+use Rattle.lock_world.specs.declared.events.Step.TheVariants.{TakeExclusive, PutExclusive, SplitSeat, JoinSeat, AskCancel, LoadWait, SetWaiting, MarkGranted, ClearWait}
+use Rattle.lock_world.specs.declared.events.Word.{Word}
+use Rattle.lock_world.specs.declared.events.Word.TheVariants.{Partition, Fast, Database, Slot, Wait, Strong, Sleep}
+use Rattle.lock_world.specs.WaitWord.{wait_state, asked_word, granted_word}
+use Rattle.lock_world.specs.World.{World}
+use Rattle.lock_table.specs.Put.{set_at}
+use Rattle.lock_world.specs.Happens.Waits.{HappensMarking, HappensMarkingIn, HappensClearing}
+use Rattle.lock_world.specs.Happens.{Happens, HappensStep}
+use Rattle.lock_world.specs.Happens.Partitions.{HappensTaking, HappensPutting}
+use Rattle.lock_world.specs.Happens.Seats.{HappensJoining}
+use Rattle.lock_table.proofs.PutLemmas.{set_at-here, set_at-else}
+
+-- What becomes of another session's wait word: it stays, or it is asked to cancel, or its wait is marked granted.
+abbrev pub IsLeftOrMarked : ℕ → ℕ → Type 0
+IsLeftOrMarked before after = (after ≡ before) ⊎ ((after ≡ asked_word before) ⊎ ((wait_state before ≡ 1) × (after ≡ granted_word before)))
+
+word : (k : ℕ) (w u v : World) → v ≡ u → IsLeftOrMarked (w.words.wait k) (u.words.wait k) → IsLeftOrMarked (w.words.wait k) (v.words.wait k)
+word k w u v e h = subst (λ (z : World). IsLeftOrMarked (w.words.wait k) (z.words.wait k)) (sym e) h
+
+-- One word is set, to what leaves it or marks it.
+word-set : (waits : ℕ → ℕ) (j : ℕ) (after : ℕ) (k : ℕ) → IsLeftOrMarked (waits j) after → IsLeftOrMarked (waits k) (set_at waits j after k)
+word-set waits j after k marked =
+    elim (cases_eq k j) [
+      | inl e ↦ subst (λ (i : ℕ). IsLeftOrMarked (waits i) (set_at waits j after k)) (sym e) (subst (λ (b : ℕ). IsLeftOrMarked (waits j) b) (sym (set_at-here waits j after k e)) marked)
+      | inr n ↦ inl (set_at-else waits j after k n)
+    ]
+
+word-taking : (w : World) (s : ℕ) (taken : Word) (v : World) (k : ℕ) → HappensTaking w s taken v → IsLeftOrMarked (w.words.wait k) (v.words.wait k)
+word-taking w s (Partition p) v k h = word k w _ v h.1 (inl refl)
+word-taking w s (Fast o) v k h = absurd h
+word-taking w s (Database o) v k h = absurd h
+word-taking w s (Slot o i) v k h = absurd h
+word-taking w s (Wait o) v k h = absurd h
+word-taking w s (Strong i) v k h = absurd h
+word-taking w s (Sleep o) v k h = absurd h
+
+word-putting : (w : World) (s : ℕ) (put : Word) (done : Move) (v : World) (k : ℕ) → HappensPutting w s put done v → IsLeftOrMarked (w.words.wait k) (v.words.wait k)
+word-putting w s (Partition p) done v k (inl h) = word k w _ v h.2 (inl refl)
+word-putting w s (Partition p) done v k (inr h) = word k w _ v h.1 (inl refl)
+word-putting w s (Fast o) done v k h = absurd h
+word-putting w s (Database o) done v k h = absurd h
+word-putting w s (Slot o i) done v k h = absurd h
+word-putting w s (Wait o) done v k h = absurd h
+word-putting w s (Strong i) done v k h = absurd h
+word-putting w s (Sleep o) done v k h = absurd h
+
+word-joining : (w : World) (s : ℕ) (joiner : Option ℕ) (v : World) (k : ℕ) → HappensJoining w s joiner v → IsLeftOrMarked (w.words.wait k) (v.words.wait k)
+word-joining w s (Some j) v k h = word k w _ v h.1 (inl refl)
+word-joining w s None v k h = word k w _ v h.1 (inl refl)
+
+word-marking_in : (w : World) (s marked p : ℕ) (done : Move) (v : World) (k : ℕ) → HappensMarkingIn w s marked p done v → IsLeftOrMarked (w.words.wait k) (v.words.wait k)
+word-marking_in w s marked p done v k (inl h) = word k w _ v h.3 (word-set w.words.wait marked _ k (inr (inr (h.2.may_mark.waiting, refl))))
+word-marking_in w s marked p done v k (inr h) = word k w _ v h.1 (word-set w.words.wait marked _ k (inr (inr (h.0.may_mark.waiting, refl))))
+
+word-marking : (w : World) (s marked : ℕ) (done : Move) (v : World) (k : ℕ) → HappensMarking w s marked done v → IsLeftOrMarked (w.words.wait k) (v.words.wait k)
+word-marking w s marked Keep v k h = absurd h
+word-marking w s marked (Grant t m) v k h = absurd h
+word-marking w s marked (Join t m) v k h = absurd h
+word-marking w s marked (Release t m) v k h = word-marking_in w s marked (partition_of t) (Release t m) v k h
+word-marking w s marked (Leave t) v k h = word-marking_in w s marked (partition_of t) (Leave t) v k h
+
+word-clearing : (w : World) (s : ℕ) (leaving : Bool) (v : World) (k : ℕ) → k ≢ s → HappensClearing w s leaving v → IsLeftOrMarked (w.words.wait k) (v.words.wait k)
+word-clearing w s false v k other h = word k w _ v h.2 (inl (set_at-else w.words.wait s 0 k other))
+word-clearing w s true v k other (inl h) = word k w _ v h.4 (inl (set_at-else w.words.wait s 0 k other))
+word-clearing w s true v k other (inr h) = word k w _ v h.3 (inl (set_at-else w.words.wait s 0 k other))
+
+word-step_by : (w : World) (s : ℕ) (step : Step) (v : World) (k : ℕ) → k ≢ s → HappensStep w s step v → IsLeftOrMarked (w.words.wait k) (v.words.wait k)
+word-step_by w s (TakeExclusive taken) v k other h = word-taking w s taken v k h
+word-step_by w s (PutExclusive put done) v k other h = word-putting w s put done v k h
+word-step_by w s SplitSeat v k other (inl h) = word k w _ v h.1 (inl refl)
+word-step_by w s SplitSeat v k other (inr h) = word k w _ v h.1 (inl refl)
+word-step_by w s (JoinSeat joiner) v k other h = word-joining w s joiner v k h
+word-step_by w s (AskCancel o) v k other h = word k w _ v h.1 (word-set w.words.wait o _ k (inr (inl refl)))
+word-step_by w s (LoadWait n) v k other h = word k w _ v h.1 (inl refl)
+word-step_by w s (SetWaiting t m) v k other h = word k w _ v h.2 (inl (set_at-else w.words.wait s 1 k other))
+word-step_by w s (MarkGranted marked done) v k other h = word-marking w s marked done v k h
+word-step_by w s (ClearWait leaving) v k other h = word-clearing w s leaving v k other h
+
+pub left_or_marked : (w v : World) (event : Event) (other : ℕ) → Happens w event v → other ≢ event.session → IsLeftOrMarked (w.words.wait other) (v.words.wait other)
+left_or_marked w v event other h apart = word-step_by w event.session event.step v other apart h
