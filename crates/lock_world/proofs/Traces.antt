@@ -1,4 +1,4 @@
-use Rattle.std.proofs.Common.{◌≡◌, ◌≢◌, ℕ, ◌+◌, ◌<◌, ◌≤◌, Bool, true, false, List, [], ◌∷◌, ◌++◌, Option, Some, None, refl, sym, ap, ◌∙◌, subst, inl, inr, arith}
+use Rattle.std.proofs.Common.{◌≡◌, ◌≢◌, ◌⊎◌, ℕ, ◌+◌, ◌<◌, ◌≤◌, Bool, true, false, List, [], ◌∷◌, ◌++◌, Option, Some, None, refl, sym, ap, ◌∙◌, subst, inl, inr, arith}
 use Rattle.std.specs.Prelude.{◌==◌, if◌then◌else◌}
 use Rattle.std.proofs.lemmas.Bool.{cases_eq, cases_Bool, cond-true, cond-false, eqb-true, eq-eqb, ne_eqb}
 use Rattle.lock_table.specs.declared.moves.Move.{Move}
@@ -229,9 +229,11 @@ module _ (contents : Contents) (trace : ℕ → List TraceEntry) (issued : ℕ) 
 
     at : (hand : Option Hand) → is_hand_of hand s ≡ true → recorded_in hand ≡ None → HandIsOneMove hand (contents.now p) → HandIsOneMove (recording hand done unmarked) content
     at None here none is = tt
-    at (Some h) here none is =
-        (granted, subst (λ taken. Moves taken h.holder done granted content) (made h.recorded h.taken h.holder none is)
-        (subst (λ k. Moves (contents.now p) k done granted content) (sym (eqb-true h.holder s here)) moves))
+    at (Some h) here none is = (
+      granted,
+      subst (λ taken. Moves taken h.holder done granted content) (made h.recorded h.taken h.holder none is)
+          (subst (λ k. Moves (contents.now p) k done granted content) (sym (eqb-true h.holder s here)) moves),
+    )
 
   -- A recorded move that is recorded again, with others unmarked, stands as before.
   pub recorded-again : (p : ℕ) (done : Move) (unmarked : ℕ → Bool) → recorded_in (contents.hand p) ≡ Some done → HandIsOneMove (recording (contents.hand p) done unmarked) (contents.now p)
@@ -243,3 +245,37 @@ module _ (contents : Contents) (trace : ℕ → List TraceEntry) (issued : ℕ) 
     at : (hand : Option Hand) → recorded_in hand ≡ Some done → HandIsOneMove hand (contents.now p) → HandIsOneMove (recording hand done unmarked) (contents.now p)
     at None some is = tt
     at (Some h) some is = made h.recorded h.taken h.holder some is
+
+-- What a trace tells of an entry in it.
+
+pub episode-sound : (s : ℕ) (taken : ℕ → Option Content) (before after : List TraceEntry) (entry : TraceEntry) → EpisodesAreMoves s taken (before ++ entry ∷ after)
+    → EntryIsSound s (taken_by taken before) entry
+episode-sound s taken [] after entry are = are.0
+episode-sound s taken (first ∷ before) after entry are = episode-sound s (taken_after taken first) before after entry are.1
+
+-- What a trace leaves in hand was there before it, or is what an entry of it took.
+pub was_taken : (taken : ℕ → Option Content) (trace : List TraceEntry) (p : ℕ) (content : Content) → taken_by taken trace p ≡ Some content
+    → (taken p ≡ Some content) ⊎ ((first : List TraceEntry) × (since : List TraceEntry) × (trace ≡ first ++ Took p content ∷ since))
+was_taken taken [] p content is = inl is
+was_taken taken (entry ∷ trace) p content is = at (was_taken (taken_after taken entry) trace p content is) where
+  here : (entry : TraceEntry) → taken_after taken entry p ≡ Some content → (taken p ≡ Some content) ⊎ ((first : List TraceEntry) × (since : List TraceEntry) × (entry ∷ trace ≡ first ++ Took p content ∷ since))
+  here (Took q now) e =
+      elim (cases_eq p q) [
+        | inl same ↦
+            let now_is : Some now ≡ Some content = sym (set_at-here taken q (Some now) p same) ∙ e in
+            let content_is : now ≡ content = cc in
+            inr ([], trace, ap (λ j. Took j now ∷ trace) (sym same) ∙ ap (λ c. Took p c ∷ trace) content_is)
+        | inr other ↦ inl (sym (set_at-else taken q (Some now) p other) ∙ e)
+      ]
+  here (Episode q now put_back) e =
+      elim (cases_eq p q) [
+        | inl same ↦ let none : None ≡ Some content = sym (set_at-here taken q None p same) ∙ e in absurd (cc)
+        | inr other ↦ inl (sym (set_at-else taken q None p other) ∙ e)
+      ]
+  here (AskedToCancel other before) e = inl e
+  here (LoadedWait shown) e = inl e
+
+  at : (taken_after taken entry p ≡ Some content) ⊎ ((first : List TraceEntry) × (since : List TraceEntry) × (trace ≡ first ++ Took p content ∷ since))
+      → (taken p ≡ Some content) ⊎ ((first : List TraceEntry) × (since : List TraceEntry) × (entry ∷ trace ≡ first ++ Took p content ∷ since))
+  at (inl e) = here entry e
+  at (inr found) = inr (entry ∷ found.0, found.1, ap (λ list. entry ∷ list) found.2)

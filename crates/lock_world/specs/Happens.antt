@@ -1,7 +1,6 @@
 pub mod Seats
 pub mod Partitions
 pub mod Waits
-
 use Rattle.std.specs.Prelude.{◌≡◌, ℕ, List, ◌⊎◌, [], ◌∷◌}
 use Rattle.lock_world.specs.World.{World, MakesSteps}
 use Rattle.lock_world.specs.declared.events.Event.{Event}

@@ -1,5 +1,7 @@
-use Rattle.std.specs.Prelude.{◌≡◌, ℕ, ◌==◌, Bool, true, false, List, [], Option, Some, None}
+use Rattle.std.specs.Prelude.{◌≡◌, ℕ, ◌<◌, Bool, true, false, List, [], Option, Some, None}
 use Rattle.lock_table.specs.declared.moves.Move.{Move}
+use Rattle.lock_world.specs.declared.events.Word.{Word}
+use Rattle.lock_world.specs.declared.events.Word.TheVariants.{Partition, Fast, Database, Slot, Wait, Strong, Sleep}
 use Rattle.lock_table.specs.Content.{Holds, Content, empty_content}
 use Rattle.lock_world.specs.LightweightWord.{free_word}
 use Rattle.lock_table.specs.OwnWait.{OwnWait}
@@ -112,3 +114,23 @@ opening limit = record {
   sessions = record { own = λ _ _ _. false; holds_partition = λ _ _. false; awaited = λ _. None; seen = λ _. false; trace = λ _. [] };
   numbers = record { limit = limit; issued = 0; live = λ _. false; kept_by = λ _. None };
 }
+
+-- There is such a word.
+abbrev pub WordExists : Word → Type 0
+WordExists (Partition p) = p < 16
+WordExists (Fast session) = Unit {0}
+WordExists (Database session) = Unit {0}
+WordExists (Slot session place) = place < 16
+WordExists (Wait session) = Unit {0}
+WordExists (Strong index) = index < 1024
+WordExists (Sleep session) = Unit {0}
+
+-- what a word shows in the World
+abbrev pub word_in : Words → Word → ℕ
+word_in words (Partition p) = words.partition p
+word_in words (Fast session) = words.fast session
+word_in words (Database session) = words.database session
+word_in words (Slot session place) = words.slot session place
+word_in words (Wait session) = words.wait session
+word_in words (Strong index) = words.strong index
+word_in words (Sleep session) = words.sleep session

@@ -2,20 +2,20 @@
 //! proved, and its body is empty. Every World of a run is safe (`every_world_is_safe`), so what the laws say
 //! of a safe World they say of each of these.
 
-ghost use Rattle.std.specs.Prelude.{◌≡◌, ◌≢◌, ◌↔◌, ◌⊎◌, ◌<◌, ◌≤◌, ◌+◌, ◌==◌, ℕ, List, true, false, if◌then◌else◌, Some, None, slice_get, count_by};
+ghost use Rattle.std.specs.Prelude.{◌≡◌, ◌≢◌, ◌↔◌, ◌⊎◌, ◌<◌, ◌≤◌, ◌+◌, ◌==◌, ℕ, List, [], ◌∷◌, ◌++◌, true, false, if◌then◌else◌, Some, None, slice_get, count_by};
 ghost use Rattle.modes_core.specs.declared.modes.Mode.{Mode};
 ghost use Rattle.modes_core.specs.declared.tags.Tag.{Tag};
 ghost use Rattle.modes_core.specs.Conflict.{conflict};
 ghost use Rattle.modes_core.specs.Tag.{partition_of};
 ghost use Rattle.lock_world.specs.declared.events.Event.{Event};
-ghost use Rattle.lock_table.specs.Content.{Wait};
+ghost use Rattle.lock_table.specs.Content.{Wait, Content};
 ghost use Rattle.lock_world.specs.LightweightWord.{IsHeldExclusively};
 ghost use Rattle.lock_table.specs.OwnWait.{OwnWait, entry_of, is_for};
 ghost use Rattle.lock_table.specs.Queue.{NoneFree, waits_there};
 ghost use Rattle.lock_world.specs.WaitWord.{wait_state, is_asked, asked_word, granted_word};
-ghost use Rattle.lock_world.specs.World.{World, opening, is_unmarked};
+ghost use Rattle.lock_world.specs.World.{World, TraceEntry, Took, Episode, opening, is_unmarked};
 ghost use Rattle.lock_world.specs.Happens.{Happens, Runs};
-ghost use Rattle.lock_world.specs.Safe.{Safe};
+ghost use Rattle.lock_world.specs.Safe.{Safe, taken_by, taken_in, IsOneMove};
 ghost use Rattle.lock_world.specs.Account.{IsLeftAlone};
 
 /// The World before the first event is safe.
@@ -132,6 +132,31 @@ pub fn spent_sessions_have_nothing()
         (w.sessions.awaited session ≡ None) × (waits_there ((w.contents.now p).waits tag) session ≡ false) }
     ensures no_hand { (w : World) → Safe w →
         (session p : ℕ) → w.numbers.live session ≡ false → w.sessions.holds_partition session p ≡ false }
+{}
+
+/// In a safe World each episode of a trace put what one move of its session makes of the content that it took: an earlier
+/// entry took just that content, and the session had it in hand until then.
+pub fn each_episode_is_one_move()
+    ensures moved { (w : World) → Safe w →
+        (session p : ℕ) (taken put_back : Content) (before after : List TraceEntry) →
+        w.sessions.trace session ≡ before ++ Episode p taken put_back ∷ after →
+        (taken_by (λ _. None) before p ≡ Some taken) × IsOneMove taken session put_back }
+    ensures was_taken { (p : ℕ) (taken : Content) (before : List TraceEntry) → taken_by (λ _. None) before p ≡ Some taken →
+        (first : List TraceEntry) × (since : List TraceEntry) × (before ≡ first ++ Took p taken ∷ since) }
+{}
+
+/// In a safe World a trace tells what its session has in hand: of each partition the content as it took it, and nothing where
+/// the partition is at home or in another's hand.
+pub fn traces_tell_what_is_in_hand()
+    ensures { (w : World) → Safe w → (session p : ℕ) →
+        taken_by (λ _. None) (w.sessions.trace session) p ≡ taken_in (w.contents.hand p) session }
+{}
+
+/// In a safe World a number that was not given out has no trace; whoever is kept apart is live, and so is who keeps it apart.
+pub fn numbers_are_in_order()
+    ensures new { (w : World) → Safe w → (session : ℕ) → w.numbers.issued ≤ session → w.sessions.trace session ≡ [] }
+    ensures kept_apart { (w : World) → Safe w → (session joiner : ℕ) → w.numbers.kept_by session ≡ Some joiner →
+        (w.numbers.live session ≡ true) × (w.numbers.live joiner ≡ true) }
 {}
 
 /// Asking a session to cancel sets bit 2 of its wait word, whatever the word is: it is asked from then
