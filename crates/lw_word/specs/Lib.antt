@@ -1,0 +1,4 @@
+pub mod LightweightWord
+pub mod LockState
+pub mod Packing
+pub mod WaitList

@@ -1,0 +1,9 @@
+//! The packed words of the shared table: lightweight locks' words with their wait lists, and the words of
+//! fast-path slots.
+#![tactic(auto)]
+
+pub mod wait_lists;
+pub mod words;
+
+pub use wait_lists::{LwWaiter, TakenOff, WaitList, Wakeup};
+pub use words::{LwMode, LwWord};
