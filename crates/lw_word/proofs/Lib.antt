@@ -3,3 +3,4 @@ pub mod WordLemmas
 pub mod FlagLemmas
 pub mod StateLemmas
 pub mod WaitLemmas
+pub mod SlotLemmas

@@ -1,12 +1,14 @@
-use Rattle.std.proofs.Common.{◌≡◌, ℕ, ◌+◌, ◌<◌, ◌≤◌, Bool, true, false, cond, ◌||◌, eqb, List, [], ◌∷◌, ◌++◌, length, filter, map, count_by, arith, refl, sym, ap, ◌∙◌, inl, inr, length-append}
+use Rattle.std.proofs.Common.{◌≡◌, ℕ, ◌+◌, ◌<◌, ◌≤◌, Bool, true, false, cond, not, ◌||◌, eqb, List, [], ◌∷◌, ◌++◌, length, filter, map, count_by, arith, refl, sym, ap, ◌∙◌, inl, inr, length-append}
 use Rattle.std.specs.Prelude.{if◌then◌else◌}
+use Rattle.std.specs.List.Sorted.{IsPermutation}
+use Rattle.std.proofs.lemmas.List.Sorted.{IsPermutation-filter_both, IsPermutation-refl}
 use Rattle.std.specs.List.{list_any, remove, IsDistinct, AllByRecursion}
 use Rattle.std.proofs.lemmas.Bool.{cases_Bool, cases_eq, false≢true, false_from_ne_true, eqb-true, eq-eqb, cond-true, cond-false}
 use Rattle.std.proofs.lemmas.List.Sums.{sum_by-cons, sum_by-append}
 use Rattle.std.proofs.lemmas.List.{length-map}
 use Rattle.std.proofs.lemmas.Map.Steps.{length-le_from_distinct_below}
 use Rattle.lw_word.specs.declared.wait_lists.LwWaiter.{LwWaiter}
-use Rattle.lw_word.specs.WaitList.{EachStandsOnce, is_of, stands_in, times_in}
+use Rattle.lw_word.specs.WaitList.{EachStandsOnce, is_of, stands_in, times_in, wants_to_share, taken_off, left_waiting}
 
 -- Lists in which each session stands once at most.
 
@@ -142,3 +144,24 @@ EachStandsOnce-rest (first ∷ others) is = record {
   once = λ s. omega (arith, count-cons (is_of s) first others, is.once s);
   below = λ s some. is.below s (omega (arith, count-cons (is_of s) first others));
 }
+
+-- A wakeup takes off some and leaves all others.
+pub wakeup-split : (waiters : List LwWaiter) → IsPermutation waiters (taken_off waiters ++ left_waiting waiters)
+wakeup-split [] = IsPermutation-refl []
+wakeup-split (first ∷ others) =
+    elim (cases_Bool (wants_to_share first)) [
+      | inl shares ↦
+          let parts : IsPermutation (first ∷ others) (filter wants_to_share (first ∷ others) ++ filter (λ (waiter : LwWaiter). not (wants_to_share waiter)) (first ∷ others)) =
+          IsPermutation-filter_both wants_to_share (λ (waiter : LwWaiter). not (wants_to_share waiter)) (λ _. refl) (first ∷ others) in
+          rw shares (rw shares at parts)
+      | inr alone ↦ rw alone (IsPermutation-refl (first ∷ others))
+    ]
+
+-- It takes off nobody only where nobody waits.
+pub wakeup-somebody : (waiters : List LwWaiter) → taken_off waiters ≡ [] → waiters ≡ []
+wakeup-somebody [] none = refl
+wakeup-somebody (first ∷ others) none =
+    elim (cases_Bool (wants_to_share first)) [
+      | inl shares ↦ let none' : ◌≡◌ {A = List LwWaiter} (first ∷ filter wants_to_share others) [] = rw shares at none in cc
+      | inr alone ↦ let none' : ◌≡◌ {A = List LwWaiter} (first ∷ []) [] = rw alone at none in cc
+    ]

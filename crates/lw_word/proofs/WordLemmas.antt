@@ -130,3 +130,11 @@ state_of-word_of state fits = λ i. record {
 
   w : ℕ
   w = bit state.has_waiters
+
+pub IsLightweightWord-word_of : (state : LockState) → state.shared < 2 ^ 24 → IsLightweightWord (word_of state)
+IsLightweightWord-word_of state fits =
+    let e = bit-lt state.exclusive in
+    let l = bit-lt state.list_locked in
+    let r = bit-lt state.release_ok in
+    let w = bit-lt state.has_waiters in
+    record { below = omega (arith, fits, e, l, r, w); none_between = omega (arith, fits, e, l, r, w) }
