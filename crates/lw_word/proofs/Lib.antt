@@ -1,0 +1,6 @@
+pub mod Bits
+pub mod WordLemmas
+pub mod FlagLemmas
+pub mod StateLemmas
+pub mod WaitLemmas
+pub mod SlotLemmas

@@ -1,0 +1,167 @@
+use Rattle.std.proofs.Common.{◌≡◌, ℕ, ◌+◌, ◌<◌, ◌≤◌, Bool, true, false, cond, not, ◌||◌, eqb, List, [], ◌∷◌, ◌++◌, length, filter, map, count_by, arith, refl, sym, ap, ◌∙◌, inl, inr, length-append}
+use Rattle.std.specs.Prelude.{if◌then◌else◌}
+use Rattle.std.specs.List.Sorted.{IsPermutation}
+use Rattle.std.proofs.lemmas.List.Sorted.{IsPermutation-filter_both, IsPermutation-refl}
+use Rattle.std.specs.List.{list_any, remove, IsDistinct, AllByRecursion}
+use Rattle.std.proofs.lemmas.Bool.{cases_Bool, cases_eq, false≢true, false_from_ne_true, eqb-true, eq-eqb, cond-true, cond-false}
+use Rattle.std.proofs.lemmas.List.Sums.{sum_by-cons, sum_by-append}
+use Rattle.std.proofs.lemmas.List.{length-map}
+use Rattle.std.proofs.lemmas.Map.Steps.{length-le_from_distinct_below}
+use Rattle.lw_word.specs.declared.wait_lists.LwWaiter.{LwWaiter}
+use Rattle.lw_word.specs.WaitList.{EachStandsOnce, is_of, stands_in, times_in, wants_to_share, taken_off, left_waiting}
+
+-- Lists in which each session stands once at most.
+
+-- Counting by a test.
+
+count-cons : {X : Type 0} (test : X → Bool) (x : X) (xs : List X) → count_by test (x ∷ xs) ≡ (if test x then 1 else 0) + count_by test xs
+count-cons test x xs = sum_by-cons (λ y. if test y then 1 else 0) x xs
+
+count-append : {X : Type 0} (test : X → Bool) (xs ys : List X) → count_by test (xs ++ ys) ≡ count_by test xs + count_by test ys
+count-append test xs ys = sum_by-append (λ x. if test x then 1 else 0) xs ys
+
+count-map : {X Y : Type 0} (test : Y → Bool) (f : X → Y) (xs : List X) → count_by test (map f xs) ≡ count_by (λ x. test (f x)) xs
+count-map test f [] = refl
+count-map test f (x ∷ xs) = rw (count-cons test (f x) (map f xs), count-cons (λ y. test (f y)) x xs, count-map test f xs) refl
+
+-- a filter leaves nothing more often than it was there
+count-filter : {X : Type 0} (test p : X → Bool) (xs : List X) → count_by test (filter p xs) ≤ count_by test xs
+count-filter test p [] = omega arith
+count-filter test p (x ∷ xs) =
+    let less : count_by test (filter p xs) ≤ count_by test xs = count-filter test p xs in
+    rw (count-cons test x xs) (
+    elim (cases_Bool (p x)) [
+      | inl pass ↦ rw (pass, count-cons test x (filter p xs)) (omega arith)
+      | inr fail ↦ rw fail (omega arith)
+    ]
+    )
+
+-- what passes is counted, and nothing else
+count-some : {X : Type 0} (test : X → Bool) (xs : List X) → list_any test xs ≡ true → 0 < count_by test xs
+count-some test [] any = absurd (false≢true any)
+count-some test (x ∷ xs) any =
+    elim (cases_Bool (test x)) [
+      | inl pass ↦ let one : ◌≡◌ {A = ℕ} (cond (test x) 1 0) 1 = cond-true (test x) 1 0 pass in let sum = count-cons test x xs in omega arith
+      | inr fail ↦ let more : 0 < count_by test xs = count-some test xs (ap (λ b. b || list_any test xs) (sym fail) ∙ any) in let sum = count-cons test x xs in omega arith
+    ]
+
+count-none : {X : Type 0} (test : X → Bool) (xs : List X) → list_any test xs ≡ false → count_by test xs ≡ 0
+count-none test [] none = refl
+count-none test (x ∷ xs) none =
+    rw (count-cons test x xs) (
+    elim (cases_Bool (test x)) [
+      | inl pass ↦ absurd (false≢true (sym none ∙ ap (λ b. b || list_any test xs) pass))
+      | inr fail ↦ rw (fail, count-none test xs (sym (ap (λ b. b || list_any test xs) fail) ∙ none)) refl
+    ]
+    )
+
+-- There are at most as many in the list as there are sessions.
+
+none_alike : (x : ℕ) (xs : List ℕ) → list_any (eqb x) xs ≡ false → AllByRecursion (λ y. eqb x y ≡ false) xs
+none_alike x [] none = tt
+none_alike x (y ∷ xs) none =
+    elim (cases_Bool (eqb x y)) [
+      | inl same ↦ absurd (false≢true (sym none ∙ ap (λ b. b || list_any (eqb x) xs) same))
+      | inr other ↦ (other, none_alike x xs (sym (ap (λ b. b || list_any (eqb x) xs) other) ∙ none))
+    ]
+
+distinct : (xs : List ℕ) → ((x : ℕ) → count_by (eqb x) xs ≤ 1) → IsDistinct eqb xs
+unfolding IsDistinct
+distinct [] once = tt
+distinct (x ∷ xs) once = (none_alike x xs none, distinct xs fewer) where
+  none : list_any (eqb x) xs ≡ false
+  none = false_from_ne_true (list_any (eqb x) xs) (λ any.
+      let more : 0 < count_by (eqb x) xs = count-some (eqb x) xs any in
+      let sum : count_by (eqb x) (x ∷ xs) ≡ (if eqb x x then 1 else 0) + count_by (eqb x) xs = count-cons (eqb x) x xs in
+      let one : ◌≡◌ {A = ℕ} (if eqb x x then 1 else 0) 1 = rw (eq-eqb x x refl) refl in
+      omega (arith, once x))
+
+  fewer : (y : ℕ) → count_by (eqb y) xs ≤ 1
+  fewer y =
+      let sum : count_by (eqb y) (x ∷ xs) ≡ (if eqb y x then 1 else 0) + count_by (eqb y) xs = count-cons (eqb y) x xs in
+      omega (arith, once y)
+
+pub EachStandsOnce-fits : (waiters : List LwWaiter) → EachStandsOnce waiters → length waiters ≤ 64
+EachStandsOnce-fits waiters is =
+    let fit : length (map (λ (one : LwWaiter). one.session) waiters) ≤ 64 =
+    length-le_from_distinct_below (map (λ (one : LwWaiter). one.session) waiters) 64 (distinct (map (λ (one : LwWaiter). one.session) waiters) once) below in
+    let same : length (map (λ (one : LwWaiter). one.session) waiters) ≡ length waiters = length-map waiters (λ (one : LwWaiter). one.session) in
+    omega arith where
+      times : (s : ℕ) → count_by (eqb s) (map (λ (one : LwWaiter). one.session) waiters) ≡ times_in s waiters
+      times s = count-map (eqb s) (λ (one : LwWaiter). one.session) waiters
+
+      once : (s : ℕ) → count_by (eqb s) (map (λ (one : LwWaiter). one.session) waiters) ≤ 1
+      once s = omega (arith, times s, is.once s)
+
+      below : (s : ℕ) → list_any (eqb s) (map (λ (one : LwWaiter). one.session) waiters) ≡ true → s < 64
+      below s any = is.below s (omega (arith, times s, count-some (eqb s) (map (λ (one : LwWaiter). one.session) waiters) any))
+
+-- Each stands there once after a session joined that was not there, and after some were taken out.
+
+pub EachStandsOnce-join :
+    (waiters : List LwWaiter) (new : LwWaiter) → new.session < 64 → stands_in new.session waiters ≡ false → EachStandsOnce waiters → EachStandsOnce (waiters ++ new ∷ [])
+EachStandsOnce-join waiters new within absent is = record {
+  once = λ s. elim (cases_eq s new.session) [
+    | inl same ↦
+        let none : times_in s waiters ≡ 0 = ap (λ t. times_in t waiters) same ∙ count-none (is_of new.session) waiters absent in
+        let less = one_more s in
+        omega (arith, sum s)
+    | inr other ↦ let none = not_this s other in omega (arith, sum s, is.once s)
+  ];
+  below = λ s some. elim (cases_eq s new.session) [
+    | inl same ↦ omega arith
+    | inr other ↦ let none = not_this s other in is.below s (omega (arith, sum s))
+  ];
+} where
+  sum : (s : ℕ) → times_in s (waiters ++ new ∷ []) ≡ times_in s waiters + times_in s (new ∷ [])
+  sum s = count-append (is_of s) waiters (new ∷ [])
+
+  one_more : (s : ℕ) → times_in s (new ∷ []) ≤ 1
+  one_more s = elim (cases_Bool (eqb s new.session)) [
+    | inl same ↦ let one : ◌≡◌ {A = ℕ} (cond (eqb s new.session) 1 0) 1 = cond-true (eqb s new.session) 1 0 same in omega (arith, count-cons (is_of s) new [])
+    | inr other ↦ let none : ◌≡◌ {A = ℕ} (cond (eqb s new.session) 1 0) 0 = cond-false (eqb s new.session) 1 0 other in omega (arith, count-cons (is_of s) new [])
+  ]
+
+  not_this : (s : ℕ) → (s ≡ new.session → ⊥) → times_in s (new ∷ []) ≡ 0
+  not_this s other = count-none (is_of s) (new ∷ []) (ap (λ b. b || false) (false_from_ne_true (eqb s new.session) (λ same. other (eqb-true s new.session same))))
+
+-- so there is room for whoever joins
+pub room_to_join : (waiters : List LwWaiter) (new : LwWaiter) → new.session < 64 → stands_in new.session waiters ≡ false → EachStandsOnce waiters → length waiters < 64
+room_to_join waiters new within absent is =
+    let fit : length (waiters ++ new ∷ []) ≤ 64 = EachStandsOnce-fits (waiters ++ new ∷ []) (EachStandsOnce-join waiters new within absent is) in
+    let one : length (waiters ++ new ∷ []) ≡ length waiters + 1 = length-append waiters (new ∷ []) in
+    omega arith
+
+pub EachStandsOnce-filter : (p : LwWaiter → Bool) (waiters : List LwWaiter) → EachStandsOnce waiters → EachStandsOnce (filter p waiters)
+EachStandsOnce-filter p waiters is = record {
+  once = λ s. omega (arith, count-filter (is_of s) p waiters, is.once s);
+  below = λ s some. is.below s (omega (arith, count-filter (is_of s) p waiters));
+}
+
+pub EachStandsOnce-rest : (waiters : List LwWaiter) → EachStandsOnce waiters → EachStandsOnce (remove waiters 0)
+EachStandsOnce-rest [] is = is
+EachStandsOnce-rest (first ∷ others) is = record {
+  once = λ s. omega (arith, count-cons (is_of s) first others, is.once s);
+  below = λ s some. is.below s (omega (arith, count-cons (is_of s) first others));
+}
+
+-- A wakeup takes off some and leaves all others.
+pub wakeup-split : (waiters : List LwWaiter) → IsPermutation waiters (taken_off waiters ++ left_waiting waiters)
+wakeup-split [] = IsPermutation-refl []
+wakeup-split (first ∷ others) =
+    elim (cases_Bool (wants_to_share first)) [
+      | inl shares ↦
+          let parts : IsPermutation (first ∷ others) (filter wants_to_share (first ∷ others) ++ filter (λ (waiter : LwWaiter). not (wants_to_share waiter)) (first ∷ others)) =
+          IsPermutation-filter_both wants_to_share (λ (waiter : LwWaiter). not (wants_to_share waiter)) (λ _. refl) (first ∷ others) in
+          rw shares (rw shares at parts)
+      | inr alone ↦ rw alone (IsPermutation-refl (first ∷ others))
+    ]
+
+-- It takes off nobody only where nobody waits.
+pub wakeup-somebody : (waiters : List LwWaiter) → taken_off waiters ≡ [] → waiters ≡ []
+wakeup-somebody [] none = refl
+wakeup-somebody (first ∷ others) none =
+    elim (cases_Bool (wants_to_share first)) [
+      | inl shares ↦ let none' : ◌≡◌ {A = List LwWaiter} (first ∷ filter wants_to_share others) [] = rw shares at none in cc
+      | inr alone ↦ let none' : ◌≡◌ {A = List LwWaiter} (first ∷ []) [] = rw alone at none in cc
+    ]

@@ -1,0 +1,14 @@
+use Rattle.lw_word.proofs.SlotLemmas.{relation_in-slot_word, mode_bits-slot_word, in_use-shows, not_in_use-shows}
+use Rattle.lw_word.proofs.laws.a_slot_shows_one_relation.Goals as goal
+
+pub returns-clause-relation : goal.returns-clause-relation
+returns-clause-relation c = relation_in-slot_word
+
+pub returns-clause-modes : goal.returns-clause-modes
+returns-clause-modes c = mode_bits-slot_word
+
+pub returns-clause-used : goal.returns-clause-used
+returns-clause-used c = in_use-shows
+
+pub returns-clause-empty : goal.returns-clause-empty
+returns-clause-empty c = not_in_use-shows

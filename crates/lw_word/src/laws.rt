@@ -1,0 +1,72 @@
+//! Laws of the words and of the wait list, each a clause over all numbers and lists. What the words' calls do
+//! is said of what a word says; here it is said of the number, which is what the shared table has.
+
+ghost use Rattle.std.specs.Prelude.{◌≡◌, ◌+◌, ◌/◌, ◌%◌, ◌^◌, ◌<◌, ◌≤◌, ℕ, Bool, [], ◌++◌, true, false};
+ghost use Rattle.std.specs.List.Sorted.{IsPermutation};
+ghost use Rattle.modes_core.specs.declared.modes.Mode.{Mode};
+ghost use Rattle.modes_core.specs.Mode.{number_of};
+ghost use Rattle.lw_word.specs.LightweightWord.{IsLightweightWord, IsHeldByNobody, IsHeldExclusively, IsFreeToShare, IsListLocked, IsReleaseOk, HasWaiters, shared_count, taken_word, put_word, shared_word, unshared_word, list_locked_word, release_ok_word, has_waiters_word, list_unlocked_word, FlagsStay, HoldersStay};
+ghost use Rattle.lw_word.specs.LockState.{LockState, word_of, state_of};
+ghost use Rattle.lw_word.specs.WaitList.{taken_off, left_waiting};
+ghost use Rattle.lw_word.specs.SlotWord.{relation_in, mode_bits, in_use, shows, slot_word};
+
+/// A lightweight word and what it says are one, both ways.
+pub fn a_word_and_what_it_says_are_one()
+    ensures number { (word : ℕ) → IsLightweightWord word → word_of (state_of word) ≡ word }
+    ensures said { (state : LockState) → state.shared < 2 ^ 24 → state_of (word_of state) ≡ state }
+    ensures valid { (state : LockState) → state.shared < 2 ^ 24 → IsLightweightWord (word_of state) }
+{}
+
+/// Taking a free word and putting it turn the exclusive bit alone.
+pub fn taking_turns_one_bit()
+    ensures taken { (word : ℕ) → IsHeldByNobody word → IsHeldExclusively (taken_word word) × (shared_count (taken_word word) ≡ 0) }
+    ensures taken_flags { (word : ℕ) → IsHeldByNobody word → FlagsStay word (taken_word word) }
+    ensures put { (word : ℕ) → IsHeldExclusively word → IsFreeToShare (put_word word) × (shared_count (put_word word) ≡ shared_count word) }
+    ensures put_flags { (word : ℕ) → IsHeldExclusively word → FlagsStay word (put_word word) }
+{}
+
+/// Sharing a word and sharing it no more change the count by one, and nothing else.
+pub fn sharing_counts_alone()
+    ensures shared { (word : ℕ) → shared_count word + 1 < 2 ^ 24 → shared_count (shared_word word) ≡ shared_count word + 1 }
+    ensures shared_rest { (word : ℕ) → shared_count word + 1 < 2 ^ 24 → shared_word word / 2 ^ 24 ≡ word / 2 ^ 24 }
+    ensures unshared { (word : ℕ) → 0 < shared_count word → shared_count (unshared_word word) + 1 ≡ shared_count word }
+    ensures unshared_rest { (word : ℕ) → 0 < shared_count word → unshared_word word / 2 ^ 24 ≡ word / 2 ^ 24 }
+{}
+
+/// Setting a flag sets it, and leaves the other flags and the holders.
+pub fn setting_a_flag_sets_it_alone()
+    ensures list_locked { (word : ℕ) → IsListLocked (list_locked_word word) × HoldersStay word (list_locked_word word) }
+    ensures list_locked_release { (word : ℕ) → list_locked_word word / 2 ^ 29 % 2 ≡ word / 2 ^ 29 % 2 }
+    ensures list_locked_waiters { (word : ℕ) → list_locked_word word / 2 ^ 30 % 2 ≡ word / 2 ^ 30 % 2 }
+    ensures release_ok { (word : ℕ) → IsReleaseOk (release_ok_word word) × HoldersStay word (release_ok_word word) }
+    ensures release_ok_list { (word : ℕ) → release_ok_word word / 2 ^ 28 % 2 ≡ word / 2 ^ 28 % 2 }
+    ensures release_ok_waiters { (word : ℕ) → release_ok_word word / 2 ^ 30 % 2 ≡ word / 2 ^ 30 % 2 }
+    ensures has_waiters { (word : ℕ) → HasWaiters (has_waiters_word word) × HoldersStay word (has_waiters_word word) }
+    ensures has_waiters_list { (word : ℕ) → has_waiters_word word / 2 ^ 28 % 2 ≡ word / 2 ^ 28 % 2 }
+    ensures has_waiters_release { (word : ℕ) → has_waiters_word word / 2 ^ 29 % 2 ≡ word / 2 ^ 29 % 2 }
+{}
+
+/// Unlocking a wait list clears its bit and the flags that are not to stay, and leaves the others and the holders.
+pub fn unlocking_clears_what_is_told()
+    ensures list { (word : ℕ) (waiters release : Bool) → list_unlocked_word word waiters release / 2 ^ 28 % 2 ≡ 0 }
+    ensures holders { (word : ℕ) (waiters release : Bool) → HoldersStay word (list_unlocked_word word waiters release) }
+    ensures release_stays { (word : ℕ) (waiters : Bool) → list_unlocked_word word waiters true / 2 ^ 29 % 2 ≡ word / 2 ^ 29 % 2 }
+    ensures release_goes { (word : ℕ) (waiters : Bool) → list_unlocked_word word waiters false / 2 ^ 29 % 2 ≡ 0 }
+    ensures waiters_stay { (word : ℕ) (release : Bool) → list_unlocked_word word true release / 2 ^ 30 % 2 ≡ word / 2 ^ 30 % 2 }
+    ensures waiters_go { (word : ℕ) (release : Bool) → list_unlocked_word word false release / 2 ^ 30 % 2 ≡ 0 }
+{}
+
+/// A wakeup takes off somebody wherever anybody waits, and whoever it doesn't take off stays.
+pub fn a_wakeup_splits_the_list()
+    ensures split { (waiters : _) → IsPermutation waiters (taken_off waiters ++ left_waiting waiters) }
+    ensures somebody { (waiters : _) → taken_off waiters ≡ [] → waiters ≡ [] }
+{}
+
+/// A slot word of a relation has just that relation and these mode bits; a slot in use shows a mode of its
+/// relation, and one that is not shows nothing.
+pub fn a_slot_shows_one_relation()
+    ensures relation { (relation bits : ℕ) → relation < 2 ^ 32 → bits < 2 ^ 3 → relation_in (slot_word relation bits) ≡ relation }
+    ensures modes { (relation bits : ℕ) → relation < 2 ^ 32 → bits < 2 ^ 3 → mode_bits (slot_word relation bits) ≡ bits }
+    ensures used { (word : ℕ) → in_use word ≡ true → (mode : Mode) × (number_of mode ≤ 3) × (shows word (relation_in word) mode ≡ true) }
+    ensures empty { (word relation : ℕ) (mode : Mode) → in_use word ≡ false → shows word relation mode ≡ false }
+{}

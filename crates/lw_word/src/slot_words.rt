@@ -1,0 +1,124 @@
+ghost use Rattle.std.specs.Prelude.{◌≡◌, ◌<◌, ◌≤◌, ◌^◌, ◌==◌, ◌&&◌, ◌||◌, ℕ, not, true, false};
+ghost use Rattle.modes_core.specs.Mode.{number_of, mode_eq};
+ghost use Rattle.lw_word.specs.SlotWord.{relation_in, mode_bits, mode_bit, in_use, has_mode, shows, slot_word, word_with, word_without};
+
+use modes_core::Mode;
+use std::marker::Model;
+
+/// The word of a fast-path slot: the relation in bits 0 to 31, and bits 32, 33 and 34 for `AccessShareLock`,
+/// `RowShareLock` and `RowExclusiveLock` (`fpRelId` and `fpLockBits` of a `PGPROC` in proc.h). A slot with no
+/// mode bit is empty. Contracts see the number, and read it by `shows`.
+#[derive(Clone, Copy, Debug, Default, PartialEq, Eq, Hash)]
+pub struct SlotWord {
+    number: u64,
+}
+
+impl Model for SlotWord {
+    ghost Value = { ℕ };
+
+    ghost view = { λ word. word.number };
+
+    ghost inverse = { λ number. record { number = number } };
+}
+
+impl SlotWord {
+    const ALL_MODES: u64 = 7;
+
+    /// The word with this number.
+    pub fn from_number(number: u64) -> Self
+        ensures { result ≡ number }
+    {
+        SlotWord { number }
+    }
+
+    /// The number, as the shared table has it.
+    pub fn number(self) -> u64
+        ensures { result ≡ self }
+    {
+        self.number
+    }
+
+    /// Whether the slot shows any mode (`FAST_PATH_GET_BITS` in lock.c is not 0).
+    pub fn in_use(self) -> bool
+        ensures { result ≡ in_use self }
+    {
+        self.mode_bits() != 0
+    }
+
+    /// The relation, where the slot is in use.
+    pub fn relation(self) -> u32
+        ensures { result ≡ relation_in self }
+    {
+        (self.number & 0xFFFF_FFFF) as u32
+    }
+
+    /// Whether the slot shows the mode, of whatever relation (`FAST_PATH_CHECK_LOCKMODE`). No slot shows a mode
+    /// from `ShareUpdateExclusiveLock` on.
+    pub fn has(self, mode: Mode) -> bool
+        ensures { result ≡ has_mode self mode }
+    {
+        (self.mode_bits() >> (mode.number() - 1)) & 1 == 1
+    }
+
+    /// Whether the slot shows that its session holds this mode of the relation.
+    pub fn shows(self, relation: u32, mode: Mode) -> bool
+        ensures { result ≡ shows self relation mode }
+    {
+        self.has(mode) && self.relation() == relation
+    }
+
+    /// The word with the mode of the relation set: in an empty slot, or in the one that the relation has
+    /// (`FAST_PATH_SET_LOCKMODE` in `FastPathGrantRelationLock`). What else was shown stays.
+    pub fn with(self, relation: u32, mode: Mode) -> Self
+        requires slot_mode { number_of mode ≤ 3 }
+        requires its_slot { in_use self ≡ true → relation_in self ≡ relation }
+        ensures number { result ≡ word_with self relation mode }
+        ensures shown { (other : ℕ) (its : _) → shows result other its ≡ (mode_eq its mode && relation == other || shows self other its) }
+        ensures of_relation { relation_in result ≡ relation }
+    {
+        Self::packed(relation, self.mode_bits() | Self::mode_bit(mode))
+    }
+
+    /// The word with the mode cleared, whether it was set or not (`FAST_PATH_CLEAR_LOCKMODE` in
+    /// `FastPathUnGrantRelationLock`). What else was shown stays; the word of a slot that is empty then is 0.
+    pub fn without(self, mode: Mode) -> Self
+        requires { number_of mode ≤ 3 }
+        ensures number { result ≡ word_without self mode }
+        ensures shown { (other : ℕ) (its : _) → shows result other its ≡ (not (mode_eq its mode) && shows self other its) }
+        ensures emptied { in_use result ≡ false → result ≡ 0 }
+    {
+        let modes = self.mode_bits() & (Self::ALL_MODES - Self::mode_bit(mode));
+        if modes == 0 {
+            SlotWord { number: 0 }
+        } else {
+            Self::packed(self.relation(), modes)
+        }
+    }
+
+    /// The mode bits, moved down.
+    fn mode_bits(self) -> u64
+        ensures value { result ≡ mode_bits self }
+        ensures within { result < 2 ^ 3 }
+    {
+        (self.number >> 32) & Self::ALL_MODES
+    }
+
+    /// The bit of a mode among them.
+    fn mode_bit(mode: Mode) -> u64
+        requires { number_of mode ≤ 3 }
+        ensures value { result ≡ mode_bit mode }
+        ensures within { result < 2 ^ 3 }
+    {
+        1 << (mode.number() - 1)
+    }
+
+    /// The word of the relation with these mode bits.
+    fn packed(relation: u32, modes: u64) -> Self
+        requires { modes < 2 ^ 3 }
+        ensures { result ≡ slot_word relation modes }
+    {
+        SlotWord {
+            number: modes << 32 | u64::from(relation),
+        }
+    }
+}

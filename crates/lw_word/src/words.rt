@@ -1,0 +1,255 @@
+ghost use Rattle.std.specs.Prelude.{◌≡◌, ◌<◌, ◌^◌, ◌+◌, ◌-◌, ◌↔◌, ◌==◌, true, false, bit_or, IsTrue, IsSome, IfSome};
+ghost use Rattle.std.specs.Option.{SomeIff};
+ghost use Rattle.lw_word.specs.LightweightWord.{IsLightweightWord, flag_bits, kept_bits, list_locked_word, list_unlocked_word, release_ok_word, has_waiters_word};
+ghost use Rattle.lw_word.specs.LockState.{opening_state, word_of, is_shared, amount_of, IsFreeFor, HasRoomFor, IsHeldIn, taken_in, put_in, must_wake};
+
+use std::marker::Model;
+
+/// How a lightweight lock is taken (`LWLockMode` in lwlock.h): by one session, or by many at a time. The
+/// default, `Exclusive`, is what unused places of bounded lists have.
+#[derive(Clone, Copy, Debug, Default, PartialEq, Eq, Hash)]
+pub enum LwMode {
+    #[default]
+    Exclusive,
+    Shared,
+}
+
+impl LwMode {
+    /// Whether it is the mode in which many hold the lock at a time.
+    pub fn is_shared(self) -> bool
+        ensures { result ≡ is_shared self }
+    {
+        match self {
+            LwMode::Exclusive => false,
+            LwMode::Shared => true,
+        }
+    }
+
+    /// What a holder in this mode adds to the word (`LW_VAL_EXCLUSIVE` and `LW_VAL_SHARED` in lwlock.c): the
+    /// operand of the fetch-and-subtract that releases it.
+    pub fn amount(self) -> u64
+        ensures { result ≡ amount_of self }
+    {
+        match self {
+            LwMode::Exclusive => 1 << 24,
+            LwMode::Shared => 1,
+        }
+    }
+}
+
+/// A lightweight lock's word (`state` of an `LWLock` in lwlock.h), as it stands in the shared table: bits 0 to
+/// 23 count those who hold it shared, bit 24 is set where somebody holds it exclusively, bit 28 where its wait
+/// list is locked, bit 29 is release-ok and bit 30 has-waiters. Contracts see what the word says.
+///
+/// The calls make a new word of an old one and change nothing. Beside what it means, each says what it does to the number, which is
+/// what the atomic operation of the shared table does.
+#[derive(Clone, Copy, Debug, PartialEq, Eq, Hash)]
+pub struct LwWord {
+    number: u64,
+}
+
+impl Model for LwWord {
+    ghost use Rattle.lw_word.specs.LockState.{LockState, state_of, word_of};
+    ghost use Rattle.lw_word.specs.LightweightWord.{IsLightweightWord};
+    ghost use Rattle.lw_word.specs.Packing.{word_of-state_of};
+
+    ghost Value = { LockState };
+
+    ghost view = { λ word. state_of word.number };
+
+    ghost invariant = { λ word. IsLightweightWord word.number };
+
+    ghost inverse = { λ state. record { number = word_of state } };
+
+    ghost inverse_ok = { λ word is i. record { number = word_of-state_of word.number is i } };
+}
+
+impl LwWord {
+    /// The bit that says that the wait list is locked (`LW_FLAG_LOCKED`).
+    pub const LIST_LOCKED: u64 = 1 << 28;
+
+    /// The bit that says that a release may wake waiters (`LW_FLAG_RELEASE_OK`).
+    pub const RELEASE_OK: u64 = 1 << 29;
+
+    /// The bit that says that somebody may stand in the wait list (`LW_FLAG_HAS_WAITERS`).
+    pub const HAS_WAITERS: u64 = 1 << 30;
+
+    const EXCLUSIVE: u64 = 1 << 24;
+
+    const HOLDERS: u64 = (1 << 25) - 1;
+
+    /// The word of a lock that nobody has taken yet (`LWLockInitialize`).
+    pub fn opening() -> Self
+        ensures { result ≡ opening_state }
+    {
+        LwWord {
+            number: Self::RELEASE_OK,
+        }
+    }
+
+    /// The word with this number, or `None` where the number has a bit that no lightweight word has.
+    pub fn from_number(number: u64) -> Option<Self>
+        ensures valid { IsSome result ↔ IsLightweightWord number }
+        ensures value { IfSome result (λ word. word_of word ≡ number) }
+    {
+        if number < 1 << 31 && (number >> 25) & 7 == 0 {
+            Some(LwWord { number })
+        } else {
+            None
+        }
+    }
+
+    /// The number, as the shared table has it.
+    pub fn number(self) -> u64
+        ensures value { result ≡ word_of self }
+        ensures valid { IsLightweightWord result }
+        ensures count { self.shared < 2 ^ 24 }
+    {
+        self.number
+    }
+
+    /// Whether the lock can be taken in this mode now: exclusively where nobody holds it, shared where nobody
+    /// holds it exclusively.
+    pub fn is_free_for(self, mode: LwMode) -> bool
+        ensures { IsTrue result ↔ IsFreeFor mode self }
+    {
+        match mode {
+            LwMode::Exclusive => self.number & Self::HOLDERS == 0,
+            LwMode::Shared => self.number & Self::EXCLUSIVE == 0,
+        }
+    }
+
+    /// The word after the lock was taken in this mode, or `None` where it can't be now (`LWLockAttemptLock`).
+    pub fn attempt(self, mode: LwMode) -> Option<Self>
+        requires { HasRoomFor mode self }
+        ensures answer { SomeIff result (IsFreeFor mode self) (taken_in mode self) }
+        ensures number { IfSome result (λ after. word_of after ≡ word_of self + amount_of mode) }
+    {
+        if self.is_free_for(mode) {
+            Some(LwWord {
+                number: self.number + mode.amount(),
+            })
+        } else {
+            None
+        }
+    }
+
+    /// The word after one who held the lock in this mode gave it up (`LWLockReleaseInternal`).
+    pub fn release(self, mode: LwMode) -> Self
+        requires { IsHeldIn mode self }
+        ensures after { result ≡ put_in mode self }
+        ensures number { word_of result + amount_of mode ≡ word_of self }
+    {
+        LwWord {
+            number: self.number - mode.amount(),
+        }
+    }
+
+    /// Whether whoever made this word by a release has to wake waiters: nobody holds the lock, somebody may
+    /// wait, and release-ok is set (`check_waiters` in `LWLockReleaseInternal`).
+    pub fn must_wake(self) -> bool
+        ensures { result ≡ must_wake self }
+    {
+        self.number & Self::HOLDERS == 0 && self.has_waiters() && self.is_release_ok()
+    }
+
+    /// How many hold the lock shared.
+    pub fn shared(self) -> u64
+        ensures { result ≡ self.shared }
+    {
+        self.number & (Self::EXCLUSIVE - 1)
+    }
+
+    /// Whether somebody holds the lock exclusively.
+    pub fn is_exclusive(self) -> bool
+        ensures { result ≡ self.exclusive }
+    {
+        self.number & Self::EXCLUSIVE != 0
+    }
+
+    /// Whether some session has the wait list to itself.
+    pub fn is_list_locked(self) -> bool
+        ensures { result ≡ self.list_locked }
+    {
+        self.number & Self::LIST_LOCKED != 0
+    }
+
+    /// Whether a release may wake waiters.
+    pub fn is_release_ok(self) -> bool
+        ensures { result ≡ self.release_ok }
+    {
+        self.number & Self::RELEASE_OK != 0
+    }
+
+    /// Whether somebody may stand in the wait list.
+    pub fn has_waiters(self) -> bool
+        ensures { result ≡ self.has_waiters }
+    {
+        self.number & Self::HAS_WAITERS != 0
+    }
+
+    /// The word after its wait list was locked, or `None` where it is locked already (`LWLockWaitListLock`).
+    pub fn lock_list(self) -> Option<Self>
+        ensures answer { SomeIff result (self.list_locked ≡ false) (record self { list_locked = true }) }
+        ensures number { IfSome result (λ after. word_of after ≡ list_locked_word (word_of self)) }
+    {
+        if self.is_list_locked() {
+            None
+        } else {
+            Some(LwWord {
+                number: self.number | Self::LIST_LOCKED,
+            })
+        }
+    }
+
+    /// The word after its wait list was unlocked, with the flags as told (`LWLockWaitListUnlock`, and the end
+    /// of `LWLockWakeup`). The flags to be set are set first, and then one fetch-and clears the others and
+    /// unlocks.
+    pub fn unlock_list(self, has_waiters: bool, release_ok: bool) -> Self
+        ensures after { result ≡ record self { list_locked = false; has_waiters = has_waiters; release_ok = release_ok } }
+        ensures number { word_of result ≡ list_unlocked_word (bit_or (word_of self) (flag_bits has_waiters release_ok)) has_waiters release_ok }
+    {
+        LwWord {
+            number: (self.number | Self::flag_bits(has_waiters, release_ok))
+                & Self::kept_bits(has_waiters, release_ok),
+        }
+    }
+
+    /// The flags of these two that are set (to be set, before a wait list is unlocked).
+    pub fn flag_bits(has_waiters: bool, release_ok: bool) -> u64
+        ensures { result ≡ flag_bits has_waiters release_ok }
+    {
+        let waiters = if has_waiters { Self::HAS_WAITERS } else { 0 };
+        let release = if release_ok { Self::RELEASE_OK } else { 0 };
+        waiters | release
+    }
+
+    /// The operand of the fetch-and that unlocks a wait list: all bits but the list's own, and but the flags
+    /// that are not to stay.
+    pub fn kept_bits(has_waiters: bool, release_ok: bool) -> u64
+        ensures { result ≡ kept_bits has_waiters release_ok }
+    {
+        !(Self::LIST_LOCKED | Self::flag_bits(!has_waiters, !release_ok))
+    }
+
+    /// The word after release-ok was set, whether it was set or not: whoever was taken off a wait list does so
+    /// when it goes on (the end of the loop in `LWLockAcquire`).
+    pub fn set_release_ok(self) -> Self
+        ensures after { result ≡ record self { release_ok = true } }
+        ensures number { word_of result ≡ release_ok_word (word_of self) }
+    {
+        LwWord {
+            number: self.number | Self::RELEASE_OK,
+        }
+    }
+
+    /// The word after has-waiters was set, whether it was set or not (`LWLockQueueSelf`).
+    pub fn set_has_waiters(self) -> Self
+        ensures after { result ≡ record self { has_waiters = true } }
+        ensures number { word_of result ≡ has_waiters_word (word_of self) }
+    {
+        LwWord {
+            number: self.number | Self::HAS_WAITERS,
+        }
+    }
+}
