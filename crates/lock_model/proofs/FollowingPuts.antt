@@ -12,7 +12,7 @@ use Rattle.lock_world.specs.declared.events.Step.TheVariants.{TakeExclusive, Put
 use Rattle.lock_world.specs.declared.events.Word.TheVariants.{Partition}
 use Rattle.lock_model.specs.declared.machine.hands.InHand.{InHand}
 use Rattle.lock_model.specs.declared.machine.state.Machine.{Machine}
-use Rattle.lock_world.specs.LightweightWord.{free_word, put_word}
+use Rattle.lw_word.specs.LightweightWord.{free_word, put_word}
 use Rattle.lock_table.specs.Content.{Wait, Content, add_hold, remove_hold}
 use Rattle.lock_table.specs.Told.{IsTold}
 use Rattle.lock_table.specs.Queue.{some_awaits_conflict, awaits_mode, Wakes, Granted, WaitingAnswer}

@@ -16,7 +16,7 @@ use Rattle.lock_model.specs.declared.machine.plain.QueuedWait.{QueuedWait}
 use Rattle.lock_model.specs.declared.machine.plain.Plain.{Plain}
 use Rattle.lock_model.specs.declared.machine.state.Machine.{Machine}
 use Rattle.lock_table.specs.Content.{empty_content}
-use Rattle.lock_world.specs.LightweightWord.{free_word}
+use Rattle.lw_word.specs.LightweightWord.{free_word}
 use Rattle.lock_table.specs.Parts.{AreAtHome, no_part, part_at, contents_in}
 use Rattle.lock_table.specs.PartView.{PartView, content_of}
 use Rattle.lock_model.specs.Plain.{IsPlainOf, WordExists, word_in, word_of, holds_of, waits_of, wait_of}

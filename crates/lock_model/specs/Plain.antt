@@ -12,7 +12,7 @@ use Rattle.lock_model.specs.declared.machine.plain.QueuedWait.{QueuedWait}
 use Rattle.lock_model.specs.declared.machine.plain.Plain.{Plain}
 use Rattle.lock_table.specs.Content.{Holds}
 use Rattle.lock_table.specs.Content as content
-use Rattle.lock_world.specs.LightweightWord.{free_word}
+use Rattle.lw_word.specs.LightweightWord.{free_word}
 use Rattle.lock_world.specs.World.{World, Words}
 use Rattle.lock_model.specs.Shows.{ListsHolds, AreInTable}
 

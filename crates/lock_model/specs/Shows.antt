@@ -13,7 +13,7 @@ use Rattle.lock_table.specs.declared.moves.Move.{Move}
 use Rattle.lock_table.specs.declared.moves.Move.TheVariants.{Keep, Grant, Join, Release, Leave}
 use Rattle.lock_world.specs.declared.events.Step.{Step}
 use Rattle.lock_table.specs.Content.{Holds, Content}
-use Rattle.lock_world.specs.LightweightWord.{free_word}
+use Rattle.lw_word.specs.LightweightWord.{free_word}
 use Rattle.lock_table.specs.OwnWait.{OwnWait}
 use Rattle.lock_table.specs.Parts.{part_at, contents_in}
 use Rattle.lock_world.specs.World.{World, Hand}

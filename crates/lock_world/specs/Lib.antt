@@ -1,4 +1,4 @@
-pub mod LightweightWord
+pub mod Total
 pub mod WaitWord
 pub mod World
 pub mod Account

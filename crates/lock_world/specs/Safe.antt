@@ -1,4 +1,4 @@
-use Rattle.std.specs.Prelude.{◌≡◌, ◌≢◌, ◌⊎◌, ℕ, ◌<◌, ◌≤◌, Bool, true, false, ◌==◌, ◌&&◌, ◌||◌, List, [], ◌∷◌, filter, Option, Some, None, if◌then◌else◌}
+use Rattle.std.specs.Prelude.{◌≡◌, ◌≢◌, ◌⊎◌, ℕ, ◌^◌, ◌<◌, ◌≤◌, Bool, true, false, ◌==◌, ◌&&◌, ◌||◌, List, [], ◌∷◌, filter, Option, Some, None, if◌then◌else◌}
 use Rattle.modes_core.specs.declared.modes.Mode.{Mode}
 use Rattle.modes_core.specs.declared.tags.Tag.{Tag}
 use Rattle.modes_core.specs.Conflict.{conflict}
@@ -6,13 +6,14 @@ use Rattle.modes_core.specs.Tag.{tag_eq, partition_of}
 use Rattle.lock_table.specs.declared.moves.Move.{Move}
 use Rattle.lock_table.specs.declared.moves.Move.TheVariants.{Keep, Grant, Join, Release, Leave}
 use Rattle.lock_table.specs.Content.{Holds, Wait, Content}
-use Rattle.lock_world.specs.LightweightWord.{free_word, IsHeldExclusively, shared_count}
+use Rattle.lw_word.specs.LightweightWord.{IsHeldExclusively, shared_count}
 use Rattle.lock_table.specs.OwnWait.{OwnWait, Stage, InQueue, WasGranted, HasLeft, is_for, is_pending, queued_by}
 use Rattle.lock_table.specs.Queue.{NoneFree}
+use Rattle.lock_world.specs.Total.{how_many}
 use Rattle.lock_world.specs.WaitWord.{wait_state}
 use Rattle.lock_table.specs.Moves.{Moves}
 use Rattle.lock_table.specs.Put.{set_at}
-use Rattle.lock_world.specs.World.{World, Words, Hand, Contents, Numbers, TraceEntry, Took, Episode, AskedToCancel, LoadedWait, recorded_in, is_unmarked}
+use Rattle.lock_world.specs.World.{World, Words, Hand, Contents, Sessions, Numbers, TraceEntry, Took, Episode, AskedToCancel, LoadedWait, recorded_in, is_unmarked}
 
 -- What holds between any two atomic steps: the promise, and the facts that carry it from one step to the next.
 
@@ -75,15 +76,17 @@ abbrev pub NobodyIsFree : (ℕ → Content) → Type 0
 NobodyIsFree now = (p : ℕ) (tag : Tag) → NoneFree (now p) tag
 
 -- A lightweight word shows exactly the sessions that hold it: its bit 24 is set exactly where one session, and no more,
--- holds it exclusively, and its count is the number of those that hold it shared, so far none.
-pub record ShowsHolders (word : ℕ) (holds : ℕ → Bool) : Type 0 where
+-- holds it exclusively, its count is the number of those that share it, and never both.
+pub record ShowsHolders (limit word : ℕ) (holds shares : ℕ → Bool) : Type 0 where
   pub held_is_shown : (session : ℕ) → holds session ≡ true → IsHeldExclusively word
   pub shown_is_held : IsHeldExclusively word → (session : ℕ) × (holds session ≡ true)
   pub by_one : (session other : ℕ) → holds session ≡ true → holds other ≡ true → session ≡ other
-  pub by_none_shared : shared_count word ≡ 0
+  pub shared : shared_count word ≡ how_many limit shares
+  pub within : (session : ℕ) → shares session ≡ true → session < limit
+  pub never_both : (session other : ℕ) → holds session ≡ true → shares other ≡ false
 
-abbrev pub WordsShowHolders : (ℕ → ℕ) → (ℕ → ℕ → Bool) → Type 0
-WordsShowHolders word holds = (p : ℕ) → ShowsHolders (word p) (λ session. holds session p)
+abbrev pub WordsShowHolders : ℕ → (ℕ → ℕ) → (ℕ → ℕ → Bool) → (ℕ → ℕ → Bool) → Type 0
+WordsShowHolders limit word holds shares = (p : ℕ) → ShowsHolders limit (word p) (λ session. holds session p) (λ session. shares session p)
 
 -- A wait word shows 0 where its session has no wait, else that it waits or that its wait was granted. A session has seen a
 -- grant only where its word shows it; and a grant stands unmarked in a hand only of a session that waits on an object of its
@@ -107,7 +110,7 @@ pub record Promise (w : World) : Type 0 where
   pub one_place : AreInOnePlace w.contents.now w.sessions.own w.sessions.awaited (stages w)
   pub none_free : NobodyIsFree w.contents.now
   pub wait_words : WaitWordsShowWaits w.words.wait w.sessions.awaited w.sessions.seen w.contents.hand
-  pub words : WordsShowHolders w.words.partition w.sessions.holds_partition
+  pub words : WordsShowHolders w.numbers.limit w.words.partition w.sessions.holds_partition w.sessions.shares_partition
   pub spent : SpentHaveNothing w.numbers.live w.sessions.own w.sessions.awaited w.sessions.holds_partition
 
 -- The facts that carry the promise.
@@ -116,10 +119,12 @@ pub record Promise (w : World) : Type 0 where
 abbrev pub HandsAreHolders : (ℕ → Option Hand) → (ℕ → ℕ → Bool) → Type 0
 HandsAreHolders hand holds = (p session : ℕ) → holds session p ≡ is_hand_of (hand p) session
 
--- Live numbers are given out, no more than there are, and only live sessions are kept apart, by live ones.
+-- Live numbers are given out, no more than there are, of which a word's count can hold each; and only live sessions are kept
+-- apart, by live ones.
 pub record NumbersAreInOrder (numbers : Numbers) : Type 0 where
   pub live_is_issued : (session : ℕ) → numbers.live session ≡ true → session < numbers.issued
   pub within : numbers.issued ≤ numbers.limit
+  pub few : numbers.limit < 2 ^ 24
   pub kept_is_live : (session joiner : ℕ) → numbers.kept_by session ≡ Some joiner → numbers.live session ≡ true
   pub joiner_is_live : (session joiner : ℕ) → numbers.kept_by session ≡ Some joiner → numbers.live joiner ≡ true
 
@@ -129,7 +134,6 @@ UnmarkedByItsMove hand = (p : ℕ) → recorded_in (hand p) ≡ None → (sessio
 
 -- The words that no event so far changes show what they opened with.
 pub record NotYetUsed (words : Words) : Type 0 where
-  pub fast : (session : ℕ) → words.fast session ≡ free_word
   pub database : (session : ℕ) → words.database session ≡ 0
   pub slot : (session place : ℕ) → words.slot session place ≡ 0
   pub strong : (index : ℕ) → words.strong index ≡ 0
@@ -197,6 +201,16 @@ pub record TracesTell (contents : Contents) (trace : ℕ → List TraceEntry) (i
   pub episodes : (session : ℕ) → EpisodesAreMoves session (λ _. None) (trace session)
   pub new : (session : ℕ) → issued ≤ session → trace session ≡ []
 
+-- What is safe of the words of sessions' fast-path locks, and of sharing.
+
+-- The words of fast-path locks show who holds them, and a number that is not live holds none and shares no word.
+pub record LocksAreShown (words : Words) (sessions : Sessions) (numbers : Numbers) : Type 0 where
+  pub fast : WordsShowHolders numbers.limit words.fast sessions.holds_fast sessions.shares_fast
+  pub no_fast : (session owner : ℕ) → numbers.live session ≡ false → sessions.holds_fast session owner ≡ false
+  pub no_shared_fast : (session owner : ℕ) → numbers.live session ≡ false → sessions.shares_fast session owner ≡ false
+  pub no_shared_partition : (session p : ℕ) → numbers.live session ≡ false → sessions.shares_partition session p ≡ false
+
 pub record Safe (w : World) : Type 0 where
   pub table : TableIsSafe w
+  pub locks : LocksAreShown w.words w.sessions w.numbers
   pub traces : TracesTell w.contents w.sessions.trace w.numbers.issued

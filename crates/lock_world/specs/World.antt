@@ -3,7 +3,7 @@ use Rattle.lock_table.specs.declared.moves.Move.{Move}
 use Rattle.lock_world.specs.declared.events.Word.{Word}
 use Rattle.lock_world.specs.declared.events.Word.TheVariants.{Partition, Fast, Database, Slot, Wait, Strong, Sleep}
 use Rattle.lock_table.specs.Content.{Holds, Content, empty_content}
-use Rattle.lock_world.specs.LightweightWord.{free_word}
+use Rattle.lw_word.specs.LightweightWord.{free_word}
 use Rattle.lock_table.specs.OwnWait.{OwnWait}
 
 -- The World is all that there is between two atomic steps: what each word shows, each content wherever it is, what each
@@ -58,8 +58,12 @@ pub data TraceEntry : Type 0 where
 pub record Sessions : Type 0 where
   -- its own holds
   pub own : Holds
-  -- the partition words that it holds exclusively
+  -- the partition words that it holds exclusively, and those that it shares
   pub holds_partition : ℕ → ℕ → Bool
+  pub shares_partition : ℕ → ℕ → Bool
+  -- the same of the words of sessions' fast-path locks
+  pub holds_fast : ℕ → ℕ → Bool
+  pub shares_fast : ℕ → ℕ → Bool
   -- its wait, until it has cleared its wait word
   pub awaited : ℕ → Option OwnWait
   -- it has seen its wait word show that this wait was granted
@@ -111,7 +115,7 @@ opening limit = record {
     sleep = λ _. 0;
   };
   contents = record { now = λ _. empty_content; hand = λ _. None };
-  sessions = record { own = λ _ _ _. false; holds_partition = λ _ _. false; awaited = λ _. None; seen = λ _. false; trace = λ _. [] };
+  sessions = record { own = λ _ _ _. false; holds_partition = λ _ _. false; shares_partition = λ _ _. false; holds_fast = λ _ _. false; shares_fast = λ _ _. false; awaited = λ _. None; seen = λ _. false; trace = λ _. [] };
   numbers = record { limit = limit; issued = 0; live = λ _. false; kept_by = λ _. None };
 }
 

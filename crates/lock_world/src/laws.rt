@@ -2,14 +2,14 @@
 //! proved, and its body is empty. Every World of a run is safe (`every_world_is_safe`), so what the laws say
 //! of a safe World they say of each of these.
 
-ghost use Rattle.std.specs.Prelude.{◌≡◌, ◌≢◌, ◌↔◌, ◌⊎◌, ◌<◌, ◌≤◌, ◌+◌, ◌==◌, ℕ, List, [], ◌∷◌, ◌++◌, true, false, if◌then◌else◌, Some, None, slice_get, count_by};
+ghost use Rattle.std.specs.Prelude.{◌≡◌, ◌≢◌, ◌↔◌, ◌⊎◌, ◌<◌, ◌≤◌, ◌+◌, ◌^◌, ◌==◌, ℕ, List, [], ◌∷◌, ◌++◌, true, false, if◌then◌else◌, Some, None, slice_get, count_by};
 ghost use Rattle.modes_core.specs.declared.modes.Mode.{Mode};
 ghost use Rattle.modes_core.specs.declared.tags.Tag.{Tag};
 ghost use Rattle.modes_core.specs.Conflict.{conflict};
 ghost use Rattle.modes_core.specs.Tag.{partition_of};
 ghost use Rattle.lock_world.specs.declared.events.Event.{Event};
 ghost use Rattle.lock_table.specs.Content.{Wait, Content};
-ghost use Rattle.lock_world.specs.LightweightWord.{IsHeldExclusively};
+ghost use Rattle.lw_word.specs.LightweightWord.{IsHeldExclusively};
 ghost use Rattle.lock_table.specs.OwnWait.{OwnWait, entry_of, is_for};
 ghost use Rattle.lock_table.specs.Queue.{NoneFree, waits_there};
 ghost use Rattle.lock_world.specs.WaitWord.{wait_state, is_asked, asked_word, granted_word};
@@ -18,9 +18,9 @@ ghost use Rattle.lock_world.specs.Happens.{Happens, Runs};
 ghost use Rattle.lock_world.specs.Safe.{Safe, taken_by, taken_in, IsOneMove};
 ghost use Rattle.lock_world.specs.Account.{IsLeftAlone};
 
-/// The World before the first event is safe.
+/// The World before the first event is safe, of any number of sessions that the count of a lightweight word can hold.
 pub fn opening_is_safe()
-    ensures { (limit : ℕ) → Safe (opening limit) }
+    ensures { (limit : ℕ) → limit < 2 ^ 24 → Safe (opening limit) }
 {}
 
 /// Where an event is lawful in a safe World, the World after it is safe.
@@ -31,12 +31,12 @@ pub fn each_event_is_safe()
 /// Whatever list of events comes, lawful or not, the World after it is safe. Each World on the way is
 /// the World after a front of the list, so this says it of all of them.
 pub fn every_world_is_safe()
-    ensures { (limit : ℕ) (events : List Event) (w : World) → Runs (opening limit) events w → Safe w }
+    ensures { (limit : ℕ) (events : List Event) (w : World) → limit < 2 ^ 24 → Runs (opening limit) events w → Safe w }
 {}
 
 /// A list of events leads to one World and no other.
 pub fn one_world_comes()
-    ensures { (limit : ℕ) (events : List Event) (w v : World) →
+    ensures { (limit : ℕ) (events : List Event) (w v : World) → limit < 2 ^ 24 →
         Runs (opening limit) events w → Runs (opening limit) events v → w ≡ v }
 {}
 

@@ -12,7 +12,7 @@ impl Machine {
     ghost use Rattle.lock_world.specs.declared.events.Word.{Word};
     ghost use Rattle.lock_table.specs.declared.moves.Move.{Move};
     ghost use Rattle.lock_model.specs.Shows.{ShowsSafe, Follows, HasUnmoved, is_over};
-    ghost use Rattle.lock_world.specs.LightweightWord.{free_word, put_word};
+    ghost use Rattle.lw_word.specs.LightweightWord.{free_word, put_word};
 
     /// Takes a partition, where nobody holds its word.
     fn take_partition(&mut self, session: SessionId, partition: u8)

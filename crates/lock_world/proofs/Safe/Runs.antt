@@ -1,4 +1,4 @@
-use Rattle.std.proofs.Common.{◌≡◌, [], ℕ, Bool, true, false, List, ◌∷◌, ◌++◌, Option, Some, None, refl, sym, subst, inl, inr, arith}
+use Rattle.std.proofs.Common.{◌≡◌, [], ℕ, ◌^◌, ◌<◌, Bool, true, false, List, ◌∷◌, ◌++◌, Option, Some, None, refl, sym, subst, inl, inr, arith}
 use Rattle.std.proofs.lemmas.Bool.{false≢true}
 use Rattle.modes_core.specs.Tag.{partition_of}
 use Rattle.lock_world.specs.declared.events.Event.{Event}
@@ -14,14 +14,15 @@ use Rattle.lock_world.specs.Happens.Partitions.{HappensTaking, HappensPutting}
 use Rattle.lock_world.specs.Happens.Seats.{HappensJoining}
 use Rattle.lock_world.specs.Happens.Waits.{HappensMarkingIn, HappensMarking, HappensClearing}
 use Rattle.lock_world.specs.Safe.{Safe}
+use Rattle.lock_world.proofs.Totals.{none_pass}
 use Rattle.lock_world.proofs.Waits.Steps.{GrantsOthers}
 use Rattle.lock_world.proofs.Safe.Partitions.{taking_partition-safe, putting_partition-safe, putting_recorded-safe}
 use Rattle.lock_world.proofs.Safe.Seats.{issuing-safe, going_on-safe, keeping_apart-safe, closing-safe}
 use Rattle.lock_world.proofs.Safe.Waits.{asking-safe, loading_wait-safe, setting_waiting-safe, marking_first-safe, marking_next-safe, clearing_seen-safe, clearing_in_hand-safe, leaving-safe}
 
 -- The opening World is safe.
-pub opening-safe : (limit : ℕ) → Safe (opening limit)
-opening-safe limit = record {
+pub opening-safe : (limit : ℕ) → limit < 2 ^ 24 → Safe (opening limit)
+opening-safe limit few = record {
   table = record {
     promise = record {
       no_conflict = λ p k l o m n apart has its. absurd (false≢true has);
@@ -44,7 +45,9 @@ opening-safe limit = record {
         held_is_shown = λ k held. absurd (false≢true held);
         shown_is_held = λ shown. let none : ◌≡◌ {A = ℕ} 0 1 = shown in absurd (omega arith);
         by_one = λ k l held its. absurd (false≢true held);
-        by_none_shared = refl;
+        shared = sym (none_pass limit (λ k. false) (λ k. refl));
+        within = λ k its. absurd (false≢true its);
+        never_both = λ k l held. refl;
       };
       spent = record { no_hold = λ k o n dead. refl; no_wait = λ k dead. refl; no_word = λ k p dead. refl };
     };
@@ -53,13 +56,13 @@ opening-safe limit = record {
       numbers = record {
         live_is_issued = λ k alive. absurd (false≢true alive);
         within = omega arith;
+        few = few;
         kept_is_live = λ k j kept. absurd (cc);
         joiner_is_live = λ k j kept. absurd (cc);
       };
       unmarked_by_move = λ p none k. refl;
       not_yet = record {
-        fast = λ k. refl;
-        database = λ k. refl;
+          database = λ k. refl;
         slot = λ k i. refl;
         strong = λ i. refl;
         sleep = λ k. refl;

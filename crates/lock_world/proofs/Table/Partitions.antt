@@ -17,7 +17,7 @@ use Rattle.lock_table.specs.declared.moves.Move.{Move}
 use Rattle.lock_table.specs.declared.moves.Move.TheVariants.{Keep, Grant, Join, Release, Leave}
 use Rattle.lock_table.specs.Content.{Holds, Content}
 use Rattle.lock_table.specs.OwnWait.{OwnWait}
-use Rattle.lock_world.specs.LightweightWord.{IsHeldByNobody, put_word}
+use Rattle.lw_word.specs.LightweightWord.{IsHeldByNobody, put_word}
 use Rattle.lock_table.proofs.HoldLemmas.{set_hold-other_session}
 
 -- A change of one hand and of one session's holding of that word.
@@ -31,7 +31,7 @@ HandsAreHolders-set hand holds s p b now here there q k =
 -- A partition whose word is free is held by nobody, and its content is at home.
 free-held_by_nobody : (w : World) (p : ℕ) → TableIsSafe w → IsHeldByNobody (w.words.partition p) → (k : ℕ) → w.sessions.holds_partition k p ≡ false
 free-held_by_nobody w p safe free k =
-    false_from_ne_true (w.sessions.holds_partition k p) (free-not_held (w.words.partition p) (λ j. w.sessions.holds_partition j p) (safe.promise.words p) free k)
+    false_from_ne_true (w.sessions.holds_partition k p) (free-not_held w.numbers.limit (w.words.partition p) (λ j. w.sessions.holds_partition j p) (λ j. w.sessions.shares_partition j p) (safe.promise.words p) free k)
 
 pub at_home-free : (w : World) (p : ℕ) → TableIsSafe w → IsHeldByNobody (w.words.partition p) → w.contents.hand p ≡ None
 at_home-free w p safe free = nobody's (w.contents.hand p) (λ k. sym (safe.carriers.hands p k) ∙ free-held_by_nobody w p safe free k)
@@ -44,7 +44,8 @@ taking_partition-table w s p safe may = record {
     one_place = waits.one_place;
     none_free = waits.none_free;
     wait_words = shows_from w.contents.now w.sessions.own w.sessions.awaited w.sessions.seen w.words.wait (set_at w.contents.hand p taken) waits;
-    words = WordsShowHolders-set w.words.partition holds s p true _ (ShowsHolders-taken (w.words.partition p) (λ k. holds k p) s (safe.promise.words p) may.free) safe.promise.words;
+    words = WordsShowHolders-set w.numbers.limit w.words.partition holds shares s p true _
+        (ShowsHolders-taken w.numbers.limit (w.words.partition p) (λ k. holds k p) (λ k. shares k p) s (safe.promise.words p) may.free) safe.promise.words;
     spent = record { no_hold = safe.promise.spent.no_hold; no_wait = safe.promise.spent.no_wait; no_word = no_word };
   };
   carriers = record {
@@ -52,7 +53,6 @@ taking_partition-table w s p safe may = record {
     numbers = safe.carriers.numbers;
     unmarked_by_move = waits.by_move;
     not_yet = record {
-      fast = safe.carriers.not_yet.fast;
       database = safe.carriers.not_yet.database;
       slot = safe.carriers.not_yet.slot;
       strong = safe.carriers.not_yet.strong;
@@ -62,6 +62,9 @@ taking_partition-table w s p safe may = record {
 } where
   holds : ℕ → ℕ → Bool
   holds = w.sessions.holds_partition
+
+  shares : ℕ → ℕ → Bool
+  shares = w.sessions.shares_partition
 
   taken : Option Hand
   taken = Some (record { holder = s; taken = w.contents.now p; recorded = None; unmarked = λ _. false })
@@ -121,7 +124,8 @@ with_put-table w s p now own trace safe live holding same_own waits = record {
     one_place = waits.one_place;
     none_free = waits.none_free;
     wait_words = shows_from now own w.sessions.awaited w.sessions.seen w.words.wait (set_at w.contents.hand p None) waits;
-    words = WordsShowHolders-set w.words.partition holds s p false _ (ShowsHolders-put (w.words.partition p) (λ k. holds k p) s (safe.promise.words p) holding) safe.promise.words;
+    words = WordsShowHolders-set w.numbers.limit w.words.partition holds shares s p false _
+        (ShowsHolders-put w.numbers.limit (w.words.partition p) (λ k. holds k p) (λ k. shares k p) s (safe.promise.words p) holding) safe.promise.words;
     spent = record {
       no_hold = (SpentHaveNothing-own w.numbers.live w.sessions.own own w.sessions.awaited w.sessions.awaited holds s live same_own (λ _ _. refl) safe.promise.spent).no_hold;
       no_wait = safe.promise.spent.no_wait;
@@ -133,7 +137,6 @@ with_put-table w s p now own trace safe live holding same_own waits = record {
     numbers = safe.carriers.numbers;
     unmarked_by_move = waits.by_move;
     not_yet = record {
-      fast = safe.carriers.not_yet.fast;
       database = safe.carriers.not_yet.database;
       slot = safe.carriers.not_yet.slot;
       strong = safe.carriers.not_yet.strong;
@@ -143,6 +146,9 @@ with_put-table w s p now own trace safe live holding same_own waits = record {
 } where
   holds : ℕ → ℕ → Bool
   holds = w.sessions.holds_partition
+
+  shares : ℕ → ℕ → Bool
+  shares = w.sessions.shares_partition
 
   no_word : (k q : ℕ) → w.numbers.live k ≡ false → set_at holds s (set_at (holds s) p false) k q ≡ false
   no_word k q dead =

@@ -54,7 +54,6 @@ with_waits-table w now own awaited seen word hand trace safe waits spent same = 
     numbers = safe.carriers.numbers;
     unmarked_by_move = waits.by_move;
     not_yet = record {
-      fast = safe.carriers.not_yet.fast;
       database = safe.carriers.not_yet.database;
       slot = safe.carriers.not_yet.slot;
       strong = safe.carriers.not_yet.strong;

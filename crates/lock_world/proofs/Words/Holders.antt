@@ -1,37 +1,59 @@
-use Rattle.std.proofs.Common.{◌≡◌, ℕ, Bool, true, false, refl, sym, ap, ◌∙◌, subst, inl, inr}
-use Rattle.std.proofs.lemmas.Bool.{cases_eq, false≢true}
-use Rattle.lock_world.specs.LightweightWord.{IsHeldByNobody, taken_word, put_word}
+use Rattle.std.proofs.Common.{◌≡◌, ◌≢◌, ℕ, ◌+◌, ◌%◌, ◌^◌, ◌<◌, Bool, true, false, refl, sym, ap, ◌∙◌, subst, inl, inr, arith}
+use Rattle.std.proofs.lemmas.Bool.{cases_eq, false≢true, false_from_ne_true}
+use Rattle.lw_word.specs.LightweightWord.{IsHeldByNobody, IsFreeToShare, shared_count, taken_word, put_word, shared_word, unshared_word}
 use Rattle.lock_table.specs.Put.{set_at}
-use Rattle.lock_world.specs.Safe.{ShowsHolders}
-use Rattle.lock_table.proofs.PutLemmas.{set_at-here, set_at-else, column-here, column-else}
-use Rattle.lock_world.proofs.Words.Lightweight.{nobody-not_exclusive, taken_word-exclusive, taken_word-shared, put_word-not_exclusive, put_word-shared}
+use Rattle.lock_world.specs.Total.{how_many}
+use Rattle.lock_world.specs.Safe.{ShowsHolders, WordsShowHolders}
+use Rattle.lock_table.proofs.PutLemmas.{set_at-here, set_at-else, set_at-each, column-here, column-else}
+use Rattle.lw_word.proofs.WordLemmas.{nobody-not_exclusive, nobody-shared, free_to_share-not_exclusive, taken_word-exclusive, taken_word-shared, put_word-not_exclusive, put_word-shared, shared_word-shared, shared_word-exclusive, unshared_word-shared, unshared_word-exclusive}
+use Rattle.lock_world.proofs.Totals.{one_more, one_less, none_pass, some_pass, how_many-most}
 
--- Nobody holds a word that shows that nobody does.
-pub free-not_held : (word : ℕ) (holds : ℕ → Bool) → ShowsHolders word holds → IsHeldByNobody word → (k : ℕ) → holds k ≡ true → ⊥
-free-not_held word holds shows free k held = nobody-not_exclusive word free (shows.held_is_shown k held)
+-- A table of rows and columns, changed in one place and read in one column, as functions.
+column-here_all : (f : ℕ → ℕ → Bool) (s p : ℕ) (b : Bool) (q : ℕ) → q ≡ p → ◌≡◌ {A = ℕ → Bool} (λ k. set_at f s (set_at (f s) p b) k q) (set_at (λ k. f k q) s b)
+column-here_all f s p b q same = λ i k. column-here f s p b q same k i
+
+column-else_all : (f : ℕ → ℕ → Bool) (s p : ℕ) (b : Bool) (q : ℕ) → q ≢ p → ◌≡◌ {A = ℕ → Bool} (λ k. set_at f s (set_at (f s) p b) k q) (λ k. f k q)
+column-else_all f s p b q other = λ i k. column-else f s p b q other k i
+
+-- Nobody holds a word that shows that nobody does, and nobody shares it.
+pub free-not_held : (limit word : ℕ) (holds shares : ℕ → Bool) → ShowsHolders limit word holds shares → IsHeldByNobody word → (k : ℕ) → holds k ≡ true → ⊥
+free-not_held limit word holds shares shows free k held = nobody-not_exclusive word free (shows.held_is_shown k held)
+
+pub free-not_shared : (limit word : ℕ) (holds shares : ℕ → Bool) → ShowsHolders limit word holds shares → IsHeldByNobody word → (k : ℕ) → shares k ≡ false
+free-not_shared limit word holds shares shows free k = false_from_ne_true (shares k) some where
+  some : shares k ≡ true → ⊥
+  some its =
+      let none : shared_count word ≡ 0 = nobody-shared word free in
+      let counted : shared_count word ≡ how_many limit shares = shows.shared in
+      let one : 0 < how_many limit shares = some_pass limit shares k (shows.within k its) its in
+      omega arith
 
 -- A word that was free shows the one who has taken it.
-pub ShowsHolders-taken : (word : ℕ) (holds : ℕ → Bool) (s : ℕ) → ShowsHolders word holds → IsHeldByNobody word → ShowsHolders (taken_word word) (set_at holds s true)
-ShowsHolders-taken word holds s shows free = record {
+pub ShowsHolders-taken : (limit word : ℕ) (holds shares : ℕ → Bool) (s : ℕ) → ShowsHolders limit word holds shares → IsHeldByNobody word → ShowsHolders limit (taken_word word) (set_at holds s true) shares
+ShowsHolders-taken limit word holds shares s shows free = record {
   held_is_shown = λ k held. taken_word-exclusive word free;
   shown_is_held = λ shown. (s, set_at-here holds s true s refl);
   by_one = λ k l held its. is_s k held ∙ sym (is_s l its);
-  by_none_shared = taken_word-shared word free;
+  shared = taken_word-shared word free ∙ sym (none_pass limit shares (free-not_shared limit word holds shares shows free));
+  within = shows.within;
+  never_both = λ k l held. free-not_shared limit word holds shares shows free l;
 } where
   is_s : (k : ℕ) → set_at holds s true k ≡ true → k ≡ s
   is_s k held =
       elim (cases_eq k s) [
         | inl same ↦ same
-        | inr other ↦ absurd (free-not_held word holds shows free k (sym (set_at-else holds s true k other) ∙ held))
+        | inr other ↦ absurd (free-not_held limit word holds shares shows free k (sym (set_at-else holds s true k other) ∙ held))
       ]
 
 -- A word that was held shows nobody once its holder has put it.
-pub ShowsHolders-put : (word : ℕ) (holds : ℕ → Bool) (s : ℕ) → ShowsHolders word holds → holds s ≡ true → ShowsHolders (put_word word) (set_at holds s false)
-ShowsHolders-put word holds s shows had = record {
+pub ShowsHolders-put : (limit word : ℕ) (holds shares : ℕ → Bool) (s : ℕ) → ShowsHolders limit word holds shares → holds s ≡ true → ShowsHolders limit (put_word word) (set_at holds s false) shares
+ShowsHolders-put limit word holds shares s shows had = record {
   held_is_shown = λ k held. absurd (nobody k held);
   shown_is_held = λ shown. absurd (put_word-not_exclusive word (shows.held_is_shown s had) shown);
   by_one = λ k l held its. absurd (nobody k held);
-  by_none_shared = put_word-shared word (shows.held_is_shown s had) shows.by_none_shared;
+  shared = put_word-shared word (shows.held_is_shown s had) ∙ shows.shared;
+  within = shows.within;
+  never_both = λ k l held. absurd (nobody k held);
 } where
   nobody : (k : ℕ) → set_at holds s false k ≡ true → ⊥
   nobody k held =
@@ -40,14 +62,63 @@ ShowsHolders-put word holds s shows had = record {
         | inr other ↦ other (shows.by_one k s (sym (set_at-else holds s false k other) ∙ held) had)
       ]
 
+-- A word that nobody holds exclusively is shared by one more.
+pub ShowsHolders-shared : (limit word : ℕ) (holds shares : ℕ → Bool) (s : ℕ) → limit < 2 ^ 24 → s < limit → ShowsHolders limit word holds shares → IsFreeToShare word → shares s ≡ false
+    → ShowsHolders limit (shared_word word) holds (set_at shares s true)
+ShowsHolders-shared limit word holds shares s few below shows free none = record {
+  held_is_shown = λ k held. absurd (free_to_share-not_exclusive word free (shows.held_is_shown k held));
+  shown_is_held = λ shown. absurd (free_to_share-not_exclusive word free (subst (λ n. n % 2 ≡ 1) (shared_word-exclusive word room) shown));
+  by_one = λ k l held its. absurd (free_to_share-not_exclusive word free (shows.held_is_shown k held));
+  shared = shared_word-shared word room ∙ ap (λ n. n + 1) shows.shared ∙ sym more;
+  within = set_at-each (λ k b. b ≡ true → k < limit) shares s true (λ _. below) (λ k _ its. shows.within k its);
+  never_both = λ k l held. absurd (free_to_share-not_exclusive word free (shows.held_is_shown k held));
+} where
+  more : how_many limit (set_at shares s true) ≡ how_many limit shares + 1
+  more = one_more limit shares s below none
+
+  room : shared_count word + 1 < 2 ^ 24
+  room = let counted : shared_count word ≡ how_many limit shares = shows.shared in let most = how_many-most limit (set_at shares s true) in omega (arith, more, most, few)
+
+-- A word that is shared is so by one less, once one of those who share it has put it.
+pub ShowsHolders-unshared : (limit word : ℕ) (holds shares : ℕ → Bool) (s : ℕ) → ShowsHolders limit word holds shares → shares s ≡ true → ShowsHolders limit (unshared_word word) holds (set_at shares s false)
+ShowsHolders-unshared limit word holds shares s shows some = record {
+  held_is_shown = λ k held. absurd (false≢true (sym (shows.never_both k s held) ∙ some));
+  shown_is_held = λ shown. shows.shown_is_held (subst (λ n. n % 2 ≡ 1) (unshared_word-exclusive word counts) shown);
+  by_one = shows.by_one;
+  shared = shared;
+  within = set_at-each (λ k b. b ≡ true → k < limit) shares s false (λ e. absurd (false≢true e)) (λ k _ its. shows.within k its);
+  never_both = λ k l held. absurd (false≢true (sym (shows.never_both k s held) ∙ some));
+} where
+  counted : shared_count word ≡ how_many limit shares
+  counted = shows.shared
+
+  counts : 0 < shared_count word
+  counts = let one = some_pass limit shares s (shows.within s some) some in omega (arith, one, counted)
+
+  shared : shared_count (unshared_word word) ≡ how_many limit (set_at shares s false)
+  shared =
+      let less = one_less limit shares s (shows.within s some) some in
+      let down : shared_count (unshared_word word) + 1 ≡ shared_count word = unshared_word-shared word counts in
+      omega (arith, less, down, counted)
+
 -- A change of one word and of one session's holding of it.
-pub WordsShowHolders-set : (word : ℕ → ℕ) (holds : ℕ → ℕ → Bool) (s p : ℕ) (b : Bool) (shown : ℕ) → ShowsHolders shown (set_at (λ k. holds k p) s b) → ((q : ℕ) → ShowsHolders (word q) (λ k. holds k q)) → (q : ℕ) → ShowsHolders (set_at word p shown q) (λ k. set_at holds s (set_at (holds s) p b) k q)
-WordsShowHolders-set word holds s p b shown here there q =
+pub WordsShowHolders-set : (limit : ℕ) (word : ℕ → ℕ) (holds shares : ℕ → ℕ → Bool) (s p : ℕ) (b : Bool) (shown : ℕ) → ShowsHolders limit shown (set_at (λ k. holds k p) s b) (λ k. shares k p)
+    → WordsShowHolders limit word holds shares → WordsShowHolders limit (set_at word p shown) (set_at holds s (set_at (holds s) p b)) shares
+WordsShowHolders-set limit word holds shares s p b shown here there q =
     elim (cases_eq q p) [
-      | inl same ↦ subst (λ n. ShowsHolders n (λ k. set_at holds s (set_at (holds s) p b) k q)) (sym (set_at-here word p shown q same))
-          (subst (λ h. ShowsHolders shown h) (sym (column same)) here)
-      | inr other ↦ subst (λ n. ShowsHolders n (λ k. set_at holds s (set_at (holds s) p b) k q)) (sym (set_at-else word p shown q other))
-          (subst (λ h. ShowsHolders (word q) h) (λ i k. sym (column-else holds s p b q other k) i) (there q))
-    ] where
-      column : q ≡ p → (λ k. set_at holds s (set_at (holds s) p b) k q) ≡ set_at (λ k. holds k p) s b
-      column same = (λ i k. column-here holds s p b q same k i) ∙ ap (λ j. set_at (λ k. holds k j) s b) same
+      | inl same ↦ subst (λ n. ShowsHolders limit n (λ k. set_at holds s (set_at (holds s) p b) k q) (λ k. shares k q)) (sym (set_at-here word p shown q same))
+          (subst (λ h. ShowsHolders limit shown h (λ k. shares k q)) (sym (column-here_all holds s p b q same)) (subst (λ j. ShowsHolders limit shown (set_at (λ k. holds k j) s b) (λ k. shares k j)) (sym same) here))
+      | inr other ↦ subst (λ n. ShowsHolders limit n (λ k. set_at holds s (set_at (holds s) p b) k q) (λ k. shares k q)) (sym (set_at-else word p shown q other))
+          (subst (λ h. ShowsHolders limit (word q) h (λ k. shares k q)) (sym (column-else_all holds s p b q other)) (there q))
+    ]
+
+-- The same of one session's sharing of it.
+pub WordsShowHolders-share : (limit : ℕ) (word : ℕ → ℕ) (holds shares : ℕ → ℕ → Bool) (s p : ℕ) (b : Bool) (shown : ℕ) → ShowsHolders limit shown (λ k. holds k p) (set_at (λ k. shares k p) s b)
+    → WordsShowHolders limit word holds shares → WordsShowHolders limit (set_at word p shown) holds (set_at shares s (set_at (shares s) p b))
+WordsShowHolders-share limit word holds shares s p b shown here there q =
+    elim (cases_eq q p) [
+      | inl same ↦ subst (λ n. ShowsHolders limit n (λ k. holds k q) (λ k. set_at shares s (set_at (shares s) p b) k q)) (sym (set_at-here word p shown q same))
+          (subst (λ h. ShowsHolders limit shown (λ k. holds k q) h) (sym (column-here_all shares s p b q same)) (subst (λ j. ShowsHolders limit shown (λ k. holds k j) (set_at (λ k. shares k j) s b)) (sym same) here))
+      | inr other ↦ subst (λ n. ShowsHolders limit n (λ k. holds k q) (λ k. set_at shares s (set_at (shares s) p b) k q)) (sym (set_at-else word p shown q other))
+          (subst (λ h. ShowsHolders limit (word q) (λ k. holds k q) h) (sym (column-else_all shares s p b q other)) (there q))
+    ]

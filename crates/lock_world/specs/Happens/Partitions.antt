@@ -10,7 +10,7 @@ use Rattle.lock_world.specs.World.{World, Hand, MakesSteps, recorded_in, is_unma
 use Rattle.lock_table.specs.Put.{set_at}
 use Rattle.lock_world.specs.declared.events.Word.{Word}
 use Rattle.lock_world.specs.declared.events.Word.TheVariants.{Partition, Fast, Database, Slot, Wait, Strong, Sleep}
-use Rattle.lock_world.specs.LightweightWord.{IsHeldByNobody, taken_word, put_word}
+use Rattle.lw_word.specs.LightweightWord.{IsHeldByNobody, taken_word, put_word}
 
 -- Partitions: a session takes a content in hand, and puts it back after one move of its own on it, at most.
 

@@ -4,4 +4,4 @@ use Rattle.lock_world.proofs.laws.every_world_is_safe.Goals as goal
 
 pub returns : goal.returns
 returns c =
-    λ limit events w run. Runs-safe (opening limit) events w (opening-safe limit) run
+    λ limit events w few run. Runs-safe (opening limit) events w (opening-safe limit few) run

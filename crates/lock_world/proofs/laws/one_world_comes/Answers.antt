@@ -6,4 +6,4 @@ use Rattle.lock_world.proofs.laws.one_world_comes.Goals as goal
 
 pub returns : goal.returns
 returns c =
-    λ limit events w v one two. one_run (opening limit) (opening limit) events w v (opening-safe limit) refl one two
+    λ limit events w v few one two. one_run (opening limit) (opening limit) events w v (opening-safe limit few) refl one two

@@ -1,6 +1,6 @@
 use Rattle.std.proofs.Common.{◌≡◌, false, ◌%◌, ◌<◌, length, get_or, sym, ap, ◌∙◌, arith}
 use Rattle.std.proofs.lemmas.List.{get_or_default}
-use Rattle.lock_world.specs.LightweightWord.{free_word}
+use Rattle.lw_word.specs.LightweightWord.{free_word}
 use Rattle.lock_model.proofs.FollowingPuts.{taken}
 use Rattle.lock_model.proofs.PlaceLemmas.{get_or-one_value}
 use Rattle.lock_model.proofs.machine.state.Machine.take_partition.Goals as goal

@@ -1,0 +1,6 @@
+use Rattle.lock_world.proofs.Safe.Runs.{opening-safe}
+use Rattle.lock_world.proofs.laws.opening_is_safe.Goals as goal
+
+pub returns : goal.returns
+returns c =
+    λ limit few. opening-safe limit few
