@@ -3,5 +3,7 @@ pub mod Hands
 pub mod Seats
 pub mod Partitions
 pub mod Waits
+pub mod Sharing
+pub mod Slots
 pub mod Events
 pub mod WaitWords

@@ -2,4 +2,6 @@
 pub mod Seats
 pub mod Partitions
 pub mod Waits
+pub mod Sharing
+pub mod Slots
 pub mod Runs

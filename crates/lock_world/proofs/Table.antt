@@ -2,3 +2,4 @@
 pub mod Seats
 pub mod Partitions
 pub mod Waits
+pub mod Sharing

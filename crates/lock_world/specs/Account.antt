@@ -50,10 +50,17 @@ account w session = record {
   trace = w.sessions.trace session;
 }
 
+-- The words that a session holds are the same in two Worlds.
+pub record HoldsTheSame (w v : World) (session : ℕ) : Type 0 where
+  pub partition : (p : ℕ) → v.sessions.holds_partition session p ≡ w.sessions.holds_partition session p
+  pub shared_partition : (p : ℕ) → v.sessions.shares_partition session p ≡ w.sessions.shares_partition session p
+  pub fast : (owner : ℕ) → v.sessions.holds_fast session owner ≡ w.sessions.holds_fast session owner
+  pub shared_fast : (owner : ℕ) → v.sessions.shares_fast session owner ≡ w.sessions.shares_fast session owner
+
 -- What stays of a session number where another session makes a step: its account, its words, and whether it is live and kept
 -- apart.
 pub record IsLeftAlone (w v : World) (session : ℕ) : Type 0 where
   pub account : account v session ≡ account w session
-  pub words : (p : ℕ) → v.sessions.holds_partition session p ≡ w.sessions.holds_partition session p
+  pub words : HoldsTheSame w v session
   pub live : v.numbers.live session ≡ w.numbers.live session
   pub kept_by : v.numbers.kept_by session ≡ w.numbers.kept_by session

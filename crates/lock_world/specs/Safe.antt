@@ -13,7 +13,7 @@ use Rattle.lock_world.specs.Total.{how_many}
 use Rattle.lock_world.specs.WaitWord.{wait_state}
 use Rattle.lock_table.specs.Moves.{Moves}
 use Rattle.lock_table.specs.Put.{set_at}
-use Rattle.lock_world.specs.World.{World, Words, Hand, Contents, Sessions, Numbers, TraceEntry, Took, Episode, AskedToCancel, LoadedWait, recorded_in, is_unmarked}
+use Rattle.lock_world.specs.World.{World, Words, Hand, Contents, Numbers, TraceEntry, Took, Episode, AskedToCancel, LoadedWait, recorded_in, is_unmarked}
 
 -- What holds between any two atomic steps: the promise, and the facts that carry it from one step to the next.
 
@@ -204,13 +204,13 @@ pub record TracesTell (contents : Contents) (trace : ℕ → List TraceEntry) (i
 -- What is safe of the words of sessions' fast-path locks, and of sharing.
 
 -- The words of fast-path locks show who holds them, and a number that is not live holds none and shares no word.
-pub record LocksAreShown (words : Words) (sessions : Sessions) (numbers : Numbers) : Type 0 where
-  pub fast : WordsShowHolders numbers.limit words.fast sessions.holds_fast sessions.shares_fast
-  pub no_fast : (session owner : ℕ) → numbers.live session ≡ false → sessions.holds_fast session owner ≡ false
-  pub no_shared_fast : (session owner : ℕ) → numbers.live session ≡ false → sessions.shares_fast session owner ≡ false
-  pub no_shared_partition : (session p : ℕ) → numbers.live session ≡ false → sessions.shares_partition session p ≡ false
+pub record LocksAreShown (limit : ℕ) (live : ℕ → Bool) (fast : ℕ → ℕ) (holds_fast shares_fast shares_partition : ℕ → ℕ → Bool) : Type 0 where
+  pub fast_words : WordsShowHolders limit fast holds_fast shares_fast
+  pub no_fast : (session owner : ℕ) → live session ≡ false → holds_fast session owner ≡ false
+  pub no_shared_fast : (session owner : ℕ) → live session ≡ false → shares_fast session owner ≡ false
+  pub no_shared_partition : (session p : ℕ) → live session ≡ false → shares_partition session p ≡ false
 
 pub record Safe (w : World) : Type 0 where
   pub table : TableIsSafe w
-  pub locks : LocksAreShown w.words w.sessions w.numbers
+  pub locks : LocksAreShown w.numbers.limit w.numbers.live w.words.fast w.sessions.holds_fast w.sessions.shares_fast w.sessions.shares_partition
   pub traces : TracesTell w.contents w.sessions.trace w.numbers.issued

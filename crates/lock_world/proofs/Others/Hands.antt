@@ -4,7 +4,7 @@ use Rattle.std.proofs.lemmas.Bool.{cases_eq, cond-false, eqb-true, ne_eqb}
 use Rattle.lock_table.specs.Content.{Content}
 use Rattle.lock_table.specs.Put.{set_at}
 use Rattle.lock_world.specs.World.{World, Hand}
-use Rattle.lock_world.specs.Account.{own_hand, own_hands, IsLeftAlone}
+use Rattle.lock_world.specs.Account.{own_hand, own_hands, HoldsTheSame, IsLeftAlone}
 use Rattle.lock_world.specs.Safe.{is_hand_of}
 use Rattle.lock_table.proofs.PutLemmas.{set_at-here, set_at-else}
 
@@ -35,11 +35,27 @@ IsLeftAlone-same k w u v e alone = subst (λ z. IsLeftAlone w z k) (sym e) alone
 pub IsLeftAlone-by :
     (w v : World) (k : ℕ) → v.sessions.own k ≡ w.sessions.own k → v.sessions.awaited k ≡ w.sessions.awaited k → v.sessions.seen k ≡ w.sessions.seen k
     → own_hands v.contents.hand v.contents.now k ≡ own_hands w.contents.hand w.contents.now k → v.sessions.trace k ≡ w.sessions.trace k
-    → ((p : ℕ) → v.sessions.holds_partition k p ≡ w.sessions.holds_partition k p) → v.numbers.live k ≡ w.numbers.live k → v.numbers.kept_by k ≡ w.numbers.kept_by k
+    → HoldsTheSame w v k → v.numbers.live k ≡ w.numbers.live k → v.numbers.kept_by k ≡ w.numbers.kept_by k
     → IsLeftAlone w v k
 IsLeftAlone-by w v k own awaited seen hand trace words live kept_by = record {
   account = λ i. record { own = own i; awaited = awaited i; seen = seen i; hand = hand i; trace = trace i };
   words = words;
   live = live;
   kept_by = kept_by;
+}
+
+-- The words that a session holds are the same range by range.
+pub IsLeftAlone-holds :
+    (w v : World) (k : ℕ) → ((p : ℕ) → v.sessions.holds_partition k p ≡ w.sessions.holds_partition k p) → ((p : ℕ) → v.sessions.shares_partition k p ≡ w.sessions.shares_partition k p)
+    → ((o : ℕ) → v.sessions.holds_fast k o ≡ w.sessions.holds_fast k o) → ((o : ℕ) → v.sessions.shares_fast k o ≡ w.sessions.shares_fast k o) → HoldsTheSame w v k
+IsLeftAlone-holds w v k partition shared_partition fast shared_fast = record { partition = partition; shared_partition = shared_partition; fast = fast; shared_fast = shared_fast }
+
+-- A step on no word of a lightweight lock leaves all of them as they are.
+pub no_lock : (w v : World) (k : ℕ) → v.sessions.holds_partition ≡ w.sessions.holds_partition → v.sessions.shares_partition ≡ w.sessions.shares_partition
+    → v.sessions.holds_fast ≡ w.sessions.holds_fast → v.sessions.shares_fast ≡ w.sessions.shares_fast → HoldsTheSame w v k
+no_lock w v k a b c d = record {
+  partition = λ p. ap (λ f. f k p) a;
+  shared_partition = λ p. ap (λ f. f k p) b;
+  fast = λ o. ap (λ f. f k o) c;
+  shared_fast = λ o. ap (λ f. f k o) d;
 }

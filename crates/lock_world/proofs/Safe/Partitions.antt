@@ -19,6 +19,7 @@ holding-hand w s p safe holding = sym (safe.table.carriers.hands p s) ∙ holdin
 pub taking_partition-safe : (w : World) (s p : ℕ) → Safe w → MayTakePartition w s p → Safe (after_taking_partition w s p)
 taking_partition-safe w s p safe may = record {
   table = taking_partition-table w s p safe.table may;
+  locks = safe.locks;
   traces = TracesTell-take w.contents w.sessions.trace w.numbers.issued safe.traces s p (live-given w s safe may.steps.live) (at_home-free w p safe.table may.free);
 }
 
@@ -26,6 +27,7 @@ taking_partition-safe w s p safe may = record {
 pub putting_partition-safe : (w : World) (s p : ℕ) (done : Move) (content : Content) → Safe w → MayPutPartition w s p done content → Safe (after_putting_partition w s p done content)
 putting_partition-safe w s p done content safe may = record {
   table = putting_partition-table w s p done content safe.table may;
+  locks = safe.locks;
   traces = TracesTell-put w.contents w.sessions.trace w.numbers.issued safe.traces s p (live-given w s safe may.may_move.steps.live) holds
       (content_taken (w.contents.now p) (w.contents.hand p)) content (taken_in-content (w.contents.hand p) (w.contents.now p) s holds) (done, [], moved);
 } where
@@ -42,6 +44,7 @@ putting_partition-safe w s p done content safe may = record {
 pub putting_recorded-safe : (w : World) (s p : ℕ) (done : Move) → Safe w → MayPutRecorded w s p done → Safe (after_putting_recorded w s p)
 putting_recorded-safe w s p done safe may = record {
   table = putting_recorded-table w s p done safe.table may;
+  locks = safe.locks;
   traces = TracesTell-put w.contents w.sessions.trace w.numbers.issued safe.traces s p (live-given w s safe may.steps.live) holds
       (content_taken (w.contents.now p) (w.contents.hand p)) (w.contents.now p) (taken_in-content (w.contents.hand p) (w.contents.now p) s holds)
       (subst (λ content. IsOneMove content s (w.contents.now p)) (taken-one (w.contents.hand p) (w.contents.now p) s taken.0 holds taken.1) taken.2);

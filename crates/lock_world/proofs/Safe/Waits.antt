@@ -30,6 +30,7 @@ recording-traces w s p done granted content unmarked safe may =
 pub asking-safe : (w : World) (s k : ℕ) → Safe w → MakesSteps w.numbers s → Safe (after_asking w s k)
 asking-safe w s k safe steps = record {
   table = asking-table w s k safe.table;
+  locks = safe.locks;
   traces = TracesTell-entry w.contents w.sessions.trace w.numbers.issued safe.traces s (live-given w s safe steps.live) (AskedToCancel k (w.words.wait k)) tt (λ q. refl);
 }
 
@@ -37,6 +38,7 @@ asking-safe w s k safe steps = record {
 pub loading_wait-safe : (w : World) (s n : ℕ) → Safe w → MakesSteps w.numbers s → Safe (after_loading_wait w s n)
 loading_wait-safe w s n safe steps = record {
   table = loading_wait-table w s n safe.table;
+  locks = safe.locks;
   traces = TracesTell-entry w.contents w.sessions.trace w.numbers.issued safe.traces s (live-given w s safe steps.live) (LoadedWait n) tt (λ q. refl);
 }
 
@@ -44,6 +46,7 @@ loading_wait-safe w s n safe steps = record {
 pub setting_waiting-safe : (w : World) (s : ℕ) (t : Tag) (m : Mode) (content : Content) → Safe w → MayMove w s (partition_of t) (Join t m) [] content → Safe (after_setting_waiting w s t m content)
 setting_waiting-safe w s t m content safe may = record {
   table = setting_waiting-table w s t m content safe.table may;
+  locks = safe.locks;
   traces = recording-traces w s (partition_of t) (Join t m) [] content (λ _. false) safe may;
 }
 
@@ -52,12 +55,14 @@ pub marking_first-safe : (w : World) (s k p : ℕ) (done : Move) (granted : List
     → Safe (after_marking_first w s k p done granted content)
 marking_first-safe w s k p done granted content grants safe may = record {
   table = marking_first-table w s k p done granted content grants safe.table may;
+  locks = safe.locks;
   traces = recording-traces w s p done granted content (without (waits_there granted) k) safe may.may_move;
 }
 
 pub marking_next-safe : (w : World) (s k p : ℕ) (done : Move) → Safe w → MayMarkNext w s k p done → Safe (after_marking_next w k p done)
 marking_next-safe w s k p done safe may = record {
   table = marking_next-table w s k p done safe.table may;
+  locks = safe.locks;
   traces = subst (λ now. TracesTell (record { now = now; hand = set_at w.contents.hand p (recording (w.contents.hand p) done unmarked) }) w.sessions.trace w.numbers.issued)
       (set_at-same w.contents.now p (w.contents.now p) refl)
       (TracesTell-record w.contents w.sessions.trace w.numbers.issued safe.traces p done unmarked (w.contents.now p)
@@ -68,14 +73,15 @@ marking_next-safe w s k p done safe may = record {
 
 -- Clearing the own wait word is safe.
 pub clearing_seen-safe : (w : World) (s : ℕ) (wait : OwnWait) → Safe w → MayClearSeen w s wait → Safe (after_clearing w s wait)
-clearing_seen-safe w s wait safe may = record { table = clearing_seen-table w s wait safe.table may; traces = safe.traces }
+clearing_seen-safe w s wait safe may = record { table = clearing_seen-table w s wait safe.table may; locks = safe.locks; traces = safe.traces }
 
 pub clearing_in_hand-safe : (w : World) (s : ℕ) (wait : OwnWait) → Safe w → MayClearInHand w s wait → Safe (after_clearing w s wait)
-clearing_in_hand-safe w s wait safe may = record { table = clearing_in_hand-table w s wait safe.table may; traces = safe.traces }
+clearing_in_hand-safe w s wait safe may = record { table = clearing_in_hand-table w s wait safe.table may; locks = safe.locks; traces = safe.traces }
 
 -- So is a step that takes the wait out of the queue itself.
 pub leaving-safe : (w : World) (s : ℕ) (wait : OwnWait) (granted : List Wait) (content : Content) → Safe w → MayLeave w s wait granted content → Safe (after_leaving w s wait granted content)
 leaving-safe w s wait granted content safe may = record {
   table = leaving-table w s wait granted content safe.table may;
+  locks = safe.locks;
   traces = recording-traces w s (partition_of wait.tag) (Leave wait.tag) granted content (waits_there granted) safe may.may_move;
 }

@@ -8,8 +8,7 @@ use Rattle.lock_table.specs.Moves.{Moves, IsInPartition, FitsOwn}
 use Rattle.lock_table.specs.OwnWait.{OwnWait}
 use Rattle.lock_world.specs.World.{World, Hand, MakesSteps, recorded_in, is_unmarked, Took, Episode}
 use Rattle.lock_table.specs.Put.{set_at}
-use Rattle.lock_world.specs.declared.events.Word.{Word}
-use Rattle.lock_world.specs.declared.events.Word.TheVariants.{Partition, Fast, Database, Slot, Wait, Strong, Sleep}
+use Rattle.lock_world.specs.declared.events.Word.TheVariants.{Wait}
 use Rattle.lw_word.specs.LightweightWord.{IsHeldByNobody, taken_word, put_word}
 
 -- Partitions: a session takes a content in hand, and puts it back after one move of its own on it, at most.
@@ -34,14 +33,8 @@ after_taking_partition w session partition = record {
   numbers = w.numbers;
 }
 
-abbrev pub HappensTaking : World → ℕ → Word → World → Type 0
-HappensTaking w session (Partition partition) v = MayTakePartition w session partition × (v ≡ after_taking_partition w session partition)
-HappensTaking w session (Fast owner) v = ⊥
-HappensTaking w session (Database owner) v = ⊥
-HappensTaking w session (Slot owner place) v = ⊥
-HappensTaking w session (Wait owner) v = ⊥
-HappensTaking w session (Strong index) v = ⊥
-HappensTaking w session (Sleep owner) v = ⊥
+abbrev pub HappensTakingPartition : World → ℕ → ℕ → World → Type 0
+HappensTakingPartition w session partition v = MayTakePartition w session partition × (v ≡ after_taking_partition w session partition)
 
 -- The session has the partition in hand, has made no move on it, and this one leads to the content and grants these waits.
 pub record MayMove (w : World) (session partition : ℕ) (done : Move) (granted : List content.Wait) (content : Content) : Type 0 where
@@ -112,13 +105,7 @@ pub record MayPutRecorded (w : World) (session partition : ℕ) (done : Move) : 
 abbrev pub after_putting_recorded : World → ℕ → ℕ → World
 after_putting_recorded w session partition = after_putting_partition w session partition Keep (w.contents.now partition)
 
-abbrev pub HappensPutting : World → ℕ → Word → Move → World → Type 0
-HappensPutting w session (Partition partition) done v =
+abbrev pub HappensPuttingPartition : World → ℕ → ℕ → Move → World → Type 0
+HappensPuttingPartition w session partition done v =
     ((content : Content) × MayPutPartition w session partition done content × (v ≡ after_putting_partition w session partition done content))
     ⊎ (MayPutRecorded w session partition done × (v ≡ after_putting_recorded w session partition))
-HappensPutting w session (Fast owner) done v = ⊥
-HappensPutting w session (Database owner) done v = ⊥
-HappensPutting w session (Slot owner place) done v = ⊥
-HappensPutting w session (Wait owner) done v = ⊥
-HappensPutting w session (Strong index) done v = ⊥
-HappensPutting w session (Sleep owner) done v = ⊥

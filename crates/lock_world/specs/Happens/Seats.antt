@@ -35,12 +35,13 @@ abbrev pub HappensSplitting : World → ℕ → World → Type 0
 HappensSplitting w session v =
     (MayBeIssued w session × (v ≡ after_issuing w session)) ⊎ (MayGoOn w session × (v ≡ after_going_on w session))
 
--- Being kept apart: by another session that makes steps of its own, and with no word held.
+-- Being kept apart: by another session that makes steps of its own, and with no word held exclusively.
 pub record MayBeKeptApart (w : World) (session joiner : ℕ) : Type 0 where
   pub steps : MakesSteps w.numbers session
   pub another : joiner ≢ session
   pub joiner_steps : MakesSteps w.numbers joiner
   pub no_word : (partition : ℕ) → w.sessions.holds_partition session partition ≡ false
+  pub no_fast_word : (owner : ℕ) → w.sessions.holds_fast session owner ≡ false
 
 abbrev pub after_keeping_apart : World → ℕ → ℕ → World
 after_keeping_apart w session joiner = record {
@@ -50,10 +51,13 @@ after_keeping_apart w session joiner = record {
   numbers = record (w.numbers) { kept_by = set_at w.numbers.kept_by session (Some joiner) };
 }
 
--- Closing: with no word held, no hold, no wait, and no other session kept apart.
+-- Closing: with no word held, exclusively or shared, no hold, no wait, and no other session kept apart.
 pub record MayClose (w : World) (session : ℕ) : Type 0 where
   pub steps : MakesSteps w.numbers session
   pub no_word : (partition : ℕ) → w.sessions.holds_partition session partition ≡ false
+  pub no_fast_word : (owner : ℕ) → w.sessions.holds_fast session owner ≡ false
+  pub no_shared_word : (partition : ℕ) → w.sessions.shares_partition session partition ≡ false
+  pub no_shared_fast_word : (owner : ℕ) → w.sessions.shares_fast session owner ≡ false
   pub no_hold : (tag : Tag) (mode : Mode) → w.sessions.own session tag mode ≡ false
   pub no_wait : w.sessions.awaited session ≡ None
   pub keeps_nobody : (other : ℕ) → w.numbers.kept_by other ≢ Some session

@@ -1,0 +1,68 @@
+use Rattle.std.proofs.Common.{ℕ, Bool}
+use Rattle.lock_world.specs.World.{World}
+use Rattle.lock_world.specs.Safe.{TableIsSafe, WordsShowHolders}
+
+-- A World of which the words of partitions, and who shares them, alone have changed.
+abbrev pub with_partition_words : World → (ℕ → ℕ) → (ℕ → ℕ → Bool) → World
+with_partition_words w word shares = record {
+  words = record (w.words) { partition = word };
+  contents = w.contents;
+  sessions = record (w.sessions) { shares_partition = shares };
+  numbers = w.numbers;
+}
+
+pub with_partition_words-table : (w : World) (word : ℕ → ℕ) (shares : ℕ → ℕ → Bool) → TableIsSafe w → WordsShowHolders w.numbers.limit word w.sessions.holds_partition shares
+    → TableIsSafe (with_partition_words w word shares)
+with_partition_words-table w word shares safe words = record {
+  promise = record {
+    no_conflict = safe.promise.no_conflict;
+    one_place = safe.promise.one_place;
+    none_free = safe.promise.none_free;
+    wait_words = safe.promise.wait_words;
+    words = words;
+    spent = safe.promise.spent;
+  };
+  carriers = record {
+    hands = safe.carriers.hands;
+    numbers = safe.carriers.numbers;
+    unmarked_by_move = safe.carriers.unmarked_by_move;
+    not_yet = record {
+      database = safe.carriers.not_yet.database;
+      slot = safe.carriers.not_yet.slot;
+      strong = safe.carriers.not_yet.strong;
+      sleep = safe.carriers.not_yet.sleep;
+    };
+  };
+}
+
+-- The same of the words of sessions' fast-path locks: no fact of partitions, waits and numbers speaks of them.
+abbrev pub with_fast_words : World → (ℕ → ℕ) → (ℕ → ℕ → Bool) → (ℕ → ℕ → Bool) → World
+with_fast_words w word holds shares = record {
+  words = record (w.words) { fast = word };
+  contents = w.contents;
+  sessions = record (w.sessions) { holds_fast = holds; shares_fast = shares };
+  numbers = w.numbers;
+}
+
+pub with_fast_words-table : (w : World) (word : ℕ → ℕ) (holds shares : ℕ → ℕ → Bool) → TableIsSafe w → TableIsSafe (with_fast_words w word holds shares)
+with_fast_words-table w word holds shares safe = record {
+  promise = record {
+    no_conflict = safe.promise.no_conflict;
+    one_place = safe.promise.one_place;
+    none_free = safe.promise.none_free;
+    wait_words = safe.promise.wait_words;
+    words = safe.promise.words;
+    spent = safe.promise.spent;
+  };
+  carriers = record {
+    hands = safe.carriers.hands;
+    numbers = safe.carriers.numbers;
+    unmarked_by_move = safe.carriers.unmarked_by_move;
+    not_yet = record {
+      database = safe.carriers.not_yet.database;
+      slot = safe.carriers.not_yet.slot;
+      strong = safe.carriers.not_yet.strong;
+      sleep = safe.carriers.not_yet.sleep;
+    };
+  };
+}

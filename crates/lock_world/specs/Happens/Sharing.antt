@@ -1,0 +1,66 @@
+use Rattle.std.specs.Prelude.{◌≡◌, ℕ, ◌<◌, Bool, true, false}
+use Rattle.lw_word.specs.LightweightWord.{IsFreeToShare, shared_word, unshared_word}
+use Rattle.lock_table.specs.Put.{set_at}
+use Rattle.lock_world.specs.World.{World, Numbers, MakesSteps}
+
+-- Sharing: a session holds a lightweight lock beside others (LW_SHARED in lwlock.h).
+
+-- Sharing a word that shows this: nobody holds it exclusively, and the session does not share it yet.
+pub record MayShare (numbers : Numbers) (word : ℕ) (shares : ℕ → ℕ → Bool) (session lock : ℕ) : Type 0 where
+  pub steps : MakesSteps numbers session
+  pub free : IsFreeToShare word
+  pub new : shares session lock ≡ false
+
+-- Giving it back.
+pub record MayUnshare (numbers : Numbers) (shares : ℕ → ℕ → Bool) (session lock : ℕ) : Type 0 where
+  pub steps : MakesSteps numbers session
+  pub sharing : shares session lock ≡ true
+
+-- A partition's word. Its content does not come with it.
+abbrev pub after_sharing_partition : World → ℕ → ℕ → World
+after_sharing_partition w session partition = record {
+  words = record (w.words) { partition = set_at w.words.partition partition (shared_word (w.words.partition partition)) };
+  contents = w.contents;
+  sessions = record (w.sessions) { shares_partition = set_at w.sessions.shares_partition session (set_at (w.sessions.shares_partition session) partition true) };
+  numbers = w.numbers;
+}
+
+abbrev pub HappensSharingPartition : World → ℕ → ℕ → World → Type 0
+HappensSharingPartition w session partition v =
+    (partition < 16) × MayShare w.numbers (w.words.partition partition) w.sessions.shares_partition session partition × (v ≡ after_sharing_partition w session partition)
+
+abbrev pub after_unsharing_partition : World → ℕ → ℕ → World
+after_unsharing_partition w session partition = record {
+  words = record (w.words) { partition = set_at w.words.partition partition (unshared_word (w.words.partition partition)) };
+  contents = w.contents;
+  sessions = record (w.sessions) { shares_partition = set_at w.sessions.shares_partition session (set_at (w.sessions.shares_partition session) partition false) };
+  numbers = w.numbers;
+}
+
+abbrev pub HappensUnsharingPartition : World → ℕ → ℕ → World → Type 0
+HappensUnsharingPartition w session partition v =
+    MayUnshare w.numbers w.sessions.shares_partition session partition × (v ≡ after_unsharing_partition w session partition)
+
+-- The word of the lock of a session's fast-path slots.
+abbrev pub after_sharing_fast : World → ℕ → ℕ → World
+after_sharing_fast w session owner = record {
+  words = record (w.words) { fast = set_at w.words.fast owner (shared_word (w.words.fast owner)) };
+  contents = w.contents;
+  sessions = record (w.sessions) { shares_fast = set_at w.sessions.shares_fast session (set_at (w.sessions.shares_fast session) owner true) };
+  numbers = w.numbers;
+}
+
+abbrev pub HappensSharingFast : World → ℕ → ℕ → World → Type 0
+HappensSharingFast w session owner v =
+    (owner < w.numbers.limit) × MayShare w.numbers (w.words.fast owner) w.sessions.shares_fast session owner × (v ≡ after_sharing_fast w session owner)
+
+abbrev pub after_unsharing_fast : World → ℕ → ℕ → World
+after_unsharing_fast w session owner = record {
+  words = record (w.words) { fast = set_at w.words.fast owner (unshared_word (w.words.fast owner)) };
+  contents = w.contents;
+  sessions = record (w.sessions) { shares_fast = set_at w.sessions.shares_fast session (set_at (w.sessions.shares_fast session) owner false) };
+  numbers = w.numbers;
+}
+
+abbrev pub HappensUnsharingFast : World → ℕ → ℕ → World → Type 0
+HappensUnsharingFast w session owner v = MayUnshare w.numbers w.sessions.shares_fast session owner × (v ≡ after_unsharing_fast w session owner)
