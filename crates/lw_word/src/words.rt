@@ -1,6 +1,6 @@
 ghost use Rattle.std.specs.Prelude.{◌≡◌, ◌<◌, ◌^◌, ◌+◌, ◌-◌, ◌↔◌, ◌==◌, true, false, bit_or, IsTrue, IsSome, IfSome};
 ghost use Rattle.std.specs.Option.{SomeIff};
-ghost use Rattle.lw_word.specs.LightweightWord.{IsLightweightWord, flag_bits, kept_bits, list_locked_word, list_unlocked_word, release_ok_word, has_waiters_word};
+ghost use Rattle.lw_word.specs.LightweightWord.{IsLightweightWord, free_word, flag_bits, kept_bits, list_locked_word, list_unlocked_word, release_ok_word, has_waiters_word};
 ghost use Rattle.lw_word.specs.LockState.{opening_state, word_of, is_shared, amount_of, IsFreeFor, HasRoomFor, IsHeldIn, taken_in, put_in, must_wake};
 
 use std::marker::Model;
@@ -80,7 +80,8 @@ impl LwWord {
 
     /// The word of a lock that nobody has taken yet (`LWLockInitialize`).
     pub fn opening() -> Self
-        ensures { result ≡ opening_state }
+        ensures says { result ≡ opening_state }
+        ensures number { word_of result ≡ free_word }
     {
         LwWord {
             number: Self::RELEASE_OK,
