@@ -31,9 +31,11 @@ pub fn the_record_says_what_the_bits_say()
 
 /// Taking a free word and putting it turn the exclusive bit alone.
 pub fn taking_turns_one_bit()
-    ensures taken { (word : ℕ) → IsHeldByNobody word → IsHeldExclusively (taken_word word) × (shared_count (taken_word word) ≡ 0) }
+    ensures taken { (word : ℕ) → IsHeldByNobody word → IsHeldExclusively (taken_word word) }
+    ensures taken_count { (word : ℕ) → IsHeldByNobody word → shared_count (taken_word word) ≡ 0 }
     ensures taken_flags { (word : ℕ) → IsHeldByNobody word → FlagsStay word (taken_word word) }
-    ensures put { (word : ℕ) → IsHeldExclusively word → IsFreeToShare (put_word word) × (shared_count (put_word word) ≡ shared_count word) }
+    ensures put { (word : ℕ) → IsHeldExclusively word → IsFreeToShare (put_word word) }
+    ensures put_count { (word : ℕ) → IsHeldExclusively word → shared_count (put_word word) ≡ shared_count word }
     ensures put_flags { (word : ℕ) → IsHeldExclusively word → FlagsStay word (put_word word) }
 {}
 
