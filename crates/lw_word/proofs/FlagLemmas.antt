@@ -1,8 +1,8 @@
-use Rattle.std.proofs.Common.{◌≡◌, ℕ, ◌-◌, ◌/◌, ◌%◌, ◌^◌, ◌<◌, ◌≤◌, Bool, true, false, bit_and, bit_or, arith, refl, ap, ◌∙◌, min}
+use Rattle.std.proofs.Common.{◌≡◌, ℕ, ◌-◌, ◌/◌, ◌%◌, ◌^◌, ◌<◌, ◌≤◌, Bool, true, false, bit_and, bit_or, arith, lit<, refl, ap, ◌∙◌, min}
 use Rattle.std.specs.Int.{bit_at}
 use Rattle.std.proofs.lemmas.Nat.{and_mask, and_mod, and_shr, or_shr, or_lt, and_le_l}
 use Rattle.std.proofs.lemmas.Nat.Bits.{bit_at_and, bit_at-lt}
-use Rattle.lw_word.specs.LightweightWord.{IsLightweightWord, IsListLocked, IsReleaseOk, HasWaiters, list_locked_word, release_ok_word, has_waiters_word, list_unlocked_word, kept_bits, flag_bits, HoldersStay}
+use Rattle.lw_word.specs.LightweightWord.{IsLightweightWord, free_word, IsListLocked, IsReleaseOk, HasWaiters, list_locked_word, release_ok_word, has_waiters_word, list_unlocked_word, kept_bits, flag_bits, HoldersStay}
 use Rattle.lw_word.proofs.Bits.{or_bit-same, or_bit-other, or-below}
 
 -- What setting and clearing a flag does to that flag, and that it touches nothing else.
@@ -102,6 +102,9 @@ list_unlocked_word-no_waiters word true = masked_zero word (kept_bits false true
 list_unlocked_word-no_waiters word false = masked_zero word (kept_bits false false) 30 refl
 
 -- A lightweight word stays one.
+
+pub IsLightweightWord-free_word : IsLightweightWord free_word
+IsLightweightWord-free_word = record { below = lit< tt; none_between = refl }
 
 -- also where any flags are set
 pub IsLightweightWord-or : (word flags : ℕ) → flags < 2 ^ 31 → flags / 2 ^ 25 % 2 ^ 3 ≡ 0 → IsLightweightWord word → IsLightweightWord (bit_or word flags)

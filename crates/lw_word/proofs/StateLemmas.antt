@@ -9,7 +9,7 @@ use Rattle.lw_word.specs.LightweightWord.{IsLightweightWord, IsHeldByNobody, IsH
 use Rattle.lw_word.specs.LockState.{LockState, word_of, state_of, amount_of, IsFreeFor, HasRoomFor, IsHeldIn, taken_in, put_in}
 use Rattle.lw_word.specs.Packing.{word_of-state_of}
 use Rattle.lw_word.proofs.Bits.{test-bit, bit_test, or-below, or-set}
-use Rattle.lw_word.proofs.WordLemmas.{nobody-from, nobody-not_exclusive, nobody-shared, IsLightweightWord-flags, taken_word-exclusive, taken_word-shared, taken_word-flags, put_word-free_to_share, put_word-shared, put_word-flags, shared_word-shared, shared_word-exclusive, shared_word-flags, unshared_word-shared, unshared_word-exclusive, unshared_word-flags, flags-list_locked, flags-release_ok, flags-has_waiters, holders-shared, holders-exclusive}
+use Rattle.lw_word.proofs.WordLemmas.{nobody-from, nobody-not_exclusive, nobody-shared, free_to_share-not_exclusive, IsLightweightWord-flags, taken_word-exclusive, taken_word-shared, taken_word-flags, put_word-free_to_share, put_word-shared, put_word-flags, shared_word-shared, shared_word-exclusive, shared_word-flags, unshared_word-shared, unshared_word-exclusive, unshared_word-flags, flags-list_locked, flags-release_ok, flags-has_waiters, holders-shared, holders-exclusive}
 use Rattle.lw_word.proofs.FlagLemmas.{list_locked_word-locked, list_locked_word-holders, list_locked_word-release_ok, list_locked_word-has_waiters, release_ok_word-release_ok, release_ok_word-holders, release_ok_word-list_locked, release_ok_word-has_waiters, has_waiters_word-has_waiters, has_waiters_word-holders, has_waiters_word-list_locked, has_waiters_word-release_ok, list_unlocked_word-list_locked, list_unlocked_word-holders, list_unlocked_word-release_ok, list_unlocked_word-not_release_ok, list_unlocked_word-has_waiters, list_unlocked_word-no_waiters}
 
 -- What each change of a lightweight word does to what the word says.
@@ -34,13 +34,32 @@ with_flags old new locked release waiters stay l r w = λ i. record {
   has_waiters = (ap (λ b. nat_eq b 1) w ∙ test-bit waiters) i;
 }
 
--- What says who holds the word.
+-- What the record says and what the bits say are the same.
 
 not_exclusive : (word : ℕ) → (state_of word).exclusive ≡ false → IsFreeToShare word
 not_exclusive word free = let one = eqb-false (word / 2 ^ 24 % 2) 1 free in omega (arith, one)
 
 exclusive : (word : ℕ) → (state_of word).exclusive ≡ true → IsHeldExclusively word
 exclusive word held = eqb-true (word / 2 ^ 24 % 2) 1 held
+
+pub IsFreeFor-exclusive : (word : ℕ) → IsFreeFor Exclusive (state_of word) ↔ IsHeldByNobody word
+IsFreeFor-exclusive word = (
+  λ free. nobody-from word (not_exclusive word free.0) free.1,
+  λ nobody. (
+    false_from_ne_true (nat_eq (word / 2 ^ 24 % 2) 1) (λ one. nobody-not_exclusive word nobody (eqb-true (word / 2 ^ 24 % 2) 1 one)),
+    nobody-shared word nobody,
+  ),
+)
+
+pub IsFreeFor-shared : (word : ℕ) → IsFreeFor Shared (state_of word) ↔ IsFreeToShare word
+IsFreeFor-shared word = (
+  not_exclusive word,
+  λ free. false_from_ne_true (nat_eq (word / 2 ^ 24 % 2) 1) (λ one. free_to_share-not_exclusive word free (eqb-true (word / 2 ^ 24 % 2) 1 one)),
+)
+
+-- a part of the record is true where its bit is 1
+pub bit_is_set : (bit_value : ℕ) → (nat_eq bit_value 1 ≡ true) ↔ (bit_value ≡ 1)
+bit_is_set bit_value = (eqb-true bit_value 1, eq-eqb bit_value 1)
 
 -- The tests of the code.
 
@@ -57,18 +76,12 @@ free_to_share_test word = (λ passed. not-true (nat_eq (word / 2 ^ 24 % 2) 1) (s
 
 -- that no bit of the holders is
 pub nobody_test : (word : ℕ) → IsTrue (nat_eq (bit_and word (2 ^ 25 - 1)) 0) ↔ IsFreeFor Exclusive (state_of word)
-nobody_test word = (to, from) where
+nobody_test word = (
+  λ passed. let none = eqb-true (bit_and word (2 ^ 25 - 1)) 0 passed in (IsFreeFor-exclusive word).1 (sym low ∙ none),
+  λ free. eq-eqb (bit_and word (2 ^ 25 - 1)) 0 (low ∙ (IsFreeFor-exclusive word).0 free),
+) where
   low : bit_and word (2 ^ 25 - 1) ≡ word % 2 ^ 25
   low = and_mask word 25
-
-  to : IsTrue (nat_eq (bit_and word (2 ^ 25 - 1)) 0) → IsFreeFor Exclusive (state_of word)
-  to passed =
-      let none : bit_and word (2 ^ 25 - 1) ≡ 0 = eqb-true (bit_and word (2 ^ 25 - 1)) 0 passed in
-      let nobody : IsHeldByNobody word = omega (arith, low, none) in
-      (false_from_ne_true (nat_eq (word / 2 ^ 24 % 2) 1) (λ one. nobody-not_exclusive word nobody (eqb-true (word / 2 ^ 24 % 2) 1 one)), nobody-shared word nobody)
-
-  from : IsFreeFor Exclusive (state_of word) → IsTrue (nat_eq (bit_and word (2 ^ 25 - 1)) 0)
-  from free = eq-eqb (bit_and word (2 ^ 25 - 1)) 0 (low ∙ nobody-from word (not_exclusive word free.0) free.1)
 
 -- Taking it, and giving it up.
 

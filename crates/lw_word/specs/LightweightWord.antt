@@ -1,8 +1,8 @@
 use Rattle.std.specs.Prelude.{◌≡◌, ℕ, ◌+◌, ◌-◌, ◌*◌, ◌/◌, ◌%◌, ◌^◌, ◌<◌, Bool, true, false, not, bit_and, bit_or}
 
--- A lightweight lock's word as a number: bits 0 to 23 count the sessions that hold it shared, bit 24 is set where one holds
--- it exclusively, bit 28 where its wait list is locked, bit 29 is release-ok, and bit 30 is has-waiters (LW_VAL_EXCLUSIVE and
--- the flags in lwlock.c).
+-- A lightweight lock's word as a number: bits 0 to 23 count the sessions that hold it shared, bit 24 is set where one
+-- holds it exclusively, bit 28 where its wait list is locked, bit 29 is release-ok, and bit 30 is has-waiters
+-- (LW_VAL_EXCLUSIVE and the flags in lwlock.c).
 
 -- the number has these bits and no others
 pub record IsLightweightWord (word : ℕ) : Type 0 where
@@ -82,6 +82,11 @@ kept_bits has_waiters release_ok = 2 ^ 64 - 1 - (2 ^ 28 + flag_bits (not has_wai
 -- the word with the wait list unlocked, and each flag only where it was set and is to stay
 abbrev pub list_unlocked_word : ℕ → Bool → Bool → ℕ
 list_unlocked_word word has_waiters release_ok = bit_and word (kept_bits has_waiters release_ok)
+
+-- the same after the flags that are told were set, so that both are as told
+abbrev pub flagged_and_unlocked_word : ℕ → Bool → Bool → ℕ
+flagged_and_unlocked_word word has_waiters release_ok =
+    list_unlocked_word (bit_or word (flag_bits has_waiters release_ok)) has_waiters release_ok
 
 -- What a change of the word leaves alone.
 

@@ -28,7 +28,11 @@ opening_state = record { shared = 0; exclusive = false; list_locked = false; rel
 -- the word as a number
 abbrev pub word_of : LockState → ℕ
 word_of state =
-    state.shared + bit state.exclusive * 2 ^ 24 + bit state.list_locked * 2 ^ 28 + bit state.release_ok * 2 ^ 29 + bit state.has_waiters * 2 ^ 30
+    state.shared
+    + bit state.exclusive * 2 ^ 24
+    + bit state.list_locked * 2 ^ 28
+    + bit state.release_ok * 2 ^ 29
+    + bit state.has_waiters * 2 ^ 30
 
 -- what the number says
 abbrev pub state_of : ℕ → LockState
@@ -45,8 +49,8 @@ abbrev pub amount_of : LwMode → ℕ
 amount_of Exclusive = 2 ^ 24
 amount_of Shared = 1
 
--- It may be taken in this mode (LWLockAttemptLock in lwlock.c): exclusively where nobody holds it, shared where nobody holds
--- it exclusively.
+-- It may be taken in this mode (LWLockAttemptLock in lwlock.c): exclusively where nobody holds it, shared where nobody
+-- holds it exclusively.
 abbrev pub IsFreeFor : LwMode → LockState → Type 0
 IsFreeFor Exclusive state = (state.exclusive ≡ false) × (state.shared ≡ 0)
 IsFreeFor Shared state = state.exclusive ≡ false
@@ -70,6 +74,7 @@ abbrev pub put_in : LwMode → LockState → LockState
 put_in Exclusive state = record state { exclusive = false }
 put_in Shared state = record state { shared = state.shared - 1 }
 
--- whoever made it so by a release has to wake waiters: nobody holds it, and both flags are set (LWLockReleaseInternal)
+-- whether whoever made it so by a release has to wake waiters (LWLockReleaseInternal): nobody holds it, and both flags
+-- are set
 abbrev pub must_wake : LockState → Bool
 must_wake state = not state.exclusive && state.shared == 0 && state.has_waiters && state.release_ok

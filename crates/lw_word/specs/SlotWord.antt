@@ -4,8 +4,8 @@ use Rattle.modes_core.specs.declared.modes.Mode.{Mode}
 use Rattle.modes_core.specs.Mode.{number_of}
 
 -- A fast-path slot's word as a number: the relation in bits 0 to 31, and bits 32, 33 and 34 for the modes 1, 2 and 3
--- (`fpRelId` and `fpLockBits` of a PGPROC, which PostgreSQL keeps apart). A slot with no mode bit is empty, whatever else its
--- word has.
+-- (`fpRelId` and `fpLockBits` of a PGPROC, which PostgreSQL keeps apart). A slot with no mode bit is empty, whatever else
+-- its word has.
 
 -- the relation of a slot in use
 abbrev pub relation_in : ℕ → ℕ
@@ -45,4 +45,5 @@ bits_without word mode = bit_and (mode_bits word) (2 ^ 3 - 1 - mode_bit mode)
 
 -- the word without this mode: an emptied slot's is 0
 abbrev pub word_without : ℕ → Mode → ℕ
-word_without word mode = if bits_without word mode == 0 then 0 else slot_word (relation_in word) (bits_without word mode)
+word_without word mode =
+    if bits_without word mode == 0 then 0 else slot_word (relation_in word) (bits_without word mode)

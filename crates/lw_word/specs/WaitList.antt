@@ -40,4 +40,5 @@ taken_off (first ∷ others) = if wants_to_share first then first ∷ filter wan
 -- whom it leaves: all others
 abbrev pub left_waiting : List LwWaiter → List LwWaiter
 left_waiting [] = []
-left_waiting (first ∷ others) = if wants_to_share first then filter (λ waiter. not (wants_to_share waiter)) others else others
+left_waiting (first ∷ others) =
+    if wants_to_share first then filter (λ waiter. not (wants_to_share waiter)) others else others

@@ -1,12 +1,13 @@
 //! Laws of the words and of the wait list, each a clause over all numbers and lists. What the words' calls do
 //! is said of what a word says; here it is said of the number, which is what the shared table has.
 
-ghost use Rattle.std.specs.Prelude.{◌≡◌, ◌+◌, ◌/◌, ◌%◌, ◌^◌, ◌<◌, ◌≤◌, ℕ, Bool, [], ◌++◌, true, false};
+ghost use Rattle.std.specs.Prelude.{◌≡◌, ◌+◌, ◌/◌, ◌%◌, ◌^◌, ◌<◌, ◌≤◌, ◌↔◌, ℕ, Bool, [], ◌++◌, true, false};
 ghost use Rattle.std.specs.List.Sorted.{IsPermutation};
 ghost use Rattle.modes_core.specs.declared.modes.Mode.{Mode};
 ghost use Rattle.modes_core.specs.Mode.{number_of};
 ghost use Rattle.lw_word.specs.LightweightWord.{IsLightweightWord, IsHeldByNobody, IsHeldExclusively, IsFreeToShare, IsListLocked, IsReleaseOk, HasWaiters, shared_count, taken_word, put_word, shared_word, unshared_word, list_locked_word, release_ok_word, has_waiters_word, list_unlocked_word, FlagsStay, HoldersStay};
-ghost use Rattle.lw_word.specs.LockState.{LockState, word_of, state_of};
+ghost use Rattle.lw_word.specs.LockState.{LockState, IsFreeFor, IsHeldIn, word_of, state_of};
+ghost use Rattle.lw_word.specs.declared.words.LwMode.TheVariants.{Exclusive, Shared};
 ghost use Rattle.lw_word.specs.WaitList.{taken_off, left_waiting};
 ghost use Rattle.lw_word.specs.SlotWord.{relation_in, mode_bits, in_use, shows, slot_word};
 
@@ -17,11 +18,24 @@ pub fn a_word_and_what_it_says_are_one()
     ensures valid { (state : LockState) → state.shared < 2 ^ 24 → IsLightweightWord (word_of state) }
 {}
 
+/// What the record says and what the bits say are the same: when a word is free for a mode, when it is held, and
+/// the flags.
+pub fn the_record_says_what_the_bits_say()
+    ensures free { (word : ℕ) → IsFreeFor Exclusive (state_of word) ↔ IsHeldByNobody word }
+    ensures free_to_share { (word : ℕ) → IsFreeFor Shared (state_of word) ↔ IsFreeToShare word }
+    ensures held { (word : ℕ) → IsHeldIn Exclusive (state_of word) ↔ IsHeldExclusively word }
+    ensures list_locked { (word : ℕ) → ((state_of word).list_locked ≡ true) ↔ IsListLocked word }
+    ensures release_ok { (word : ℕ) → ((state_of word).release_ok ≡ true) ↔ IsReleaseOk word }
+    ensures has_waiters { (word : ℕ) → ((state_of word).has_waiters ≡ true) ↔ HasWaiters word }
+{}
+
 /// Taking a free word and putting it turn the exclusive bit alone.
 pub fn taking_turns_one_bit()
-    ensures taken { (word : ℕ) → IsHeldByNobody word → IsHeldExclusively (taken_word word) × (shared_count (taken_word word) ≡ 0) }
+    ensures taken { (word : ℕ) → IsHeldByNobody word → IsHeldExclusively (taken_word word) }
+    ensures taken_count { (word : ℕ) → IsHeldByNobody word → shared_count (taken_word word) ≡ 0 }
     ensures taken_flags { (word : ℕ) → IsHeldByNobody word → FlagsStay word (taken_word word) }
-    ensures put { (word : ℕ) → IsHeldExclusively word → IsFreeToShare (put_word word) × (shared_count (put_word word) ≡ shared_count word) }
+    ensures put { (word : ℕ) → IsHeldExclusively word → IsFreeToShare (put_word word) }
+    ensures put_count { (word : ℕ) → IsHeldExclusively word → shared_count (put_word word) ≡ shared_count word }
     ensures put_flags { (word : ℕ) → IsHeldExclusively word → FlagsStay word (put_word word) }
 {}
 

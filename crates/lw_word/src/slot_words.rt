@@ -73,7 +73,7 @@ impl SlotWord {
         requires slot_mode { number_of mode ≤ 3 }
         requires its_slot { in_use self ≡ true → relation_in self ≡ relation }
         ensures number { result ≡ word_with self relation mode }
-        ensures shown { (other : ℕ) (its : _) → shows result other its ≡ (mode_eq its mode && relation == other || shows self other its) }
+        ensures shown { shows result ≡ λ other its. mode_eq its mode && relation == other || shows self other its }
         ensures of_relation { relation_in result ≡ relation }
     {
         Self::packed(relation, self.mode_bits() | Self::mode_bit(mode))
@@ -84,7 +84,7 @@ impl SlotWord {
     pub fn without(self, mode: Mode) -> Self
         requires { number_of mode ≤ 3 }
         ensures number { result ≡ word_without self mode }
-        ensures shown { (other : ℕ) (its : _) → shows result other its ≡ (not (mode_eq its mode) && shows self other its) }
+        ensures shown { shows result ≡ λ other its. not (mode_eq its mode) && shows self other its }
         ensures emptied { in_use result ≡ false → result ≡ 0 }
     {
         let modes = self.mode_bits() & (Self::ALL_MODES - Self::mode_bit(mode));

@@ -1,6 +1,6 @@
 ghost use Rattle.std.specs.Prelude.{◌≡◌, ◌<◌, ◌^◌, ◌+◌, ◌-◌, ◌↔◌, ◌==◌, true, false, bit_or, IsTrue, IsSome, IfSome};
 ghost use Rattle.std.specs.Option.{SomeIff};
-ghost use Rattle.lw_word.specs.LightweightWord.{IsLightweightWord, flag_bits, kept_bits, list_locked_word, list_unlocked_word, release_ok_word, has_waiters_word};
+ghost use Rattle.lw_word.specs.LightweightWord.{IsLightweightWord, free_word, flag_bits, kept_bits, list_locked_word, flagged_and_unlocked_word, release_ok_word, has_waiters_word};
 ghost use Rattle.lw_word.specs.LockState.{opening_state, word_of, is_shared, amount_of, IsFreeFor, HasRoomFor, IsHeldIn, taken_in, put_in, must_wake};
 
 use std::marker::Model;
@@ -41,8 +41,8 @@ impl LwMode {
 /// 23 count those who hold it shared, bit 24 is set where somebody holds it exclusively, bit 28 where its wait
 /// list is locked, bit 29 is release-ok and bit 30 has-waiters. Contracts see what the word says.
 ///
-/// The calls make a new word of an old one and change nothing. Beside what it means, each says what it does to the number, which is
-/// what the atomic operation of the shared table does.
+/// The calls make a new word of an old one and change nothing. Beside what it means, each says what it does to
+/// the number, which is what the atomic operation of the shared table does.
 #[derive(Clone, Copy, Debug, PartialEq, Eq, Hash)]
 pub struct LwWord {
     number: u64,
@@ -80,7 +80,8 @@ impl LwWord {
 
     /// The word of a lock that nobody has taken yet (`LWLockInitialize`).
     pub fn opening() -> Self
-        ensures { result ≡ opening_state }
+        ensures says { result ≡ opening_state }
+        ensures number { word_of result ≡ free_word }
     {
         LwWord {
             number: Self::RELEASE_OK,
@@ -207,7 +208,7 @@ impl LwWord {
     /// unlocks.
     pub fn unlock_list(self, has_waiters: bool, release_ok: bool) -> Self
         ensures after { result ≡ record self { list_locked = false; has_waiters = has_waiters; release_ok = release_ok } }
-        ensures number { word_of result ≡ list_unlocked_word (bit_or (word_of self) (flag_bits has_waiters release_ok)) has_waiters release_ok }
+        ensures number { word_of result ≡ flagged_and_unlocked_word (word_of self) has_waiters release_ok }
     {
         LwWord {
             number: (self.number | Self::flag_bits(has_waiters, release_ok))

@@ -7,5 +7,5 @@ pub returns-clause-shown : goal.returns-clause-shown
 returns-clause-shown c =
     let is : c.packed.result ≡ word_with c.args.self c.args.relation c.args.mode =
     c.packed.ensures ∙ (λ i. slot_word c.args.relation (bit_or (c.mode_bits.ensures.value i) (c.mode_bit.ensures.value i))) in
-    λ other its. ap (λ word. shows word other its) is
-    ∙ shows-word_with c.args.self c.args.relation c.args.mode c.ranges.relation.fits c.requires.slot_mode c.requires.its_slot other its
+    ap shows is
+    ∙ (λ i other its. shows-word_with c.args.self c.args.relation c.args.mode c.ranges.relation.fits c.requires.slot_mode c.requires.its_slot other its i)

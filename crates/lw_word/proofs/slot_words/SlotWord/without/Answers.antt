@@ -7,8 +7,8 @@ pub returns-then-modes-eq0-clause-shown : goal.returns-then-modes-eq0-clause-sho
 returns-then-modes-eq0-clause-shown c =
     let none : bits_without c.args.self c.args.mode ≡ 0 =
     (λ i. bit_and (sym c.mode_bits.ensures.value i) (7 - sym c.mode_bit.ensures.value i)) ∙ c.if-modes-eq0.true in
-    λ other its. ap (λ word. shows word other its) (sym (word_without-last c.args.self c.args.mode none))
-    ∙ shows-word_without c.args.self c.args.mode c.requires other its
+    ap shows (sym (word_without-last c.args.self c.args.mode none))
+    ∙ (λ i other its. shows-word_without c.args.self c.args.mode c.requires other its i)
 
 pub returns-else-modes-eq0-clause-shown : goal.returns-else-modes-eq0-clause-shown
 returns-else-modes-eq0-clause-shown c =
@@ -18,4 +18,4 @@ returns-else-modes-eq0-clause-shown c =
     c.packed.ensures
     ∙ (λ i. slot_word (c.relation.ensures i) (bits i))
     ∙ sym (word_without-more c.args.self c.args.mode (λ none. c.if-modes-eq0.false (bits ∙ none))) in
-    λ other its. ap (λ word. shows word other its) is ∙ shows-word_without c.args.self c.args.mode c.requires other its
+    ap shows is ∙ (λ i other its. shows-word_without c.args.self c.args.mode c.requires other its i)
