@@ -9,9 +9,10 @@ ghost use Rattle.modes_core.specs.Conflict.{conflict};
 ghost use Rattle.modes_core.specs.Tag.{partition_of};
 ghost use Rattle.lock_world.specs.declared.events.Event.{Event};
 ghost use Rattle.lock_table.specs.Content.{Wait, Content};
-ghost use Rattle.lw_word.specs.LightweightWord.{IsHeldExclusively};
+ghost use Rattle.lw_word.specs.LightweightWord.{IsHeldExclusively, shared_count};
 ghost use Rattle.lock_table.specs.OwnWait.{OwnWait, entry_of, is_for};
 ghost use Rattle.lock_table.specs.Queue.{NoneFree, waits_there};
+ghost use Rattle.lock_world.specs.Total.{how_many};
 ghost use Rattle.lock_world.specs.WaitWord.{wait_state, is_asked, asked_word, granted_word};
 ghost use Rattle.lock_world.specs.World.{World, TraceEntry, Took, Episode, opening, is_unmarked};
 ghost use Rattle.lock_world.specs.Happens.{Happens, Runs};
@@ -115,6 +116,24 @@ pub fn partition_words_show_the_hand()
         (p : ℕ) → IsHeldExclusively (w.words.partition p) ↔ ((session : ℕ) × (w.sessions.holds_partition session p ≡ true)) }
 {}
 
+/// In a safe World the word of a lightweight lock, a partition's or that of a session's fast-path slots, counts those who share
+/// it, and nobody shares it while somebody holds it exclusively; the word of a session's fast-path slots shows an exclusive holder
+/// exactly where there is one, and there is one at most.
+pub fn lightweight_words_show_who_holds_them()
+    ensures partition_shared { (w : World) → Safe w → (p : ℕ) →
+        shared_count (w.words.partition p) ≡ how_many w.numbers.limit (λ session. w.sessions.shares_partition session p) }
+    ensures partition_never_both { (w : World) → Safe w → (p session other : ℕ) →
+        w.sessions.holds_partition session p ≡ true → w.sessions.shares_partition other p ≡ false }
+    ensures fast_exclusive { (w : World) → Safe w → (owner : ℕ) →
+        IsHeldExclusively (w.words.fast owner) ↔ ((session : ℕ) × (w.sessions.holds_fast session owner ≡ true)) }
+    ensures fast_by_one { (w : World) → Safe w → (owner session other : ℕ) →
+        w.sessions.holds_fast session owner ≡ true → w.sessions.holds_fast other owner ≡ true → session ≡ other }
+    ensures fast_shared { (w : World) → Safe w → (owner : ℕ) →
+        shared_count (w.words.fast owner) ≡ how_many w.numbers.limit (λ session. w.sessions.shares_fast session owner) }
+    ensures fast_never_both { (w : World) → Safe w → (owner session other : ℕ) →
+        w.sessions.holds_fast session owner ≡ true → w.sessions.shares_fast other owner ≡ false }
+{}
+
 /// In a safe World no two sessions have one partition in hand.
 pub fn one_hand_at_a_time()
     ensures { (w : World) → Safe w →
@@ -122,7 +141,7 @@ pub fn one_hand_at_a_time()
 {}
 
 /// In a safe World a session number that is not live has no hold, by its own account and in each content,
-/// no wait, recorded or in a queue, and no partition in hand.
+/// no wait, recorded or in a queue, no partition in hand, and no lightweight lock, exclusively or shared.
 pub fn spent_sessions_have_nothing()
     ensures no_hold { (w : World) → Safe w →
         (session p : ℕ) (tag : Tag) (mode : Mode) → w.numbers.live session ≡ false →
@@ -132,6 +151,10 @@ pub fn spent_sessions_have_nothing()
         (w.sessions.awaited session ≡ None) × (waits_there ((w.contents.now p).waits tag) session ≡ false) }
     ensures no_hand { (w : World) → Safe w →
         (session p : ℕ) → w.numbers.live session ≡ false → w.sessions.holds_partition session p ≡ false }
+    ensures no_lock { (w : World) → Safe w →
+        (session lock : ℕ) → w.numbers.live session ≡ false →
+        (w.sessions.shares_partition session lock ≡ false) × (w.sessions.holds_fast session lock ≡ false)
+        × (w.sessions.shares_fast session lock ≡ false) }
 {}
 
 /// In a safe World each episode of a trace put what one move of its session makes of the content that it took: an earlier

@@ -68,7 +68,7 @@ opening-safe limit few = record {
       };
       unmarked_by_move = λ p none k. refl;
       not_yet = record {
-          database = λ k. refl;
+        database = λ k. refl;
         slot = λ k i. refl;
         strong = λ i. refl;
         sleep = λ k. refl;

@@ -75,7 +75,7 @@ closing-table w s safe may = with_numbers-table w _ safe safe.promise.words
     (record {
       live_is_issued = set_at-each (λ k b. b ≡ true → k < w.numbers.issued) w.numbers.live s false (λ e. absurd (cc)) (λ k _. safe.carriers.numbers.live_is_issued k);
       within = safe.carriers.numbers.within;
-  few = safe.carriers.numbers.few;
+      few = safe.carriers.numbers.few;
       kept_is_live = λ k j kept. still_live k j kept;
       joiner_is_live = λ k j kept. still_joiner k j kept;
     }) where

@@ -15,3 +15,7 @@ pub returns-clause-no_hand : goal.returns-clause-no_hand
 returns-clause-no_hand c =
     λ w safe s p dead.
     safe.table.promise.spent.no_word s p dead
+
+pub returns-clause-no_lock : goal.returns-clause-no_lock
+returns-clause-no_lock c =
+    λ w safe s lock dead. (safe.locks.no_shared_partition s lock dead, safe.locks.no_fast s lock dead, safe.locks.no_shared_fast s lock dead)
