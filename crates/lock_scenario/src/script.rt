@@ -1,5 +1,5 @@
 //! Scripts: a line is read, run and answered before the next one is read.
-ghost use Rattle.std.specs.Prelude.{◌≡◌, ◌≤◌, ◌<◌, false, length, All, IsSome};
+ghost use Rattle.std.specs.Prelude.{◌≡◌, ◌≤◌, ◌<◌, [], false, length, All, IsSome, IfOk, IsOkUnless};
 ghost use Rattle.lock_scenario.specs.Desk.{issued_of, wait_of};
 ghost use Rattle.lock_scenario.specs.Command.{Addresses, MayAct};
 
@@ -12,6 +12,7 @@ use crate::output::Output;
 use local_locks::End;
 use modes_core::sessions::SESSIONS;
 use modes_core::{Owner, Refusal, SessionId};
+use std::alloc::Global;
 use std::io::{Read, Write};
 
 /// Runs the script that the reader gives against a lock manager of its own, and writes what each line
@@ -26,27 +27,45 @@ pub fn run_script<H: AllocGlobal, R: Read + Drop, W: Write + Drop>(
     requires sessions { (1 ≤ config.sessions) × (config.sessions ≤ 64) }
     requires max_local { (1 ≤ config.max_local) × (config.max_local ≤ 65536) }
 {
-    let desk = Desk::new(rt.alloc(), config).map_err(|_| Fault::NoMemory)?;
-    let mut scene = Scene {
-        desk,
-        names: Names::new(),
-        output: Output::new(writer),
-    };
-    let ended = scene.run_lines(reader);
-    scene.close_all();
-    ended
+    let mut scene = Scene::new(rt.alloc(), writer, config)?;
+    scene.play(reader)
 }
 
-/// What the lines of a script act on.
+/// What the lines of a script act on: a lock manager, the names of its sessions, and the output.
 #[derive(Drop)]
-struct Scene<W: Write + Drop> {
-    desk: Desk,
-    names: Names,
-    output: Output<W>,
+pub struct Scene<W: Write + Drop> {
+    pub desk: Desk,
+    pub names: Names,
+    pub output: Output<W>,
     ghost all_named: { length names.opened.items ≡ issued_of desk },
 }
 
 impl<W: Write + Drop> Scene<W> {
+    /// A lock manager with no session yet, whose answers go to this writer.
+    pub fn new(alloc: Global, writer: W, config: Config) -> Result<Self, Fault>
+        requires sessions { (1 ≤ config.sessions) × (config.sessions ≤ 64) }
+        requires max_local { (1 ≤ config.max_local) × (config.max_local ≤ 65536) }
+        ensures opened { IfOk result (λ scene. scene.names.opened.items ≡ []) }
+        ensures no_memory { IsOkUnless result Fault.NoMemory }
+    {
+        let desk = Desk::new(alloc, config).map_err(|_| Fault::NoMemory)?;
+        Ok(Scene {
+            desk,
+            names: Names::new(),
+            output: Output::new(writer),
+        })
+    }
+
+    /// Plays a script: runs its lines to their end or to the first fault, and then closes the sessions that
+    /// are open.
+    pub fn play<R: Read + Drop>(&mut self, reader: R) -> Result<(), Fault>
+        ensures closed { All (λ opened. opened.is_open ≡ false) self.new.names.opened.items }
+    {
+        let ended = self.run_lines(reader);
+        self.close_all();
+        ended
+    }
+
     /// Runs the lines of the reader, to its end or to the first fault.
     fn run_lines<R: Read + Drop>(&mut self, reader: R) -> Result<(), Fault> {
         let mut lines = LineReader::new(reader);
