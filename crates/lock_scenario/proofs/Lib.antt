@@ -14,4 +14,5 @@ mod NameOrder
 mod NameLemmas
 mod StartLemmas
 mod TextBytes
+mod WhoWaits
 mod WordLemmas

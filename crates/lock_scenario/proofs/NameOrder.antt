@@ -1,5 +1,5 @@
 -- The order of names by their bytes.
-use Rattle.std.proofs.Common.{◌≡◌, ◌≢◌, ℕ, List, refl, sym, ap, ◌∙◌, false, is_le, nat_cmp, Less, Equal, Greater}
+use Rattle.std.proofs.Common.{◌≡◌, ◌≢◌, ℕ, List, refl, sym, ap, ◌∙◌, true, false, is_lt, nat_cmp, Less, Equal, Greater}
 use Rattle.std.specs.declared.cmp.Ordering.{Ordering}
 use Rattle.std.specs.Ordering.{ordering_reverse}
 use Rattle.std.specs.Cmp.Lexicographic.{slice_cmp}
@@ -10,16 +10,19 @@ use Rattle.lock_scenario.specs.Names.{NotAfter}
 less-not_greater : (r : Ordering) → r ≡ Less → r ≢ Greater
 less-not_greater r e f = let bad : ◌≡◌ {A = Ordering} Less Greater = sym e ∙ f in absurd (cc)
 
-pub NotAfter-refl : (x : List ℕ) → NotAfter x x
-NotAfter-refl x e = less-not_greater (slice_cmp nat_cmp x x) (nat_list_cmp_total.antisymm x x ∙ ap ordering_reverse e) e
+-- A name that comes before another one does not come after it.
+pub earlier-NotAfter : (x y : List ℕ) → is_lt (slice_cmp nat_cmp x y) ≡ true → NotAfter x y
+earlier-NotAfter x y earlier = go (slice_cmp nat_cmp x y) refl where
+  go : (r : Ordering) → slice_cmp nat_cmp x y ≡ r → NotAfter x y
+  go Less e = less-not_greater (slice_cmp nat_cmp x y) e
+  go Equal e = absurd (false≢true (sym (ap is_lt e) ∙ earlier))
+  go Greater e = absurd (false≢true (sym (ap is_lt e) ∙ earlier))
 
--- Of two names the one that does not come first is followed by the other or the same.
-pub later-NotAfter : (x y : List ℕ) → is_le (slice_cmp nat_cmp x y) ≡ false → NotAfter y x
-later-NotAfter x y later = go (slice_cmp nat_cmp x y) refl where
-  go : (r : Ordering) → slice_cmp nat_cmp x y ≡ r → NotAfter y x
-  go Less e = absurd (false≢true (sym later ∙ ap is_le e))
-  go Equal e = absurd (false≢true (sym later ∙ ap is_le e))
-  go Greater e = less-not_greater (slice_cmp nat_cmp y x) (nat_list_cmp_total.antisymm y x ∙ ap ordering_reverse e)
+-- The other does not come after one that does not come before it.
+pub later-NotAfter : (x y : List ℕ) → is_lt (slice_cmp nat_cmp x y) ≡ false → NotAfter y x
+later-NotAfter x y later f =
+    let less : slice_cmp nat_cmp x y ≡ Less = nat_list_cmp_total.antisymm x y ∙ ap ordering_reverse f in
+    false≢true (sym later ∙ ap is_lt less)
 
 pub NotAfter-trans : (x y z : List ℕ) → NotAfter x y → NotAfter y z → NotAfter x z
 NotAfter-trans x y z = go (slice_cmp nat_cmp x y) (slice_cmp nat_cmp y z) refl refl where

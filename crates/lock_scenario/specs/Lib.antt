@@ -5,6 +5,7 @@ pub mod Fault
 pub mod Lines
 pub mod Names
 pub mod Parts
+pub mod Scene
 pub mod Sessions
 pub mod Started
 pub mod Waiting

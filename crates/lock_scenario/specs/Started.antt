@@ -1,4 +1,4 @@
-use Rattle.std.specs.Prelude.{◌≡◌, ℕ, false, List, Option, Some, None}
+use Rattle.std.specs.Prelude.{◌≡◌, ℕ, Bool, true, false, List, Option, Some, None}
 use Rattle.lock_scenario.specs.declared.sessions.OwnWait.{OwnWait}
 use Rattle.modes_core.specs.declared.modes.Mode.{Mode}
 use Rattle.modes_core.specs.declared.tags.Tag.{Tag}
@@ -23,6 +23,12 @@ abbrev pub entries_started : Started → List Entry → Tag → Mode → Owner �
 entries_started Granted entries tag mode owner = with_one_more entries tag mode owner
 entries_started AlreadyHeld entries tag mode owner = with_one_more entries tag mode owner
 entries_started Queued entries tag mode owner = entries
+
+-- whether the session waits after it
+abbrev pub is_queued : Started → Bool
+is_queued Granted = false
+is_queued AlreadyHeld = false
+is_queued Queued = true
 
 -- the wait of the session after it
 abbrev pub wait_started : Started → Tag → Mode → Owner → Option OwnWait

@@ -3,7 +3,7 @@ ghost use Rattle.lock_table.specs.Content.{add_hold};
 ghost use Rattle.lock_table.specs.Clash.{ClashIs};
 ghost use Rattle.lock_table.specs.Queue.{waits_there};
 ghost use Rattle.local_locks.specs.Owned.{has_entry, owner_count_of, with_one_more, max_count, IsWellOwned, IsReserved};
-ghost use Rattle.lock_scenario.specs.Started.{IsStarted, entries_started, wait_started};
+ghost use Rattle.lock_scenario.specs.Started.{IsStarted, entries_started, is_queued, wait_started};
 ghost use Rattle.wait_queue.specs.Decide.{RefusedFor};
 
 use crate::sessions::OwnWait;
@@ -63,6 +63,13 @@ pub enum Started {
 }
 
 impl Started {
+    /// Whether the session waits after it.
+    pub fn is_queued(self) -> bool
+        ensures { result ≡ is_queued self }
+    {
+        matches!(self, Started::Queued)
+    }
+
     /// The session's wait after it, if it waits.
     pub fn wait_for(self, tag: Tag, mode: Mode, owner: Owner) -> Option<OwnWait>
         ensures { result ≡ wait_started self tag mode owner }

@@ -11,6 +11,13 @@ const SESSIONS: &str = "8";
 /// How many local entries a session may have, where the command line doesn't say.
 const MAX_LOCAL: &str = "1024";
 
+/// The version that `--version` shows.
+const VERSION: &str = "0.1.0";
+
+/// What `--help` shows of a run.
+const EXAMPLE: &str = "Example:
+  lock_scenario run --sessions 2 < scenarios/object_lock.scn";
+
 /// The command line: `run [--sessions N] [--max-local M]`.
 fn command<'a>(alloc: Global) -> Result<Command<'a>, AllocError> {
     let sessions = Arg::new(alloc, "sessions")
@@ -30,7 +37,9 @@ fn command<'a>(alloc: Global) -> Result<Command<'a>, AllocError> {
         .arg(sessions)?
         .arg(max_local)?;
     Command::new(alloc, "lock_scenario")
+        .version(VERSION)
         .about("Run scripts against PostgreSQL's lock manager")
+        .after_help(EXAMPLE)
         .subcommand_required(true)
         .subcommand(run)
 }

@@ -1,5 +1,5 @@
 //! The bytes of a script, one after another.
-ghost use Rattle.std.specs.Prelude.{◌≡◌, ℕ, ◌≤◌, length, [], ◌∷◌, true, OnOk, OnErr, IfOk, IfErr, Ok, None};
+ghost use Rattle.std.specs.Prelude.{◌≡◌, ℕ, ◌<◌, ◌≤◌, ◌+◌, length, [], ◌∷◌, true, OnOk, OnErr, IfOk, IfErr, Ok, None};
 ghost use Rattle.std.specs.Option.{option_to_list};
 ghost use Rattle.std.specs.Io.KnownBytes.{Consumes, Keeps, IsAtEnd, ReadConsumes};
 ghost use Rattle.lock_scenario.specs.declared.faults.Fault.TheVariants.{ReadFailed};
@@ -17,7 +17,7 @@ const MOST_READS: u32 = 1_100_000_000;
 const CAPACITY: usize = 4096;
 
 /// The bytes that a reader gives, through a buffer. Contracts see the bytes that are left, where the
-/// reader's are known, and how often it was read from.
+/// reader's are known, how many of them are buffered, and how often it was read from.
 #[derive(Drop)]
 pub struct ByteSource<R: Read> {
     reader: R,
@@ -28,13 +28,17 @@ pub struct ByteSource<R: Read> {
 }
 
 impl<R: Read> Model for ByteSource<R> {
-    ghost use Rattle.std.specs.Prelude.{◌≤◌, slice_range};
+    ghost use Rattle.std.specs.Prelude.{◌≤◌, ◌-◌, slice_range};
     ghost use Rattle.std.specs.Io.KnownBytes.{prepend_known};
     ghost use Rattle.lock_scenario.specs.Bytes.{ByteView, most_reads};
 
     ghost Value = { ByteView };
 
-    ghost view = { λ s. record { left = prepend_known (slice_range s.buffer s.start s.end) (R.remaining s.reader); reads = s.reads } };
+    ghost view = { λ s. record {
+      left = prepend_known (slice_range s.buffer s.start s.end) (R.remaining s.reader);
+      buffered = s.end - s.start;
+      reads = s.reads;
+    } };
 
     ghost invariant = { λ s. (s.start ≤ s.end) × (s.end ≤ 4096) × (s.reads ≤ most_reads) };
 }
@@ -44,6 +48,7 @@ impl<R: Read> ByteSource<R> {
     pub fn new(reader: R) -> Self
         ensures left { result.left ≡ R.remaining reader }
         ensures none_made { result.reads ≡ 0 }
+        ensures nothing_buffered { result.buffered ≡ 0 }
     {
         ByteSource {
             reader,
@@ -54,10 +59,14 @@ impl<R: Read> ByteSource<R> {
         }
     }
 
-    /// The next byte, or `None` at the end.
+    /// The next byte, or `None` at the end. Where nothing is buffered, and only there, the reader is read
+    /// from.
     pub fn next_byte(&mut self) -> Result<Option<u8>, Fault>
         ensures bytes { IfOk result (λ byte. Consumes self.old.left self.new.left (option_to_list byte)) }
         ensures end { result ≡ Ok None → IsAtEnd self.new.left }
+        ensures read { self.old.buffered ≡ 0 → OnOk result (self.old.reads < self.new.reads) }
+        ensures not_read { 0 < self.old.buffered → self.new.reads ≡ self.old.reads }
+        ensures taken { 0 < self.old.buffered → self.new.buffered + 1 ≡ self.old.buffered }
         ensures reads { self.old.reads ≤ self.new.reads }
         ensures bound { self.new.reads ≤ most_reads }
         ensures err { IfErr result (λ fault. fault ≡ ReadFailed) }
@@ -79,7 +88,8 @@ impl<R: Read> ByteSource<R> {
 /// One read, repeated where a signal interrupts it, with each attempt counted.
 fn read_some<R: Read>(reader: &mut R, buffer: &mut [u8], reads: &mut u32) -> Result<usize, Fault>
     requires { reads.old ≤ most_reads }
-    ensures counted { (reads.old ≤ reads.new) × (reads.new ≤ most_reads) }
+    ensures counted { OnOk result (reads.old < reads.new) }
+    ensures within { (reads.old ≤ reads.new) × (reads.new ≤ most_reads) }
     ensures bound { IfOk result (λ read. read ≤ length buffer.new) }
     ensures bytes { ReadConsumes (R.remaining reader.old) (R.remaining reader.new) result buffer.new }
     ensures err { IfErr result (λ fault. fault ≡ ReadFailed) }

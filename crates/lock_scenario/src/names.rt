@@ -1,66 +1,84 @@
-//! The names under which sessions were opened.
-ghost use Rattle.std.specs.Prelude.{◌≡◌, ◌≢◌, ◌<◌, ◌↔◌, ◌⊎◌, [], ◌∷◌, ◌++◌, true, false, length, slice_get, Some, IfSome, IfNone, IsTrue, All};
-ghost use Rattle.std.specs.List.{HoldsAt};
-ghost use Rattle.std.specs.Option.{option_map};
-ghost use Rattle.lock_scenario.specs.Names.{ComesAfter, GoesBy, IsFirstOf, IsNextOf, NotAfter, closed};
+//! The names under which sessions were opened, and which of the sessions wait.
+ghost use Rattle.std.specs.Prelude.{◌≡◌, ◌≢◌, ◌<◌, ◌≤◌, ℕ, [], ◌∷◌, ◌++◌, false, length, insert, slice_get, Contains, All, IfSome, IfNone, MatchOption, slice_index_or};
+ghost use Rattle.std.specs.Bool.{OnFalse};
+ghost use Rattle.lock_model.specs.World.{set_at};
+ghost use Rattle.lock_scenario.specs.Names.{Forgets, IsByName, IsCalled, NotAfter, waits_of};
 
 use arrayvec::{ArrayString, ArrayVec};
 use modes_core::SessionId;
+use modes_core::sessions::SESSIONS;
+use std::marker::Model;
+
+/// How many sessions there are at most.
+const MOST: usize = SESSIONS as usize;
 
 /// A session's name.
 pub type Name = ArrayString<16>;
 
-/// A session that was opened: its name, and whether it is open still.
+/// A session by its name and its number.
 #[derive(Clone, Copy, Default)]
-pub struct Opened {
+pub struct Speaker {
     pub name: Name,
-    pub is_open: bool,
+    pub session: SessionId,
 }
 
-impl Opened {
-    /// Whether this is the open session of the name.
-    fn goes_by(&self, name: &Name) -> bool
-        ensures { IsTrue result ↔ GoesBy name.now.bytes self.now }
-    {
-        self.is_open && self.name.as_str() == name.as_str()
-    }
-
-    /// Whether this is an open session whose name comes after the last one, if there is one.
-    fn comes_after(&self, last: Option<Name>) -> bool
-        ensures { IsTrue result ↔ ComesAfter last self.now }
-    {
-        match last {
-            Some(last) => self.is_open && last < self.name,
-            None => self.is_open,
-        }
-    }
-}
-
-/// The sessions that were opened, in the order of opening: a session's number is its place.
+/// The names of the sessions that were opened, the open ones in the byte order of their names, and who
+/// waits. A session's number is its place in the order of opening. Contracts see all three.
 #[derive(Drop)]
 pub struct Names {
-    pub opened: ArrayVec<Opened, 64>,
+    issued: ArrayVec<Name, MOST>,
+    by_name: ArrayVec<Speaker, MOST>,
+    waiting: [bool; MOST],
+}
+
+impl Model for Names {
+    ghost use Rattle.lock_scenario.specs.Names.{NamesView, AreInOrder};
+
+    ghost Value = { NamesView };
+
+    ghost view = { λ n. record { issued = n.issued.items; by_name = n.by_name.items; waiting = n.waiting } };
+
+    ghost invariant = { λ n. AreInOrder n.issued.items n.by_name.items n.waiting };
 }
 
 impl Names {
     /// No names.
     pub fn new() -> Self
-        ensures { result.opened.items ≡ [] }
+        ensures issued { result.issued ≡ [] }
+        ensures by_name { result.by_name ≡ [] }
+        ensures nobody_waits { (session : ℕ) → waits_of result session ≡ false }
     {
         Names {
-            opened: ArrayVec::new(),
+            issued: ArrayVec::new(),
+            by_name: ArrayVec::new(),
+            waiting: [false; MOST],
         }
     }
 
     /// The open session of this name, if there is one.
-    pub fn session(&self, name: &Name) -> Option<SessionId>
-        ensures found { IfSome result (HoldsAt (GoesBy name.now.bytes) self.now.opened.items) }
-        ensures within { IfSome result (λ session. session < length self.now.opened.items) }
-        ensures unknown { IfNone result (All (λ other. GoesBy name.now.bytes other → ⊥) self.now.opened.items) }
+    pub fn speaker(&self, name: &Name) -> Option<Speaker>
+        ensures found { IfSome result (Contains self.now.by_name) }
+        ensures named { IfSome result (λ speaker. speaker.name.bytes ≡ name.now.bytes) }
+        ensures issued { IfSome result (λ speaker. speaker.session < length self.now.issued) }
+        ensures unknown { IfNone result (All (λ other. other.name.bytes ≢ name.now.bytes) self.now.by_name) }
     {
-        for (place, other) in self.opened.as_slice().iter().enumerate() {
-            if other.goes_by(name) {
-                return SessionId::new(place as u8);
+        for speaker in self.by_name.as_slice() {
+            if speaker.name.as_str() == name.as_str() {
+                return Some(*speaker);
+            }
+        }
+        None
+    }
+
+    /// Where the open session of this name stands among the open ones, if there is one.
+    fn place_called(&self, name: &Name) -> Option<usize>
+        ensures found { IfSome result (IsCalled self.now.by_name name.now.bytes) }
+        ensures within { IfSome result (λ place. place < length self.now.by_name) }
+        ensures unknown { IfNone result (All (λ other. other.name.bytes ≢ name.now.bytes) self.now.by_name) }
+    {
+        for (place, other) in self.by_name.as_slice().iter().enumerate() {
+            if other.name.as_str() == name.as_str() {
+                return Some(place);
             }
         }
         None
@@ -68,71 +86,93 @@ impl Names {
 
     /// The name under which this session was opened, if it was.
     pub fn name(&self, session: SessionId) -> Option<Name>
-        ensures { result ≡ option_map (λ opened. opened.name) (slice_get self.now.opened.items session) }
+        ensures { result ≡ slice_get self.now.issued session }
     {
-        self.opened
+        self.issued
             .as_slice()
             .get(usize::from(session.number()))
-            .map(|opened| opened.name)
+            .copied()
+    }
+
+    /// The open session at this place, where they stand in the byte order of their names.
+    pub fn open_at(&self, place: usize) -> Option<Speaker>
+        ensures at { result ≡ slice_get self.now.by_name place }
+        ensures in_order { IsByName self.now.by_name }
+        ensures issued { IfSome result (λ speaker. speaker.session < length self.now.issued) }
+    {
+        self.by_name.as_slice().get(place).copied()
     }
 
     /// Keeps the name of the session that was opened last.
     pub fn push(&mut self, name: Name)
-        requires { length self.old.opened.items < 64 }
-        ensures { self.new.opened.items ≡ self.old.opened.items ++ record { name = name; is_open = true } ∷ [] }
+        requires { length self.old.issued < 64 }
+        ensures issued { self.new.issued ≡ self.old.issued ++ name ∷ [] }
+        ensures by_name { (place : ℕ) × (self.new.by_name ≡ insert self.old.by_name place (record { name = name; session = length self.old.issued })) }
+        ensures waiting { self.new.waiting ≡ self.old.waiting }
     {
-        self.opened.push(Opened {
-            name,
-            is_open: true,
-        });
+        let session = SessionId::new(self.issued.len() as u8).unwrap();
+        let place = self.place_of(&name);
+        self.issued.push(name);
+        self.by_name.insert(place, Speaker { name, session });
+    }
+
+    /// How many open sessions have a name that does not come after this one.
+    fn place_of(&self, name: &Name) -> usize
+        ensures within { result ≤ length self.now.by_name }
+        ensures before { (k : ℕ) (d : Speaker) → k < result → NotAfter (slice_index_or self.now.by_name k d).name.bytes name.now.bytes }
+        ensures after { (k : ℕ) (d : Speaker) → result ≤ k → k < length self.now.by_name → NotAfter name.now.bytes (slice_index_or self.now.by_name k d).name.bytes }
+    {
+        for (place, other) in self.by_name.as_slice().iter().enumerate() {
+            if *name < other.name {
+                return place;
+            }
+        }
+        self.by_name.len()
     }
 
     /// Frees the name of a session that was closed. Its number stays taken.
-    pub fn forget(&mut self, session: SessionId)
-        requires { session < length self.old.opened.items }
-        ensures forgotten { self.new.opened.items ≡ closed self.old.opened.items session }
-        ensures number { length self.new.opened.items ≡ length self.old.opened.items }
+    pub fn forget(&mut self, name: &Name)
+        ensures by_name { Forgets self.old.by_name name.now.bytes self.new.by_name }
+        ensures issued { self.new.issued ≡ self.old.issued }
+        ensures waiting { self.new.waiting ≡ self.old.waiting }
     {
-        self.opened.as_mut_slice()[usize::from(session.number())].is_open = false;
-    }
-
-    /// The open session whose name is the first one in the order of bytes, if any is open.
-    pub fn first(&self) -> Option<SessionId>
-        ensures found { IfSome result (HoldsAt (IsFirstOf self.now.opened.items) self.now.opened.items) }
-        ensures within { IfSome result (λ session. session < length self.now.opened.items) }
-        ensures none_open { IfNone result (All (λ other. other.is_open ≡ false) self.now.opened.items) }
-    {
-        let (_, session) = self.next(None)?;
-        Some(session)
-    }
-
-    /// The open session whose name comes next after this one in the order of bytes, or first where there
-    /// is no last one.
-    pub fn next(&self, last: Option<Name>) -> Option<(Name, SessionId)>
-        ensures found { IfSome result (λ found. HoldsAt (IsNextOf self.now.opened.items last) self.now.opened.items found.1) }
-        ensures name { IfSome result (λ found. HoldsAt (λ opened. opened.name ≡ found.0) self.now.opened.items found.1) }
-        ensures within { IfSome result (λ found. found.1 < length self.now.opened.items) }
-        ensures none_left { IfNone result (All (λ other. ComesAfter last other → ⊥) self.now.opened.items) }
-    {
-        let mut next: Option<(u8, Name)> = None;
-        for (place, other) in self.opened.as_slice().iter().enumerate() {
-            if other.comes_after(last) {
-                next = Some(earlier(next, place as u8, other.name));
-            }
+        if let Some(place) = self.place_called(name) {
+            self.by_name.remove(place);
         }
-        let (place, name) = next?;
-        Some((name, SessionId::new(place)?))
     }
-}
 
-/// Of two sessions the one whose name is earlier in the order of bytes.
-fn earlier(first: Option<(u8, Name)>, place: u8, name: Name) -> (u8, Name)
-    ensures one_of_both { (result ≡ (place, name)) ⊎ (first ≡ Some result) }
-    ensures not_after { NotAfter result.1.bytes name.bytes }
-    ensures not_after_first { IfSome first (λ other. NotAfter result.1.bytes other.1.bytes) }
-{
-    match first {
-        Some(first) if first.1 <= name => first,
-        _ => (place, name),
+    /// Takes the open session whose name comes first off the open ones, if any is open.
+    pub fn take_first(&mut self) -> Option<Speaker>
+        ensures by_name { MatchOption result (self.old.by_name ≡ []) (λ first. self.old.by_name ≡ first ∷ self.new.by_name) }
+        ensures none { IfNone result (self.new.by_name ≡ []) }
+        ensures in_order { IsByName self.old.by_name }
+        ensures session { IfSome result (λ first. first.session < length self.new.issued) }
+        ensures issued { self.new.issued ≡ self.old.issued }
+        ensures waiting { self.new.waiting ≡ self.old.waiting }
+    {
+        self.by_name.pop_at(0)
+    }
+
+    /// Whether the session waits.
+    pub fn is_waiting(&self, session: SessionId) -> bool
+        ensures { result ≡ waits_of self.now session }
+    {
+        self.waiting[usize::from(session.number())]
+    }
+
+    /// Whether any session waits.
+    pub fn somebody_waits(&self) -> bool
+        ensures { OnFalse result ((session : ℕ) → waits_of self.now session ≡ false) }
+    {
+        self.waiting.contains(&true)
+    }
+
+    /// Notes whether the session waits.
+    pub fn set_waiting(&mut self, session: SessionId, waits: bool)
+        ensures waits { waits_of self.new ≡ set_at (waits_of self.old) session waits }
+        ensures issued { self.new.issued ≡ self.old.issued }
+        ensures by_name { self.new.by_name ≡ self.old.by_name }
+    {
+        self.waiting[usize::from(session.number())] = waits;
     }
 }

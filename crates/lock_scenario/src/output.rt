@@ -1,5 +1,5 @@
 //! What the lines of a script print.
-use crate::desk::{Asked, Listing, SlotRow, Started};
+use crate::desk::{Asked, Cancelled, Listing, SlotRow, Started};
 use crate::faults::Fault;
 use crate::names::{Name, Names};
 use local_locks::{Acquired, End, Unlocked};
@@ -82,9 +82,12 @@ impl<W: Write + Drop> Output<W> {
         written(writeln!(self.writer, "{name}: granted after waiting"))
     }
 
-    /// A wait was cancelled.
-    pub fn cancelled(&mut self, name: &Name) -> Result<(), Fault> {
-        written(writeln!(self.writer, "{name}: cancelled"))
+    /// A wait was cancelled. One that had been granted has its lock.
+    pub fn cancelled(&mut self, name: &Name, cancelled: Cancelled) -> Result<(), Fault> {
+        match cancelled {
+            Cancelled::Removed => written(writeln!(self.writer, "{name}: cancelled")),
+            Cancelled::WasGranted => self.granted_after_waiting(name),
+        }
     }
 
     /// A session asked another one to stop waiting.

@@ -1,17 +1,20 @@
 //! Scripts: a line is read, run and answered before the next one is read.
-ghost use Rattle.std.specs.Prelude.{◌≡◌, ◌≤◌, ◌<◌, false, length, All, IsSome};
-ghost use Rattle.lock_scenario.specs.Desk.{issued_of, wait_of};
+ghost use Rattle.std.specs.Prelude.{◌≡◌, ◌≤◌, [], true, false, length, IfOk, IsOkUnless};
 ghost use Rattle.lock_scenario.specs.Command.{Addresses, MayAct};
+ghost use Rattle.lock_scenario.specs.Desk.{issued_of, wait_of};
+ghost use Rattle.lock_scenario.specs.Names.{waits_of};
+ghost use Rattle.lock_scenario.specs.Scene.{Tells};
 
-use crate::command::{Command, Speaker, Target, parse};
+use crate::command::{Command, Target, parse};
 use crate::desk::{Cancelled, Config, Desk, Polled};
 use crate::faults::Fault;
 use crate::lines::LineReader;
-use crate::names::{Name, Names};
+use crate::names::{Name, Names, Speaker};
 use crate::output::Output;
 use local_locks::End;
 use modes_core::sessions::SESSIONS;
 use modes_core::{Owner, Refusal, SessionId};
+use std::alloc::Global;
 use std::io::{Read, Write};
 
 /// Runs the script that the reader gives against a lock manager of its own, and writes what each line
@@ -26,27 +29,46 @@ pub fn run_script<H: AllocGlobal, R: Read + Drop, W: Write + Drop>(
     requires sessions { (1 ≤ config.sessions) × (config.sessions ≤ 64) }
     requires max_local { (1 ≤ config.max_local) × (config.max_local ≤ 65536) }
 {
-    let desk = Desk::new(rt.alloc(), config).map_err(|_| Fault::NoMemory)?;
-    let mut scene = Scene {
-        desk,
-        names: Names::new(),
-        output: Output::new(writer),
-    };
-    let ended = scene.run_lines(reader);
-    scene.close_all();
-    ended
+    let mut scene = Scene::new(rt.alloc(), writer, config)?;
+    scene.play(reader)
 }
 
-/// What the lines of a script act on.
+/// What the lines of a script act on: a lock manager, the names of its sessions, and the output.
 #[derive(Drop)]
-struct Scene<W: Write + Drop> {
-    desk: Desk,
-    names: Names,
-    output: Output<W>,
-    ghost all_named: { length names.opened.items ≡ issued_of desk },
+pub struct Scene<W: Write + Drop> {
+    pub desk: Desk,
+    pub names: Names,
+    pub output: Output<W>,
+    ghost all_named: { length names.issued ≡ issued_of desk },
+    ghost told: { Tells (waits_of names) (wait_of desk) },
 }
 
 impl<W: Write + Drop> Scene<W> {
+    /// A lock manager with no session yet, whose answers go to this writer.
+    pub fn new(alloc: Global, writer: W, config: Config) -> Result<Self, Fault>
+        requires sessions { (1 ≤ config.sessions) × (config.sessions ≤ 64) }
+        requires max_local { (1 ≤ config.max_local) × (config.max_local ≤ 65536) }
+        ensures none_open { IfOk result (λ scene. scene.names.by_name ≡ []) }
+        ensures no_memory { IsOkUnless result Fault.NoMemory }
+    {
+        let desk = Desk::new(alloc, config).map_err(|_| Fault::NoMemory)?;
+        Ok(Scene {
+            desk,
+            names: Names::new(),
+            output: Output::new(writer),
+        })
+    }
+
+    /// Plays a script: runs its lines to their end or to the first fault, and then closes the sessions that
+    /// are open.
+    pub fn play<R: Read + Drop>(&mut self, reader: R) -> Result<(), Fault>
+        ensures closed { self.new.names.by_name ≡ [] }
+    {
+        let ended = self.run_lines(reader);
+        self.close_all();
+        ended
+    }
+
     /// Runs the lines of the reader, to its end or to the first fault.
     fn run_lines<R: Read + Drop>(&mut self, reader: R) -> Result<(), Fault> {
         let mut lines = LineReader::new(reader);
@@ -54,12 +76,10 @@ impl<W: Write + Drop> Scene<W> {
             let Some(line) = lines.next_line()? else {
                 break;
             };
-            let command = parse(line.as_str(), &self.names, &self.desk).map_err(
-                |what| Fault::BadLine {
-                    line: lines.number,
-                    what,
-                },
-            )?;
+            let command = parse(line.as_str(), &self.names).map_err(|what| Fault::BadLine {
+                line: lines.number,
+                what,
+            })?;
             if let Some(command) = command {
                 self.run(command)?;
             }
@@ -70,20 +90,40 @@ impl<W: Write + Drop> Scene<W> {
     /// Closes the sessions that are open, in the byte order of their names. The waits of those that wait
     /// are cancelled.
     fn close_all(&mut self)
-        ensures { All (λ opened. opened.is_open ≡ false) self.new.names.opened.items }
+        ensures { self.new.names.by_name ≡ [] }
     {
-        'sessions: while let Some(session) = self.names.first() {
-            if self.desk.is_waiting(session) {
-                self.desk.cancel(session);
-            }
-            self.desk.close(session);
-            self.names.forget(session);
+        'sessions: while let Some(first) = self.names.take_first() {
+            self.stop_waiting(first.session);
+            self.desk.close(first.session);
         }
+    }
+
+    /// Ends the session's wait, if it waits.
+    fn stop_waiting(&mut self, session: SessionId)
+        ensures not_waiting { waits_of self.new.names session ≡ false }
+        ensures by_name { self.new.names.by_name ≡ self.old.names.by_name }
+        ensures issued { self.new.names.issued ≡ self.old.names.issued }
+    {
+        if self.names.is_waiting(session) {
+            self.cancel_wait(session);
+        }
+    }
+
+    /// Ends the session's wait.
+    fn cancel_wait(&mut self, session: SessionId) -> Cancelled
+        requires { waits_of self.old.names session ≡ true }
+        ensures not_waiting { waits_of self.new.names session ≡ false }
+        ensures by_name { self.new.names.by_name ≡ self.old.names.by_name }
+        ensures issued { self.new.names.issued ≡ self.old.names.issued }
+    {
+        let cancelled = self.desk.cancel(session);
+        self.names.set_waiting(session, false);
+        cancelled
     }
 
     /// Runs a command and then polls those who wait, and passes on what both print.
     fn run(&mut self, command: Command) -> Result<(), Fault>
-        requires { Addresses self.old.desk command }
+        requires { Addresses self.old.names command }
     {
         self.act(command)?;
         self.poll_all()?;
@@ -92,7 +132,7 @@ impl<W: Write + Drop> Scene<W> {
 
     /// Runs a command.
     fn act(&mut self, command: Command) -> Result<(), Fault>
-        requires { Addresses self.old.desk command }
+        requires { Addresses self.old.names command }
     {
         match command {
             Command::Session { name, database } => self.open(name, database),
@@ -110,10 +150,13 @@ impl<W: Write + Drop> Scene<W> {
         }
     }
 
-    /// Polls those who wait, pass by pass, until a pass finds none that goes on. A pass in which one goes
-    /// on leaves fewer who wait, so there is no pass after the 64th.
+    /// Polls those who wait, pass by pass, until nobody waits or a pass finds none that goes on. A pass in
+    /// which one goes on leaves fewer who wait, so there is no pass after the 64th.
     fn poll_all(&mut self) -> Result<(), Fault> {
         for _ in 0..=SESSIONS {
+            if !self.names.somebody_waits() {
+                break;
+            }
             if !self.poll_each()? {
                 break;
             }
@@ -124,34 +167,35 @@ impl<W: Write + Drop> Scene<W> {
     /// Polls each session that waits, in the byte order of their names, and answers whether one went on.
     fn poll_each(&mut self) -> Result<bool, Fault> {
         let mut went_on = false;
-        let mut last = None;
-        for _ in 0..SESSIONS {
-            let Some((name, session)) = self.names.next(last) else {
+        for place in 0..usize::from(SESSIONS) {
+            let Some(speaker) = self.names.open_at(place) else {
                 break;
             };
-            if self.desk.is_waiting(session) {
-                if self.poll(&name, session)? {
+            if self.names.is_waiting(speaker.session) {
+                if self.poll(speaker)? {
                     went_on = true;
                 }
             }
-            last = Some(name);
         }
         Ok(went_on)
     }
 
     /// Polls a session that waits, carries a cancel out that was asked, and answers whether the session
     /// goes on.
-    fn poll(&mut self, name: &Name, session: SessionId) -> Result<bool, Fault>
-        requires opened { session < length self.old.names.opened.items }
-        requires waits { IsSome (wait_of self.old.desk session) }
+    fn poll(&mut self, speaker: Speaker) -> Result<bool, Fault>
+        requires { waits_of self.old.names speaker.session ≡ true }
     {
+        let Speaker { name, session } = speaker;
         match self.desk.poll(session) {
             Polled::Still => return Ok(false),
-            Polled::Granted => self.output.granted_after_waiting(name)?,
-            Polled::CancelAsked => match self.desk.cancel(session) {
-                Cancelled::Removed => self.output.cancelled(name)?,
-                Cancelled::WasGranted => self.output.granted_after_waiting(name)?,
-            },
+            Polled::Granted => {
+                self.names.set_waiting(session, false);
+                self.output.granted_after_waiting(&name)?;
+            }
+            Polled::CancelAsked => {
+                let cancelled = self.cancel_wait(session);
+                self.output.cancelled(&name, cancelled)?;
+            }
         }
         Ok(true)
     }
@@ -167,7 +211,7 @@ impl<W: Write + Drop> Scene<W> {
     }
 
     fn try_lock(&mut self, target: Target, owner: Owner) -> Result<(), Fault>
-        requires { MayAct self.old.desk target.speaker.session }
+        requires { MayAct self.old.names target.speaker.session }
     {
         let Speaker { name, session } = target.speaker;
         match self.desk.try_lock(session, target.tag, target.mode, owner) {
@@ -177,17 +221,20 @@ impl<W: Write + Drop> Scene<W> {
     }
 
     fn lock(&mut self, target: Target, owner: Owner) -> Result<(), Fault>
-        requires { MayAct self.old.desk target.speaker.session }
+        requires { MayAct self.old.names target.speaker.session }
     {
         let Speaker { name, session } = target.speaker;
         match self.desk.start(session, target.tag, target.mode, owner) {
-            Ok(started) => self.output.started(&name, started),
+            Ok(started) => {
+                self.names.set_waiting(session, started.is_queued());
+                self.output.started(&name, started)
+            }
             Err(refusal) => self.output.refused(&self.names, &name, refusal),
         }
     }
 
     fn waiters(&mut self, target: Target) -> Result<(), Fault>
-        requires { MayAct self.old.desk target.speaker.session }
+        requires { MayAct self.old.names target.speaker.session }
     {
         let Speaker { name, session } = target.speaker;
         match self.desk.has_waiters(session, target.tag, target.mode) {
@@ -197,14 +244,14 @@ impl<W: Write + Drop> Scene<W> {
     }
 
     fn cancel(&mut self, by: Speaker, other: Speaker) -> Result<(), Fault>
-        requires { MayAct self.old.desk by.session }
+        requires { MayAct self.old.names by.session }
     {
         let asked = self.desk.ask_cancel(by.session, other.session);
         self.output.asked(&by.name, &other.name, asked)
     }
 
     fn unlock(&mut self, target: Target, owner: Owner) -> Result<(), Fault>
-        requires { MayAct self.old.desk target.speaker.session }
+        requires { MayAct self.old.names target.speaker.session }
     {
         let Speaker { name, session } = target.speaker;
         match self.desk.unlock(session, target.tag, target.mode, owner) {
@@ -215,29 +262,29 @@ impl<W: Write + Drop> Scene<W> {
     }
 
     fn commit(&mut self, speaker: Speaker) -> Result<(), Fault>
-        requires { MayAct self.old.desk speaker.session }
+        requires { MayAct self.old.names speaker.session }
     {
         self.desk.commit(speaker.session);
         self.output.ended(&speaker.name, End::Commit)
     }
 
     fn abort(&mut self, speaker: Speaker) -> Result<(), Fault>
-        requires { MayAct self.old.desk speaker.session }
+        requires { MayAct self.old.names speaker.session }
     {
         self.desk.abort(speaker.session);
         self.output.ended(&speaker.name, End::Abort)
     }
 
     fn close(&mut self, speaker: Speaker) -> Result<(), Fault>
-        requires { MayAct self.old.desk speaker.session }
+        requires { MayAct self.old.names speaker.session }
     {
         self.desk.close(speaker.session);
-        self.names.forget(speaker.session);
+        self.names.forget(&speaker.name);
         self.output.ended(&speaker.name, End::Close)
     }
 
     fn owned(&mut self, target: Target) -> Result<(), Fault>
-        requires { MayAct self.old.desk target.speaker.session }
+        requires { MayAct self.old.names target.speaker.session }
     {
         let Target { speaker, tag, mode } = target;
         let transaction = self
@@ -250,7 +297,7 @@ impl<W: Write + Drop> Scene<W> {
     }
 
     fn list(&mut self, speaker: Speaker) -> Result<(), Fault>
-        requires { MayAct self.old.desk speaker.session }
+        requires { MayAct self.old.names speaker.session }
     {
         match self.desk.list(speaker.session) {
             Ok(listing) => self.output.listing(&self.names, &listing),

@@ -13,6 +13,9 @@ use std::io::{self, ErrorKind, Read, Write};
 use std::process::Abort;
 use std::test::Fail;
 
+mod passes;
+mod program;
+mod texts;
 mod waiting;
 
 /// A reader of a text that gives so many bytes a read, and fails where the text ends if it is to.
@@ -38,19 +41,21 @@ impl Read for Script<'_> {
     }
 }
 
-/// A writer of which so many writes succeed, and a flush only if it is to.
+/// A writer that takes so many lines, and a flush only if it is to.
 #[derive(Drop)]
 struct Pipe {
-    writes: u32,
+    lines: u32,
     flushes: bool,
 }
 
 impl Write for Pipe {
     fn write(&mut self, buf: &[u8]) -> io::Result<usize> {
-        if self.writes == 0 {
+        if self.lines == 0 {
             return Err(io::Error::from(ErrorKind::BrokenPipe));
         }
-        self.writes -= 1;
+        if buf.contains(&b'\n') {
+            self.lines -= 1;
+        }
         Ok(buf.len())
     }
 
@@ -426,6 +431,25 @@ fn bounds_the_number_of_lines(rt: HostRuntime) -> Result<(), Fail> {
 }
 
 #[test]
+fn reads_more_than_a_million_times(rt: HostRuntime) -> Result<(), Fail> {
+    let line = copies(rt.alloc(), 999, "#", "\n")?;
+    let script = copies(rt.alloc(), 600, line.as_str(), "hash 5/16384\n")?;
+    // A byte a read, and an interruption before each.
+    let reader = Script {
+        text: script.as_bytes(),
+        most: 1,
+        fails: false,
+        interrupted: false,
+    };
+    let mut output = Vec::new(rt.alloc());
+    let ended = run_script(&rt, reader, &mut output, EIGHT);
+    assert!(rt; ended == Ok(()));
+    let printed = "hash 2389211932 partition 12 strong 796\n";
+    assert_eq!(rt; output.as_slice(), printed.as_bytes());
+    Ok(())
+}
+
+#[test]
 fn refuses_a_session_too_many(rt: HostRuntime) -> Result<(), Fail> {
     let one = Config {
         sessions: 1,
@@ -460,10 +484,20 @@ fn reports_readers_and_writers_that_fail(rt: HostRuntime) -> Result<(), Fail> {
     assert!(rt; ended == Err(Fault::ReadFailed));
     let printed = "a: session 0 database 5\nhash 2389211932 partition 12 strong 796\n";
     assert_eq!(rt; output.as_slice(), printed.as_bytes());
-    for (writes, flushes) in [(0, true), (1, true), (1000, false)] {
-        let ended = run_script(&rt, script.as_bytes(), Pipe { writes, flushes }, EIGHT);
-        assert!(rt; ended == Err(Fault::WriteFailed), "{writes} writes");
+    for (lines, flushes) in [(0, true), (1, true), (1000, false)] {
+        let ended = run_script(&rt, script.as_bytes(), Pipe { lines, flushes }, EIGHT);
+        assert!(rt; ended == Err(Fault::WriteFailed), "after {lines} lines");
     }
-    assert_eq!(rt; Fault::WriteFailed.status(), 1);
+    // The sixth line is written by the pass after the last command.
+    let waiting =
+        "session a 5\nsession b 5\ntry a 5/1 ShareLock\nlock b 5/1 ExclusiveLock\ncommit a\n";
+    for (lines, ended) in [(5, Err(Fault::WriteFailed)), (6, Ok(()))] {
+        let pipe = Pipe {
+            lines,
+            flushes: true,
+        };
+        let answer = run_script(&rt, waiting.as_bytes(), pipe, EIGHT);
+        assert!(rt; answer == ended, "after {lines} lines");
+    }
     Ok(())
 }

@@ -49,6 +49,29 @@ pub fn decide<P: PartTable>(
     if part.begin(session, tag, mode).is_err() {
         return Err(Refusal::NoMemory);
     }
+    decide_begun(part, session, tag, mode, kind)
+}
+
+/// Decides a request that is begun, with the room that was made for it: no more memory is taken.
+fn decide_begun<P: PartTable>(
+    part: &mut P,
+    session: SessionId,
+    tag: Tag,
+    mode: Mode,
+    kind: Kind,
+) -> Result<Decision, Refusal>
+    requires new { (P.content part.old).holds session tag mode ≡ false }
+    requires no_wait { waits_there ((P.content part.old).waits tag) session ≡ false }
+    requires begun { P.begun part.old ≡ Some (record { session = session; tag = tag; mode = mode }) }
+
+    ensures decided { IfOk result (λ decision.
+        IsDecided kind (P.content part.old) session tag mode decision (P.content part.new)) }
+    ensures refused { IfErr result (RefusedFor kind (P.content part.old) session tag mode) }
+    ensures no_memory_taken { result ≢ Err Refusal.NoMemory }
+    ensures unchanged { OnErr result (P.content part.new ≡ P.content part.old) }
+    ensures at_once { kind ≡ Kind.Conditional → result ≢ Ok Decision.Queued }
+    ensures ended { P.begun part.new ≡ None }
+{
     let Some(clash) = clash_with(part, session, tag, mode) else {
         part.grant(session, tag, mode);
         return Ok(Decision::Granted);
@@ -66,7 +89,8 @@ pub fn decide<P: PartTable>(
     }
 }
 
-/// Answers a begun request that something stands in the way of, by its place in the queue.
+/// Answers a begun request that something stands in the way of, by its place in the queue. No memory is
+/// taken.
 fn settle<P: PartTable>(
     part: &mut P,
     session: SessionId,
@@ -80,6 +104,7 @@ fn settle<P: PartTable>(
     ensures decided { IfOk result (λ decision.
         IsDecided Kind.Waiting (P.content part.old) session tag mode decision (P.content part.new)) }
     ensures refused { IfErr result (RefusedFor Kind.Waiting (P.content part.old) session tag mode) }
+    ensures no_memory_taken { result ≢ Err Refusal.NoMemory }
     ensures unchanged { OnErr result (P.content part.new ≡ P.content part.old) }
     ensures ended { P.begun part.new ≡ None }
 {

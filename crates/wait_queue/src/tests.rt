@@ -112,6 +112,29 @@ fn a_waiter_goes_behind_those_left_before_it(rt: HostRuntime) -> Result<(), Fail
 }
 
 #[test]
+fn a_conditional_request_is_refused_by_a_hold(rt: HostRuntime) -> Result<(), Fail> {
+    let mut part = PlainPart::new(rt.alloc());
+    let holds = [
+        (2, Mode::Share, Decision::Granted),
+        (1, Mode::AccessShare, Decision::Granted),
+    ];
+    expect_asked(&rt, &mut part, &holds);
+    let held = Refusal::Conflict {
+        session: session(&rt, 2),
+        mode: Mode::Share,
+        how: How::Held,
+    };
+    let refused = asked(&rt, &mut part, 0, Mode::RowExclusive, Kind::Conditional);
+    assert!(rt; refused == Err(held));
+    let beside = asked(&rt, &mut part, 0, Mode::RowShare, Kind::Conditional);
+    assert!(rt; beside == Ok(Decision::Granted));
+    expect_released(&rt, &mut part, 2, Mode::Share, &[]);
+    let free = asked(&rt, &mut part, 3, Mode::RowExclusive, Kind::Conditional);
+    assert!(rt; free == Ok(Decision::Granted));
+    Ok(())
+}
+
+#[test]
 fn a_conditional_request_does_not_pass_a_waiter(rt: HostRuntime) -> Result<(), Fail> {
     let mut part = PlainPart::new(rt.alloc());
     expect_asked(

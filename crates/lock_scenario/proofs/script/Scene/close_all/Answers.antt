@@ -1,5 +1,15 @@
-use Rattle.lock_scenario.proofs.NameLemmas.{fewer-open}
+use Rattle.std.proofs.Common.{◌∙◌, sym}
+use Rattle.local_locks.specs.Owned.{ended_by}
+use Rattle.local_locks.specs.declared.ends.End.TheVariants as ends
+use Rattle.lock_scenario.specs.Desk.{entries_of, shared_of}
+use Rattle.lock_scenario.specs.Names.{waits_of}
+use Rattle.lock_scenario.proofs.WhoWaits.{Tells-ReleasesAll}
 use Rattle.lock_scenario.proofs.script.Scene.close_all.Goals as goal
 
-pub sessions-smaller : goal.sessions-smaller
-sessions-smaller g c = rw c.forget.ensures.forgotten (fewer-open c.sessions.self.names.opened.items c.in-Some.session c.in-Some.ensures.within (λ d. (c.in-Some.ensures.found d).0))
+pub invariant_of-self-in-Some : goal.invariant_of-self-in-Some
+invariant_of-self-in-Some g c = record {
+  all_named = c.stop_waiting.new.self.all_named ∙ sym c.close.ensures.sessions;
+  told =
+      Tells-ReleasesAll (waits_of c.stop_waiting.new.self.names) (ended_by ends.Close (entries_of c.stop_waiting.new.self.desk c.in-Some.first.session)) (shared_of c.stop_waiting.new.self.desk)
+      (shared_of c.close.new.self) c.in-Some.first.session c.stop_waiting.new.self.told c.close.ensures.released;
+}

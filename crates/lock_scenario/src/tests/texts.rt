@@ -1,0 +1,179 @@
+//! Every text that a script can print or end with, by variant.
+use crate::desk::{Asked, Cancelled, Listing, SlotRow, Started};
+use crate::faults::{Defect, Fault};
+use crate::names::{Name, Names};
+use crate::output::Output;
+use local_locks::{Acquired, End, Unlocked};
+use lock_model::TableRow;
+use modes_core::{How, Mode, Refusal, SessionId, Tag};
+use std::process::Abort;
+use std::test::Fail;
+
+fn name(rt: &impl Abort, text: &str) -> Name {
+    Name::from(text).expect(rt, "a name")
+}
+
+#[test]
+fn a_fault_has_its_text_and_status(rt: HostRuntime) -> Result<(), Fail> {
+    let bad = |what| Fault::BadLine { line: 7, what };
+    for (fault, text, status) in [
+        (bad(Defect::TooManyLines), "line 7: too many lines", 3),
+        (bad(Defect::LineTooLong), "line 7: line too long", 3),
+        (bad(Defect::NotAsciiText), "line 7: not ASCII text", 3),
+        (bad(Defect::UnknownCommand), "line 7: unknown command", 3),
+        (
+            bad(Defect::WrongNumberOfWords),
+            "line 7: wrong number of words",
+            3,
+        ),
+        (bad(Defect::BadName), "line 7: bad name", 3),
+        (bad(Defect::SessionExists), "line 7: session exists", 3),
+        (bad(Defect::NoSuchSession), "line 7: no such session", 3),
+        (bad(Defect::SessionWaits), "line 7: session waits", 3),
+        (bad(Defect::BadNumber), "line 7: bad number", 3),
+        (bad(Defect::BadObject), "line 7: bad object", 3),
+        (bad(Defect::BadMode), "line 7: bad mode", 3),
+        (bad(Defect::BadOwner), "line 7: bad owner", 3),
+        (Fault::ReadFailed, "read failed", 1),
+        (Fault::WriteFailed, "write failed", 1),
+        (Fault::NoMemory, "no memory", 1),
+        (Fault::GateHeld, "gate held", 1),
+    ] {
+        let printed = format!(in rt.alloc(); "{fault}")?;
+        assert_eq!(rt; printed.as_str(), text);
+        assert_eq!(rt; fault.status(), status, "the status of {text:?}");
+    }
+    Ok(())
+}
+
+#[test]
+fn a_refusal_has_its_number_and_text(rt: HostRuntime) -> Result<(), Fail> {
+    let mut names = Names::new();
+    names.push(name(&rt, "a"));
+    names.push(name(&rt, "b"));
+    let second = SessionId::new(1).expect(&rt, "a session number");
+    for (refusal, text) in [
+        (
+            Refusal::Conflict {
+                session: second,
+                mode: Mode::RowShare,
+                how: How::Held,
+            },
+            "a: refused 1 conflict b RowShareLock held\n",
+        ),
+        (
+            Refusal::Conflict {
+                session: second,
+                mode: Mode::Exclusive,
+                how: How::Awaited,
+            },
+            "a: refused 1 conflict b ExclusiveLock awaited\n",
+        ),
+        (Refusal::NoMemory, "a: refused 2 no memory\n"),
+        (Refusal::LocalFull, "a: refused 3 local table full\n"),
+        (Refusal::CountFull, "a: refused 4 count full\n"),
+        (
+            Refusal::SimpleDeadlock { session: second },
+            "a: refused 5 simple deadlock b\n",
+        ),
+        (Refusal::Cancelled, "a: refused 6 cancelled\n"),
+        (Refusal::NotHeld, "a: refused 7 not held\n"),
+        (Refusal::Busy, "a: refused 8 busy\n"),
+        (Refusal::SlotsFull, "a: refused 9 slots full\n"),
+        (
+            Refusal::StrongCounted,
+            "a: refused 10 strong lock counted\n",
+        ),
+        (Refusal::NotEligible, "a: refused 11 not eligible\n"),
+        (Refusal::NoMoreSessions, "a: refused 12 no more sessions\n"),
+        (Refusal::BadConfig, "a: refused 13 bad config\n"),
+    ] {
+        let mut printed = Vec::new(rt.alloc());
+        let mut output = Output::new(&mut printed);
+        let written = output.refused(&names, &name(&rt, "a"), refusal);
+        assert!(rt; written == Ok(()));
+        drop(output);
+        assert_eq!(rt; printed.as_slice(), text.as_bytes());
+    }
+    Ok(())
+}
+
+/// Prints an answer of each variant.
+fn print_answers(rt: &impl Abort, output: &mut Output<&mut Vec<u8>>) -> Result<(), Fault> {
+    let (a, b) = (name(rt, "a"), name(rt, "b"));
+    for acquired in [Acquired::Granted, Acquired::AlreadyHeld] {
+        output.acquired(&a, acquired)?;
+    }
+    for started in [Started::Granted, Started::AlreadyHeld, Started::Queued] {
+        output.started(&b, started)?;
+    }
+    output.granted_after_waiting(&b)?;
+    for cancelled in [Cancelled::Removed, Cancelled::WasGranted] {
+        output.cancelled(&b, cancelled)?;
+    }
+    for asked in [Asked::Waiting, Asked::NotWaiting] {
+        output.asked(&a, &b, asked)?;
+    }
+    for is_awaited in [true, false] {
+        output.waiters(&a, is_awaited)?;
+    }
+    for unlocked in [Unlocked::Released, Unlocked::StillHeld] {
+        output.unlocked(&a, unlocked)?;
+    }
+    for end in [End::Commit, End::Abort, End::Close] {
+        output.ended(&a, end)?;
+    }
+    output.owned(&a, 12, 65_535)?;
+    output.not_owned(&a, Mode::ShareRowExclusive)?;
+    output.flush()
+}
+
+#[test]
+fn an_answer_has_its_text(rt: HostRuntime) -> Result<(), Fail> {
+    let mut printed = Vec::new(rt.alloc());
+    let mut output = Output::new(&mut printed);
+    assert!(rt; print_answers(&rt, &mut output) == Ok(()));
+    drop(output);
+    let text = "a: granted\na: already held\nb: granted\nb: already held\nb: waits\n\
+                b: granted after waiting\nb: cancelled\nb: granted after waiting\na: asked b\nb isn't waiting\n\
+                a: waiters yes\na: waiters no\na: released\na: still held\na: committed\na: aborted\n\
+                a: closed\na: transaction 12 session 65535\n\
+                a: you don't own a lock of type ShareRowExclusiveLock\n";
+    assert_eq!(rt; printed.as_slice(), text.as_bytes());
+    Ok(())
+}
+
+#[test]
+fn a_row_has_its_text(rt: HostRuntime) -> Result<(), Fail> {
+    let alloc = rt.alloc();
+    let mut names = Names::new();
+    names.push(name(&rt, "a"));
+    let session = SessionId::new(0).expect(&rt, "a session number");
+    let mut listing = Listing {
+        fast: Vec::new(alloc),
+        table: Vec::new(alloc),
+    };
+    listing.fast.push(SlotRow {
+        session,
+        slot: 15,
+        tag: Tag::relation(5, 16384),
+        mode: Mode::RowExclusive,
+    })?;
+    for granted in [true, false] {
+        listing.table.push(TableRow {
+            session,
+            tag: Tag::object(5, 1259, 16384, 3),
+            mode: Mode::ShareUpdateExclusive,
+            granted,
+        })?;
+    }
+    let mut printed = Vec::new(alloc);
+    let mut output = Output::new(&mut printed);
+    assert!(rt; output.listing(&names, &listing) == Ok(()));
+    drop(output);
+    let text = "fast a 15 5/16384 RowExclusiveLock\n\
+                table a 5/1259/16384/3 ShareUpdateExclusiveLock granted\n\
+                table a 5/1259/16384/3 ShareUpdateExclusiveLock awaited\nrows 3\n";
+    assert_eq!(rt; printed.as_slice(), text.as_bytes());
+    Ok(())
+}
