@@ -1,20 +1,29 @@
-use Rattle.std.proofs.Common.{◌≡◌, ◌≢◌, ℕ, ◌+◌, ◌<◌, ◌≤◌, true, false, [], ◌∷◌, length, set, suc, zero, refl, sym, ap, subst, ◌∙◌, ◌⊎◌, inl, inr, arith}
-use Rattle.std.specs.Prelude.{Option, Some, None, IfSome, IsSomeAnd, is_some, find}
+use Rattle.std.proofs.Common.{◌≡◌, ◌≢◌, ℕ, ◌+◌, ◌<◌, ◌≤◌, true, false, [], ◌∷◌, length, get_or, set, suc, zero, refl, sym, ap, subst, ◌∙◌, ◌⊎◌, inl, inr, arith}
+use Rattle.std.specs.Prelude.{Option, Some, None, IfSome, IsSomeAnd, is_some, find, List}
 use Rattle.std.specs.Option.{option_map}
 use Rattle.std.specs.List.{AllByRecursion}
 use Rattle.std.proofs.lemmas.Bool.{false≢true, cases_eq, cases_lt, eqb-false}
 use Rattle.std.proofs.lemmas.List.{length-set}
 use Rattle.modes_core.specs.declared.modes.Mode.{Mode}
 use Rattle.modes_core.specs.declared.tags.Tag.{Tag}
+use Rattle.place_index.specs.Notes.{Notes, HasSameNotes, times}
 use Rattle.local_locks.specs.declared.records.Entry.{Entry}
 use Rattle.local_locks.specs.declared.ends.End.{End}
 use Rattle.local_locks.specs.declared.ends.End.TheVariants.{Commit, Abort, Close}
 use Rattle.local_locks.specs.declared.ends.Progress.{Progress}
+use Rattle.local_locks.specs.declared.looks.Missing.{Missing}
 use Rattle.local_locks.specs.Owned.{IsCounted, is_of, is_ended, after_end, with_next_ended}
-use Rattle.local_locks.specs.Slots.{Slots, Index, slot_at, present, place_in, IsIndexed, IsPast, IsKept, reached, with_reached, at_start}
-use Rattle.local_locks.proofs.SlotLaws.{found_at, from_and_some, and_some, slot_at-set, slot_at-set_other, slot_at-within}
+use Rattle.local_locks.specs.Slots.{Slots, opened, entry_at, slot_at, present, key_at, IsIndexed, IsPast, IsKept, IsTable, reached, with_reached, at_start}
+use Rattle.local_locks.proofs.SlotLaws.{and_some, slot_at-set, slot_at-set_other, slot_at-within}
 use Rattle.local_locks.proofs.EndLaws.{Stopped, Passed, present-same, present-stopped, find-stopped}
+use Rattle.local_locks.proofs.IndexLaws.{indexed-alike}
+use Rattle.local_locks.proofs.OpenLaws.{length-opened, opened_some}
+use Rattle.std.proofs.lemmas.List.{get_or_default}
 use Rattle.local_locks.proofs.KeptLaws.{all_present, past-settled, past-none}
+
+-- the object and mode of an entry
+abbrev key_of : Entry → Tag × Mode
+key_of x = (x.tag, x.mode)
 
 -- ---- an end has walked over the slots before a place
 
@@ -38,6 +47,30 @@ pub walked-view :
 walked-view end view old new place same number within kept settled others ended =
     subst (λ (s : Slots). Walked end s new place) same
     (record { number = number; within = within; kept = kept; settled = settled; others = others; ended = ended })
+
+pub walked-slots :
+    (end : End) (view old new : List Entry) (place : ℕ) → view ≡ old →
+    length new ≡ length view → place ≤ length view →
+    ((k : ℕ) → k < place → IfSome (slot_at (opened view) k) (λ x. is_ended end x ≡ false)) →
+    ((k : ℕ) → k < place → slot_at (opened new) k ≡ option_map (after_end end) (slot_at (opened view) k)) →
+    ((k : ℕ) → place ≤ k → slot_at (opened new) k ≡ slot_at (opened view) k) →
+    (place < length view → IsSomeAnd (slot_at (opened view) place) (λ x. is_ended end x ≡ true)) →
+    Walked end (opened old) (opened new) place
+walked-slots end view old new place same number within kept settled others ended =
+    walked-view end (opened view) (opened old) (opened new) place (ap opened same)
+    (omega (arith, length-opened view, length-opened new)) (omega (arith, length-opened view)) kept settled others (λ before. ended (omega (arith, length-opened view)))
+
+-- the entry at the place where the walk stopped
+pub walked_place :
+    (end : End) (es new : List Entry) (place : ℕ) (e : Entry) →
+    Walked end (opened es) (opened new) place → place ≢ length es → e ≡ get_or new place e → slot_at (opened new) place ≡ Some e
+walked_place end es new place e walked stopped is =
+    let number = walked.number in
+    let within : place < length new = omega (arith, walked.within, length-opened es, length-opened new, stopped) in
+    let read : e ≡ entry_at new place = is ∙ get_or_default new place e _ within in
+    let ended = and_some (λ x. is_ended end x ≡ true) (slot_at (opened es) place) (walked.ended (omega (arith, walked.within, length-opened es, stopped))) in
+    let at = walked.others place (omega arith) ∙ ended.1 in
+    at ∙ ap (λ (x : Entry). Some x) (sym (opened_some new place ended.0 at).1 ∙ sym read)
 
 after_end-key : (end : End) (x : Entry) → ((after_end end x).tag ≡ x.tag) × ((after_end end x).mode ≡ x.mode)
 after_end-key Commit x = (refl, refl)
@@ -81,29 +114,15 @@ module _ (end : End) (old new : Slots) (place : ℕ) (walked : Walked end old ne
       ],
     )
 
-  walked-indexed : (index : Index) → IsIndexed old index → IsIndexed new index
-  walked-indexed index indexed =
-      record {
-        found = λ tag mode k is.
-            let found = found_at old index indexed tag mode k is in
-            elim (walked_some k found.0 found.1) [
-              | inl same ↦ from_and_some (λ y. is_of tag mode y ≡ true) (slot_at new k) found.0 same found.2
-              | inr left ↦
-                  let key = after_end-key end found.0 in
-                  from_and_some (λ y. is_of tag mode y ≡ true) (slot_at new k) (after_end end found.0) left.0 (keyed tag mode (after_end end found.0) found.0 key.0 key.1 found.2)
-            ];
-        kept = λ k y at.
-            let from = walked_from k y at in
-            elim from.2 [
-              | inl same ↦ indexed.kept k y (from.1 ∙ ap (λ x. Some x) same)
-              | inr left ↦
-                  let key = after_end-key end from.0 in
-                  let same = sym left.0 in
-                  (λ i. place_in index (same i).tag (same i).mode) ∙ ((λ i. place_in index (key.0 i) (key.1 i)) ∙ indexed.kept k from.0 from.1)
-            ];
-      } where
-        keyed : (tag : Tag) (mode : Mode) (y x : Entry) → y.tag ≡ x.tag → y.mode ≡ x.mode → is_of tag mode x ≡ true → is_of tag mode y ≡ true
-        keyed tag mode y x p q own = (λ i. is_of tag mode (record x { tag = p i; mode = q i })) ∙ own
+  walked_keys : (k : ℕ) → key_at new k ≡ key_at old k
+  walked_keys k =
+      elim (cases_lt k place) [
+        | inl before ↦ ap (option_map key_of) (walked.settled k before) ∙ mapped (slot_at old k)
+        | inr beyond ↦ ap (option_map key_of) (walked.others k beyond)
+      ] where
+        mapped : (o : Option Entry) → option_map key_of (option_map (after_end end) o) ≡ option_map key_of o
+        mapped None = refl
+        mapped (Some x) = let key = after_end-key end x in λ i. Some (key.0 i, key.1 i)
 
   walked-counted : ((k : ℕ) (x : Entry) → slot_at old k ≡ Some x → IsCounted x) → (k : ℕ) (y : Entry) → slot_at new k ≡ Some y → IsCounted y
   walked-counted counted k y at =
@@ -132,11 +151,11 @@ length-present_alike (None ∷ a) (Some y ∷ b) number alike = absurd (false≢
 length-present_alike (Some x ∷ a) (None ∷ b) number alike = absurd (false≢true (alike zero))
 
 pub kept-walked :
-    (end : End) (old new : Slots) (place : ℕ) (index : Index) (len max_local : ℕ) (progress : Progress) →
+    (end : End) (old new : Slots) (place : ℕ) (index : Notes) (len max_local : ℕ) (progress : Progress) →
     Walked end old new place → IsKept old index len max_local progress → IsKept new index len max_local (with_reached end place progress)
 kept-walked end old new place index len max_local progress walked kept =
     record {
-      indexed = walked-indexed end old new place walked index kept.indexed;
+      indexed = indexed-alike old new index (walked_keys end old new place walked) kept.indexed;
       counted = walked-counted end old new place walked kept.counted;
       number = kept.number ∙ sym (length-present_alike old new walked.number (walked_alike end old new place walked));
       within = kept.within;
@@ -200,7 +219,7 @@ from_present P (Some x ∷ slots) all zero e at = let same : x ≡ e = cc in sub
 from_present P (Some x ∷ slots) all (suc k) e at = from_present P slots all.1 k e at
 
 pub kept-compact :
-    (old new : Slots) (index index' : Index) (len max_local : ℕ) (progress : Progress) →
+    (old new : Slots) (index index' : Notes) (len max_local : ℕ) (progress : Progress) →
     IsKept old index len max_local progress → IsIndexed new index' → present new ≡ present old → IsKept new index' len max_local at_start
 kept-compact old new index index' len max_local progress kept indexed same =
     record {
@@ -218,17 +237,52 @@ kept-compact old new index index' len max_local progress kept indexed same =
 -- ---- an index with the same places
 
 pub kept-index :
-    (slots slots' : Slots) (index index' : Index) (len max_local : ℕ) (progress : Progress) →
-    IsKept slots index len max_local progress → slots' ≡ slots → ((t : Tag) (m : Mode) → place_in index' t m ≡ place_in index t m) → IsKept slots' index' len max_local progress
-kept-index slots slots' index index' len max_local progress kept same places =
+    (slots slots' : Slots) (index index' : Notes) (len max_local : ℕ) (progress : Progress) →
+    IsKept slots index len max_local progress → slots' ≡ slots → HasSameNotes index index' → IsKept slots' index' len max_local progress
+kept-index slots slots' index index' len max_local progress kept same notes =
     subst (λ (s : Slots). IsKept s index' len max_local progress) (sym same)
     (record {
-      indexed = record {
-        found = λ t m k is. kept.indexed.found t m k (sym (places t m) ∙ is);
-        kept = λ k e at. places e.tag e.mode ∙ kept.indexed.kept k e at;
-      };
+      indexed = record { noted = λ h p. notes h p ∙ kept.indexed.noted h p; once = kept.indexed.once };
       counted = kept.counted;
       number = kept.number;
       within = kept.within;
       past = kept.past;
+    })
+
+-- ---- nothing at all
+
+pub table-empty : (index : Notes) (max_local : ℕ) → ((h p : ℕ) → times index h p ≡ 0) → IsTable [] index 0 max_local at_start None
+table-empty index max_local none =
+    record {
+      kept = record {
+        indexed = record { noted = none; once = λ i j key at_i at_j. absurd (no_key i key at_i) };
+        counted = λ k e at. absurd (no_entry k e at);
+        number = refl;
+        within = omega arith;
+        past = at_first;
+      };
+      few = omega arith;
+      remembered = tt;
+    } where
+      no_entry : (k : ℕ) (e : Entry) → slot_at [] k ≡ Some e → ⊥
+      no_entry k e at = (let bad : None ≡ Some e = at in cc)
+
+      no_key : (k : ℕ) (key : Tag × Mode) → key_at [] k ≡ Some key → ⊥
+      no_key k key at = (let bad : None ≡ Some key = at in cc)
+
+      at_first : (end : End) → IsPast end [] (reached end at_start)
+      at_first Commit = past-none Commit []
+      at_first Abort = past-none Abort []
+      at_first Close = past-none Close []
+
+-- the same slots, and an index with the same places
+pub table-index :
+    (es es' : List Entry) (index index' : Notes) (len max_local : ℕ) (progress : Progress) (missing : Option Missing) →
+    IsTable es index len max_local progress missing → es' ≡ es → HasSameNotes index index' → IsTable es' index' len max_local progress missing
+table-index es es' index index' len max_local progress missing table same notes =
+    subst (λ (l : List Entry). IsTable l index' len max_local progress missing) (sym same)
+    (record {
+      kept = kept-index (opened es) (opened es) index index' len max_local progress table.kept refl notes;
+      few = table.few;
+      remembered = table.remembered;
     })

@@ -5,13 +5,15 @@ use Rattle.std.specs.List.{AllByRecursion, IsDistinct}
 use Rattle.std.proofs.lemmas.Bool.{cases_Bool, cases_lt}
 use Rattle.std.proofs.lemmas.Map.Keys.{IsDistinct-cons}
 use Rattle.std.proofs.lemmas.List.Elements.{All-from_recursion}
+use Rattle.place_index.specs.Notes.{Notes}
 use Rattle.local_locks.specs.declared.records.Entry.{Entry}
 use Rattle.local_locks.specs.declared.ends.End.{End}
 use Rattle.local_locks.specs.declared.ends.End.TheVariants.{Commit, Abort, Close}
 use Rattle.local_locks.specs.declared.ends.Progress.{Progress}
 use Rattle.local_locks.specs.Owned.{IsWellOwned, IsCounted, are_of_same, is_ended, after_end}
-use Rattle.local_locks.specs.Slots.{Slots, Index, slot_at, present, IsPast, IsKept, reached, with_reached, back_to}
-use Rattle.local_locks.proofs.SlotLaws.{if_some, at_some, placed}
+use Rattle.local_locks.specs.Slots.{Slots, slot_at, present, IsPast, IsKept, reached, with_reached, back_to}
+use Rattle.local_locks.proofs.SlotLaws.{if_some, at_some, is_of-own}
+use Rattle.local_locks.proofs.IndexLaws.{own_key}
 use Rattle.local_locks.proofs.EndLaws.{Keeps, Keeps-after_end, after_end-after_end, is_ended-after_end}
 
 -- ---- a table is well owned
@@ -30,7 +32,7 @@ distinct_present (Some e ∷ slots) apart =
     (all_present (λ b. are_of_same e b ≡ false) slots (λ k b at. apart zero (suc k) e b (omega arith) refl at))
     (distinct_present slots (λ i j a b less. apart (suc i) (suc j) a b (omega arith)))
 
-pub well_owned : (slots : Slots) (index : Index) (len max_local : ℕ) (progress : Progress) (room : ℕ) → IsKept slots index len max_local progress → IsWellOwned (record { entries = present slots; room = room; max_local = max_local })
+pub well_owned : (slots : Slots) (index : Notes) (len max_local : ℕ) (progress : Progress) (room : ℕ) → IsKept slots index len max_local progress → IsWellOwned (record { entries = present slots; room = room; max_local = max_local })
 well_owned slots index len max_local progress room kept =
     record {
       once = distinct_present slots apart;
@@ -41,9 +43,8 @@ well_owned slots index len max_local progress room kept =
       apart i j a b less at_i at_j =
           elim (cases_Bool (are_of_same a b)) [
             | inl same ↦
-                let both : Some i ≡ Some j = sym (placed slots index kept.indexed b.tag b.mode i a at_i same) ∙ kept.indexed.kept j b at_j in
-                let equal : i ≡ j = cc in
-                absurd (omega arith)
+                let equal = kept.indexed.once i j (b.tag, b.mode) (own_key slots i a b.tag b.mode at_i same) (own_key slots j b b.tag b.mode at_j (is_of-own b)) in
+                absurd (omega (arith, equal))
             | inr other ↦ other
           ]
 

@@ -1,5 +1,7 @@
-pub mod Keys
 pub mod SlotLaws
+pub mod IndexLaws
+pub mod OpenLaws
+pub mod LookLaws
 pub mod SlotSteps
 pub mod EndLaws
 pub mod KeptLaws

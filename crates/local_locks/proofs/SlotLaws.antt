@@ -10,7 +10,7 @@ use Rattle.modes_core.specs.Tag.{tag_eq}
 use Rattle.modes_core.proofs.Laws.{tag_eq-refl, tag_eq-same, mode_eq-refl, mode_eq-same}
 use Rattle.local_locks.specs.declared.records.Entry.{Entry}
 use Rattle.local_locks.specs.Owned.{is_of, entry_of, change, without}
-use Rattle.local_locks.specs.Slots.{Slots, Index, slot_at, present, is_key, place_in, IsIndexed}
+use Rattle.local_locks.specs.Slots.{Slots, slot_at, present, is_key}
 
 -- ---- options and tests
 
@@ -48,6 +48,23 @@ is_key-same tag mode t m own =
 pub is_key-own : (tag : Tag) (mode : Mode) → is_key tag mode (tag, mode) ≡ true
 is_key-own tag mode = λ i. tag_eq-refl tag i && mode_eq-refl mode i
 
+-- two tests of one entry
+pub key-is_of : (tag : Tag) (mode : Mode) (e : Entry) → is_key tag mode (e.tag, e.mode) ≡ is_of tag mode e
+key-is_of tag mode e =
+    elim (cases_Bool (is_of tag mode e)) [
+      | inl own ↦
+          let both = is_of-same tag mode e own in
+          (λ i. is_key tag mode (both.0 i, both.1 i)) ∙ (is_key-own tag mode ∙ sym own)
+      | inr other ↦
+          elim (cases_Bool (is_key tag mode (e.tag, e.mode))) [
+            | inl key ↦
+                let same = is_key-same tag mode e.tag e.mode key in
+                let own : is_of tag mode e ≡ true = (λ i. is_of (same.0 i) (same.1 i) e) ∙ is_of-own e in
+                absurd (false≢true (sym other ∙ own))
+            | inr apart ↦ apart ∙ sym other
+          ]
+    ]
+
 -- ---- no slot, or no other slot, has the object and mode
 
 abbrev pub NoneOf : Tag → Mode → Slots → Type 0
@@ -68,6 +85,22 @@ entry_of-none tag mode [] none = refl
 entry_of-none tag mode (None ∷ slots) none = entry_of-none tag mode slots (λ k. none (suc k))
 entry_of-none tag mode (Some e ∷ slots) none =
     ap (λ b. cond b (Some e) (entry_of (present slots) tag mode)) (none zero) ∙ entry_of-none tag mode slots (λ k. none (suc k))
+
+-- and where it is not found, no slot has it
+pub none_of : (tag : Tag) (mode : Mode) (slots : Slots) → entry_of (present slots) tag mode ≡ None → (k : ℕ) (x : Entry) → slot_at slots k ≡ Some x → is_of tag mode x ≡ false
+none_of tag mode [] none k x at = absurd (let bad : None ≡ Some x = at in cc)
+none_of tag mode (None ∷ slots) none zero x at = absurd (let bad : None ≡ Some x = at in cc)
+none_of tag mode (None ∷ slots) none (suc k) x at = none_of tag mode slots none k x at
+none_of tag mode (Some e ∷ slots) none zero x at =
+    elim (cases_Bool (is_of tag mode e)) [
+      | inl own ↦ absurd (let bad : Some e ≡ None = sym (ap (λ b. cond b (Some e) (entry_of (present slots) tag mode)) own) ∙ none in cc)
+      | inr other ↦ let same : x ≡ e = cc in ap (is_of tag mode) same ∙ other
+    ]
+none_of tag mode (Some e ∷ slots) none (suc k) x at =
+    elim (cases_Bool (is_of tag mode e)) [
+      | inl own ↦ absurd (let bad : Some e ≡ None = sym (ap (λ b. cond b (Some e) (entry_of (present slots) tag mode)) own) ∙ none in cc)
+      | inr other ↦ none_of tag mode slots (sym (ap (λ b. cond b (Some e) (entry_of (present slots) tag mode)) other) ∙ none) k x at
+    ]
 
 change-none : (f : Entry → Entry) (tag : Tag) (mode : Mode) (slots : Slots) → NoneOf tag mode slots → change f (present slots) tag mode ≡ present slots
 change-none f tag mode [] none = refl
@@ -149,112 +182,6 @@ slot_at-within [] place e at = absurd (let no : None ≡ Some e = at in cc)
 slot_at-within (x ∷ slots) zero e at = omega arith
 slot_at-within (x ∷ slots) (suc place) e at = let h : place < length slots = slot_at-within slots place e at in omega arith
 
--- ---- what an exact index says
-
--- the index finds the entry that a slot has
-pub placed : (slots : Slots) (index : Index) → IsIndexed slots index → (tag : Tag) (mode : Mode) (place : ℕ) (e : Entry) → slot_at slots place ≡ Some e → is_of tag mode e ≡ true → place_in index tag mode ≡ Some place
-placed slots index indexed tag mode place e at own =
-    let same = is_of-same tag mode e own in
-    (λ i. place_in index (sym same.0 i) (sym same.1 i)) ∙ indexed.kept place e at
-
-pub none_else : (slots : Slots) (index : Index) → IsIndexed slots index → (tag : Tag) (mode : Mode) (place : ℕ) → place_in index tag mode ≡ Some place → NoneElse tag mode slots place
-none_else slots index indexed tag mode place is k apart = if_some _ (slot_at slots k) at_entry where
-  at_entry : (x : Entry) → slot_at slots k ≡ Some x → is_of tag mode x ≡ false
-  at_entry x at =
-      elim (cases_Bool (is_of tag mode x)) [
-        | inl own ↦
-            let both : Some k ≡ Some place = sym (placed slots index indexed tag mode k x at own) ∙ is in
-            let same : k ≡ place = cc in
-            absurd (apart same)
-        | inr other ↦ other
-      ]
-
-pub none_of : (slots : Slots) (index : Index) → IsIndexed slots index → (tag : Tag) (mode : Mode) → place_in index tag mode ≡ None → NoneOf tag mode slots
-none_of slots index indexed tag mode is k = if_some _ (slot_at slots k) at_entry where
-  at_entry : (x : Entry) → slot_at slots k ≡ Some x → is_of tag mode x ≡ false
-  at_entry x at =
-      elim (cases_Bool (is_of tag mode x)) [
-        | inl own ↦
-            let both : Some k ≡ None = sym (placed slots index indexed tag mode k x at own) ∙ is in
-            absurd (cc)
-        | inr other ↦ other
-      ]
-
--- a place that the index has is that of an entry
-pub found_at : (slots : Slots) (index : Index) → IsIndexed slots index → (tag : Tag) (mode : Mode) (place : ℕ) → place_in index tag mode ≡ Some place → (e : Entry) × (slot_at slots place ≡ Some e) × (is_of tag mode e ≡ true)
-found_at slots index indexed tag mode place is = and_some _ (slot_at slots place) (indexed.found tag mode place is)
-
-pub found_entry : (slots : Slots) (index : Index) → IsIndexed slots index → (tag : Tag) (mode : Mode) (place : ℕ) (e : Entry) → place_in index tag mode ≡ Some place → slot_at slots place ≡ Some e → entry_of (present slots) tag mode ≡ Some e
-found_entry slots index indexed tag mode place e is at =
-    entry_of-at tag mode slots place e at
-    (subst (λ o. IfSome o (λ x. is_of tag mode x ≡ true)) at (if_found (slot_at slots place) (indexed.found tag mode place is)))
-    (none_else slots index indexed tag mode place is) where
-      if_found : (o : Option Entry) → IsSomeAnd o (λ x. is_of tag mode x ≡ true) → IfSome o (λ x. is_of tag mode x ≡ true)
-      if_found None never = tt
-      if_found (Some x) own = own
-
-pub found_own : (slots : Slots) (index : Index) → IsIndexed slots index → (tag : Tag) (mode : Mode) (place : ℕ) (e : Entry) → place_in index tag mode ≡ Some place → slot_at slots place ≡ Some e → is_of tag mode e ≡ true
-found_own slots index indexed tag mode place e is at =
-    let found = found_at slots index indexed tag mode place is in
-    let both : Some found.0 ≡ Some e = sym found.1 ∙ at in
-    let same : found.0 ≡ e = cc in
-    ap (is_of tag mode) (sym same) ∙ found.2
-
--- ---- an exact index stays so
-
-pub key-is_of : (tag : Tag) (mode : Mode) (e : Entry) → is_key tag mode (e.tag, e.mode) ≡ is_of tag mode e
-key-is_of tag mode e =
-    elim (cases_Bool (is_of tag mode e)) [
-      | inl own ↦
-          let both = is_of-same tag mode e own in
-          (λ i. is_key tag mode (both.0 i, both.1 i)) ∙ (is_key-own tag mode ∙ sym own)
-      | inr other ↦
-          elim (cases_Bool (is_key tag mode (e.tag, e.mode))) [
-            | inl key ↦
-                let same = is_key-same tag mode e.tag e.mode key in
-                let own : is_of tag mode e ≡ true = (λ i. is_of (same.0 i) (same.1 i) e) ∙ is_of-own e in
-                absurd (false≢true (sym other ∙ own))
-            | inr apart ↦ apart ∙ sym other
-          ]
-    ]
-
--- The index changes at one object and mode, to the place of its entry if there is one, and the others stay where they are.
-pub reindexed :
-    (slots slots' : Slots) (index index' : Index) (tag : Tag) (mode : Mode) (w : Option ℕ) →
-    IsIndexed slots index →
-    (places : (t : Tag) (m : Mode) → place_in index' t m ≡ cond (is_key tag mode (t, m)) w (place_in index t m)) →
-    (stay : (k : ℕ) (x : Entry) → is_of tag mode x ≡ false → slot_at slots k ≡ Some x → slot_at slots' k ≡ Some x) →
-    (came : (k : ℕ) (x : Entry) → is_of tag mode x ≡ false → slot_at slots' k ≡ Some x → slot_at slots k ≡ Some x) →
-    (own : (k : ℕ) (x : Entry) → is_of tag mode x ≡ true → slot_at slots' k ≡ Some x → w ≡ Some k) →
-    (there : (k : ℕ) → w ≡ Some k → IsSomeAnd (slot_at slots' k) (λ x. is_of tag mode x ≡ true)) →
-    IsIndexed slots' index'
-reindexed slots slots' index index' tag mode w indexed places stay came own there = record { found = found; kept = kept } where
-  found : (t : Tag) (m : Mode) (place : ℕ) → place_in index' t m ≡ Some place → IsSomeAnd (slot_at slots' place) (λ e. is_of t m e ≡ true)
-  found t m place is =
-      elim (cases_Bool (is_key tag mode (t, m))) [
-        | inl key ↦
-            let same = is_key-same tag mode t m key in
-            let w_is : w ≡ Some place = sym (ap (λ b. cond b w (place_in index t m)) key) ∙ (sym (places t m) ∙ is) in
-            let at = there place w_is in
-            subst (λ a. IsSomeAnd (slot_at slots' place) (λ e. is_of a m e ≡ true)) same.0
-            (subst (λ x. IsSomeAnd (slot_at slots' place) (λ e. is_of tag x e ≡ true)) same.1 at)
-        | inr apart ↦
-            let old_is : place_in index t m ≡ Some place = sym (ap (λ b. cond b w (place_in index t m)) apart) ∙ (sym (places t m) ∙ is) in
-            let at = found_at slots index indexed t m place old_is in
-            from_and_some _ (slot_at slots' place) at.0 (stay place at.0 (not_own at.0 t m at.2 apart) at.1) at.2
-      ] where
-        not_own : (e : Entry) (t : Tag) (m : Mode) → is_of t m e ≡ true → is_key tag mode (t, m) ≡ false → is_of tag mode e ≡ false
-        not_own e t m its apart =
-            let both = is_of-same t m e its in
-            sym (key-is_of tag mode e) ∙ ((λ i. is_key tag mode (both.0 i, both.1 i)) ∙ apart)
-
-  kept : (place : ℕ) (e : Entry) → slot_at slots' place ≡ Some e → place_in index' e.tag e.mode ≡ Some place
-  kept place e at =
-      elim (cases_Bool (is_of tag mode e)) [
-        | inl its ↦ places e.tag e.mode ∙ (ap (λ b. cond b w (place_in index e.tag e.mode)) (key-is_of tag mode e ∙ its) ∙ own place e its at)
-        | inr other ↦ places e.tag e.mode ∙ (ap (λ b. cond b w (place_in index e.tag e.mode)) (key-is_of tag mode e ∙ other) ∙ indexed.kept place e (came place e other at))
-      ]
-
 -- ---- one slot written
 
 pub slot_at-set : (slots : Slots) (place : ℕ) (x : Option Entry) → place < length slots → slot_at (set slots place x) place ≡ x
@@ -268,28 +195,6 @@ slot_at-push slots x = get_or_push slots x None (length slots) refl
 
 pub slot_at-push_before : (slots : Slots) (x : Option Entry) (k : ℕ) → k < length slots → slot_at (slots ++ x ∷ []) k ≡ slot_at slots k
 slot_at-push_before slots x k within = get_or_append_left slots (x ∷ []) None k within
-
--- an entry with other counts in the same slot
-pub indexed-change : (slots : Slots) (index : Index) (place : ℕ) (e x : Entry) → IsIndexed slots index → slot_at slots place ≡ Some e → x.tag ≡ e.tag → x.mode ≡ e.mode → IsIndexed (set slots place (Some x)) index
-indexed-change slots index place e x indexed at same_tag same_mode =
-    record {
-      found = λ tag mode k is. elim (cases_eq k place) [
-        | inl same ↦
-            let found = found_at slots index indexed tag mode k is in
-            let both : Some found.0 ≡ Some e = sym found.1 ∙ (ap (slot_at slots) same ∙ at) in
-            let its : found.0 ≡ e = cc in
-            from_and_some _ _ x (ap (slot_at (set slots place (Some x))) same ∙ slot_at-set slots place (Some x) (slot_at-within slots place e at))
-            ((λ i. tag_eq (same_tag i) tag && mode_eq (same_mode i) mode) ∙ (ap (is_of tag mode) (sym its) ∙ found.2))
-        | inr apart ↦ subst (λ o. IsSomeAnd o (λ y. is_of tag mode y ≡ true)) (sym (slot_at-set_other slots place k (Some x) apart)) (indexed.found tag mode k is)
-      ];
-      kept = λ k y at_k. elim (cases_eq k place) [
-        | inl same ↦
-            let both : Some x ≡ Some y = sym (ap (slot_at (set slots place (Some x))) same ∙ slot_at-set slots place (Some x) (slot_at-within slots place e at)) ∙ at_k in
-            let its : y ≡ x = cc in
-            (λ i. place_in index (its i).tag (its i).mode) ∙ ((λ i. place_in index (same_tag i) (same_mode i)) ∙ (indexed.kept place e at ∙ ap (λ n. Some n) (sym same)))
-        | inr apart ↦ indexed.kept k y (sym (slot_at-set_other slots place k (Some x) apart) ∙ at_k)
-      ];
-    }
 
 -- ---- slots at the end that are empty
 
@@ -309,14 +214,6 @@ slot_at-take n slots none k =
       | inl below ↦ get_or-take n slots k None below
       | inr past ↦ slot_at-past (take n slots) k (omega (arith, length-take n slots)) ∙ sym (none k past)
     ]
-
--- slots with the same content at each place have the same index
-pub indexed-same : (slots slots' : Slots) (index : Index) → ((k : ℕ) → slot_at slots' k ≡ slot_at slots k) → IsIndexed slots index → IsIndexed slots' index
-indexed-same slots slots' index same indexed =
-    record {
-      found = λ tag mode k is. subst (λ o. IsSomeAnd o (λ y. is_of tag mode y ≡ true)) (sym (same k)) (indexed.found tag mode k is);
-      kept = λ k y at. indexed.kept k y (sym (same k) ∙ at);
-    }
 
 -- ---- an entry that moves down over empty slots
 
@@ -342,3 +239,9 @@ pub length-full : (slots : Slots) → ((k : ℕ) → k < length slots → IsSome
 length-full [] full = refl
 length-full (None ∷ slots) full = absurd (full zero (omega arith))
 length-full (Some e ∷ slots) full = ap (λ n. suc n) (length-full slots (λ k within. full (suc k) (omega arith)))
+
+-- no more entries than slots
+pub length-present-le : (slots : Slots) → length (present slots) ≤ length slots
+length-present-le [] = omega arith
+length-present-le (None ∷ slots) = omega (arith, length-present-le slots)
+length-present-le (Some e ∷ slots) = omega (arith, length-present-le slots)

@@ -1,17 +1,21 @@
-use Rattle.std.proofs.Common.{◌≡◌, ◌≢◌, ℕ, ◌+◌, ◌-◌, ◌<◌, true, not, cond, List, [], ◌∷◌, ◌++◌, length, set, refl, sym, ap, subst, ◌∙◌, inl, inr, arith}
+use Rattle.std.proofs.Common.{◌≡◌, ◌≢◌, ℕ, ◌+◌, ◌-◌, ◌<◌, true, not, ◌&&◌, cond, List, [], ◌∷◌, ◌++◌, length, set, refl, sym, ap, subst, ◌∙◌, inl, inr, arith}
 use Rattle.std.specs.Prelude.{Some, None, IfSome, is_some}
 use Rattle.std.specs.Option.{option_map_or}
 use Rattle.std.proofs.lemmas.Bool.{cases_Bool, cases_eq, cases_lt, eq-eqb, ne_eqb}
 use Rattle.modes_core.specs.declared.modes.Mode.{Mode}
+use Rattle.modes_core.specs.Mode.{mode_eq}
+use Rattle.modes_core.specs.Tag.{tag_eq}
 use Rattle.modes_core.specs.declared.tags.Tag.{Tag}
 use Rattle.modes_core.specs.declared.sessions.Owner.{Owner}
 use Rattle.modes_core.specs.declared.sessions.Owner.TheVariants.{Session, Transaction}
+use Rattle.place_index.specs.Notes.{Notes}
 use Rattle.local_locks.specs.declared.records.Entry.{Entry}
 use Rattle.local_locks.specs.declared.ends.End.{End}
 use Rattle.local_locks.specs.declared.ends.Progress.{Progress}
 use Rattle.local_locks.specs.Owned.{IsCounted, count_for, count_in_all, raised, lowered, new_entry, max_count, is_of, entry_of, has_entry, owner_count_of, total_of, change, without, with_one_more, with_one_less}
-use Rattle.local_locks.specs.Slots.{Slots, Index, slot_at, present, IsIndexed, IsPast, IsKept, reached, back_to}
-use Rattle.local_locks.proofs.SlotLaws.{is_of-same, placed, none_else, found_entry, change-at, length-present_set, slot_at-set, slot_at-set_other, slot_at-push_before, slot_at-past, slot_at-push, slot_at-within, present-push, indexed-change}
+use Rattle.local_locks.specs.Slots.{Slots, slot_at, present, IsIndexed, IsPast, IsKept, reached, back_to}
+use Rattle.local_locks.proofs.SlotLaws.{is_of-same, change-at, length-present_set, slot_at-set, slot_at-set_other, slot_at-push_before, slot_at-past, slot_at-push, slot_at-within, present-push}
+use Rattle.local_locks.proofs.IndexLaws.{none_else, found_entry, indexed-change}
 use Rattle.local_locks.proofs.EndLaws.{Keeps, Keeps-lowered}
 use Rattle.local_locks.proofs.KeptLaws.{past-back_to, past-fewer}
 use Rattle.std.proofs.lemmas.List.{length_push}
@@ -62,7 +66,7 @@ IsCounted-new tag mode Transaction = record { some = omega arith; transaction = 
 -- ---- what stands in the slots after a change to one entry
 
 pub kept-change :
-    (slots : Slots) (index : Index) (len max_local : ℕ) (progress progress' : Progress) (place : ℕ) (e x : Entry) →
+    (slots : Slots) (index : Notes) (len max_local : ℕ) (progress progress' : Progress) (place : ℕ) (e x : Entry) →
     IsKept slots index len max_local progress → slot_at slots place ≡ Some e → x.tag ≡ e.tag → x.mode ≡ e.mode → IsCounted x →
     ((end : End) → IsPast end (set slots place (Some x)) (reached end progress')) →
     IsKept (set slots place (Some x)) index len max_local progress'
@@ -85,7 +89,7 @@ kept-change slots index len max_local progress progress' place e x kept at same_
           ]
 
 pub kept-raised :
-    (slots : Slots) (index : Index) (len max_local : ℕ) (progress : Progress) (place : ℕ) (owner : Owner) (e : Entry) →
+    (slots : Slots) (index : Notes) (len max_local : ℕ) (progress : Progress) (place : ℕ) (owner : Owner) (e : Entry) →
     IsKept slots index len max_local progress → slot_at slots place ≡ Some e → count_for owner e < max_count →
     IsKept (set slots place (Some (raised owner e))) index len max_local (back_to place progress)
 kept-raised slots index len max_local progress place owner e kept at below =
@@ -96,7 +100,7 @@ kept-raised slots index len max_local progress place owner e kept at below =
     (λ k before. slot_at-set_other slots place k (Some (raised owner e)) (λ same. omega arith)) (kept.past end))
 
 pub kept-lowered :
-    (slots : Slots) (index : Index) (len max_local : ℕ) (progress : Progress) (place : ℕ) (owner : Owner) (e : Entry) →
+    (slots : Slots) (index : Notes) (len max_local : ℕ) (progress : Progress) (place : ℕ) (owner : Owner) (e : Entry) →
     IsKept slots index len max_local progress → slot_at slots place ≡ Some e → 0 < count_for owner e → count_in_all e ≢ 1 →
     IsKept (set slots place (Some (lowered owner e))) index len max_local progress
 kept-lowered slots index len max_local progress place owner e kept at some more =
@@ -115,7 +119,7 @@ kept-lowered slots index len max_local progress place owner e kept at some more 
 
 -- a new last entry
 pub kept-pushed :
-    (slots : Slots) (index index' : Index) (len max_local : ℕ) (progress : Progress) (e : Entry) →
+    (slots : Slots) (index index' : Notes) (len max_local : ℕ) (progress : Progress) (e : Entry) →
     IsKept slots index len max_local progress → IsIndexed (slots ++ Some e ∷ []) index' → IsCounted e → len < max_local →
     IsKept (slots ++ Some e ∷ []) index' (len + 1) max_local (back_to (length slots) progress)
 kept-pushed slots index index' len max_local progress e kept indexed counted_e below =
@@ -142,7 +146,7 @@ kept-pushed slots index index' len max_local progress e kept indexed counted_e b
 
 -- an entry gone
 pub kept-taken :
-    (slots slots' : Slots) (index index' : Index) (len max_local : ℕ) (progress : Progress) (place : ℕ) →
+    (slots slots' : Slots) (index index' : Notes) (len max_local : ℕ) (progress : Progress) (place : ℕ) →
     IsKept slots index len max_local progress → IsIndexed slots' index' →
     slot_at slots' place ≡ None → ((k : ℕ) → k ≢ place → slot_at slots' k ≡ slot_at slots k) → length (present slots) ≡ length (present slots') + 1 →
     IsKept slots' index' (len - 1) max_local progress
@@ -164,38 +168,36 @@ kept-taken slots slots' index index' len max_local progress place kept indexed g
 -- ---- what the entries are after it
 
 pub entries-raised :
-    (slots : Slots) (index : Index) (tag : Tag) (mode : Mode) (owner : Owner) (place : ℕ) (e : Entry) →
+    (slots : Slots) (index : Notes) (tag : Tag) (mode : Mode) (owner : Owner) (place : ℕ) (e : Entry) →
     IsIndexed slots index → slot_at slots place ≡ Some e → is_of tag mode e ≡ true →
     present (set slots place (Some (raised owner e))) ≡ with_one_more (present slots) tag mode owner
 entries-raised slots index tag mode owner place e indexed at own =
-    let where_it_is = placed slots index indexed tag mode place e at own in
-    let has : has_entry (present slots) tag mode ≡ true = ap (λ o. is_some o) (found_entry slots index indexed tag mode place e where_it_is at) in
-    change-at (raised owner) tag mode slots place e at own (none_else slots index indexed tag mode place where_it_is)
+    let has : has_entry (present slots) tag mode ≡ true = ap (λ o. is_some o) (found_entry slots index indexed tag mode place e at own) in
+    change-at (raised owner) tag mode slots place e at own (none_else slots index indexed tag mode place e at own)
     ∙ sym (ap (λ b. cond b (change (raised owner) (present slots) tag mode) (present slots ++ new_entry tag mode owner ∷ [])) has)
 
 pub entries-lowered :
-    (slots : Slots) (index : Index) (tag : Tag) (mode : Mode) (owner : Owner) (place : ℕ) (e : Entry) →
+    (slots : Slots) (index : Notes) (tag : Tag) (mode : Mode) (owner : Owner) (place : ℕ) (e : Entry) →
     IsIndexed slots index → slot_at slots place ≡ Some e → is_of tag mode e ≡ true → count_in_all e ≢ 1 →
     present (set slots place (Some (lowered owner e))) ≡ with_one_less (present slots) tag mode owner
 entries-lowered slots index tag mode owner place e indexed at own more =
-    let where_it_is = placed slots index indexed tag mode place e at own in
-    let found = found_entry slots index indexed tag mode place e where_it_is at in
+    let found = found_entry slots index indexed tag mode place e at own in
     let total = total-at (present slots) tag mode e found in
-    change-at (lowered owner) tag mode slots place e at own (none_else slots index indexed tag mode place where_it_is)
+    change-at (lowered owner) tag mode slots place e at own (none_else slots index indexed tag mode place e at own)
     ∙ sym (ap (λ b. cond b (without (present slots) tag mode) (change (lowered owner) (present slots) tag mode))
     (ne_eqb (total_of (present slots) tag mode) 1 (λ one. more (sym total ∙ one))))
 
 -- the total after it
 pub total-lowered :
-    (slots : Slots) (index : Index) (tag : Tag) (mode : Mode) (owner : Owner) (place : ℕ) (e : Entry) →
+    (slots : Slots) (index : Notes) (tag : Tag) (mode : Mode) (owner : Owner) (place : ℕ) (e : Entry) →
     IsIndexed slots index → slot_at slots place ≡ Some e → is_of tag mode e ≡ true → IsCounted (lowered owner e) →
     0 < total_of (present (set slots place (Some (lowered owner e)))) tag mode
 total-lowered slots index tag mode owner place e indexed at own counted =
     let key = lowered-key owner e in
     let still = indexed-change slots index place e (lowered owner e) indexed at key.0 key.1 in
     let here = slot_at-set slots place (Some (lowered owner e)) (slot_at-within slots place e at) in
-    let where_it_is = placed slots index indexed tag mode place e at own in
-    let found = found_entry (set slots place (Some (lowered owner e))) index still tag mode place (lowered owner e) where_it_is here in
+    let own' : is_of tag mode (lowered owner e) ≡ true = (λ i. tag_eq (key.0 i) tag && mode_eq (key.1 i) mode) ∙ own in
+    let found = found_entry (set slots place (Some (lowered owner e))) index still tag mode place (lowered owner e) here own' in
     let total = total-at (present (set slots place (Some (lowered owner e)))) tag mode (lowered owner e) found in
     let some = counted.some in
     omega (arith, total, some)

@@ -1,25 +1,32 @@
-use Rattle.std.specs.Prelude.{◌≡◌, ℕ, ◌<◌, ◌≤◌, Bool, true, false, ◌&&◌, List, filter_map, length, min, Option, Some, None, IfSome, IsSomeAnd, slice_index_or}
-use Rattle.std.specs.declared.hash.FoldHasher.{FoldHasher}
-use Rattle.std.specs.declared.hash.BuildHasherDefault.{BuildHasherDefault}
-use Rattle.std.specs.HashMap.{HashMap}
-use Rattle.std.specs.Map.{lookup}
+use Rattle.std.specs.Prelude.{◌≡◌, ℕ, ◌+◌, ◌*◌, ◌%◌, ◌^◌, ◌<◌, ◌≤◌, Bool, true, false, ◌&&◌, ◌==◌, List, map, filter_map, length, min, Option, Some, None, IfSome, IsSomeAnd, slice_index_or, if◌then◌else◌}
+use Rattle.std.specs.Option.{option_map}
 use Rattle.modes_core.specs.declared.modes.Mode.{Mode}
 use Rattle.modes_core.specs.declared.tags.Tag.{Tag}
-use Rattle.modes_core.specs.Mode.{mode_eq}
-use Rattle.modes_core.specs.Tag.{tag_eq}
+use Rattle.modes_core.specs.declared.tags.Tag.TheVariants.{Relation}
+use Rattle.modes_core.specs.declared.modes.Mode.TheVariants.{AccessShare}
+use Rattle.modes_core.specs.Mode.{number_of, mode_eq}
+use Rattle.modes_core.specs.Tag.{hash_of, tag_eq}
+use Rattle.place_index.specs.Notes.{Notes, times, no_place}
 use Rattle.local_locks.specs.declared.records.Entry.{Entry}
+use Rattle.local_locks.specs.declared.looks.Spot.{Spot}
+use Rattle.local_locks.specs.declared.looks.Spot.TheVariants.{At, Free}
+use Rattle.local_locks.specs.declared.looks.Missing.{Missing}
 use Rattle.local_locks.specs.declared.ends.Progress.{Progress}
 use Rattle.local_locks.specs.declared.ends.End.{End}
 use Rattle.local_locks.specs.declared.ends.End.TheVariants.{Commit, Abort, Close}
-use Rattle.local_locks.specs.Owned.{is_of, is_ended, after_end, IsCounted}
+use Rattle.local_locks.specs.Owned.{count_in_all, entry_of, is_of, is_ended, after_end, IsCounted}
 
 -- How the entries are kept: in slots in the order of making, where a slot whose entry is gone is empty, with an index
--- from object and mode to the slot's place.
+-- from the hash of object and mode to the slot's place. An empty slot has an entry with both counts 0.
 abbrev pub Slots : Type 0
 Slots = List (Option Entry)
 
-abbrev pub Index : Type 0
-Index = HashMap (Tag × Mode) ℕ (BuildHasherDefault FoldHasher)
+-- what is in a slot
+abbrev pub entry_in : Entry → Option Entry
+entry_in slot = if count_in_all slot == 0 then None else Some slot
+
+abbrev pub opened : List Entry → Slots
+opened slots = map entry_in slots
 
 -- what the slot at a place has; no slot is past the end
 abbrev pub slot_at : Slots → ℕ → Option Entry
@@ -29,18 +36,52 @@ slot_at slots place = slice_index_or slots place None
 abbrev pub present : Slots → List Entry
 present slots = filter_map (λ slot. slot) slots
 
--- whether a key of the index is this object and mode
+-- whether a key is this object and mode
 abbrev pub is_key : Tag → Mode → Tag × Mode → Bool
 is_key tag mode key = tag_eq tag key.0 && mode_eq mode key.1
 
--- where the index says that the entry of an object and mode is
-abbrev pub place_in : Index → Tag → Mode → Option ℕ
-place_in index tag mode = lookup (is_key tag mode) index.entries
+-- the hash of an object and mode: one step more of the object's
+unfoldable pub key_hash : Tag → Mode → ℕ
+key_hash tag mode = (hash_of tag * 31 + number_of mode) % 2 ^ 32
 
--- the index has the place of each entry, and nothing else
-pub record IsIndexed (slots : Slots) (index : Index) : Type 0 where
-  pub found : (tag : Tag) (mode : Mode) (place : ℕ) → place_in index tag mode ≡ Some place → IsSomeAnd (slot_at slots place) (λ entry. is_of tag mode entry ≡ true)
-  pub kept : (place : ℕ) (entry : Entry) → slot_at slots place ≡ Some entry → place_in index entry.tag entry.mode ≡ Some place
+-- the object and mode of the entry at a place
+abbrev pub key_at : Slots → ℕ → Option (Tag × Mode)
+key_at slots place = option_map (λ entry. (entry.tag, entry.mode)) (slot_at slots place)
+
+-- how often a place is noted under a hash, by the object and mode of its entry
+abbrev pub times_of : Option (Tag × Mode) → ℕ → ℕ
+times_of None hash = 0
+times_of (Some key) hash = if hash == key_hash key.0 key.1 then 1 else 0
+
+-- the index has the place of each entry, and nothing else; each object and mode is there once
+pub record IsIndexed (slots : Slots) (index : Notes) : Type 0 where
+  pub noted : (hash place : ℕ) → times index hash place ≡ times_of (key_at slots place) hash
+  pub once : (i j : ℕ) (key : Tag × Mode) → key_at slots i ≡ Some key → key_at slots j ≡ Some key → i ≡ j
+
+-- the slot at a place; past the end it is a blank one
+abbrev pub entry_at : List Entry → ℕ → Entry
+entry_at slots place = slice_index_or slots place (record { tag = Relation 0 0; mode = AccessShare; transaction = 0; session = 0 })
+
+-- the entry of the object and mode is at this place
+pub record IsPlaceOf (slots : List Entry) (tag : Tag) (mode : Mode) (place : ℕ) : Type 0 where
+  pub within : place < length slots
+  pub there : slot_at (opened slots) place ≡ Some (entry_at slots place)
+  pub own : is_of tag mode (entry_at slots place) ≡ true
+  pub found : entry_of (present (opened slots)) tag mode ≡ Some (entry_at slots place)
+
+-- the object and mode has no entry, and this hash
+pub record IsMissing (slots : List Entry) (tag : Tag) (mode : Mode) (hash : ℕ) : Type 0 where
+  pub absent : entry_of (present (opened slots)) tag mode ≡ None
+  pub hashed : hash ≡ key_hash tag mode
+
+-- what a look finds
+abbrev pub IsSpot : List Entry → Tag → Mode → Spot → Type 0
+IsSpot slots tag mode (At place) = IsPlaceOf slots tag mode place
+IsSpot slots tag mode (Free hash) = IsMissing slots tag mode hash
+
+-- what a table remembers of a look that found nothing
+abbrev pub IsRemembered : List Entry → Option Missing → Type 0
+IsRemembered slots missing = IfSome missing (λ m. IsMissing slots m.tag m.mode m.hash)
 
 -- The end has nothing to do before this place: it keeps each entry there, with its counts.
 abbrev pub IsPast : End → Slots → ℕ → Type 0
@@ -68,9 +109,15 @@ at_start = record { commit = 0; abort = 0; close = 0 }
 
 -- What a table keeps: the index is exact, each entry is counted, their number is known and not above the limit, and no end
 -- has anything to do before the place that it has come to.
-pub record IsKept (slots : Slots) (index : Index) (len max_local : ℕ) (progress : Progress) : Type 0 where
+pub record IsKept (slots : Slots) (index : Notes) (len max_local : ℕ) (progress : Progress) : Type 0 where
   pub indexed : IsIndexed slots index
   pub counted : (place : ℕ) (entry : Entry) → slot_at slots place ≡ Some entry → IsCounted entry
   pub number : len ≡ length (present slots)
   pub within : len ≤ max_local
   pub past : (end : End) → IsPast end slots (reached end progress)
+
+-- The same of a table, whose slots are few enough that each place can be noted, and what it remembers of a look.
+pub record IsTable (slots : List Entry) (index : Notes) (len max_local : ℕ) (progress : Progress) (missing : Option Missing) : Type 0 where
+  pub kept : IsKept (opened slots) index len max_local progress
+  pub few : length slots ≤ no_place
+  pub remembered : IsRemembered slots missing

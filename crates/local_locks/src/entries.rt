@@ -7,25 +7,25 @@ use std::marker::Model;
 /// The entries of a table that are left to give, in the order of making. Contracts see their list.
 #[derive(Drop)]
 pub struct Entries<'a> {
-    slots: &'a [Option<Entry>],
+    slots: &'a [Entry],
 }
 
 impl<'a> Model for Entries<'a> {
     ghost use Rattle.std.specs.Prelude.{List};
     ghost use Rattle.local_locks.specs.declared.records.Entry.{Entry};
-    ghost use Rattle.local_locks.specs.Slots.{present};
+    ghost use Rattle.local_locks.specs.Slots.{opened, present};
 
     ghost Value = { List Entry };
 
-    ghost view = { λ s. present s.slots.now };
+    ghost view = { λ s. present (opened s.slots.now) };
 }
 
 impl<'a> Entries<'a> {
-    ghost use Rattle.local_locks.specs.Slots.{present};
+    ghost use Rattle.local_locks.specs.Slots.{opened, present};
 
     /// The entries of these slots.
-    pub(crate) fn of(slots: &'a [Option<Entry>]) -> Self
-        ensures { result ≡ present slots.now }
+    pub(crate) fn of(slots: &'a [Entry]) -> Self
+        ensures { result ≡ present (opened slots.now) }
     {
         Entries { slots }
     }
@@ -41,8 +41,8 @@ impl<'a> Iterator for Entries<'a> {
     fn next(&mut self) -> Option<Entry> {
         while let Some((first, others)) = self.slots.split_first() {
             self.slots = others;
-            if let Some(entry) = *first {
-                return Some(entry);
+            if first.is_held() {
+                return Some(*first);
             }
         }
         None

@@ -6,7 +6,7 @@
 pub mod answers;
 pub mod ends;
 pub mod entries;
-mod index;
+mod looks;
 pub mod records;
 mod slots;
 pub mod tables;

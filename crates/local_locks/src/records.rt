@@ -1,4 +1,4 @@
-ghost use Rattle.std.specs.Prelude.{◌≡◌, ◌+◌, ◌<◌};
+ghost use Rattle.std.specs.Prelude.{◌≡◌, ◌≢◌, ◌↔◌, ◌+◌, ◌<◌, IsTrue};
 
 use modes_core::{Mode, Owner, Tag};
 
@@ -15,7 +15,8 @@ pub struct Entry {
 }
 
 impl Entry {
-    ghost use Rattle.local_locks.specs.Owned.{count_for, count_in_all, raised, lowered, new_entry, max_count};
+    ghost use Rattle.local_locks.specs.Owned.{count_for, count_in_all, is_of, raised, lowered, new_entry, max_count, after_end};
+    ghost use Rattle.local_locks.specs.declared.ends.End.TheVariants.{Close};
 
     /// The entry of a first acquire.
     pub(crate) fn new(tag: Tag, mode: Mode, owner: Owner) -> Self
@@ -48,6 +49,31 @@ impl Entry {
         ensures { result ≡ count_in_all self }
     {
         u32::from(self.transaction) + u32::from(self.session)
+    }
+
+    /// Whether it has a count.
+    pub(crate) fn is_held(&self) -> bool
+        ensures { IsTrue result ↔ (count_in_all self.now ≢ 0) }
+    {
+        self.transaction != 0 || self.session != 0
+    }
+
+    /// Whether it is of this object and mode.
+    pub(crate) fn is_of(&self, tag: &Tag, mode: Mode) -> bool
+        ensures { result ≡ is_of tag.now mode self.now }
+    {
+        self.tag.is_same(*tag) && self.mode.is_same(mode)
+    }
+
+    /// The entry with no count.
+    pub(crate) fn emptied(self) -> Self
+        ensures { result ≡ after_end Close self }
+    {
+        Entry {
+            transaction: 0,
+            session: 0,
+            ..self
+        }
     }
 
     /// The entry with one count more of this owner.

@@ -2,37 +2,43 @@ ghost use Rattle.std.specs.Prelude.{◌≡◌, ◌+◌, ◌<◌, ◌≤◌, ◌�
 ghost use Rattle.local_locks.specs.Owned.{max_count, has_entry, owner_count_of, total_of, with_one_more, with_one_less, acquired_as, ended_by, left_by, with_next_ended, IsWellOwned, IsReserved};
 
 use crate::ends::Progress;
-use crate::index::{Index, reserve_place};
-use crate::slots::{compact, find, push_entry, settle, take_out};
+use crate::looks::{Missing, Spot, look, look_again};
+use crate::slots::{compact, lower, push_entry, raise, settle, take_out};
 use crate::{Acquired, End, Entries, Entry, Unlocked};
 use modes_core::{Mode, Owner, Refusal, Tag};
+use place_index::PlaceIndex;
 use std::alloc::Global;
-use std::collections::HashMap;
 use std::marker::Model;
+
+/// How many slots there may be, so that the place of each can be noted.
+const MAX_SLOTS: usize = u32::MAX as usize;
 
 /// What a session holds, how often and for which owner (the hash table `LockMethodLocalHash` in
 /// lock.c). Contracts see the entries in the order of making, how many more can be made with no growth,
 /// and how many there may be.
 #[derive(Drop)]
 pub struct LocalTable {
-    slots: Vec<Option<Entry>>,
-    index: Index,
+    slots: Vec<Entry>,
+    index: PlaceIndex,
     len: usize,
     max_local: u32,
     progress: Progress,
+    // Where the entry was that was looked for last, and what was looked for last and isn't there.
+    last: usize,
+    missing: Option<Missing>,
 }
 
 impl Model for LocalTable {
     ghost use Rattle.std.specs.Prelude.{◌-◌, min, length, vec_capacity};
-    ghost use Rattle.std.specs.HashMap.{spare};
+    ghost use Rattle.place_index.specs.Notes.{no_place};
     ghost use Rattle.local_locks.specs.Owned.{Owned};
-    ghost use Rattle.local_locks.specs.Slots.{present, IsKept};
+    ghost use Rattle.local_locks.specs.Slots.{opened, present, IsTable};
 
     ghost Value = { Owned };
 
-    ghost view = { λ t. record { entries = present t.slots.items; room = min (vec_capacity t.slots - length t.slots.items) (spare t.index); max_local = t.max_local } };
+    ghost view = { λ t. record { entries = present (opened t.slots.items); room = min (min (vec_capacity t.slots) no_place - length t.slots.items) t.index.room; max_local = t.max_local } };
 
-    ghost invariant = { λ t. IsKept t.slots.items t.index t.len t.max_local t.progress };
+    ghost invariant = { λ t. IsTable t.slots.items t.index t.len t.max_local t.progress t.missing };
 }
 
 impl LocalTable {
@@ -49,15 +55,18 @@ impl LocalTable {
         let Ok(slots) = Vec::with_capacity(alloc, 1) else {
             return Err(Refusal::NoMemory);
         };
-        let Ok(index) = HashMap::with_capacity(alloc, 1) else {
+        let mut index = PlaceIndex::new(alloc);
+        if index.reserve().is_err() {
             return Err(Refusal::NoMemory);
-        };
+        }
         Ok(LocalTable {
             slots,
             index,
             len: 0,
             max_local,
             progress: Progress::start(),
+            last: 0,
+            missing: None,
         })
     }
 
@@ -66,9 +75,9 @@ impl LocalTable {
         ensures total { result ≡ total_of self.now.entries tag mode }
         ensures well_owned { IsWellOwned self.now }
     {
-        match find(&self.slots, &self.index, tag, mode) {
-            Some((_, entry)) => entry.total(),
-            None => 0,
+        match look(&self.slots, &self.index, self.last, &tag, mode) {
+            Spot::At(place) => self.slots[place].total(),
+            Spot::Free(_) => 0,
         }
     }
 
@@ -77,9 +86,9 @@ impl LocalTable {
         ensures count { result ≡ owner_count_of self.now.entries tag mode owner }
         ensures well_owned { IsWellOwned self.now }
     {
-        match find(&self.slots, &self.index, tag, mode) {
-            Some((_, entry)) => entry.count(owner),
-            None => 0,
+        match look(&self.slots, &self.index, self.last, &tag, mode) {
+            Spot::At(place) => self.slots[place].count(owner),
+            Spot::Free(_) => 0,
         }
     }
 
@@ -107,19 +116,22 @@ impl LocalTable {
         ensures max_local { self.new.max_local ≡ self.old.max_local }
         ensures well_owned { IsWellOwned self.new }
     {
-        match find(&self.slots, &self.index, tag, mode) {
-            Some((_, entry)) => {
-                if entry.count(owner) == u16::MAX {
+        match look(&self.slots, &self.index, self.last, &tag, mode) {
+            Spot::At(place) => {
+                self.last = place;
+                if self.slots[place].count(owner) == u16::MAX {
                     Err(Refusal::CountFull)
                 } else {
                     Ok(())
                 }
             }
-            None => {
+            Spot::Free(hash) => {
                 if self.len as u64 == u64::from(self.max_local) {
                     Err(Refusal::LocalFull)
                 } else {
-                    self.make_room()
+                    self.make_room()?;
+                    self.missing = Some(Missing { tag, mode, hash });
+                    Ok(())
                 }
             }
         }
@@ -136,10 +148,13 @@ impl LocalTable {
         ensures well_owned { IsWellOwned self.new }
     {
         self.use_slots_again();
+        if self.slots.len() == MAX_SLOTS {
+            return Err(Refusal::NoMemory);
+        }
         if self.slots.reserve(1).is_err() {
             return Err(Refusal::NoMemory);
         }
-        if reserve_place(&mut self.index).is_err() {
+        if self.index.reserve().is_err() {
             return Err(Refusal::NoMemory);
         }
         Ok(())
@@ -151,9 +166,11 @@ impl LocalTable {
         ensures room { self.old.room ≤ self.new.room }
         ensures max_local { self.new.max_local ≡ self.old.max_local }
     {
-        if self.slots.len() == self.slots.capacity() && self.len <= self.slots.len() / 2 {
+        let slots = self.slots.len();
+        if slots == MAX_SLOTS || slots == self.slots.capacity() && self.len <= slots / 2 {
             compact(&mut self.slots, &mut self.index);
             self.progress = Progress::start();
+            self.missing = None;
         }
     }
 
@@ -166,20 +183,28 @@ impl LocalTable {
         ensures max_local { self.new.max_local ≡ self.old.max_local }
         ensures well_owned { IsWellOwned self.new }
     {
-        match find(&self.slots, &self.index, tag, mode) {
-            Some((place, entry)) => {
-                self.slots[place] = Some(entry.raised(owner));
+        match look_again(
+            &self.slots,
+            &self.index,
+            self.last,
+            &self.missing,
+            &tag,
+            mode,
+        ) {
+            Spot::At(place) => {
+                let entry = self.slots[place];
+                self.missing = None;
+                raise(&mut self.slots, place, owner, entry);
                 self.progress = self.progress.back_to(place);
                 Acquired::AlreadyHeld
             }
-            None => {
+            Spot::Free(hash) => {
                 let place = self.slots.len();
-                push_entry(
-                    &mut self.slots,
-                    &mut self.index,
-                    Entry::new(tag, mode, owner),
-                );
+                let entry = Entry::new(tag, mode, owner);
+                self.missing = None;
+                push_entry(&mut self.slots, &mut self.index, hash, entry);
                 self.len += 1;
+                self.last = place;
                 self.progress = self.progress.back_to(place);
                 Acquired::Granted
             }
@@ -198,18 +223,20 @@ impl LocalTable {
         ensures max_local { self.new.max_local ≡ self.old.max_local }
         ensures well_owned { IsWellOwned self.new }
     {
-        let Some((place, entry)) = find(&self.slots, &self.index, tag, mode) else {
+        let Spot::At(place) = look(&self.slots, &self.index, self.last, &tag, mode) else {
             return Err(Refusal::NotHeld);
         };
+        let entry = self.slots[place];
         if entry.count(owner) == 0 {
             return Err(Refusal::NotHeld);
         }
+        self.missing = None;
         if entry.total() == 1 {
             take_out(&mut self.slots, &mut self.index, place, entry);
             self.len -= 1;
             Ok(Unlocked::Released)
         } else {
-            self.slots[place] = Some(entry.lowered(owner));
+            lower(&mut self.slots, place, owner, entry);
             Ok(Unlocked::StillHeld)
         }
     }
@@ -229,13 +256,14 @@ impl LocalTable {
         ensures max_local { self.new.max_local ≡ self.old.max_local }
         ensures well_owned { IsWellOwned self.new }
     {
+        self.missing = None;
         let from = self.progress.reached(end).min(self.slots.len());
         let place = settle(&mut self.slots, end, from);
         self.progress = self.progress.with_reached(end, place);
         if place == self.slots.len() {
             return None;
         }
-        let entry = self.slots[place]?;
+        let entry = self.slots[place];
         take_out(&mut self.slots, &mut self.index, place, entry);
         self.len -= 1;
         Some((entry.tag, entry.mode))

@@ -1,7 +1,7 @@
 //! The names under which sessions were opened, and which of the sessions wait.
 ghost use Rattle.std.specs.Prelude.{◌≡◌, ◌≢◌, ◌<◌, ◌≤◌, ℕ, [], ◌∷◌, ◌++◌, false, length, insert, slice_get, Contains, All, IfSome, IfNone, MatchOption, slice_index_or};
 ghost use Rattle.std.specs.Bool.{OnFalse};
-ghost use Rattle.lock_model.specs.World.{set_at};
+ghost use Rattle.lock_table.specs.Put.{set_at};
 ghost use Rattle.lock_scenario.specs.Names.{Forgets, IsByName, IsCalled, NotAfter, waits_of};
 
 use arrayvec::{ArrayString, ArrayVec};

@@ -77,16 +77,28 @@ impl Tag {
     }
 
     /// The tag's hash, in place of `LockTagHashCode` of lock.c: its six numbers, each step multiplied
-    /// by 31 modulo 2^32.
+    /// by 31 modulo 2^32. So each number is multiplied by its own power of 31.
     pub fn hash(self) -> u32
         ensures { result ≡ hash_of self }
     {
-        let [field1, field2, field3, field4, kind, method] = self.numbers();
-        let mix = |hash: u32, number: u32| hash.wrapping_mul(31).wrapping_add(number);
-        mix(
-            mix(mix(mix(mix(field1, field2), field3), field4), kind),
-            method,
-        )
+        let sum = match self {
+            Tag::Relation { database, relation } => {
+                u64::from(database) * 28_629_151 + u64::from(relation) * 923_521 + 1
+            }
+            Tag::Object {
+                database,
+                class,
+                object,
+                sub_object,
+            } => {
+                u64::from(database) * 28_629_151
+                    + u64::from(class) * 923_521
+                    + u64::from(object) * 29_791
+                    + u64::from(sub_object) * 961
+                    + (8 * 31 + 1)
+            }
+        };
+        (sum % (1 << 32)) as u32
     }
 
     /// The partition of the lock table that the object lies in, 0 to 15 (`LockHashPartition` in lock.h).

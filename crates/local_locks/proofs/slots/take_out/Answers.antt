@@ -1,26 +1,52 @@
-use Rattle.std.proofs.Common.{inl, inr, ◌∙◌, arith}
-use Rattle.local_locks.proofs.SlotSteps.{IsCut, left-entries, left-number, left-indexed}
+use Rattle.std.proofs.Common.{◌≡◌, None, take, set, sym, ap, ◌∙◌, length, inl, inr, arith}
+use Rattle.std.specs.Option.{option_map}
+use Rattle.local_locks.specs.Slots.{opened, slot_at, present, entry_in, key_at}
+use Rattle.local_locks.proofs.IndexLaws.{noted_some, indexed-cleared}
+use Rattle.local_locks.proofs.OpenLaws.{length-opened, opened-set, opened-take}
+use Rattle.local_locks.proofs.SlotSteps.{IsCut, left-entries, left-number, left-gone, left-others}
 use Rattle.local_locks.proofs.slots.take_out.Goals as goal
 use Rattle.local_locks.proofs.slots.take_out.Goals.{then-place-len, else-place-len}
 
+pub remove-requires : goal.remove-requires
+remove-requires c = noted_some (opened c.args.slots.now.items) c.args.index.now c.requires.indexed c.args.place c.key_hash.result c.args.entry c.requires.there c.key_hash.ensures
+
 -- the slots are cut at their end, or before the last one if that is the one left
-cut : (c : goal.After-forget_place) → IsCut c.args.slots.now.items c.args.place c.if-place-len.used
+cut : (c : goal.After-truncate) → IsCut (opened c.args.slots.now.items) c.args.place c.if-place-len.used
 cut c = elim c.if-place-len.branch [
-  | then-place-len w ↦ inr (w.used-is, omega arith)
-  | else-place-len w ↦ inl (w.used-is ∙ (w.len-used.ensures ∙ c.args.slots.now.ok.0))
+  | then-place-len w ↦ inr (w.used-is, omega (arith, length-opened c.args.slots.now.items, w.if-place-len.true, c.len.ensures, c.args.slots.now.ok.0))
+  | else-place-len w ↦ inl (w.used-is ∙ (w.len-used.ensures ∙ (c.args.slots.now.ok.0 ∙ sym (length-opened c.args.slots.now.items))))
 ]
+
+-- the slots that are left
+slots_are : (c : goal.After-truncate) → opened c.truncate.new.self.items ≡ take c.if-place-len.used (set (opened c.args.slots.now.items) c.args.place None)
+slots_are c =
+    ap opened c.truncate.ensures.items
+    ∙ (opened-take c.if-place-len.used (set c.args.slots.now.items c.args.place c.emptied.result)
+    ∙ ap (take c.if-place-len.used)
+    (opened-set c.args.slots.now.items c.args.place c.emptied.result ∙ ap (λ o. set (opened c.args.slots.now.items) c.args.place o) (ap entry_in c.emptied.ensures)))
 
 pub returns-clause-entries : goal.returns-clause-entries
 returns-clause-entries c =
-    left-entries c.args.slots.now.items c.truncate.new.self.items c.args.index.now c.args.place c.if-place-len.used c.args.entry
-    c.requires.indexed c.requires.there (cut c) c.truncate.ensures.items
+    left-entries (opened c.args.slots.now.items) (opened c.truncate.new.self.items) c.args.index.now c.args.place c.if-place-len.used c.args.entry
+    c.requires.indexed c.requires.there (cut c) (slots_are c)
 
 pub returns-clause-number : goal.returns-clause-number
 returns-clause-number c =
-    left-number c.args.slots.now.items c.truncate.new.self.items c.args.index.now c.args.place c.if-place-len.used c.args.entry
-    c.requires.indexed c.requires.there (cut c) c.truncate.ensures.items
+    left-number (opened c.args.slots.now.items) (opened c.truncate.new.self.items) c.args.index.now c.args.place c.if-place-len.used c.args.entry
+    c.requires.indexed c.requires.there (cut c) (slots_are c)
+
+pub returns-clause-gone : goal.returns-clause-gone
+returns-clause-gone c =
+    left-gone (opened c.args.slots.now.items) (opened c.truncate.new.self.items) c.args.index.now c.args.place c.if-place-len.used c.args.entry
+    c.requires.indexed c.requires.there (cut c) (slots_are c)
+
+pub returns-clause-others : goal.returns-clause-others
+returns-clause-others c =
+    left-others (opened c.args.slots.now.items) (opened c.truncate.new.self.items) c.args.index.now c.args.place c.if-place-len.used c.args.entry
+    c.requires.indexed c.requires.there (cut c) (slots_are c)
 
 pub returns-clause-indexed : goal.returns-clause-indexed
 returns-clause-indexed c =
-    left-indexed c.args.slots.now.items c.truncate.new.self.items c.args.index.now c.args.place c.if-place-len.used c.args.entry
-    c.requires.indexed c.requires.there (cut c) c.truncate.ensures.items c.forget_place.new.index c.forget_place.ensures.places
+    indexed-cleared (opened c.args.slots.now.items) (opened c.truncate.new.self.items) c.args.index.now c.remove.new.self c.args.place c.key_hash.result (c.args.entry.tag, c.args.entry.mode)
+    c.requires.indexed (ap (option_map (λ y. (y.tag, y.mode))) c.requires.there) (ap (option_map (λ y. (y.tag, y.mode))) (returns-clause-gone c))
+    (λ k apart. ap (option_map (λ y. (y.tag, y.mode))) (returns-clause-others c k apart)) c.key_hash.ensures c.remove.ensures.notes

@@ -1,64 +1,92 @@
-use Rattle.std.proofs.Common.{◌≡◌, ◌<◌, ◌+◌, ◌∷◌, ◌++◌, [], Some, false, sym, ap, subst, cond, ◌∙◌, length, set, arith}
-use Rattle.std.specs.Prelude.{is_some}
-use Rattle.local_locks.specs.Owned.{IsCounted, raised, new_entry, max_count, count_for, has_entry, entry_of, owner_count_of, with_one_more, change}
-use Rattle.local_locks.specs.Slots.{Slots, IsKept, IsIndexed, slot_at, present, back_to}
+use Rattle.std.proofs.Common.{◌≡◌, ◌≢◌, ◌<◌, ◌+◌, ◌∷◌, ◌++◌, [], Some, false, sym, ap, subst, cond, ◌∙◌, length, set, arith}
+use Rattle.std.specs.Prelude.{is_some, List}
+use Rattle.std.proofs.lemmas.List.{get_or_default}
+use Rattle.local_locks.specs.Owned.{IsCounted, raised, new_entry, max_count, count_for, has_entry, owner_count_of, with_one_more, change}
+use Rattle.local_locks.specs.Slots.{Slots, IsKept, IsIndexed, IsPlaceOf, IsMissing, opened, entry_at, slot_at, present, key_at, back_to}
 use Rattle.local_locks.specs.declared.ends.Progress.{Progress}
 use Rattle.local_locks.specs.declared.records.Entry.{Entry}
 use Rattle.local_locks.proofs.SlotLaws.{present-push}
+use Rattle.local_locks.proofs.OpenLaws.{length-opened}
+use Rattle.local_locks.proofs.LookLaws.{absent_key, new_entry-key}
 use Rattle.local_locks.proofs.KeptLaws.{well_owned}
 use Rattle.local_locks.proofs.TableSteps.{owner_count-at, kept-raised, kept-pushed, entries-raised, IsCounted-new}
 use Rattle.local_locks.proofs.tables.LocalTable.add.Goals as goal
 
+-- ---- there is an entry
+
 pub invariant_of-self : goal.invariant_of-self
 invariant_of-self c =
-    let found = c.in-Some.ensures {u = tt} in
-    let there = ap (λ (s : Slots). slot_at s c.in-Some.place) (sym c.deref.ensures.value) ∙ found.there in
-    let entry = ap (λ (s : Slots). entry_of (present s) c.args.tag c.args.mode) (sym c.deref.ensures.value) ∙ sym found.entry in
-    let count = owner_count-at (present c.self.inside.slots.items) c.args.tag c.args.mode c.args.owner c.in-Some.entry entry in
+    let es = c.self.inside.slots.items in
+    let at = subst (λ (l : List Entry). IsPlaceOf l c.args.tag c.args.mode c.in-At.place) c.deref.ensures.value (c.in-At.ensures {u = tt}) in
+    let read : entry_at es c.in-At.place ≡ c.index-entry.result.now = sym (c.index-entry.ensures ∙ get_or_default es c.in-At.place c.index-entry.result.now _ at.within) in
+    let count = owner_count-at (present (opened es)) c.args.tag c.args.mode c.args.owner (entry_at es c.in-At.place) at.found in
+    let same = ap (count_for c.args.owner) read in
     let seen = ap (λ v. owner_count_of v.entries c.args.tag c.args.mode c.args.owner) c.self.view_is in
-    let below : count_for c.args.owner c.in-Some.entry < max_count = omega (arith, count, seen, c.requires.countable) in
-    subst (λ (x : Entry). IsKept (set c.self.inside.slots.items c.in-Some.place (Some x)) c.self.inside.index c.self.inside.len c.self.inside.max_local c.back_to-self-inside.result) (sym c.raised.ensures)
-    (subst (λ (p : Progress). IsKept (set c.self.inside.slots.items c.in-Some.place (Some (raised c.args.owner c.in-Some.entry))) c.self.inside.index c.self.inside.len c.self.inside.max_local p) (sym c.back_to-self-inside.ensures)
-    (kept-raised c.self.inside.slots.items c.self.inside.index c.self.inside.len c.self.inside.max_local c.self.inside.progress c.in-Some.place c.args.owner c.in-Some.entry c.self.invariant there below))
+    let below : count_for c.args.owner c.index-entry.result.now < max_count = omega (arith, count, same, seen, c.requires.countable) in
+    record {
+      kept = subst (λ (p : Progress). IsKept (opened c.raise.new.slots.items) c.self.inside.index c.self.inside.len c.self.inside.max_local p) (sym c.back_to-self-inside.ensures)
+          (subst (λ (s : Slots). IsKept s c.self.inside.index c.self.inside.len c.self.inside.max_local (back_to c.in-At.place c.self.inside.progress)) (sym c.raise.ensures.slots)
+          (kept-raised (opened es) c.self.inside.index c.self.inside.len c.self.inside.max_local c.self.inside.progress c.in-At.place c.args.owner c.index-entry.result.now
+          c.self.invariant.kept (at.there ∙ ap (λ (x : Entry). Some x) read) below));
+      few = omega (arith, c.raise.ensures.number, c.self.invariant.few);
+      remembered = tt;
+    }
 
-pub returns-in-Some-clause-well_owned : goal.returns-in-Some-clause-well_owned
-returns-in-Some-clause-well_owned c = well_owned _ _ _ _ _ _ (invariant_of-self c)
+pub returns-in-At-clause-well_owned : goal.returns-in-At-clause-well_owned
+returns-in-At-clause-well_owned c = well_owned _ _ _ _ _ _ (invariant_of-self c).kept
 
-pub returns-in-Some-clause-entries : goal.returns-in-Some-clause-entries
-returns-in-Some-clause-entries c =
-    let found = c.in-Some.ensures {u = tt} in
-    let there = ap (λ (s : Slots). slot_at s c.in-Some.place) (sym c.deref.ensures.value) ∙ found.there in
-    ap (λ (x : Entry). present (set c.self.inside.slots.items c.in-Some.place (Some x))) c.raised.ensures
-    ∙ (entries-raised c.self.inside.slots.items c.self.inside.index c.args.tag c.args.mode c.args.owner c.in-Some.place c.in-Some.entry c.self.invariant.indexed there found.own
-    ∙ ap (λ v. with_one_more v.entries c.args.tag c.args.mode c.args.owner) c.self.view_is)
+pub returns-in-At-clause-entries : goal.returns-in-At-clause-entries
+returns-in-At-clause-entries c =
+    let es = c.self.inside.slots.items in
+    let at = subst (λ (l : List Entry). IsPlaceOf l c.args.tag c.args.mode c.in-At.place) c.deref.ensures.value (c.in-At.ensures {u = tt}) in
+    let read : entry_at es c.in-At.place ≡ c.index-entry.result.now = sym (c.index-entry.ensures ∙ get_or_default es c.in-At.place c.index-entry.result.now _ at.within) in
+    ap present c.raise.ensures.slots
+    ∙ (ap (λ (x : Entry). present (set (opened es) c.in-At.place (Some (raised c.args.owner x)))) (sym read)
+    ∙ (entries-raised (opened es) c.self.inside.index c.args.tag c.args.mode c.args.owner c.in-At.place (entry_at es c.in-At.place) c.self.invariant.kept.indexed at.there at.own
+    ∙ ap (λ v. with_one_more v.entries c.args.tag c.args.mode c.args.owner) c.self.view_is))
 
-pub invariant_of-self-in-None : goal.invariant_of-self-in-None
-invariant_of-self-in-None c =
-    let found = c.in-None.ensures {u = tt} in
-    let entry = ap (λ (s : Slots). entry_of (present s) c.args.tag c.args.mode) (sym c.deref.ensures.value) ∙ sym found.entry in
+-- ---- there is none
+
+pub push_entry-requires-clause-absent : goal.push_entry-requires-clause-absent
+push_entry-requires-clause-absent c =
+    let es = c.self.inside.slots.items in
+    let free = subst (λ (l : List Entry). IsMissing l c.args.tag c.args.mode c.in-Free.hash) c.deref.ensures.value (c.in-Free.ensures {u = tt}) in
+    let key = new_entry-key c.args.tag c.args.mode c.args.owner c.new-entry.result c.new-entry.ensures in
+    λ k at. absent_key es c.args.tag c.args.mode free.absent k (at ∙ (λ i. Some (key.0 i, key.1 i)))
+
+pub invariant_of-self-in-Free : goal.invariant_of-self-in-Free
+invariant_of-self-in-Free c =
+    let es = c.self.inside.slots.items in
+    let free = subst (λ (l : List Entry). IsMissing l c.args.tag c.args.mode c.in-Free.hash) c.deref.ensures.value (c.in-Free.ensures {u = tt}) in
     let none : has_entry c.args.self.now.entries c.args.tag c.args.mode ≡ false =
-    ap (λ v. has_entry v.entries c.args.tag c.args.mode) (sym c.self.view_is) ∙ ap (λ o. is_some o) entry in
+    ap (λ v. has_entry v.entries c.args.tag c.args.mode) (sym c.self.view_is) ∙ ap (λ o. is_some o) free.absent in
     let allowed = c.requires.allowed none in
-    let number : length (present c.self.inside.slots.items) ≡ length c.args.self.now.entries = ap (λ v. length v.entries) c.self.view_is in
+    let roomy = c.requires.roomy none in
+    let room = ap (λ v. v.room) c.self.view_is in
+    let number : length (present (opened es)) ≡ length c.args.self.now.entries = ap (λ v. length v.entries) c.self.view_is in
     let limit : c.self.inside.max_local ≡ c.args.self.now.max_local = ap (λ v. v.max_local) c.self.view_is in
-    let below : c.self.inside.len < c.self.inside.max_local = omega (arith, c.self.invariant.number, number, limit, allowed) in
-    let place : c.len-place.result ≡ length c.self.inside.slots.items = c.len-place.ensures ∙ c.self.inside.slots.ok.0 in
-    let indexed = subst (λ (s : Slots). IsIndexed s c.push_entry.new.index) c.push_entry.ensures.slots c.push_entry.ensures.indexed in
-    subst (λ (s : Slots). IsKept s c.push_entry.new.index (c.self.inside.len + 1) c.self.inside.max_local c.back_to-self-inside-in-None.result) (sym c.push_entry.ensures.slots)
-    (subst (λ (p : Progress). IsKept (c.self.inside.slots.items ++ Some c.new.result ∷ []) c.push_entry.new.index (c.self.inside.len + 1) c.self.inside.max_local p)
-    (sym (c.back_to-self-inside-in-None.ensures ∙ ap (λ n. back_to n c.self.inside.progress) place))
-    (kept-pushed c.self.inside.slots.items c.self.inside.index c.push_entry.new.index c.self.inside.len c.self.inside.max_local c.self.inside.progress c.new.result
-    c.self.invariant indexed (subst IsCounted (sym c.new.ensures) (IsCounted-new c.args.tag c.args.mode c.args.owner)) below))
+    let below : c.self.inside.len < c.self.inside.max_local = omega (arith, c.self.invariant.kept.number, number, limit, allowed) in
+    let place : c.len-place.result ≡ length (opened es) = c.len-place.ensures ∙ (c.self.inside.slots.ok.0 ∙ sym (length-opened es)) in
+    record {
+      kept = subst (λ (s : Slots). IsKept s c.push_entry.new.index (c.self.inside.len + 1) c.self.inside.max_local c.back_to-self-inside-in-Free.result) (sym c.push_entry.ensures.slots)
+          (subst (λ (p : Progress). IsKept (opened es ++ Some c.new-entry.result ∷ []) c.push_entry.new.index (c.self.inside.len + 1) c.self.inside.max_local p)
+          (sym (c.back_to-self-inside-in-Free.ensures ∙ ap (λ n. back_to n c.self.inside.progress) place))
+          (kept-pushed (opened es) c.self.inside.index c.push_entry.new.index c.self.inside.len c.self.inside.max_local c.self.inside.progress c.new-entry.result c.self.invariant.kept
+          (subst (λ (s : Slots). IsIndexed s c.push_entry.new.index) c.push_entry.ensures.slots c.push_entry.ensures.indexed)
+          (subst IsCounted (sym c.new-entry.ensures) (IsCounted-new c.args.tag c.args.mode c.args.owner)) below));
+      few = omega (arith, c.push_entry.ensures.number, room, roomy);
+      remembered = tt;
+    }
 
-pub returns-in-None-clause-well_owned : goal.returns-in-None-clause-well_owned
-returns-in-None-clause-well_owned c = well_owned _ _ _ _ _ _ (invariant_of-self-in-None c)
+pub returns-in-Free-clause-well_owned : goal.returns-in-Free-clause-well_owned
+returns-in-Free-clause-well_owned c = well_owned _ _ _ _ _ _ (invariant_of-self-in-Free c).kept
 
-pub returns-in-None-clause-entries : goal.returns-in-None-clause-entries
-returns-in-None-clause-entries c =
-    let found = c.in-None.ensures {u = tt} in
-    let entry = ap (λ (s : Slots). entry_of (present s) c.args.tag c.args.mode) (sym c.deref.ensures.value) ∙ sym found.entry in
+pub returns-in-Free-clause-entries : goal.returns-in-Free-clause-entries
+returns-in-Free-clause-entries c =
+    let es = c.self.inside.slots.items in
+    let free = subst (λ (l : List Entry). IsMissing l c.args.tag c.args.mode c.in-Free.hash) c.deref.ensures.value (c.in-Free.ensures {u = tt}) in
     ap present c.push_entry.ensures.slots
-    ∙ (present-push c.self.inside.slots.items c.new.result
-    ∙ (ap (λ (x : Entry). present c.self.inside.slots.items ++ x ∷ []) c.new.ensures
-    ∙ (sym (ap (λ o. cond (is_some o) (change (raised c.args.owner) (present c.self.inside.slots.items) c.args.tag c.args.mode) (present c.self.inside.slots.items ++ new_entry c.args.tag c.args.mode c.args.owner ∷ [])) entry)
+    ∙ (present-push (opened es) c.new-entry.result
+    ∙ (ap (λ (x : Entry). present (opened es) ++ x ∷ []) c.new-entry.ensures
+    ∙ (sym (ap (λ o. cond (is_some o) (change (raised c.args.owner) (present (opened es)) c.args.tag c.args.mode) (present (opened es) ++ new_entry c.args.tag c.args.mode c.args.owner ∷ [])) free.absent)
     ∙ ap (λ v. with_one_more v.entries c.args.tag c.args.mode c.args.owner) c.self.view_is)))

@@ -1,7 +1,16 @@
-use Rattle.std.proofs.Common.{ap}
-use Rattle.local_locks.specs.Slots.{present}
+use Rattle.std.proofs.Common.{◌≡◌, ◌∙◌, ap, sym, subst, [], List, None, arith, length}
+use Rattle.local_locks.specs.declared.records.Entry.{Entry}
+use Rattle.local_locks.specs.declared.ends.Progress.{Progress}
+use Rattle.local_locks.specs.Slots.{opened, present, IsTable, at_start}
 use Rattle.local_locks.proofs.KeptLaws.{well_owned-empty}
+use Rattle.local_locks.proofs.EndSteps.{table-empty}
 use Rattle.local_locks.proofs.tables.LocalTable.new.Goals as goal
 
+pub invariant_of-result : goal.invariant_of-result
+invariant_of-result c =
+    subst (λ (p : Progress). IsTable c.in-Ok.slots.items c.reserve.new.self 0 c.args.max_local p None) (sym c.start.ensures)
+    (subst (λ (es : List Entry). IsTable es c.reserve.new.self 0 c.args.max_local at_start None) (sym (c.in-Ok.ensures {u = tt}).items)
+    (table-empty c.reserve.new.self c.args.max_local (λ h p. c.reserve.ensures.notes h p ∙ c.new-index.ensures.empty h p)))
+
 pub returns-clause-well_owned : goal.returns-clause-well_owned
-returns-clause-well_owned c = well_owned-empty _ _ _ (ap present (c.in-Ok.ensures {u = tt}).items)
+returns-clause-well_owned c = well_owned-empty _ _ _ (ap (λ (es : List Entry). present (opened es)) (c.in-Ok.ensures {u = tt}).items)

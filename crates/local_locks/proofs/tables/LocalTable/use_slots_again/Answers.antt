@@ -1,11 +1,17 @@
-use Rattle.std.proofs.Common.{sym, subst}
+use Rattle.std.proofs.Common.{sym, subst, ap, ◌∙◌, length, arith}
 use Rattle.local_locks.specs.declared.ends.Progress.{Progress}
-use Rattle.local_locks.specs.Slots.{IsKept}
+use Rattle.local_locks.specs.Slots.{opened, IsKept}
 use Rattle.local_locks.proofs.EndSteps.{kept-compact}
+use Rattle.local_locks.proofs.SlotLaws.{length-present-le}
+use Rattle.local_locks.proofs.OpenLaws.{length-opened}
 use Rattle.local_locks.proofs.tables.LocalTable.use_slots_again.Goals as goal
 
 pub invariant_of-self : goal.invariant_of-self
 invariant_of-self c =
-    subst (λ (p : Progress). IsKept c.compact.new.slots.items c.compact.new.index c.self.inside.len c.self.inside.max_local p) (sym c.start-self-inside.ensures)
-    (kept-compact c.self.inside.slots.items c.compact.new.slots.items c.self.inside.index c.compact.new.index c.self.inside.len c.self.inside.max_local c.self.inside.progress
-    c.self.invariant c.compact.ensures.indexed c.compact.ensures.entries)
+    record {
+      kept = subst (λ (p : Progress). IsKept (opened c.compact.new.slots.items) c.compact.new.index c.self.inside.len c.self.inside.max_local p) (sym c.start-self-inside.ensures)
+          (kept-compact (opened c.self.inside.slots.items) (opened c.compact.new.slots.items) c.self.inside.index c.compact.new.index c.self.inside.len c.self.inside.max_local c.self.inside.progress
+          c.self.invariant.kept c.compact.ensures.indexed c.compact.ensures.entries);
+      few = omega (arith, c.compact.ensures.full, c.self.invariant.few, length-present-le (opened c.self.inside.slots.items), length-opened c.self.inside.slots.items);
+      remembered = tt;
+    }

@@ -1,7 +1,6 @@
-use Rattle.std.proofs.Common.{◌∙◌, sym}
+use Rattle.std.proofs.Common.{◌∙◌, sym, ap, refl, ◌≡◌, true}
 use Rattle.lock_scenario.specs.Desk.{shared_of, wait_of}
 use Rattle.lock_scenario.specs.Names.{waits_of}
-use Rattle.std.proofs.Common.{ap, refl, ◌≡◌, true}
 use Rattle.std.specs.Prelude.{is_some}
 use Rattle.lock_scenario.proofs.WhoWaits.{Tells-cancelled}
 use Rattle.lock_scenario.proofs.script.Scene.cancel_wait.Goals as goal

@@ -1,12 +1,10 @@
-use Rattle.std.proofs.Common.{◌∙◌, sym}
-use Rattle.lock_scenario.specs.Desk.{shared_of, wait_of}
+use Rattle.std.proofs.Common.{◌∙◌, sym, ap, length}
+use Rattle.lock_scenario.specs.Desk.{shared_of, wait_of, entries_of}
 use Rattle.lock_scenario.specs.Names.{waits_of}
-use Rattle.std.proofs.Common.{ap, length}
 use Rattle.arrayvec.specs.declared.array_string.ArrayString.{ArrayString}
 use Rattle.std.specs.Prelude.{List}
 use Rattle.local_locks.specs.Owned.{ended_by}
 use Rattle.local_locks.specs.declared.ends.End.TheVariants as ends
-use Rattle.lock_scenario.specs.Desk.{entries_of}
 use Rattle.lock_scenario.proofs.WhoWaits.{Tells-ReleasesAll}
 use Rattle.lock_scenario.proofs.script.Scene.close.Goals as goal
 

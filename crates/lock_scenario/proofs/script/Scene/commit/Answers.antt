@@ -1,9 +1,8 @@
 use Rattle.std.proofs.Common.{◌∙◌, sym}
-use Rattle.lock_scenario.specs.Desk.{shared_of, wait_of}
+use Rattle.lock_scenario.specs.Desk.{shared_of, wait_of, entries_of}
 use Rattle.lock_scenario.specs.Names.{waits_of}
 use Rattle.local_locks.specs.Owned.{ended_by}
 use Rattle.local_locks.specs.declared.ends.End.TheVariants as ends
-use Rattle.lock_scenario.specs.Desk.{entries_of}
 use Rattle.lock_scenario.proofs.WhoWaits.{Tells-ReleasesAll}
 use Rattle.lock_scenario.proofs.script.Scene.commit.Goals as goal
 

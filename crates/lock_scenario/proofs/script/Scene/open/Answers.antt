@@ -1,7 +1,6 @@
-use Rattle.std.proofs.Common.{◌∙◌, sym}
+use Rattle.std.proofs.Common.{◌∙◌, sym, arith}
 use Rattle.lock_scenario.specs.Desk.{shared_of, wait_of}
 use Rattle.lock_scenario.specs.Names.{waits_of}
-use Rattle.std.proofs.Common.{arith}
 use Rattle.std.proofs.lemmas.Grind.{common_steps}
 use Rattle.lock_scenario.proofs.WhoWaits.{Tells-kept}
 use Rattle.lock_scenario.proofs.script.Scene.open.Goals as goal

@@ -1,0 +1,74 @@
+use Rattle.std.proofs.Common.{◌≡◌, ◌≢◌, ℕ, ◌+◌, ◌<◌, true, false, length, get_or, subst, refl, sym, ap, ◌∙◌, inl, inr, arith}
+use Rattle.std.specs.Prelude.{Some, None}
+use Rattle.std.proofs.lemmas.Bool.{false≢true, cases_Bool}
+use Rattle.std.proofs.lemmas.List.{get_or_default}
+use Rattle.modes_core.specs.declared.sessions.Owner.{Owner}
+use Rattle.modes_core.specs.declared.sessions.Owner.TheVariants.{Session, Transaction}
+use Rattle.modes_core.specs.declared.modes.Mode.{Mode}
+use Rattle.modes_core.specs.declared.tags.Tag.{Tag}
+use Rattle.place_index.specs.Notes.{Notes, times}
+use Rattle.std.specs.Prelude.{List}
+use Rattle.local_locks.specs.declared.records.Entry.{Entry}
+use Rattle.local_locks.specs.Owned.{is_of, entry_of, new_entry}
+use Rattle.local_locks.specs.Slots.{opened, present, slot_at, entry_at, key_at, key_hash, IsIndexed, IsPlaceOf, IsMissing}
+use Rattle.local_locks.proofs.SlotLaws.{is_of-same, is_of-own, entry_of-none, none_of, if_some}
+use Rattle.local_locks.proofs.IndexLaws.{found_entry, noted_some, some_key}
+use Rattle.local_locks.proofs.OpenLaws.{opened_some}
+
+-- ---- what a look finds
+
+pub place_of : (es : List Entry) (index : Notes) → IsIndexed (opened es) index → (tag : Tag) (mode : Mode) (place : ℕ) → slot_at (opened es) place ≡ Some (entry_at es place) → is_of tag mode (entry_at es place) ≡ true → IsPlaceOf es tag mode place
+place_of es index indexed tag mode place there own =
+    record {
+      within = (opened_some es place (entry_at es place) there).0;
+      there = there;
+      own = own;
+      found = found_entry (opened es) index indexed tag mode place (entry_at es place) there own;
+    }
+
+-- where no place that is noted under the hash has the object and mode, nothing has
+pub missing_of :
+    (es : List Entry) (index : Notes) → IsIndexed (opened es) index → (tag : Tag) (mode : Mode) (hash : ℕ) → hash ≡ key_hash tag mode →
+    ((place : ℕ) → 0 < times index hash place → is_of tag mode (entry_at es place) ≡ false) → IsMissing es tag mode hash
+missing_of es index indexed tag mode hash hashed other =
+    record {
+      absent = entry_of-none tag mode (opened es) (λ k. if_some _ (slot_at (opened es) k) (none k));
+      hashed = hashed;
+    } where
+      none : (k : ℕ) (x : Entry) → slot_at (opened es) k ≡ Some x → is_of tag mode x ≡ false
+      none k x at =
+          elim (cases_Bool (is_of tag mode x)) [
+            | inl own ↦
+                let same = is_of-same tag mode x own in
+                let some = noted_some (opened es) index indexed k hash x at (hashed ∙ (λ i. key_hash (sym same.0 i) (sym same.1 i))) in
+                ap (is_of tag mode) (sym (opened_some es k x at).1) ∙ other k some
+            | inr apart ↦ apart
+          ]
+
+-- an object and mode with no entry has no slot
+pub absent_key : (es : List Entry) (tag : Tag) (mode : Mode) → entry_of (present (opened es)) tag mode ≡ None → (k : ℕ) → key_at (opened es) k ≢ Some (tag, mode)
+absent_key es tag mode none k at =
+    let found = some_key (opened es) k (tag, mode) at in
+    let own : is_of tag mode found.0 ≡ true = sym (λ i. is_of (found.2 i).0 (found.2 i).1 found.0) ∙ is_of-own found.0 in
+    false≢true (sym (none_of tag mode (opened es) none k found.0 found.1) ∙ own)
+
+-- the entry of a first acquire has its object and mode
+pub new_entry-key : (tag : Tag) (mode : Mode) (owner : Owner) (e : Entry) → e ≡ new_entry tag mode owner → (e.tag ≡ tag) × (e.mode ≡ mode)
+new_entry-key tag mode Session e is = (ap (λ (x : Entry). x.tag) is, ap (λ (x : Entry). x.mode) is)
+new_entry-key tag mode Transaction e is = (ap (λ (x : Entry). x.tag) is, ap (λ (x : Entry). x.mode) is)
+
+-- what was read at the place of an entry
+pub record IsEntryOf (es : List Entry) (tag : Tag) (mode : Mode) (place : ℕ) (e : Entry) : Type 0 where
+  pub there : slot_at (opened es) place ≡ Some e
+  pub own : is_of tag mode e ≡ true
+  pub found : entry_of (present (opened es)) tag mode ≡ Some e
+
+pub entry_of_place : (es seen : List Entry) (tag : Tag) (mode : Mode) (place : ℕ) (e : Entry) → seen ≡ es → IsPlaceOf seen tag mode place → e ≡ get_or es place e → IsEntryOf es tag mode place e
+entry_of_place es seen tag mode place e same at is =
+    let here = subst (λ (l : List Entry). IsPlaceOf l tag mode place) same at in
+    let read : entry_at es place ≡ e = sym (is ∙ get_or_default es place e _ here.within) in
+    record {
+      there = here.there ∙ ap (λ (x : Entry). Some x) read;
+      own = ap (is_of tag mode) (sym read) ∙ here.own;
+      found = here.found ∙ ap (λ (x : Entry). Some x) read;
+    }

@@ -1,0 +1,3 @@
+pub mod CellLaws
+pub mod GapLaws
+pub mod IndexLaws
