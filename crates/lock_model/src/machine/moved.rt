@@ -11,8 +11,9 @@ ghost use Rattle.lock_table.specs.declared.moves.Move.{Move};
 ghost use Rattle.lock_table.specs.declared.moves.Move.TheVariants.{Release, Leave};
 ghost use Rattle.lock_model.specs.MovedPart.{IsMoved};
 
-use lock_table::{NoMemory, PartTable, PlainPart, Woken, first_against};
+use lock_table::{NoMemory, PartTable, PlainPart, Woken};
 use modes_core::{Mode, SessionId, Tag};
+use wait_queue::{release, remove_waiter};
 
 /// A part after a move, and those whose waits the move granted.
 #[derive(Drop)]
@@ -36,12 +37,7 @@ pub fn after_release(
         return Ok(None);
     }
     let mut after = part.copy()?;
-    after.ungrant(session, tag, mode);
-    let woken = if first_against(&after, tag, mode).is_some() {
-        after.wake(tag)
-    } else {
-        Woken::new()
-    };
+    let woken = release(&mut after, session, tag, mode);
     Ok(Some(MovedPart { part: after, woken }))
 }
 
@@ -56,9 +52,12 @@ pub fn after_leaving(
     ensures no_wait { IfOk result (λ found. found ≡ None → waits_there ((content_of part.now).waits tag) session ≡ false) }
 {
     let mut after = part.copy()?;
-    if after.leave(session, tag).is_none() {
+    let removed = remove_waiter(&mut after, session, tag);
+    if removed.was_granted {
         return Ok(None);
     }
-    let woken = after.wake(tag);
-    Ok(Some(MovedPart { part: after, woken }))
+    Ok(Some(MovedPart {
+        part: after,
+        woken: removed.woken,
+    }))
 }

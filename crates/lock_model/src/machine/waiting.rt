@@ -5,6 +5,7 @@ use super::moved::{MovedPart, after_leaving, after_release};
 use super::state::Machine;
 use lock_table::{Move, NoMemory, PartTable, Told, waiting_answer};
 use modes_core::{Mode, SessionId, Tag};
+use wait_queue::remove_waiter;
 
 impl Machine {
     ghost use Rattle.std.specs.Prelude.{◌≡◌, ◌≢◌, ◌<◌, ◌+◌, ◌&&◌, true, false, not, length, is_some, is_none, OnOk, IfOk, IfSome, slice_set, slice_index_or, Some, None};
@@ -324,9 +325,13 @@ impl Machine {
     {
         let partition = tag.partition();
         let part = &mut self.parts[usize::from(partition)];
-        part.leave(session, tag);
-        let woken = part.wake(tag);
-        self.record(partition, hand, Move::Leave { tag }, unmarked_of(&woken));
+        let removed = remove_waiter(part, session, tag);
+        self.record(
+            partition,
+            hand,
+            Move::Leave { tag },
+            unmarked_of(&removed.woken),
+        );
         self.end_wait(session);
     }
 }
