@@ -7,7 +7,7 @@ use Rattle.modes_core.specs.Tag.{tag_eq, partition_of}
 use Rattle.lock_model.specs.declared.machine.plain.Hold.{Hold}
 use Rattle.lock_model.specs.declared.machine.plain.Spot.TheVariants.{Table}
 use Rattle.lock_model.specs.declared.machine.hands.InHand.{InHand}
-use Rattle.lock_model.specs.declared.machine.hands.Awaited.{Awaited}
+use Rattle.lock_model.specs.declared.machine.own_waits.Awaited.{Awaited}
 use Rattle.lock_model.specs.declared.machine.state.Machine.{Machine}
 use Rattle.lock_table.specs.declared.moves.Move.{Move}
 use Rattle.lock_table.specs.declared.moves.Move.TheVariants.{Keep, Grant, Join, Release, Leave}

@@ -10,31 +10,6 @@ impl Machine {
     ghost use Rattle.lock_world.specs.declared.events.Step.{Step};
     ghost use Rattle.lock_model.specs.Shows.{Follows, is_number, is_holder};
 
-    /// Whether the session has a partition in hand.
-    fn has_a_word(&self, session: SessionId) -> bool
-        ensures { result ≡ list_any (is_holder session) self.now.hands }
-    {
-        self.hands
-            .iter()
-            .any(|hand| hand.is_some_and(|hand| hand.holder == session))
-    }
-
-    /// Whether the session keeps another one apart.
-    fn keeps_someone(&self, session: SessionId) -> bool
-        ensures { result ≡ list_any (is_number session) self.now.kept_by }
-    {
-        self.kept_by
-            .iter()
-            .any(|joiner| joiner.is_some_and(|other| other == session))
-    }
-
-    /// Whether the session has a hold.
-    fn has_a_hold(&self, session: SessionId) -> bool
-        ensures { result ≡ list_any (λ part. list_any (λ hold. hold.session == session) part.holds) self.now.parts.items }
-    {
-        self.parts.iter().any(|part| part.has_hold_of(session))
-    }
-
     /// Issues the session's number, where it is the next one, or lets a session that is kept apart go on.
     pub fn split_seat(&mut self, session: SessionId)
         ensures { Follows self.old session Step.SplitSeat self.new }
@@ -45,6 +20,16 @@ impl Machine {
             self.live[index] = true;
         } else if self.kept_by[index].is_some() {
             self.kept_by[index] = None;
+        }
+    }
+
+    /// Joins the session's seat to another one, which keeps it apart, or closes the session.
+    pub fn join_seat(&mut self, session: SessionId, joiner: Option<SessionId>)
+        ensures { Follows self.old session (Step.JoinSeat joiner) self.new }
+    {
+        match joiner {
+            Some(joiner) => self.keep_apart(session, joiner),
+            None => self.close(session),
         }
     }
 
@@ -76,12 +61,28 @@ impl Machine {
         }
     }
 
-    pub fn join_seat(&mut self, session: SessionId, joiner: Option<SessionId>)
-        ensures { Follows self.old session (Step.JoinSeat joiner) self.new }
+    /// Whether the session has a partition in hand.
+    fn has_a_word(&self, session: SessionId) -> bool
+        ensures { result ≡ list_any (is_holder session) self.now.hands }
     {
-        match joiner {
-            Some(joiner) => self.keep_apart(session, joiner),
-            None => self.close(session),
-        }
+        self.hands
+            .iter()
+            .any(|hand| hand.is_some_and(|hand| hand.holder == session))
+    }
+
+    /// Whether the session keeps another one apart.
+    fn keeps_someone(&self, session: SessionId) -> bool
+        ensures { result ≡ list_any (is_number session) self.now.kept_by }
+    {
+        self.kept_by
+            .iter()
+            .any(|joiner| joiner.is_some_and(|other| other == session))
+    }
+
+    /// Whether the session has a hold.
+    fn has_a_hold(&self, session: SessionId) -> bool
+        ensures { result ≡ list_any (λ part. list_any (λ hold. hold.session == session) part.holds) self.now.parts.items }
+    {
+        self.parts.iter().any(|part| part.has_hold_of(session))
     }
 }

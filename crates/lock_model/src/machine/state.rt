@@ -2,12 +2,13 @@ ghost use Rattle.std.specs.Prelude.{◌≡◌, ℕ, length, IfOk, None};
 ghost use Rattle.lock_table.specs.Content.{empty_content};
 ghost use Rattle.lock_table.specs.Parts.{part_at, contents_in};
 
-use super::gathered::{gather_holds, gather_waits};
-use super::hands::{Awaited, InHand};
+use super::hands::InHand;
+use super::own_waits::Awaited;
 use super::plain::{Hold, Plain};
+use super::plain_lists::{gather_holds, gather_waits};
 use lock_table::{NoMemory, PartTable, PlainPart};
 use lock_world::{Event, Step};
-use modes_core::{Mode, SessionId, Tag};
+use modes_core::SessionId;
 use std::alloc::Global;
 
 /// What the plain machine keeps of a World.
@@ -37,7 +38,7 @@ impl Machine {
     ghost use Rattle.lock_world.specs.World.{World, opening};
     ghost use Rattle.lock_world.specs.Safe.{Safe};
     ghost use Rattle.lock_model.specs.Plain.{IsPlainOf, holds_of};
-    ghost use Rattle.lock_model.specs.Shows.{Shows, ShowsSafe, Follows, makes_steps, hand_of, awaits};
+    ghost use Rattle.lock_model.specs.Shows.{Shows, ShowsSafe, Follows, makes_steps};
     ghost use Rattle.lock_table.specs.Parts.{contents_in};
     ghost use Rattle.modes_core.specs.Tag.{partition_of};
 
@@ -64,46 +65,6 @@ impl Machine {
     {
         let index = usize::from(session.number());
         self.live[index] && self.kept_by[index].is_none()
-    }
-
-    /// The partition in hand, where the session makes steps of its own and has it.
-    pub fn hand_of(&self, session: SessionId, partition: u8) -> Option<InHand>
-        ensures { result ≡ hand_of self.now session partition }
-    {
-        let hands = self.hands.as_slice();
-        let index = usize::from(partition);
-        if index >= hands.len() || !self.makes_steps(session) {
-            return None;
-        }
-        match hands[index] {
-            Some(hand) => {
-                if hand.holder == session {
-                    Some(hand)
-                } else {
-                    None
-                }
-            }
-            None => None,
-        }
-    }
-
-    /// Whether the session waits for the mode on the object.
-    pub fn awaits(&self, session: SessionId, tag: Tag, mode: Mode) -> bool
-        ensures { result ≡ awaits (slice_index_or self.now.awaited session None) tag mode }
-    {
-        match self.awaited[usize::from(session.number())] {
-            Some(wait) => wait.tag.is_same(tag) && wait.mode.is_same(mode),
-            None => false,
-        }
-    }
-
-    /// Whether the session may ask for the mode on the object: it waits for nothing, and hasn't the hold.
-    pub fn may_ask(&self, session: SessionId, tag: Tag, mode: Mode) -> bool
-        requires shown { ShowsSafe self.now }
-        ensures { result ≡ (is_none (slice_index_or self.now.awaited session None) && not ((contents_in self.now.parts.items (partition_of tag)).holds session tag mode)) }
-    {
-        let part = &self.parts[usize::from(tag.partition())];
-        self.awaited[usize::from(session.number())].is_none() && !part.held(session, tag).has(mode)
     }
 
     /// Makes the event's step, where it is lawful.

@@ -1,9 +1,9 @@
 use Rattle.std.proofs.Common.{◌≡◌, ◌<◌, true, None, length, get_or, is_some, is_none, sym, ap, ◌∙◌, arith}
 use Rattle.lock_world.specs.declared.events.Step.TheVariants.{JoinSeat}
 use Rattle.lock_table.proofs.ListLemmas.{there_not_none, not_there_none}
-use Rattle.lock_model.proofs.Showing.{steps_not, some_wait_from}
-use Rattle.lock_model.proofs.Following.{skipped}
-use Rattle.lock_model.proofs.FollowingSeats.{was_closed, some_word, some_hold, keeps_somebody}
+use Rattle.lock_model.proofs.Shows.Looks.{steps_not, some_wait_from}
+use Rattle.lock_model.proofs.Follows.Skipped.{skipped}
+use Rattle.lock_model.proofs.Follows.Seats.{was_closed, some_word, some_hold, keeps_somebody}
 use Rattle.lock_model.proofs.machine.state.Machine.close.Goals as goal
 use Rattle.lock_model.proofs.machine.state.Machine.close.Goals.{else-makes_steps-via-then-makes_steps+then-not-has_a_word+then-not-has_a_hold+then-is_none+else-not-keeps_someone, else-makes_steps-via-then-makes_steps+then-not-has_a_word+then-not-has_a_hold+else-is_none, else-makes_steps-via-then-makes_steps+then-not-has_a_word+else-not-has_a_hold, else-makes_steps-via-then-makes_steps+else-not-has_a_word, else-makes_steps-via-else-makes_steps}
 

@@ -3,8 +3,8 @@ use Rattle.modes_core.specs.Tag.{partition_of}
 use Rattle.lock_table.specs.Content.{Content}
 use Rattle.lock_table.specs.PartView.{content_of}
 use Rattle.lock_table.specs.Queue.{Before, add_wait, awaits_mode, waits_there}
-use Rattle.lock_model.proofs.PlaceLemmas.{part_read, get_or-one_value}
-use Rattle.lock_model.proofs.FollowingJoins.{asks_not_awaited, asks_stands_not, marked_within, was_set_waiting}
+use Rattle.lock_model.proofs.Shows.Places.{part_read, get_or-one_value}
+use Rattle.lock_model.proofs.Follows.Waits.Joins.{asks_not_awaited, asks_stands_not, marked_within, was_set_waiting}
 use Rattle.lock_model.proofs.machine.state.Machine.join_now.Goals as goal
 
 pub begin-requires-clause-not_awaited : goal.begin-requires-clause-not_awaited

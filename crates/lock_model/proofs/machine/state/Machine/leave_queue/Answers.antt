@@ -6,9 +6,9 @@ use Rattle.lock_table.specs.MoveTests.{move_eq}
 use Rattle.lock_table.specs.PartView.{PartView, content_of}
 use Rattle.lock_table.specs.Queue.{waits_there}
 use Rattle.lock_model.specs.Shows.{hand_of}
-use Rattle.lock_model.proofs.PlaceLemmas.{part_read}
+use Rattle.lock_model.proofs.Shows.Places.{part_read}
 use Rattle.lock_table.proofs.MoveTests.{move_eq-same, move_eq-refl}
-use Rattle.lock_model.proofs.FollowingClears.{left_before, leave_without_hand, leave_after_move}
+use Rattle.lock_model.proofs.Follows.Waits.Clears.{left_before, leave_without_hand, leave_after_move}
 use Rattle.lock_model.proofs.machine.state.Machine.leave_queue.Goals as goal
 use Rattle.lock_model.proofs.machine.state.Machine.leave_queue.Goals.{else-is_same-via-then-is_same+else-not-waits, else-is_same-via-else-is_same}
 

@@ -14,9 +14,9 @@ use Rattle.lock_table.specs.Told.{IsTold}
 use Rattle.lock_world.specs.World.{World}
 use Rattle.lock_world.specs.Happens.{Next}
 use Rattle.lock_model.specs.Shows.{Shows}
-use Rattle.lock_model.proofs.Following.{skipped}
-use Rattle.lock_model.proofs.FollowingPuts.{granted, granting, told-granted, exists_from, asks_not_awaited}
-use Rattle.lock_model.proofs.PlaceLemmas.{changed_there, part_read}
+use Rattle.lock_model.proofs.Follows.Skipped.{skipped}
+use Rattle.lock_model.proofs.Follows.Partitions.{granted, granting, told-granted, exists_from, asks_not_awaited}
+use Rattle.lock_model.proofs.Shows.Places.{changed_there, part_read}
 use Rattle.lock_model.proofs.machine.state.Machine.put_granting.Goals as goal
 use Rattle.lock_model.proofs.machine.state.Machine.put_granting.Goals.{then-partition-via-then-partition, then-partition-via-else-partition+then-not-may_ask}
 

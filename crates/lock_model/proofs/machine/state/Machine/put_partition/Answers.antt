@@ -7,10 +7,10 @@ use Rattle.lock_world.specs.declared.events.Word.TheVariants.{Partition}
 use Rattle.lock_world.specs.World.{World}
 use Rattle.lock_world.specs.Happens.{Next}
 use Rattle.lock_model.specs.Shows.{Shows}
-use Rattle.lock_model.proofs.Following.{skipped}
-use Rattle.lock_model.proofs.FollowingPuts.{recorded_put, not_in_hand, only_recorded}
+use Rattle.lock_model.proofs.Follows.Skipped.{skipped}
+use Rattle.lock_model.proofs.Follows.Partitions.{recorded_put, not_in_hand, only_recorded}
 use Rattle.lock_table.proofs.MoveTests.{move_eq-same, move_eq-refl}
-use Rattle.lock_model.proofs.Showing.{hand_from}
+use Rattle.lock_model.proofs.Shows.Looks.{hand_from}
 use Rattle.lock_model.proofs.machine.state.Machine.put_partition.Goals as goal
 use Rattle.lock_model.proofs.machine.state.Machine.put_partition.Goals.{else-is_same-via-then-is_same+then-none_unmarked+else-is_over, else-is_same-via-then-is_same+else-none_unmarked, else-is_same-via-else-is_same}
 

@@ -16,9 +16,9 @@ use Rattle.lock_table.specs.Waiter.{whose_and_mode}
 use Rattle.lock_world.specs.World.{World}
 use Rattle.lock_world.specs.Happens.{Next}
 use Rattle.lock_model.specs.Shows.{Shows, IsOwnFor}
-use Rattle.lock_model.proofs.Following.{skipped}
-use Rattle.lock_model.proofs.FollowingPuts.{released, releasing, release_wakes, exists_from}
-use Rattle.lock_model.proofs.PlaceLemmas.{changed_there}
+use Rattle.lock_model.proofs.Follows.Skipped.{skipped}
+use Rattle.lock_model.proofs.Follows.Partitions.{released, releasing, release_wakes, exists_from}
+use Rattle.lock_model.proofs.Shows.Places.{changed_there}
 use Rattle.lock_model.proofs.machine.state.Machine.put_releasing.Goals as goal
 
 pub returns-in_default : goal.returns-in_default

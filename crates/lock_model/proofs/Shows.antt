@@ -1,0 +1,5 @@
+-- When the machine shows a World, and what its looks then tell.
+pub mod Places
+pub mod Hands
+pub mod Looks
+pub mod Runs
