@@ -73,31 +73,6 @@ recording-shown h hand holder done marks unmarked is whose same =
     subst (λ (o : Option Hand). ShowsHandIfAny (Some (record { holder = holder; recorded = Some done; unmarked = marks })) (recording o done unmarked)) (sym is)
     (record { holder = whose; recorded = refl; unmarked = same })
 
--- A list of waits with one place written.
-pub awaited-set_at : (xs : List (Option Awaited)) (k : ℕ) (a : Option Awaited) (o : Option OwnWait) (f : ℕ → Option OwnWait) → k < length xs → a ≡ option_map awaited_of o → ((j : ℕ) → get_or xs j None ≡ option_map awaited_of (f j))
-    → (j : ℕ) → get_or (set xs k a) j None ≡ option_map awaited_of (set_at f k o j)
-awaited-set_at xs k a o f within is reads j =
-    elim (cases_eq j k) [
-      | inl same ↦ ap (λ i. get_or (set xs k a) i None) same ∙ get_or-set_same xs k a None within ∙ is ∙ sym (ap (option_map awaited_of) (set_at-here f k o j same))
-      | inr other ↦ get_or-set_other xs k j a None other ∙ reads j ∙ sym (ap (option_map awaited_of) (set_at-else f k o j other))
-    ]
-
--- A list of parts with one replaced has the contents with that one changed, and no request begun.
-pub contents-set_at : (xs : List PartView) (p : ℕ) (part : PartView) (c : Content) (f : ℕ → Content) → p < length xs → content_of part ≡ c → ((q : ℕ) → q < 16 → contents_in xs q ≡ f q)
-    → (q : ℕ) → q < 16 → contents_in (set xs p part) q ≡ set_at f p c q
-contents-set_at xs p part c f within is reads q below =
-    elim (cases_eq q p) [
-      | inl same ↦ ap (contents_in (set xs p part)) same ∙ ap content_of (get_or-set_same xs p part no_part within) ∙ is ∙ sym (set_at-here f p c q same)
-      | inr other ↦ ap content_of (get_or-set_other xs p q part no_part other) ∙ reads q below ∙ sym (set_at-else f p c q other)
-    ]
-
-pub begun-set_at : (xs : List PartView) (p : ℕ) (part : PartView) → p < length xs → part.begun ≡ None → ((q : ℕ) → (part_at xs q).begun ≡ None) → (q : ℕ) → (part_at (set xs p part) q).begun ≡ None
-begun-set_at xs p part within none reads q =
-    elim (cases_eq q p) [
-      | inl same ↦ ap (λ i. (part_at (set xs p part) i).begun) same ∙ ap (λ (x : PartView). x.begun) (get_or-set_same xs p part no_part within) ∙ none
-      | inr other ↦ ap (λ (x : PartView). x.begun) (get_or-set_other xs p q part no_part other) ∙ reads q
-    ]
-
 -- What the machine keeps of a wait is of a wait.
 pub awaited-some : (o : Option OwnWait) (a : Awaited) → Some a ≡ option_map awaited_of o → (wait : OwnWait) × (o ≡ Some wait) × (wait.tag ≡ a.tag) × (wait.mode ≡ a.mode)
 awaited-some None a e = absurd (cc)

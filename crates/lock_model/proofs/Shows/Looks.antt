@@ -75,19 +75,19 @@ and_no true = refl
 and_no false = refl
 
 -- Past the list no partition is in hand, and whoever makes no steps has none.
-pub hand_of-past : (m : Machine) (s p : ℕ) → length m.hands ≤ p → hand_of m s p ≡ None
+pub hand_of-past : (m : Machine) (s p : ℕ) → length m.contents.hands ≤ p → hand_of m s p ≡ None
 hand_of-past m s p past =
-    let none : get_or m.hands p None ≡ None = get_or_past m.hands p None past in
-    cond-false _ (get_or m.hands p None) None (ap (λ o. makes_steps m s && is_holder s o) none ∙ and_no (makes_steps m s))
+    let none : get_or m.contents.hands p None ≡ None = get_or_past m.contents.hands p None past in
+    cond-false _ (get_or m.contents.hands p None) None (ap (λ o. makes_steps m s && is_holder s o) none ∙ and_no (makes_steps m s))
 
 pub hand_of-idle : (m : Machine) (s p : ℕ) → makes_steps m s ≡ false → hand_of m s p ≡ None
 hand_of-idle m s p idle =
-    cond-false _ (get_or m.hands p None) None (ap (λ b. b && is_holder s (get_or m.hands p None)) idle)
+    cond-false _ (get_or m.contents.hands p None) None (ap (λ b. b && is_holder s (get_or m.contents.hands p None)) idle)
 
 -- A partition in hand is one of the list.
-pub hand_within : (m : Machine) (s p : ℕ) (shown : InHand) → hand_of m s p ≡ Some shown → p < length m.hands
+pub hand_within : (m : Machine) (s p : ℕ) (shown : InHand) → hand_of m s p ≡ Some shown → p < length m.contents.hands
 hand_within m s p shown e =
-    elim (cases_lt p (length m.hands)) [
+    elim (cases_lt p (length m.contents.hands)) [
       | inl within ↦ within
       | inr past ↦ absurd (false≢true (ap is_none (sym e ∙ hand_of-past m s p past)))
     ]
@@ -101,27 +101,27 @@ kept_hand (Some shown) None s shows e = absurd shows
 module _ (m : Machine) (w : World) (safe : Safe w) (shows : Shows m w) where
   pub steps_from : (s : ℕ) → makes_steps m s ≡ true → MakesSteps w.numbers s
   steps_from s e =
-      let parts = and_parts (get_or m.live s false) (is_none (get_or m.kept_by s None)) e in
+      let parts = and_parts (get_or m.numbers.live s false) (is_none (get_or m.numbers.kept_by s None)) e in
       record {
-        live = sym (shows.live s) ∙ parts.0;
-        by_itself = sym (shows.kept_by s) ∙ none_of (get_or m.kept_by s None) parts.1;
+        live = sym (shows.numbers.live s) ∙ parts.0;
+        by_itself = sym (shows.numbers.kept_by s) ∙ none_of (get_or m.numbers.kept_by s None) parts.1;
       }
 
   steps_kept : (s : ℕ) → MakesSteps w.numbers s → makes_steps m s ≡ true
   steps_kept s steps =
-      and_from (get_or m.live s false) (is_none (get_or m.kept_by s None)) (shows.live s ∙ steps.live) (ap is_none (shows.kept_by s ∙ steps.by_itself))
+      and_from (get_or m.numbers.live s false) (is_none (get_or m.numbers.kept_by s None)) (shows.numbers.live s ∙ steps.live) (ap is_none (shows.numbers.kept_by s ∙ steps.by_itself))
 
   pub steps_not : (s : ℕ) → makes_steps m s ≡ false → MakesSteps w.numbers s → ⊥
   steps_not s e steps = both_ways (makes_steps m s) e (steps_kept s steps)
 
   pub hand_from : (s p : ℕ) (shown : InHand) → hand_of m s p ≡ Some shown → HasInHand w s p shown
   hand_from s p shown e =
-      elim (cases_Bool (makes_steps m s && is_holder s (get_or m.hands p None))) [
+      elim (cases_Bool (makes_steps m s && is_holder s (get_or m.contents.hands p None))) [
         | inl own ↦
-            let both = and_parts (makes_steps m s) (is_holder s (get_or m.hands p None)) own in
-            let is : get_or m.hands p None ≡ Some shown = sym (cond-true _ (get_or m.hands p None) None own) ∙ e in
-            at (w.contents.hand p) both.0 (sym (ap (is_holder s) is) ∙ both.1) refl (subst (λ o. ShowsHandIfAny o (w.contents.hand p)) is (shows.hand p))
-        | inr other ↦ let none : hand_of m s p ≡ None = cond-false _ (get_or m.hands p None) None other in absurd (false≢true (ap is_none (sym e ∙ none)))
+            let both = and_parts (makes_steps m s) (is_holder s (get_or m.contents.hands p None)) own in
+            let is : get_or m.contents.hands p None ≡ Some shown = sym (cond-true _ (get_or m.contents.hands p None) None own) ∙ e in
+            at (w.contents.hand p) both.0 (sym (ap (is_holder s) is) ∙ both.1) refl (subst (λ o. ShowsHandIfAny o (w.contents.hand p)) is (shows.contents.hand p))
+        | inr other ↦ let none : hand_of m s p ≡ None = cond-false _ (get_or m.contents.hands p None) None other in absurd (false≢true (ap is_none (sym e ∙ none)))
       ] where
         at : (h : Option Hand) → makes_steps m s ≡ true → is_holder s (Some shown) ≡ true → w.contents.hand p ≡ h → ShowsHandIfAny (Some shown) h → HasInHand w s p shown
         at None steps own is it = absurd it
@@ -130,7 +130,7 @@ module _ (m : Machine) (w : World) (safe : Safe w) (shows : Shows m w) where
             record {
               steps = steps_from s steps;
               holding = safe.carriers.hands p s ∙ ap (λ h. is_hand_of h s) is ∙ sym (ap (λ k. k == s) it.holder) ∙ own;
-              exists = subst (λ n. p < n) shows.sixteen_hands (hand_within m s p shown e);
+              exists = subst (λ n. p < n) shows.contents.sixteen_hands (hand_within m s p shown e);
               hand = hand;
               is_hand = is;
               shows = it;
@@ -139,15 +139,15 @@ module _ (m : Machine) (w : World) (safe : Safe w) (shows : Shows m w) where
 
   pub hand_not : (s p : ℕ) → hand_of m s p ≡ None → MakesSteps w.numbers s → w.sessions.holds_partition s p ≡ true → ⊥
   hand_not s p e steps holding =
-      let kept = hand_kept (get_or m.hands p None) (w.contents.hand p) s (shows.hand p) (sym (safe.carriers.hands p s) ∙ holding) in
-      let own = and_from (makes_steps m s) (is_holder s (get_or m.hands p None)) (steps_kept s steps) kept.0 in
-      kept.1 (sym (cond-true _ (get_or m.hands p None) None own) ∙ e)
+      let kept = hand_kept (get_or m.contents.hands p None) (w.contents.hand p) s (shows.contents.hand p) (sym (safe.carriers.hands p s) ∙ holding) in
+      let own = and_from (makes_steps m s) (is_holder s (get_or m.contents.hands p None)) (steps_kept s steps) kept.0 in
+      kept.1 (sym (cond-true _ (get_or m.contents.hands p None) None own) ∙ e)
 
-  pub awaits_from : (s : ℕ) (t : Tag) (n : Mode) → awaits (get_or m.awaited s None) t n ≡ is_for (w.sessions.awaited s) t n
-  awaits_from s t n = ap (λ o. awaits o t n) (shows.awaited s) ∙ awaits_same (w.sessions.awaited s) t n
+  pub awaits_from : (s : ℕ) (t : Tag) (n : Mode) → awaits (get_or m.waits.awaited s None) t n ≡ is_for (w.sessions.awaited s) t n
+  awaits_from s t n = ap (λ o. awaits o t n) (shows.waits.awaited s) ∙ awaits_same (w.sessions.awaited s) t n
 
   -- A session's own holds are those of the contents, but what it awaits.
-  pub own_from : (s : ℕ) (t : Tag) (n : Mode) → w.sessions.own s t n ≡ ((w.contents.now (partition_of t)).holds s t n && not (awaits (get_or m.awaited s None) t n))
+  pub own_from : (s : ℕ) (t : Tag) (n : Mode) → w.sessions.own s t n ≡ ((w.contents.now (partition_of t)).holds s t n && not (awaits (get_or m.waits.awaited s None) t n))
   own_from s t n =
       let there = (w.contents.now (partition_of t)).holds s t n in
       elim (cases_Bool (is_for (w.sessions.awaited s) t n)) [
@@ -157,14 +157,14 @@ module _ (m : Machine) (w : World) (safe : Safe w) (shows : Shows m w) where
             ∙ sym ((safe.promise.one_place.on_object t).held s n) ∙ sym (and_not_false there _ (awaits_from s t n ∙ other))
       ]
 
-  pub content_from : (t : Tag) → contents_in m.parts.items (partition_of t) ≡ w.contents.now (partition_of t)
-  content_from t = shows.content (partition_of t) (omega arith)
+  pub content_from : (t : Tag) → contents_in m.contents.parts.items (partition_of t) ≡ w.contents.now (partition_of t)
+  content_from t = shows.contents.now (partition_of t) (omega arith)
 
-  pub no_wait_from : (s : ℕ) → is_none (get_or m.awaited s None) ≡ true → w.sessions.awaited s ≡ None
-  no_wait_from s e = none_kept (w.sessions.awaited s) (sym (ap is_none (shows.awaited s)) ∙ e)
+  pub no_wait_from : (s : ℕ) → is_none (get_or m.waits.awaited s None) ≡ true → w.sessions.awaited s ≡ None
+  no_wait_from s e = none_kept (w.sessions.awaited s) (sym (ap is_none (shows.waits.awaited s)) ∙ e)
 
-  pub some_wait_from : (s : ℕ) → is_none (get_or m.awaited s None) ≡ false → w.sessions.awaited s ≡ None → ⊥
-  some_wait_from s e none = both_ways _ e (ap is_none (shows.awaited s ∙ ap (option_map awaited_of) none))
+  pub some_wait_from : (s : ℕ) → is_none (get_or m.waits.awaited s None) ≡ false → w.sessions.awaited s ≡ None → ⊥
+  some_wait_from s e none = both_ways _ e (ap is_none (shows.waits.awaited s ∙ ap (option_map awaited_of) none))
 
   -- Who waits for nothing stands in no queue.
   pub stands_not : (s : ℕ) → w.sessions.awaited s ≡ None → (t : Tag) → waits_there ((w.contents.now (partition_of t)).waits t) s ≡ false

@@ -14,18 +14,6 @@ use Rattle.lock_model.specs.Shows.{ShowsHandIfAny, is_unmarked_in, none_unmarked
 use Rattle.lock_table.proofs.ListLemmas.{found_within}
 use Rattle.lock_table.proofs.PutLemmas.{set_at-here, set_at-else}
 
--- A list of hands with one place written shows the function changed there.
-pub hand-set_at : (xs : List (Option InHand)) (k : ℕ) (shown : Option InHand) (hand : Option Hand) (f : ℕ → Option Hand) → k < length xs → ShowsHandIfAny shown hand → ((j : ℕ) → ShowsHandIfAny (get_or xs j None) (f j)) → (j : ℕ) → ShowsHandIfAny (get_or (set xs k shown) j None) (set_at f k hand j)
-hand-set_at xs k shown hand f within is reads j =
-    elim (cases_eq j k) [
-      | inl same ↦
-          subst (λ h. ShowsHandIfAny (get_or (set xs k shown) j None) h) (sym (set_at-here f k hand j same))
-          (subst (λ x. ShowsHandIfAny x hand) (sym (ap (λ i. get_or (set xs k shown) i None) same ∙ get_or-set_same xs k shown None within)) is)
-      | inr other ↦
-          subst (λ h. ShowsHandIfAny (get_or (set xs k shown) j None) h) (sym (set_at-else f k hand j other))
-          (subst (λ x. ShowsHandIfAny x (f j)) (sym (get_or-set_other xs k j shown None other)) (reads j))
-    ]
-
 -- A list of one value reads as that value everywhere, also past its end.
 pub get_or-one_value : {A : Type 0} (n : ℕ) (a : A) (k : ℕ) → get_or (replicate n a) k a ≡ a
 get_or-one_value n a k =
@@ -44,26 +32,6 @@ none_marked (b ∷ unmarked) none = or_from b (list_any (λ b. b) unmarked) (non
 
 pub each-none_unmarked : (unmarked : List Bool) → ((k : ℕ) → is_unmarked_in unmarked k ≡ false) → none_unmarked unmarked ≡ true
 each-none_unmarked unmarked none = not_from_false _ (none_marked unmarked none)
-
--- Of the parts one alone was changed, with this content now, and no request is begun in it.
-pub record IsChangedAt (before after : List PartView) (p : ℕ) (now : Content) : Type 0 where
-  pub as_many : length after ≡ length before
-  pub content : content_of (part_at after p) ≡ now
-  pub none_begun : (part_at after p).begun ≡ None
-  pub others : (q : ℕ) → q ≢ p → part_at after q ≡ part_at before q
-
-pub changed_nowhere : (parts : List PartView) (p : ℕ) (content : Content) → content_of (part_at parts p) ≡ content → (part_at parts p).begun ≡ None → IsChangedAt parts parts p content
-changed_nowhere parts p content is none = record { as_many = refl; content = is; none_begun = none; others = λ q other. refl }
-
-pub changed_there : (parts : List PartView) (i p : ℕ) (part : PartView) (content : Content) → i ≡ p → p < length parts → content_of part ≡ content → part.begun ≡ None → IsChangedAt parts (set parts i part) p content
-changed_there parts i p part content at within is none = subst (λ j. IsChangedAt parts (set parts j part) p content) (sym at) (record {
-  as_many = length-set parts p part;
-  content = ap content_of there ∙ is;
-  none_begun = ap (λ x. x.begun) there ∙ none;
-  others = λ q other. get_or-set_other parts p q part no_part other;
-}) where
-  there : part_at (set parts p part) p ≡ part
-  there = get_or-set_same parts p part no_part within
 
 -- What is read at a place of the parts.
 pub part_read : (xs : List PartView) (i p : ℕ) (part : PartView) → i ≡ p → i < length xs → part ≡ get_or xs i part → part ≡ part_at xs p

@@ -36,14 +36,14 @@ impl InHand {
 impl Machine {
     ghost use Rattle.std.specs.Prelude.{◌≡◌, ◌<◌, ◌+◌, replicate, false, slice_set, slice_index_or, Some, None};
     ghost use Rattle.lock_world.specs.LightweightWord.{free_word, taken_word, put_word, IsHeldByNobody};
-    ghost use Rattle.lock_world.specs.WaitWord.{wait_state};
+    ghost use Rattle.lock_world.specs.WaitWord.{wait_state, granted_word};
     ghost use Rattle.lock_model.specs.Shows.{hand_of};
 
     /// The partition in hand, where the session makes steps of its own and has it.
     pub fn hand_of(&self, session: SessionId, partition: u8) -> Option<InHand>
         ensures { result ≡ hand_of self.now session partition }
     {
-        let hands = self.hands.as_slice();
+        let hands = self.contents.hands.as_slice();
         let index = usize::from(partition);
         if index >= hands.len() || !self.makes_steps(session) {
             return None;
@@ -63,15 +63,15 @@ impl Machine {
     /// Sets the partition's word held, and its content is in the session's hand.
     pub fn set_held(&mut self, session: SessionId, partition: u8)
         requires exists { partition < 16 }
-        requires free { IsHeldByNobody (slice_index_or self.old.words partition free_word) }
+        requires free { IsHeldByNobody (slice_index_or self.old.words.partitions partition free_word) }
         ensures { self.new ≡ record self.old {
-          words = slice_set self.old.words partition (taken_word (slice_index_or self.old.words partition free_word));
-          hands = slice_set self.old.hands partition (Some (record { holder = session; recorded = None; unmarked = replicate 64 false }));
+          words = record (self.old.words) { partitions = slice_set self.old.words.partitions partition (taken_word (slice_index_or self.old.words.partitions partition free_word)) };
+          contents = record (self.old.contents) { hands = slice_set self.old.contents.hands partition (Some (record { holder = session; recorded = None; unmarked = replicate 64 false })) };
         } }
     {
         let index = usize::from(partition);
-        self.words[index] += 0x100_0000;
-        self.hands[index] = Some(InHand {
+        self.words.partitions[index] += 0x100_0000;
+        self.contents.hands[index] = Some(InHand {
             holder: session,
             recorded: None,
             unmarked: [false; 64],
@@ -82,10 +82,10 @@ impl Machine {
     pub fn record(&mut self, partition: u8, hand: InHand, done: Move, unmarked: [bool; 64])
         requires { partition < 16 }
         ensures { self.new ≡ record self.old {
-          hands = slice_set self.old.hands partition (Some (record { holder = hand.holder; recorded = Some done; unmarked = unmarked }));
+          contents = record (self.old.contents) { hands = slice_set self.old.contents.hands partition (Some (record { holder = hand.holder; recorded = Some done; unmarked = unmarked })) };
         } }
     {
-        self.hands[usize::from(partition)] = Some(InHand {
+        self.contents.hands[usize::from(partition)] = Some(InHand {
             holder: hand.holder,
             recorded: Some(done),
             unmarked,
@@ -103,31 +103,31 @@ impl Machine {
         unmarked: [bool; 64],
     )
         requires exists { partition < 16 }
-        requires waiting { wait_state (slice_index_or self.old.wait_words other 0) ≡ 1 }
+        requires waiting { wait_state (slice_index_or self.old.words.waits other 0) ≡ 1 }
         ensures { self.new ≡ record self.old {
-          hands = slice_set self.old.hands partition (Some (record { holder = hand.holder; recorded = Some done; unmarked = slice_set unmarked other false }));
-          wait_words = slice_set self.old.wait_words other (slice_index_or self.old.wait_words other 0 + 1);
+          words = record (self.old.words) { waits = slice_set self.old.words.waits other (granted_word (slice_index_or self.old.words.waits other 0)) };
+          contents = record (self.old.contents) { hands = slice_set self.old.contents.hands partition (Some (record { holder = hand.holder; recorded = Some done; unmarked = slice_set unmarked other false })) };
         } }
     {
         let index = usize::from(other.number());
         let mut unmarked = unmarked;
         unmarked[index] = false;
         self.record(partition, hand, done, unmarked);
-        self.wait_words[index] += 1;
+        self.words.waits[index] += 1;
     }
 
     /// Sets the partition's word free, and its content is at home.
     pub fn set_free(&mut self, partition: u8)
         requires { partition < 16 }
         ensures { self.new ≡ record self.old {
-          words = slice_set self.old.words partition (put_word (slice_index_or self.old.words partition free_word));
-          hands = slice_set self.old.hands partition None;
+          words = record (self.old.words) { partitions = slice_set self.old.words.partitions partition (put_word (slice_index_or self.old.words.partitions partition free_word)) };
+          contents = record (self.old.contents) { hands = slice_set self.old.contents.hands partition None };
         } }
     {
         let index = usize::from(partition);
         // A word that is held shows it, so that nothing is cut off here.
-        self.words[index] = self.words[index].saturating_sub(0x100_0000);
-        self.hands[index] = None;
+        self.words.partitions[index] = self.words.partitions[index].saturating_sub(0x100_0000);
+        self.contents.hands[index] = None;
     }
 }
 

@@ -77,12 +77,12 @@ impl Machine {
         done: Move,
     ) -> Result<Option<MovedPart>, NoMemory>
         requires exists { partition < 16 }
-        requires sixteen { length self.now.parts.items ≡ 16 }
-        ensures moved { IfOk result (λ found. IfSome found (IsMoved (part_at self.now.parts.items partition) session done)) }
-        ensures own { IfOk result (λ found. IfSome found (λ _. IsOwnFor (slice_index_or self.now.awaited session None) done)) }
-        ensures cannot { IfOk result (λ found. found ≡ None → CannotMake (slice_index_or self.now.awaited session None) (contents_in self.now.parts.items partition) session done) }
+        requires sixteen { length self.now.contents.parts.items ≡ 16 }
+        ensures moved { IfOk result (λ found. IfSome found (IsMoved (part_at self.now.contents.parts.items partition) session done)) }
+        ensures own { IfOk result (λ found. IfSome found (λ _. IsOwnFor (slice_index_or self.now.waits.awaited session None) done)) }
+        ensures cannot { IfOk result (λ found. found ≡ None → CannotMake (slice_index_or self.now.waits.awaited session None) (contents_in self.now.contents.parts.items partition) session done) }
     {
-        let part = &self.parts[usize::from(partition)];
+        let part = &self.contents.parts[usize::from(partition)];
         match done {
             Move::Keep => Ok(None),
             Move::Grant { tag: _, mode: _ } => Ok(None),

@@ -55,7 +55,10 @@ impl Machine {
         ensures { Follows self.old session (Step.TakeExclusive (Word.Partition partition)) self.new }
     {
         let index = usize::from(partition);
-        if self.makes_steps(session) && index < 16 && self.words[index] % 0x200_0000 == 0 {
+        if self.makes_steps(session)
+            && index < 16
+            && self.words.partitions[index] % 0x200_0000 == 0
+        {
             self.set_held(session, partition);
         }
     }
@@ -87,12 +90,12 @@ impl Machine {
 
     /// Whether the session has no wait on an object of the partition that the move should have ended.
     fn is_over(&self, session: SessionId, partition: u8, done: Move) -> bool
-        ensures { result ≡ is_over (slice_index_or self.now.awaited session None) partition done }
+        ensures { result ≡ is_over (slice_index_or self.now.waits.awaited session None) partition done }
     {
         if !done.is_leave() {
             return true;
         }
-        match self.awaited[usize::from(session.number())] {
+        match self.waits.awaited[usize::from(session.number())] {
             Some(wait) => wait.tag.partition() != partition,
             None => true,
         }
@@ -132,10 +135,10 @@ impl Machine {
             return Ok(());
         }
         let index = usize::from(partition);
-        let Told::Granted = waiting_answer(&self.parts[index], session, tag, mode) else {
+        let Told::Granted = waiting_answer(&self.contents.parts[index], session, tag, mode) else {
             return Ok(());
         };
-        let part = &mut self.parts[index];
+        let part = &mut self.contents.parts[index];
         part.begin(session, tag, mode)?;
         part.grant(session, tag, mode);
         self.set_free(partition);
@@ -162,7 +165,7 @@ impl Machine {
             return Ok(());
         };
         if moved.woken.is_empty() {
-            self.parts[usize::from(partition)] = moved.part;
+            self.contents.parts[usize::from(partition)] = moved.part;
             self.set_free(partition);
         }
         Ok(())

@@ -15,11 +15,11 @@ impl Machine {
         ensures { Follows self.old session Step.SplitSeat self.new }
     {
         let index = usize::from(session.number());
-        if session.number() == self.issued {
-            self.issued += 1;
-            self.live[index] = true;
-        } else if self.kept_by[index].is_some() {
-            self.kept_by[index] = None;
+        if session.number() == self.numbers.issued {
+            self.numbers.issued += 1;
+            self.numbers.live[index] = true;
+        } else if self.numbers.kept_by[index].is_some() {
+            self.numbers.kept_by[index] = None;
         }
     }
 
@@ -42,7 +42,7 @@ impl Machine {
             && self.makes_steps(joiner)
             && !self.has_a_word(session)
         {
-            self.kept_by[usize::from(session.number())] = Some(joiner);
+            self.numbers.kept_by[usize::from(session.number())] = Some(joiner);
         }
     }
 
@@ -54,35 +54,40 @@ impl Machine {
         if self.makes_steps(session)
             && !self.has_a_word(session)
             && !self.has_a_hold(session)
-            && self.awaited[index].is_none()
+            && self.waits.awaited[index].is_none()
             && !self.keeps_someone(session)
         {
-            self.live[index] = false;
+            self.numbers.live[index] = false;
         }
     }
 
     /// Whether the session has a partition in hand.
     fn has_a_word(&self, session: SessionId) -> bool
-        ensures { result ≡ list_any (is_holder session) self.now.hands }
+        ensures { result ≡ list_any (is_holder session) self.now.contents.hands }
     {
-        self.hands
+        self.contents
+            .hands
             .iter()
             .any(|hand| hand.is_some_and(|hand| hand.holder == session))
     }
 
     /// Whether the session keeps another one apart.
     fn keeps_someone(&self, session: SessionId) -> bool
-        ensures { result ≡ list_any (is_number session) self.now.kept_by }
+        ensures { result ≡ list_any (is_number session) self.now.numbers.kept_by }
     {
-        self.kept_by
+        self.numbers
+            .kept_by
             .iter()
             .any(|joiner| joiner.is_some_and(|other| other == session))
     }
 
     /// Whether the session has a hold.
     fn has_a_hold(&self, session: SessionId) -> bool
-        ensures { result ≡ list_any (λ part. list_any (λ hold. hold.session == session) part.holds) self.now.parts.items }
+        ensures { result ≡ list_any (λ part. list_any (λ hold. hold.session == session) part.holds) self.now.contents.parts.items }
     {
-        self.parts.iter().any(|part| part.has_hold_of(session))
+        self.contents
+            .parts
+            .iter()
+            .any(|part| part.has_hold_of(session))
     }
 }

@@ -26,7 +26,7 @@ impl Machine {
     {
         let index = usize::from(other.number());
         if self.makes_steps(session) {
-            self.wait_words[index] |= 4;
+            self.words.waits[index] |= 4;
         }
     }
 
@@ -35,8 +35,8 @@ impl Machine {
         ensures { Follows self.old session (Step.LoadWait shown) self.new }
     {
         let index = usize::from(session.number());
-        if self.makes_steps(session) && shown == self.wait_words[index] && shown % 4 == 2 {
-            self.seen[index] = true;
+        if self.makes_steps(session) && shown == self.words.waits[index] && shown % 4 == 2 {
+            self.waits.seen[index] = true;
         }
     }
 
@@ -52,7 +52,7 @@ impl Machine {
         if hand.recorded.is_some() || !self.may_ask(session, tag, mode) {
             return Ok(());
         }
-        let part = &self.parts[usize::from(partition)];
+        let part = &self.contents.parts[usize::from(partition)];
         let Told::InQueue(place) = waiting_answer(part, session, tag, mode) else {
             return Ok(());
         };
@@ -69,7 +69,7 @@ impl Machine {
         requires shown { ShowsSafe self.old }
         ensures { OnOk result (Follows self.old session (Step.MarkGranted other done) self.new) }
     {
-        if other == session || self.wait_words[usize::from(other.number())] % 4 != 1 {
+        if other == session || self.words.waits[usize::from(other.number())] % 4 != 1 {
             return Ok(());
         }
         match done {
@@ -90,12 +90,14 @@ impl Machine {
         if !self.makes_steps(session) {
             return;
         }
-        let Some(wait) = self.awaited[usize::from(session.number())] else {
+        let Some(wait) = self.waits.awaited[usize::from(session.number())] else {
             return;
         };
         if leaving {
             self.leave_queue(session, wait.tag);
-        } else if self.seen[usize::from(session.number())] || self.is_gone(session, wait.tag) {
+        } else if self.waits.seen[usize::from(session.number())]
+            || self.is_gone(session, wait.tag)
+        {
             self.end_wait(session);
         }
     }
@@ -112,13 +114,13 @@ impl Machine {
         requires shown { ShowsSafe self.old }
         requires in_hand { hand_of self.old session (partition_of tag) ≡ Some hand }
         requires unmoved { hand.recorded ≡ None }
-        requires no_wait { is_none (slice_index_or self.old.awaited session None) ≡ true }
-        requires not_held { (contents_in self.old.parts.items (partition_of tag)).holds session tag mode ≡ false }
-        requires told { IsTold (contents_in self.old.parts.items (partition_of tag)) session tag mode (InQueue place) }
+        requires no_wait { is_none (slice_index_or self.old.waits.awaited session None) ≡ true }
+        requires not_held { (contents_in self.old.contents.parts.items (partition_of tag)).holds session tag mode ≡ false }
+        requires told { IsTold (contents_in self.old.contents.parts.items (partition_of tag)) session tag mode (InQueue place) }
         ensures { OnOk result (Follows self.old session (Step.SetWaiting tag mode) self.new) }
     {
         let partition = tag.partition();
-        let part = &mut self.parts[usize::from(partition)];
+        let part = &mut self.contents.parts[usize::from(partition)];
         part.begin(session, tag, mode)?;
         part.join(session, tag, mode, place);
         self.record(partition, hand, Move::Join { tag, mode }, [false; 64]);
@@ -136,7 +138,7 @@ impl Machine {
     ) -> Result<(), NoMemory>
         requires shown { ShowsSafe self.old }
         requires another { other ≢ session }
-        requires waiting { wait_state (slice_index_or self.old.wait_words other 0) ≡ 1 }
+        requires waiting { wait_state (slice_index_or self.old.words.waits other 0) ≡ 1 }
         requires object { IsInPartition partition done }
         requires wakes { IsWaking done }
         ensures { OnOk result (FollowsMarking self.old session other partition done self.new) }
@@ -164,7 +166,7 @@ impl Machine {
     ) -> Result<(), NoMemory>
         requires shown { ShowsSafe self.old }
         requires another { other ≢ session }
-        requires waiting { wait_state (slice_index_or self.old.wait_words other 0) ≡ 1 }
+        requires waiting { wait_state (slice_index_or self.old.words.waits other 0) ≡ 1 }
         requires in_hand { hand_of self.old session partition ≡ Some hand }
         requires unmoved { hand.recorded ≡ None }
         requires object { IsInPartition partition done }
@@ -176,7 +178,7 @@ impl Machine {
         };
         if is_among(&moved.woken, other) {
             let unmarked = unmarked_of(&moved.woken);
-            self.parts[usize::from(partition)] = moved.part;
+            self.contents.parts[usize::from(partition)] = moved.part;
             self.mark(partition, hand, other, done, unmarked);
         }
         Ok(())
@@ -185,11 +187,11 @@ impl Machine {
     /// Whether the session has the object's partition in hand, and no wait in the object's queue.
     fn is_gone(&self, session: SessionId, tag: Tag) -> bool
         requires shown { ShowsSafe self.now }
-        ensures { result ≡ (is_some (hand_of self.now session (partition_of tag)) && not (waits_there ((contents_in self.now.parts.items (partition_of tag)).waits tag) session)) }
+        ensures { result ≡ (is_some (hand_of self.now session (partition_of tag)) && not (waits_there ((contents_in self.now.contents.parts.items (partition_of tag)).waits tag) session)) }
     {
         let partition = tag.partition();
         match self.hand_of(session, partition) {
-            Some(_) => !self.parts[usize::from(partition)].has_wait_of(session, tag),
+            Some(_) => !self.contents.parts[usize::from(partition)].has_wait_of(session, tag),
             None => false,
         }
     }
@@ -199,14 +201,14 @@ impl Machine {
     fn leave_queue(&mut self, session: SessionId, tag: Tag)
         requires shown { ShowsSafe self.old }
         requires steps { makes_steps self.old session ≡ true }
-        requires awaited { (wait : Awaited) × (slice_index_or self.old.awaited session None ≡ Some wait) × (wait.tag ≡ tag) }
+        requires awaited { (wait : Awaited) × (slice_index_or self.old.waits.awaited session None ≡ Some wait) × (wait.tag ≡ tag) }
         ensures { Follows self.old session (Step.ClearWait true) self.new }
     {
         let partition = tag.partition();
         let Some(hand) = self.hand_of(session, partition) else {
             return;
         };
-        let waits = self.parts[usize::from(partition)].has_wait_of(session, tag);
+        let waits = self.contents.parts[usize::from(partition)].has_wait_of(session, tag);
         let Some(recorded) = hand.recorded else {
             if waits {
                 self.leave_now(session, tag, hand);
@@ -221,14 +223,14 @@ impl Machine {
     /// Makes the leave: takes the session's wait out of the object's queue, and clears its wait word.
     fn leave_now(&mut self, session: SessionId, tag: Tag, hand: InHand)
         requires shown { ShowsSafe self.old }
-        requires awaited { (wait : Awaited) × (slice_index_or self.old.awaited session None ≡ Some wait) × (wait.tag ≡ tag) }
+        requires awaited { (wait : Awaited) × (slice_index_or self.old.waits.awaited session None ≡ Some wait) × (wait.tag ≡ tag) }
         requires in_hand { hand_of self.old session (partition_of tag) ≡ Some hand }
         requires unmoved { hand.recorded ≡ None }
-        requires in_queue { waits_there ((contents_in self.old.parts.items (partition_of tag)).waits tag) session ≡ true }
+        requires in_queue { waits_there ((contents_in self.old.contents.parts.items (partition_of tag)).waits tag) session ≡ true }
         ensures { Follows self.old session (Step.ClearWait true) self.new }
     {
         let partition = tag.partition();
-        let part = &mut self.parts[usize::from(partition)];
+        let part = &mut self.contents.parts[usize::from(partition)];
         let removed = remove_waiter(part, session, tag);
         self.record(
             partition,

@@ -26,11 +26,10 @@ use Rattle.lock_world.specs.Happens.Waits.{recording, after_setting_waiting}
 use Rattle.lock_world.specs.Happens.{Next}
 use Rattle.lock_world.specs.Safe.{Safe}
 use Rattle.lock_model.specs.Shows.{Shows, is_unmarked_in, hand_of, awaits, awaited_of}
-use Rattle.lock_model.proofs.Follows.Waits.Asks.{shown_with}
-use Rattle.lock_model.proofs.Shows.Hands.{recording-shown, awaited-set_at, contents-set_at, begun-set_at}
+use Rattle.lock_model.proofs.Shows.Changes.{wait_word-set, hand-set, part-set, own_wait-set}
+use Rattle.lock_model.proofs.Shows.Hands.{recording-shown}
 use Rattle.lock_table.proofs.OneAnswer.{waiting_answer-one}
-use Rattle.lock_model.proofs.Follows.Skipped.{get_or-set_at, skipped}
-use Rattle.lock_model.proofs.Shows.Places.{hand-set_at}
+use Rattle.lock_model.proofs.Follows.Skipped.{skipped}
 use Rattle.lock_model.proofs.Shows.Looks.{HasInHand, recorded_from, hand_from, hand_not, own_from, content_from, no_wait_from, stands_not, awaits_not}
 
 -- Joining a queue, and setting the own wait word to waiting.
@@ -84,41 +83,40 @@ none_awaits (Some wait) t n e = absurd (cc)
 
 module _ (m : Machine) (w : World) (safe : Safe w) (shows : Shows m w) where
   -- Whoever may ask stands in no queue of the object.
-  pub asks_new : (s : ℕ) (t : Tag) (n : Mode) → (is_none (get_or m.awaited s None) && not ((contents_in m.parts.items (partition_of t)).holds s t n)) ≡ true
-      → (is_none (get_or m.awaited s None) ≡ true) × ((contents_in m.parts.items (partition_of t)).holds s t n ≡ false)
+  pub asks_new : (s : ℕ) (t : Tag) (n : Mode) → (is_none (get_or m.waits.awaited s None) && not ((contents_in m.contents.parts.items (partition_of t)).holds s t n)) ≡ true
+      → (is_none (get_or m.waits.awaited s None) ≡ true) × ((contents_in m.contents.parts.items (partition_of t)).holds s t n ≡ false)
   asks_new s t n may = let both = and_parts _ _ may in (both.0, not-true _ both.1)
 
-  pub asks_not_awaited : (s : ℕ) (t : Tag) (n : Mode) → is_none (get_or m.awaited s None) ≡ true → awaits_mode ((contents_in m.parts.items (partition_of t)).waits t) s n ≡ false
+  pub asks_not_awaited : (s : ℕ) (t : Tag) (n : Mode) → is_none (get_or m.waits.awaited s None) ≡ true → awaits_mode ((contents_in m.contents.parts.items (partition_of t)).waits t) s n ≡ false
   asks_not_awaited s t n none = ap (λ (c : Content). awaits_mode (c.waits t) s n) (content_from m w safe shows t) ∙ awaits_not m w safe shows s (no_wait_from m w safe shows s none) t n
 
-  pub asks_stands_not : (s : ℕ) (t : Tag) → is_none (get_or m.awaited s None) ≡ true → waits_there ((contents_in m.parts.items (partition_of t)).waits t) s ≡ false
+  pub asks_stands_not : (s : ℕ) (t : Tag) → is_none (get_or m.waits.awaited s None) ≡ true → waits_there ((contents_in m.contents.parts.items (partition_of t)).waits t) s ≡ false
   asks_stands_not s t none = ap (λ (c : Content). waits_there (c.waits t) s) (content_from m w safe shows t) ∙ stands_not m w safe shows s (no_wait_from m w safe shows s none) t
 
   pub was_set_waiting : (s : ℕ) (t : Tag) (n : Mode) (shown : InHand) (place : ℕ) (part : PartView) (marks : List Bool) → hand_of m s (partition_of t) ≡ Some shown → shown.recorded ≡ None
-      → is_none (get_or m.awaited s None) ≡ true → (contents_in m.parts.items (partition_of t)).holds s t n ≡ false → IsTold (contents_in m.parts.items (partition_of t)) s t n (InQueue place)
-      → content_of part ≡ add_wait (contents_in m.parts.items (partition_of t)) s t n (Before place) → part.begun ≡ None → ((k : ℕ) → is_unmarked_in marks k ≡ false) → s < length m.wait_words → s < length m.awaited → s < length m.seen
+      → is_none (get_or m.waits.awaited s None) ≡ true → (contents_in m.contents.parts.items (partition_of t)).holds s t n ≡ false → IsTold (contents_in m.contents.parts.items (partition_of t)) s t n (InQueue place)
+      → content_of part ≡ add_wait (contents_in m.contents.parts.items (partition_of t)) s t n (Before place) → part.begun ≡ None → ((k : ℕ) → is_unmarked_in marks k ≡ false) → s < length m.words.waits → s < 64
       → (v : World) × Next w (record { session = s; step = SetWaiting t n }) v
       × Shows
       (record m {
-        wait_words = set m.wait_words s 1;
-        hands = set m.hands (partition_of t) (Some (record { holder = shown.holder; recorded = Some (Join t n); unmarked = marks }));
-        parts = with_item m.parts (partition_of t) part;
-        awaited = set m.awaited s (Some (record { tag = t; mode = n }));
-        seen = set m.seen s false;
+        words = record (m.words) { waits = set m.words.waits s 1 };
+        contents = record {
+          hands = set m.contents.hands (partition_of t) (Some (record { holder = shown.holder; recorded = Some (Join t n); unmarked = marks }));
+          parts = with_item m.contents.parts (partition_of t) part;
+        };
+        waits = record { awaited = set m.waits.awaited s (Some (record { tag = t; mode = n })); seen = set m.waits.seen s false };
       }) v
-  was_set_waiting s t n shown place part marks in_hand unmoved none not_held is_told is begun unmarked in_wait_words in_awaited in_seen = (
+  was_set_waiting s t n shown place part marks in_hand unmoved none not_held is_told is begun unmarked in_wait_words below = (
     after_setting_waiting w s t n content,
     inl (content, may, refl),
-    shown_with m _ w _ shows (record { numbers = refl; partition = refl; issued = refl; live = refl; kept_by = refl; words = refl; hands = length-set m.hands p _ }) (record {
-      wait_word = get_or-set_at m.wait_words s 1 0 w.words.wait in_wait_words shows.wait_word;
-      hand = hand-set_at m.hands p (Some (record { holder = shown.holder; recorded = Some (Join t n); unmarked = marks })) (recording (w.contents.hand p) (Join t n) (λ _. false)) w.contents.hand in_hands
-          (recording-shown (w.contents.hand p) has.hand shown.holder (Join t n) marks (λ _. false) has.is_hand has.shows.holder unmarked) shows.hand;
-      sixteen = length-set m.parts.items p part ∙ shows.sixteen;
-      content = contents-set_at m.parts.items p part content w.contents.now in_parts (is ∙ found.2 ∙ ap (λ (c : Content). add_wait c s t n found.0) same) shows.content;
-      none_begun = begun-set_at m.parts.items p part in_parts begun shows.none_begun;
-      awaited = awaited-set_at m.awaited s (Some (record { tag = t; mode = n })) (Some (record { tag = t; mode = n; held = (w.contents.now p).holds s t })) w.sessions.awaited in_awaited refl shows.awaited;
-      seen = get_or-set_at m.seen s false false w.sessions.seen in_seen shows.seen;
-    }),
+    record {
+      numbers = shows.numbers;
+      words = wait_word-set m.words w.words s 1 1 shows.words in_wait_words refl;
+      contents = hand-set _ _ p _ _
+          (part-set m.contents w.contents p part content shows.contents has.exists (is ∙ found.2 ∙ ap (λ (c : Content). add_wait c s t n found.0) same) begun) has.exists
+          (recording-shown (w.contents.hand p) has.hand shown.holder (Join t n) marks (λ _. false) has.is_hand has.shows.holder unmarked);
+      waits = own_wait-set m.waits w.sessions.awaited w.sessions.seen s _ (Some (record { tag = t; mode = n; held = (w.contents.now p).holds s t })) shows.waits below refl;
+    },
   ) where
     p : ℕ
     p = partition_of t
@@ -126,17 +124,11 @@ module _ (m : Machine) (w : World) (safe : Safe w) (shows : Shows m w) where
     has : HasInHand w s p shown
     has = hand_from m w safe shows s p shown in_hand
 
-    in_hands : p < length m.hands
-    in_hands = subst (λ k. p < k) (sym shows.sixteen_hands) has.exists
-
-    in_parts : p < length m.parts.items
-    in_parts = subst (λ k. p < k) (sym shows.sixteen) has.exists
-
-    same : contents_in m.parts.items p ≡ w.contents.now p
+    same : contents_in m.contents.parts.items p ≡ w.contents.now p
     same = content_from m w safe shows t
 
-    found : (place' : Place) × WaitingAnswer (contents_in m.parts.items p) s t n (Queued place') × (add_wait (contents_in m.parts.items p) s t n (Before place) ≡ add_wait (contents_in m.parts.items p) s t n place')
-    found = told_place (contents_in m.parts.items p) s t n place is_told
+    found : (place' : Place) × WaitingAnswer (contents_in m.contents.parts.items p) s t n (Queued place') × (add_wait (contents_in m.contents.parts.items p) s t n (Before place) ≡ add_wait (contents_in m.contents.parts.items p) s t n place')
+    found = told_place (contents_in m.contents.parts.items p) s t n place is_told
 
     content : Content
     content = add_wait (w.contents.now p) s t n found.0
@@ -149,7 +141,7 @@ module _ (m : Machine) (w : World) (safe : Safe w) (shows : Shows m w) where
       object = refl;
       own = (
         no_wait_from m w safe shows s none,
-        own_from m w safe shows s t n ∙ ap (λ b. b && not (awaits (get_or m.awaited s None) t n)) (sym (ap (λ (c : Content). c.holds s t n) same) ∙ not_held),
+        own_from m w safe shows s t n ∙ ap (λ b. b && not (awaits (get_or m.waits.awaited s None) t n)) (sym (ap (λ (c : Content). c.holds s t n) same) ∙ not_held),
       );
       moved = (found.0, subst (λ (c : Content). WaitingAnswer c s t n (Queued found.0)) same found.1, refl, refl);
     }
@@ -164,19 +156,19 @@ module _ (m : Machine) (w : World) (safe : Safe w) (shows : Shows m w) where
       (ap is_some (sym (recorded_from w s (partition_of t) shown (hand_from m w safe shows s (partition_of t) shown in_hand)) ∙ lawful.1.1.unrecorded)) moved)
 
   pub join_may_not : (s : ℕ) (t : Tag) (n : Mode) (shown : InHand) → hand_of m s (partition_of t) ≡ Some shown
-      → (is_none (get_or m.awaited s None) && not ((contents_in m.parts.items (partition_of t)).holds s t n)) ≡ false
+      → (is_none (get_or m.waits.awaited s None) && not ((contents_in m.contents.parts.items (partition_of t)).holds s t n)) ≡ false
       → (v : World) × Next w (record { session = s; step = SetWaiting t n }) v × Shows m v
   join_may_not s t n shown in_hand may_not =
       skipped m w safe shows s (SetWaiting t n)
       (λ lawful.
-      let none : is_none (get_or m.awaited s None) ≡ true = ap is_none (shows.awaited s ∙ ap (option_map awaited_of) lawful.1.1.own.0) in
-      let not_held = false_from_ne_true ((contents_in m.parts.items (partition_of t)).holds s t n) (λ held.
+      let none : is_none (get_or m.waits.awaited s None) ≡ true = ap is_none (shows.waits.awaited s ∙ ap (option_map awaited_of) lawful.1.1.own.0) in
+      let not_held = false_from_ne_true ((contents_in m.contents.parts.items (partition_of t)).holds s t n) (λ held.
       both_ways (w.sessions.own s t n) lawful.1.1.own.1
       (own_from m w safe shows s t n
-      ∙ and_from _ _ (sym (ap (λ (c : Content). c.holds s t n) (content_from m w safe shows t)) ∙ held) (not_from_false _ (none_awaits (get_or m.awaited s None) t n none)))) in
+      ∙ and_from _ _ (sym (ap (λ (c : Content). c.holds s t n) (content_from m w safe shows t)) ∙ held) (not_from_false _ (none_awaits (get_or m.waits.awaited s None) t n none)))) in
       both_ways _ may_not (and_from _ _ none (not_from_false _ not_held)))
 
-  pub join_not_told : (s : ℕ) (t : Tag) (n : Mode) (what : Told) → IsTold (contents_in m.parts.items (partition_of t)) s t n what → ((k : ℕ) → what ≡ InQueue k → ⊥)
+  pub join_not_told : (s : ℕ) (t : Tag) (n : Mode) (what : Told) → IsTold (contents_in m.contents.parts.items (partition_of t)) s t n what → ((k : ℕ) → what ≡ InQueue k → ⊥)
       → (v : World) × Next w (record { session = s; step = SetWaiting t n }) v × Shows m v
   join_not_told s t n what is not_queued =
       skipped m w safe shows s (SetWaiting t n)

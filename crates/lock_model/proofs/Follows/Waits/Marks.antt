@@ -16,19 +16,17 @@ use Rattle.lock_table.specs.MoveTests.{move_eq}
 use Rattle.lock_table.specs.Parts.{part_at, contents_in}
 use Rattle.lock_table.specs.PartView.{content_of}
 use Rattle.lock_table.specs.Queue.{waits_there}
-use Rattle.lock_world.specs.WaitWord.{wait_state}
+use Rattle.lock_world.specs.WaitWord.{wait_state, granted_word}
 use Rattle.lock_world.specs.World.{World, recorded_in, is_unmarked}
 use Rattle.lock_table.specs.Put.{set_at}
 use Rattle.lock_world.specs.Happens.Partitions.{MayMove}
 use Rattle.lock_world.specs.Happens.Waits.{MayMark, recording, without, after_marking_first, after_marking_next, HappensMarkingIn}
 use Rattle.lock_world.specs.Safe.{Safe}
 use Rattle.lock_model.specs.Shows.{Shows, is_unmarked_in, names_in, hand_of, awaits, IsWaking, IsOwnFor, CannotMake}
-use Rattle.lock_model.proofs.Follows.Waits.Asks.{shown_with}
-use Rattle.lock_model.proofs.Shows.Hands.{names_in-granted, marks-without, recording-shown, contents-set_at, begun-set_at}
+use Rattle.lock_model.proofs.Shows.Changes.{wait_word-set, hand-set, part-set}
+use Rattle.lock_model.proofs.Shows.Hands.{names_in-granted, marks-without, recording-shown}
 use Rattle.lock_table.proofs.MoveTests.{move_eq-same, move_eq-refl}
 use Rattle.lock_table.proofs.OneMove.{one_moved}
-use Rattle.lock_model.proofs.Follows.Skipped.{get_or-set_at}
-use Rattle.lock_model.proofs.Shows.Places.{hand-set_at}
 use Rattle.lock_model.proofs.Shows.Looks.{HasInHand, recorded_from, unmarked_from, hand_from, hand_not, own_from}
 
 -- Marking the wait of another session granted.
@@ -40,8 +38,8 @@ Marks w s k p done n = (v : World) × (HappensMarkingIn w s k p done v ⊎ (((u 
 -- the machine, once it has marked the session
 abbrev pub marked_by : Machine → ℕ → InHand → ℕ → Move → List Bool → Machine
 marked_by m p hand k done unmarked = record m {
-  hands = set m.hands p (Some (record { holder = hand.holder; recorded = Some done; unmarked = set unmarked k false }));
-  wait_words = set m.wait_words k (get_or m.wait_words k 0 + 1);
+  words = record (m.words) { waits = set m.words.waits k (granted_word (get_or m.words.waits k 0)) };
+  contents = record (m.contents) { hands = set m.contents.hands p (Some (record { holder = hand.holder; recorded = Some done; unmarked = set unmarked k false })) };
 }
 
 -- Who is marked, and whose word shows something, is one of the list.
@@ -93,16 +91,11 @@ module _ (m : Machine) (w : World) (safe : Safe w) (shows : Shows m w) where
     never u (inl first) = recorded_some (recorded_in (w.contents.hand p)) recorded recorded_is first.2.may_move.unrecorded
     never u (inr next) = refused not_so next.0.recorded next.0.is_unmarked_in
 
-  may_mark : (s k : ℕ) → k ≢ s → wait_state (get_or m.wait_words k 0) ≡ 1 → MayMark w s k
-  may_mark s k another waiting = record { another = another; waiting = ap wait_state (sym (shows.wait_word k)) ∙ waiting }
-
-  words_after : (k : ℕ) → wait_state (get_or m.wait_words k 0) ≡ 1 → (j : ℕ) → get_or (set m.wait_words k (get_or m.wait_words k 0 + 1)) j 0 ≡ set_at w.words.wait k (w.words.wait k + 1) j
-  words_after k waiting j =
-      get_or-set_at m.wait_words k (get_or m.wait_words k 0 + 1) 0 w.words.wait (word_within m.wait_words k waiting) shows.wait_word j
-      ∙ ap (λ n. set_at w.words.wait k (n + 1) j) (shows.wait_word k)
+  may_mark : (s k : ℕ) → k ≢ s → wait_state (get_or m.words.waits k 0) ≡ 1 → MayMark w s k
+  may_mark s k another waiting = record { another = another; waiting = ap wait_state (sym (shows.words.wait k)) ∙ waiting }
 
   -- One more of those is marked whom the recorded move granted.
-  pub mark_next : (s k p : ℕ) (hand : InHand) (recorded done : Move) → hand_of m s p ≡ Some hand → hand.recorded ≡ Some recorded → move_eq recorded done ≡ true → is_unmarked_in hand.unmarked k ≡ true → k ≢ s → wait_state (get_or m.wait_words k 0) ≡ 1
+  pub mark_next : (s k p : ℕ) (hand : InHand) (recorded done : Move) → hand_of m s p ≡ Some hand → hand.recorded ≡ Some recorded → move_eq recorded done ≡ true → is_unmarked_in hand.unmarked k ≡ true → k ≢ s → wait_state (get_or m.words.waits k 0) ≡ 1
       → Marks w s k p done (marked_by m p hand k done hand.unmarked)
   mark_next s k p hand recorded done in_hand is_recorded same unmarked another waiting = (
     after_marking_next w k p done,
@@ -117,26 +110,23 @@ module _ (m : Machine) (w : World) (safe : Safe w) (shows : Shows m w) where
           },
           refl,
         )),
-    shown_with m _ w _ shows (record { numbers = refl; partition = refl; issued = refl; live = refl; kept_by = refl; words = refl; hands = length-set m.hands p _ }) (record {
-      wait_word = words_after k waiting;
-      hand = hand-set_at m.hands p _ (recording (w.contents.hand p) done (without (is_unmarked (w.contents.hand p)) k)) w.contents.hand (subst (λ n. p < n) (sym shows.sixteen_hands) has.exists)
+    record {
+      numbers = shows.numbers;
+      words = wait_word-set m.words w.words k _ _ shows.words (word_within m.words.waits k waiting) (ap granted_word (shows.words.wait k));
+      contents = hand-set m.contents w.contents p _ _ shows.contents has.exists
           (recording-shown (w.contents.hand p) has.hand hand.holder done (set hand.unmarked k false) (without (is_unmarked (w.contents.hand p)) k) has.is_hand has.shows.holder
-          (marks-without hand.unmarked (is_unmarked (w.contents.hand p)) k (unmarked_within hand.unmarked k unmarked) (λ j. sym (unmarked_from w s p hand has j)))) shows.hand;
-      sixteen = shows.sixteen;
-      content = shows.content;
-      none_begun = shows.none_begun;
-      awaited = shows.awaited;
-      seen = shows.seen;
-    }),
+          (marks-without hand.unmarked (is_unmarked (w.contents.hand p)) k (unmarked_within hand.unmarked k unmarked) (λ j. sym (unmarked_from w s p hand has j))));
+      waits = shows.waits;
+    },
   ) where
     has : HasInHand w s p hand
     has = hand_from m w safe shows s p hand in_hand
 
   -- What was moved on the machine's content is a move on the World's.
-  moves_there : (s p : ℕ) (done : Move) (granted : List Wait) (after : Content) → p < 16 → Moves (contents_in m.parts.items p) s done granted after → Moves (w.contents.now p) s done granted after
-  moves_there s p done granted after below moves = subst (λ (c : Content). Moves c s done granted after) (shows.content p below) moves
+  moves_there : (s p : ℕ) (done : Move) (granted : List Wait) (after : Content) → p < 16 → Moves (contents_in m.contents.parts.items p) s done granted after → Moves (w.contents.now p) s done granted after
+  moves_there s p done granted after below moves = subst (λ (c : Content). Moves c s done granted after) (shows.contents.now p below) moves
 
-  fits_own : (s p : ℕ) (done : Move) (granted : List Wait) (after : Content) → IsInPartition p done → IsWaking done → IsOwnFor (get_or m.awaited s None) done → Moves (w.contents.now p) s done granted after
+  fits_own : (s p : ℕ) (done : Move) (granted : List Wait) (after : Content) → IsInPartition p done → IsWaking done → IsOwnFor (get_or m.waits.awaited s None) done → Moves (w.contents.now p) s done granted after
       → FitsOwn w.sessions.own (w.sessions.awaited s) s done
   fits_own s p Keep granted after object wakes own moves = absurd wakes
   fits_own s p (Grant t n) granted after object wakes own moves = absurd wakes
@@ -147,28 +137,23 @@ module _ (m : Machine) (w : World) (safe : Safe w) (shows : Shows m w) where
 
   -- The move is made, and one of those is marked whom it granted.
   pub mark_first : (s k p : ℕ) (hand : InHand) (done : Move) (after : MovedPart) (unmarked : List Bool) → hand_of m s p ≡ Some hand → hand.recorded ≡ None → IsInPartition p done → IsWaking done
-      → IsMoved (part_at m.parts.items p) s done after → IsOwnFor (get_or m.awaited s None) done → names_in after.woken.items k ≡ true → ((j : ℕ) → is_unmarked_in unmarked j ≡ names_in after.woken.items j) → k ≢ s
-      → wait_state (get_or m.wait_words k 0) ≡ 1 → Marks w s k p done (marked_by (record m { parts = with_item m.parts p after.part }) p hand k done unmarked)
+      → IsMoved (part_at m.contents.parts.items p) s done after → IsOwnFor (get_or m.waits.awaited s None) done → names_in after.woken.items k ≡ true → ((j : ℕ) → is_unmarked_in unmarked j ≡ names_in after.woken.items j) → k ≢ s
+      → wait_state (get_or m.words.waits k 0) ≡ 1 → Marks w s k p done (marked_by (record m { contents = record (m.contents) { parts = with_item m.contents.parts p after.part } }) p hand k done unmarked)
   mark_first s k p hand done after unmarked in_hand unmoved object wakes moved own among marks another waiting = (
     after_marking_first w s k p done moved.granted (content_of after.part),
     inl (inl (moved.granted, content_of after.part, record { may_move = may_move; may_mark = may_mark s k another waiting; among = sym (granted_named k) ∙ among }, refl)),
-    shown_with m _ w _ shows (record { numbers = refl; partition = refl; issued = refl; live = refl; kept_by = refl; words = refl; hands = length-set m.hands p _ }) (record {
-      wait_word = words_after k waiting;
-      hand = hand-set_at m.hands p _ (recording (w.contents.hand p) done (without (waits_there moved.granted) k)) w.contents.hand (subst (λ n. p < n) (sym shows.sixteen_hands) has.exists)
+    record {
+      numbers = shows.numbers;
+      words = wait_word-set m.words w.words k _ _ shows.words (word_within m.words.waits k waiting) (ap granted_word (shows.words.wait k));
+      contents = hand-set _ _ p _ _
+          (part-set m.contents w.contents p after.part (content_of after.part) shows.contents has.exists refl (moved.begun ∙ shows.contents.none_begun p)) has.exists
           (recording-shown (w.contents.hand p) has.hand hand.holder done (set unmarked k false) (without (waits_there moved.granted) k) has.is_hand has.shows.holder
-          (marks-without unmarked (waits_there moved.granted) k (unmarked_within unmarked k (marks k ∙ among)) (λ j. marks j ∙ granted_named j))) shows.hand;
-      sixteen = length-set m.parts.items p after.part ∙ shows.sixteen;
-      content = contents-set_at m.parts.items p after.part (content_of after.part) w.contents.now in_parts refl shows.content;
-      none_begun = begun-set_at m.parts.items p after.part in_parts (moved.begun ∙ shows.none_begun p) shows.none_begun;
-      awaited = shows.awaited;
-      seen = shows.seen;
-    }),
+          (marks-without unmarked (waits_there moved.granted) k (unmarked_within unmarked k (marks k ∙ among)) (λ j. marks j ∙ granted_named j)));
+      waits = shows.waits;
+    },
   ) where
     has : HasInHand w s p hand
     has = hand_from m w safe shows s p hand in_hand
-
-    in_parts : p < length m.parts.items
-    in_parts = subst (λ n. p < n) (sym shows.sixteen) has.exists
 
     granted_named : (j : ℕ) → names_in after.woken.items j ≡ waits_there moved.granted j
     granted_named j = ap (λ xs. names_in xs j) moved.told ∙ names_in-granted moved.granted j
@@ -187,7 +172,7 @@ module _ (m : Machine) (w : World) (safe : Safe w) (shows : Shows m w) where
     }
 
   -- The move grants no wait of the session.
-  pub mark_not_woken : (s k p : ℕ) (hand : InHand) (done : Move) (after : MovedPart) → hand_of m s p ≡ Some hand → hand.recorded ≡ None → IsMoved (part_at m.parts.items p) s done after → names_in after.woken.items k ≡ false → Marks w s k p done m
+  pub mark_not_woken : (s k p : ℕ) (hand : InHand) (done : Move) (after : MovedPart) → hand_of m s p ≡ Some hand → hand.recorded ≡ None → IsMoved (part_at m.contents.parts.items p) s done after → names_in after.woken.items k ≡ false → Marks w s k p done m
   mark_not_woken s k p hand done after in_hand unmoved moved not_among = not_lawful s k p done never where
     has : HasInHand w s p hand
     has = hand_from m w safe shows s p hand in_hand
@@ -202,23 +187,23 @@ module _ (m : Machine) (w : World) (safe : Safe w) (shows : Shows m w) where
         ∙ ap (λ g. waits_there g k) (one_moved (w.contents.now p) s done moved.granted first.0 (content_of after.part) first.1 moves first.2.may_move.moved).0 ∙ first.2.among)
     never u (inr next) = recorded_some (recorded_in (w.contents.hand p)) done next.0.recorded (recorded_from w s p hand has ∙ unmoved)
 
-  cannot_make : (s p : ℕ) (done : Move) (granted : List Wait) (after : Content) → p < 16 → IsWaking done → CannotMake (get_or m.awaited s None) (contents_in m.parts.items p) s done
+  cannot_make : (s p : ℕ) (done : Move) (granted : List Wait) (after : Content) → p < 16 → IsWaking done → CannotMake (get_or m.waits.awaited s None) (contents_in m.contents.parts.items p) s done
       → FitsOwn w.sessions.own (w.sessions.awaited s) s done → Moves (w.contents.now p) s done granted after → ⊥
   cannot_make s p Keep granted after below wakes cannot fits moves = wakes
   cannot_make s p (Grant t n) granted after below wakes cannot fits moves = wakes
   cannot_make s p (Join t n) granted after below wakes cannot fits moves = wakes
   cannot_make s p (Release t n) granted after below wakes (inl awaited) fits moves =
-      both_ways (w.sessions.own s t n) (own_from m w safe shows s t n ∙ and_not ((w.contents.now (partition_of t)).holds s t n) (awaits (get_or m.awaited s None) t n) awaited) fits where
+      both_ways (w.sessions.own s t n) (own_from m w safe shows s t n ∙ and_not ((w.contents.now (partition_of t)).holds s t n) (awaits (get_or m.waits.awaited s None) t n) awaited) fits where
         and_not : (a b : Bool) → b ≡ true → (a && not b) ≡ false
         and_not true b e = ap not e
         and_not false b e = refl
   cannot_make s p (Release t n) granted after below wakes (inr none) fits moves =
-      both_ways ((w.contents.now p).holds s t n) (ap (λ (c : Content). c.holds s t n) (sym (shows.content p below)) ∙ none) moves.0
+      both_ways ((w.contents.now p).holds s t n) (ap (λ (c : Content). c.holds s t n) (sym (shows.contents.now p below)) ∙ none) moves.0
   cannot_make s p (Leave t) granted after below wakes cannot fits moves =
-      both_ways (waits_there ((w.contents.now p).waits t) s) (ap (λ (c : Content). waits_there (c.waits t) s) (sym (shows.content p below)) ∙ cannot) moves.0
+      both_ways (waits_there ((w.contents.now p).waits t) s) (ap (λ (c : Content). waits_there (c.waits t) s) (sym (shows.contents.now p below)) ∙ cannot) moves.0
 
   -- The session cannot make the move.
-  pub mark_by_no_move : (s k p : ℕ) (hand : InHand) (done : Move) → hand_of m s p ≡ Some hand → hand.recorded ≡ None → IsWaking done → CannotMake (get_or m.awaited s None) (contents_in m.parts.items p) s done → Marks w s k p done m
+  pub mark_by_no_move : (s k p : ℕ) (hand : InHand) (done : Move) → hand_of m s p ≡ Some hand → hand.recorded ≡ None → IsWaking done → CannotMake (get_or m.waits.awaited s None) (contents_in m.contents.parts.items p) s done → Marks w s k p done m
   mark_by_no_move s k p hand done in_hand unmoved wakes cannot = not_lawful s k p done never where
     has : HasInHand w s p hand
     has = hand_from m w safe shows s p hand in_hand

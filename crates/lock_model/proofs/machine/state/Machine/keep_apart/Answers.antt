@@ -11,7 +11,7 @@ pub returns-then-not-has_a_word : goal.returns-then-not-has_a_word
 returns-then-not-has_a_word c = λ w safe shows.
     let now = c.args.self.now in
     let place : c.from.result ≡ c.args.session = c.from.ensures ∙ c.number.ensures.value in
-    let in_kept_by : c.args.session < length now.kept_by = omega arith in
+    let in_kept_by : c.args.session < length now.numbers.kept_by = omega arith in
     let another : c.args.joiner ≢ c.args.session = eqb-false c.args.joiner c.args.session (not-true _ (sym c.if-ne.ensures)) in
     rw place (was_kept_apart now w safe shows c.args.session c.args.joiner
     (sym c.if-makes_steps.ensures) another (sym c.if-makes_steps-2.ensures) (sym c.if-not-has_a_word.ensures) in_kept_by)

@@ -14,12 +14,11 @@ returns c = λ w safe shows.
     let now = c.args.self.now in
     let place : c.from.result ≡ partition_of c.args.tag = c.from.ensures ∙ c.partition-partition.ensures.value in
     let below = c.partition-partition.ensures.within in
-    let sixteen : length now.parts.items ≡ 16 = shows.sixteen in
-    let within : c.from.result < length now.parts.items = omega arith in
-    let part = part_read now.parts.items c.from.result (partition_of c.args.tag) c.index_mut-part.result.now place within c.index_mut-part.ensures.value in
-    let in_wait_words : c.args.session < length now.wait_words = omega arith in
-    let in_awaited : c.args.session < length now.awaited = omega arith in
-    let in_seen : c.args.session < length now.seen = omega arith in
+    let sixteen : length now.contents.parts.items ≡ 16 = shows.contents.sixteen in
+    let within : c.from.result < length now.contents.parts.items = omega arith in
+    let part = part_read now.contents.parts.items c.from.result (partition_of c.args.tag) c.index_mut-part.result.now place within c.index_mut-part.ensures.value in
+    let in_wait_words : c.args.session < length now.words.waits = omega arith in
+    let below_64 : c.args.session < 64 = omega arith in
     let stands : waits_there ((content_of c.index_mut-part.result.now).waits c.args.tag) c.args.session ≡ true =
     ap (λ (x : PartView). waits_there ((content_of x).waits c.args.tag) c.args.session) part ∙ c.requires.in_queue in
     let was_there : c.remove_waiter-removed.result.was_granted ≡ false = c.remove_waiter-removed.ensures.found ∙ ap not stands in
@@ -28,6 +27,6 @@ returns c = λ w safe shows.
     (left now w safe shows c.args.session c.requires.awaited.0 c.args.tag c.args.hand c.remove_waiter-removed.new.part woken.0 _ c.requires.awaited.1 c.requires.awaited.2 c.requires.in_hand c.requires.unmoved c.requires.in_queue
     (subst (λ (x : Content). Wakes x c.args.tag woken.0 (content_of c.remove_waiter-removed.new.part))
     (ap (λ (x : PartView). remove_wait (content_of x) c.args.session c.args.tag) part) woken.1)
-    (c.remove_waiter-removed.ensures.begun ∙ ap (λ (x : PartView). x.begun) part ∙ shows.none_begun (partition_of c.args.tag))
+    (c.remove_waiter-removed.ensures.begun ∙ ap (λ (x : PartView). x.begun) part ∙ shows.contents.none_begun (partition_of c.args.tag))
     (λ k. c.unmarked_of.ensures k ∙ ap (λ xs. names_in xs k) woken.2 ∙ names_in-granted woken.0 k)
-    in_wait_words in_awaited in_seen)
+    in_wait_words below_64)

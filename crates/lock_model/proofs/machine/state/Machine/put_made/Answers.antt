@@ -19,7 +19,7 @@ returns-in-Keep c = λ w safe shows.
     let now = c.args.self.now in
     let in_hand = c.requires.in_hand in
     let below = exists_from now w safe shows c.args.session c.args.partition in_hand in
-    let in_words : c.args.partition < length now.words = omega (arith, below) in
+    let in_words : c.args.partition < length now.words.partitions = omega (arith, below) in
     let P : Machine → Type 0 = λ m. (v : World) × Next w (record { session = c.args.session; step = PutExclusive (Partition c.args.partition) Keep }) v × Shows m v in
     rw c.in-Keep.is (subst P (sym c.set_free.ensures) (kept now w safe shows c.args.session c.args.partition in_hand in_words))
 

@@ -30,7 +30,7 @@ returns-then-is_over c = λ w safe shows.
     let now = c.args.self.now in
     let in_hand = sym c.hand_of.ensures ∙ c.in-Some.is in
     let below = (hand_from now w safe shows c.args.session c.args.partition c.in-Some.hand in_hand).exists in
-    let in_words : c.args.partition < length now.words = omega (arith, below) in
+    let in_words : c.args.partition < length now.words.partitions = omega (arith, below) in
     let same = move_eq-same c.in-Some-recorded.recorded c.args.done (sym c.if-is_same.ensures) in
     let P : Machine → Type 0 = λ m. (v : World) × Next w (record { session = c.args.session; step = PutExclusive (Partition c.args.partition) c.args.done }) v × Shows m v in
     subst P (sym c.set_free.ensures)
