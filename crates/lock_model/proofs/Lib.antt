@@ -1,12 +1,3 @@
-pub mod Gathering
-pub mod ShowsLemmas
-pub mod PlaceLemmas
-pub mod MarkLemmas
-pub mod FollowingWaiting
-pub mod FollowingMarks
-pub mod FollowingJoins
-pub mod FollowingClears
-pub mod Showing
-pub mod Following
-pub mod FollowingSeats
-pub mod FollowingPuts
+pub mod Gathered
+pub mod Shows
+pub mod Follows

@@ -1,4 +1,4 @@
 pub mod MovedPart
 pub mod Shows
-pub mod Gathered
+pub mod PlainLists
 pub mod Plain

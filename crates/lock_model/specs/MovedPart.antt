@@ -1,6 +1,6 @@
 use Rattle.std.specs.Prelude.{◌≡◌, ℕ, List, map}
 use Rattle.lock_table.specs.declared.moves.Move.{Move}
-use Rattle.lock_model.specs.declared.machine.moved.MovedPart.{MovedPart}
+use Rattle.lock_model.specs.declared.machine.moved_part.MovedPart.{MovedPart}
 use Rattle.lock_table.specs.Content.{Wait}
 use Rattle.lock_table.specs.Moves.{Moves}
 use Rattle.lock_table.specs.PartView.{PartView, content_of}

@@ -7,7 +7,11 @@ use Rattle.modes_core.specs.Tag.{tag_eq, partition_of}
 use Rattle.lock_model.specs.declared.machine.plain.Hold.{Hold}
 use Rattle.lock_model.specs.declared.machine.plain.Spot.TheVariants.{Table}
 use Rattle.lock_model.specs.declared.machine.hands.InHand.{InHand}
-use Rattle.lock_model.specs.declared.machine.hands.Awaited.{Awaited}
+use Rattle.lock_model.specs.declared.machine.own_waits.Awaited.{Awaited}
+use Rattle.lock_model.specs.declared.machine.state.Numbers.{Numbers}
+use Rattle.lock_model.specs.declared.machine.state.Words.{Words}
+use Rattle.lock_model.specs.declared.machine.state.Contents.{Contents}
+use Rattle.lock_model.specs.declared.machine.state.OwnWaits.{OwnWaits}
 use Rattle.lock_model.specs.declared.machine.state.Machine.{Machine}
 use Rattle.lock_table.specs.declared.moves.Move.{Move}
 use Rattle.lock_table.specs.declared.moves.Move.TheVariants.{Keep, Grant, Join, Release, Leave}
@@ -17,6 +21,7 @@ use Rattle.lw_word.specs.LightweightWord.{free_word}
 use Rattle.lock_table.specs.OwnWait.{OwnWait}
 use Rattle.lock_table.specs.Parts.{part_at, contents_in}
 use Rattle.lock_world.specs.World.{World, Hand}
+use Rattle.lock_world.specs.World as world
 use Rattle.lock_world.specs.Happens.{Next}
 use Rattle.lock_world.specs.Happens.Waits.{HappensMarkingIn}
 use Rattle.lock_table.specs.Queue.{waits_there}
@@ -62,26 +67,44 @@ ShowsHandIfAny (Some shown) None = ⊥
 abbrev pub awaited_of : OwnWait → Awaited
 awaited_of wait = record { tag = wait.tag; mode = wait.mode }
 
+-- The session numbers in use are the World's.
+pub record ShowsNumbers (shown : Numbers) (numbers : world.Numbers) : Type 0 where
+  pub limit : numbers.limit ≡ 64
+  pub issued : shown.issued ≡ numbers.issued
+  pub live : (session : ℕ) → slice_index_or shown.live session false ≡ numbers.live session
+  pub kept_by : (session : ℕ) → slice_index_or shown.kept_by session None ≡ numbers.kept_by session
+
+-- The words show what they show in the World.
+pub record ShowsWords (shown : Words) (words : world.Words) : Type 0 where
+  pub partition : (p : ℕ) → slice_index_or shown.partitions p free_word ≡ words.partition p
+  pub wait : (session : ℕ) → slice_index_or shown.waits session 0 ≡ words.wait session
+
+-- The contents, at home and in hand, are the World's, and no request is begun in any.
+pub record ShowsContents (shown : Contents) (contents : world.Contents) : Type 0 where
+  pub sixteen_hands : length shown.hands ≡ 16
+  pub hand : (p : ℕ) → ShowsHandIfAny (slice_index_or shown.hands p None) (contents.hand p)
+  pub sixteen : length shown.parts.items ≡ 16
+  pub now : (p : ℕ) → p < 16 → contents_in shown.parts.items p ≡ contents.now p
+  pub none_begun : (p : ℕ) → (part_at shown.parts.items p).begun ≡ None
+
+-- The sessions' waits by their own account are the World's: what each awaits, and whether it has seen its grant.
+pub record ShowsWaits (shown : OwnWaits) (wait : ℕ → Option OwnWait) (has_seen : ℕ → Bool) : Type 0 where
+  pub sixty_four : length shown.awaited ≡ 64
+  pub sixty_four_seen : length shown.seen ≡ 64
+  pub awaited : (session : ℕ) → slice_index_or shown.awaited session None ≡ option_map awaited_of (wait session)
+  pub seen : (session : ℕ) → slice_index_or shown.seen session false ≡ has_seen session
+
 -- What the machine keeps is what the World has. It keeps no own holds: a session's own are those of the contents but what
 -- it awaits.
 pub record Shows (machine : Machine) (w : World) : Type 0 where
-  pub limit : w.numbers.limit ≡ 64
-  pub issued : machine.issued ≡ w.numbers.issued
-  pub live : (session : ℕ) → slice_index_or machine.live session false ≡ w.numbers.live session
-  pub kept_by : (session : ℕ) → slice_index_or machine.kept_by session None ≡ w.numbers.kept_by session
-  pub word : (p : ℕ) → slice_index_or machine.words p free_word ≡ w.words.partition p
-  pub wait_word : (session : ℕ) → slice_index_or machine.wait_words session 0 ≡ w.words.wait session
-  pub hand : (p : ℕ) → ShowsHandIfAny (slice_index_or machine.hands p None) (w.contents.hand p)
-  pub sixteen_hands : length machine.hands ≡ 16
-  pub sixteen : length machine.parts.items ≡ 16
-  pub content : (p : ℕ) → p < 16 → contents_in machine.parts.items p ≡ w.contents.now p
-  pub none_begun : (p : ℕ) → (part_at machine.parts.items p).begun ≡ None
-  pub awaited : (session : ℕ) → slice_index_or machine.awaited session None ≡ option_map awaited_of (w.sessions.awaited session)
-  pub seen : (session : ℕ) → slice_index_or machine.seen session false ≡ w.sessions.seen session
+  pub numbers : ShowsNumbers machine.numbers w.numbers
+  pub words : ShowsWords machine.words w.words
+  pub contents : ShowsContents machine.contents w.contents
+  pub waits : ShowsWaits machine.waits w.sessions.awaited w.sessions.seen
 
 -- whether the session makes steps of its own
 abbrev pub makes_steps : Machine → ℕ → Bool
-makes_steps machine session = slice_index_or machine.live session false && is_none (slice_index_or machine.kept_by session None)
+makes_steps machine session = slice_index_or machine.numbers.live session false && is_none (slice_index_or machine.numbers.kept_by session None)
 
 -- whether it is this session's number
 abbrev pub is_number : ℕ → Option ℕ → Bool
@@ -96,7 +119,7 @@ is_holder session (Some hand) = hand.holder == session
 -- the partition in hand, where the session makes steps and has it
 abbrev pub hand_of : Machine → ℕ → ℕ → Option InHand
 hand_of machine session p =
-    if makes_steps machine session && is_holder session (slice_index_or machine.hands p None) then slice_index_or machine.hands p None else None
+    if makes_steps machine session && is_holder session (slice_index_or machine.contents.hands p None) then slice_index_or machine.contents.hands p None else None
 
 -- whether the wait is for the mode on the object
 abbrev pub awaits : Option Awaited → Tag → Mode → Bool

@@ -7,16 +7,17 @@ ghost use Rattle.lock_world.specs.Happens.{Runs};
 ghost use Rattle.lock_world.specs.Safe.{Safe};
 ghost use Rattle.lock_model.specs.Plain.{IsPlainOf, holds_of};
 
-mod gathered;
 mod hands;
-mod moved;
+mod moved_part;
+mod own_waits;
+mod partitions;
 mod plain;
-mod putting;
+mod plain_lists;
 mod seats;
 mod state;
 #[cfg(test)]
 mod tests;
-mod waiting;
+mod waits;
 
 use lock_table::NoMemory;
 use lock_world::Event;

@@ -1,10 +1,11 @@
-//! Partitions in hand, and waits by their sessions' own account, as the plain machine keeps them.
+//! The life of a hand: a partition is in a session's hand from the step that takes its lock to the one that puts it.
 
 ghost use Rattle.std.specs.Prelude.{◌≡◌, ℕ};
 ghost use Rattle.lock_model.specs.Shows.{is_unmarked_in, none_unmarked, names_in};
 
+use super::state::Machine;
 use lock_table::{Move, Woken};
-use modes_core::{Mode, SessionId, Tag};
+use modes_core::SessionId;
 
 /// A partition in a session's hand.
 #[derive(Clone, Copy)]
@@ -32,11 +33,102 @@ impl InHand {
     }
 }
 
-/// What a session waits for.
-#[derive(Clone, Copy, Debug, PartialEq, Eq)]
-pub struct Awaited {
-    pub tag: Tag,
-    pub mode: Mode,
+impl Machine {
+    ghost use Rattle.std.specs.Prelude.{◌≡◌, ◌<◌, ◌+◌, replicate, false, slice_set, slice_index_or, Some, None};
+    ghost use Rattle.lw_word.specs.LightweightWord.{free_word, taken_word, put_word, IsHeldByNobody};
+    ghost use Rattle.lock_world.specs.WaitWord.{wait_state, granted_word};
+    ghost use Rattle.lock_model.specs.Shows.{hand_of};
+
+    /// The partition in hand, where the session makes steps of its own and has it.
+    pub fn hand_of(&self, session: SessionId, partition: u8) -> Option<InHand>
+        ensures { result ≡ hand_of self.now session partition }
+    {
+        let hands = self.contents.hands.as_slice();
+        let index = usize::from(partition);
+        if index >= hands.len() || !self.makes_steps(session) {
+            return None;
+        }
+        match hands[index] {
+            Some(hand) => {
+                if hand.holder == session {
+                    Some(hand)
+                } else {
+                    None
+                }
+            }
+            None => None,
+        }
+    }
+
+    /// Sets the partition's word held, and its content is in the session's hand.
+    pub fn set_held(&mut self, session: SessionId, partition: u8)
+        requires exists { partition < 16 }
+        requires free { IsHeldByNobody (slice_index_or self.old.words.partitions partition free_word) }
+        ensures { self.new ≡ record self.old {
+          words = record (self.old.words) { partitions = slice_set self.old.words.partitions partition (taken_word (slice_index_or self.old.words.partitions partition free_word)) };
+          contents = record (self.old.contents) { hands = slice_set self.old.contents.hands partition (Some (record { holder = session; recorded = None; unmarked = replicate 64 false })) };
+        } }
+    {
+        let index = usize::from(partition);
+        self.words.partitions[index] += 0x100_0000;
+        self.contents.hands[index] = Some(InHand {
+            holder: session,
+            recorded: None,
+            unmarked: [false; 64],
+        });
+    }
+
+    /// Records a move in the hand that has the partition, with those whom it granted unmarked.
+    pub fn record(&mut self, partition: u8, hand: InHand, done: Move, unmarked: [bool; 64])
+        requires { partition < 16 }
+        ensures { self.new ≡ record self.old {
+          contents = record (self.old.contents) { hands = slice_set self.old.contents.hands partition (Some (record { holder = hand.holder; recorded = Some done; unmarked = unmarked })) };
+        } }
+    {
+        self.contents.hands[usize::from(partition)] = Some(InHand {
+            holder: hand.holder,
+            recorded: Some(done),
+            unmarked,
+        });
+    }
+
+    /// Marks the wait of the other session, which the move granted: its wait word goes from waiting to
+    /// granted, and it is unmarked no more.
+    pub fn mark(
+        &mut self,
+        partition: u8,
+        hand: InHand,
+        other: SessionId,
+        done: Move,
+        unmarked: [bool; 64],
+    )
+        requires exists { partition < 16 }
+        requires waiting { wait_state (slice_index_or self.old.words.waits other 0) ≡ 1 }
+        ensures { self.new ≡ record self.old {
+          words = record (self.old.words) { waits = slice_set self.old.words.waits other (granted_word (slice_index_or self.old.words.waits other 0)) };
+          contents = record (self.old.contents) { hands = slice_set self.old.contents.hands partition (Some (record { holder = hand.holder; recorded = Some done; unmarked = slice_set unmarked other false })) };
+        } }
+    {
+        let index = usize::from(other.number());
+        let mut unmarked = unmarked;
+        unmarked[index] = false;
+        self.record(partition, hand, done, unmarked);
+        self.words.waits[index] += 1;
+    }
+
+    /// Sets the partition's word free, and its content is at home.
+    pub fn set_free(&mut self, partition: u8)
+        requires { partition < 16 }
+        ensures { self.new ≡ record self.old {
+          words = record (self.old.words) { partitions = slice_set self.old.words.partitions partition (put_word (slice_index_or self.old.words.partitions partition free_word)) };
+          contents = record (self.old.contents) { hands = slice_set self.old.contents.hands partition None };
+        } }
+    {
+        let index = usize::from(partition);
+        // A word that is held shows it, so that nothing is cut off here.
+        self.words.partitions[index] = self.words.partitions[index].saturating_sub(0x100_0000);
+        self.contents.hands[index] = None;
+    }
 }
 
 /// Whether the session is among those woken.

@@ -1,3 +1,4 @@
+use super::state::Words;
 use lock_world::Word;
 use modes_core::{Mode, ModeSet, SessionId, Tag};
 
@@ -33,14 +34,14 @@ pub struct QueuedWait {
 pub struct Plain {
     pub(crate) holds: Vec<Hold>,
     pub(crate) waits: Vec<QueuedWait>,
-    pub(crate) partitions: [u32; 16],
-    pub(crate) wait_words: [u8; 64],
+    pub(crate) words: Words,
 }
 
 impl Plain {
     ghost use Rattle.std.specs.Prelude.{◌≡◌, ◌<◌};
     ghost use Rattle.lock_world.specs.declared.events.Word.TheVariants.{Strong};
-    ghost use Rattle.lock_model.specs.Plain.{WordExists, holds_of, waits_of, word_of};
+    ghost use Rattle.lock_model.specs.Plain.{holds_of, waits_of, word_of};
+    ghost use Rattle.lock_world.specs.World.{WordExists};
 
     /// The holds, by session, tag and mode.
     pub fn holds(&self) -> &[Hold]
@@ -70,11 +71,11 @@ impl Plain {
         ensures { result ≡ word_of self.now word }
     {
         match word {
-            Word::Partition(partition) => u64::from(self.partitions[usize::from(partition)]),
+            Word::Partition(partition) => u64::from(self.words.partitions[usize::from(partition)]),
             Word::Fast(_) => 0x2000_0000,
             Word::Database(_) => 0,
             Word::Slot(_, _) => 0,
-            Word::Wait(session) => u64::from(self.wait_words[usize::from(session.number())]),
+            Word::Wait(session) => u64::from(self.words.waits[usize::from(session.number())]),
             Word::Strong(_) => 0,
             Word::Sleep(_) => 0,
         }

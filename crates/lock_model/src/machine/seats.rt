@@ -10,41 +10,26 @@ impl Machine {
     ghost use Rattle.lock_world.specs.declared.events.Step.{Step};
     ghost use Rattle.lock_model.specs.Shows.{Follows, is_number, is_holder};
 
-    /// Whether the session has a partition in hand.
-    fn has_a_word(&self, session: SessionId) -> bool
-        ensures { result ≡ list_any (is_holder session) self.now.hands }
-    {
-        self.hands
-            .iter()
-            .any(|hand| hand.is_some_and(|hand| hand.holder == session))
-    }
-
-    /// Whether the session keeps another one apart.
-    fn keeps_someone(&self, session: SessionId) -> bool
-        ensures { result ≡ list_any (is_number session) self.now.kept_by }
-    {
-        self.kept_by
-            .iter()
-            .any(|joiner| joiner.is_some_and(|other| other == session))
-    }
-
-    /// Whether the session has a hold.
-    fn has_a_hold(&self, session: SessionId) -> bool
-        ensures { result ≡ list_any (λ part. list_any (λ hold. hold.session == session) part.holds) self.now.parts.items }
-    {
-        self.parts.iter().any(|part| part.has_hold_of(session))
-    }
-
     /// Issues the session's number, where it is the next one, or lets a session that is kept apart go on.
     pub fn split_seat(&mut self, session: SessionId)
         ensures { Follows self.old session Step.SplitSeat self.new }
     {
         let index = usize::from(session.number());
-        if session.number() == self.issued {
-            self.issued += 1;
-            self.live[index] = true;
-        } else if self.kept_by[index].is_some() {
-            self.kept_by[index] = None;
+        if session.number() == self.numbers.issued {
+            self.numbers.issued += 1;
+            self.numbers.live[index] = true;
+        } else if self.numbers.kept_by[index].is_some() {
+            self.numbers.kept_by[index] = None;
+        }
+    }
+
+    /// Joins the session's seat to another one, which keeps it apart, or closes the session.
+    pub fn join_seat(&mut self, session: SessionId, joiner: Option<SessionId>)
+        ensures { Follows self.old session (Step.JoinSeat joiner) self.new }
+    {
+        match joiner {
+            Some(joiner) => self.keep_apart(session, joiner),
+            None => self.close(session),
         }
     }
 
@@ -57,7 +42,7 @@ impl Machine {
             && self.makes_steps(joiner)
             && !self.has_a_word(session)
         {
-            self.kept_by[usize::from(session.number())] = Some(joiner);
+            self.numbers.kept_by[usize::from(session.number())] = Some(joiner);
         }
     }
 
@@ -69,19 +54,40 @@ impl Machine {
         if self.makes_steps(session)
             && !self.has_a_word(session)
             && !self.has_a_hold(session)
-            && self.awaited[index].is_none()
+            && self.waits.awaited[index].is_none()
             && !self.keeps_someone(session)
         {
-            self.live[index] = false;
+            self.numbers.live[index] = false;
         }
     }
 
-    pub fn join_seat(&mut self, session: SessionId, joiner: Option<SessionId>)
-        ensures { Follows self.old session (Step.JoinSeat joiner) self.new }
+    /// Whether the session has a partition in hand.
+    fn has_a_word(&self, session: SessionId) -> bool
+        ensures { result ≡ list_any (is_holder session) self.now.contents.hands }
     {
-        match joiner {
-            Some(joiner) => self.keep_apart(session, joiner),
-            None => self.close(session),
-        }
+        self.contents
+            .hands
+            .iter()
+            .any(|hand| hand.is_some_and(|hand| hand.holder == session))
+    }
+
+    /// Whether the session keeps another one apart.
+    fn keeps_someone(&self, session: SessionId) -> bool
+        ensures { result ≡ list_any (is_number session) self.now.numbers.kept_by }
+    {
+        self.numbers
+            .kept_by
+            .iter()
+            .any(|joiner| joiner.is_some_and(|other| other == session))
+    }
+
+    /// Whether the session has a hold.
+    fn has_a_hold(&self, session: SessionId) -> bool
+        ensures { result ≡ list_any (λ part. list_any (λ hold. hold.session == session) part.holds) self.now.contents.parts.items }
+    {
+        self.contents
+            .parts
+            .iter()
+            .any(|part| part.has_hold_of(session))
     }
 }

@@ -2,33 +2,58 @@ ghost use Rattle.std.specs.Prelude.{◌≡◌, ℕ, length, IfOk, None};
 ghost use Rattle.lock_table.specs.Content.{empty_content};
 ghost use Rattle.lock_table.specs.Parts.{part_at, contents_in};
 
-use super::gathered::{gather_holds, gather_waits};
-use super::hands::{Awaited, InHand};
+use super::hands::InHand;
+use super::own_waits::Awaited;
 use super::plain::{Hold, Plain};
+use super::plain_lists::{gather_holds, gather_waits};
 use lock_table::{NoMemory, PartTable, PlainPart};
 use lock_world::{Event, Step};
-use modes_core::{Mode, SessionId, Tag};
+use modes_core::SessionId;
 use std::alloc::Global;
 
-/// What the plain machine keeps of a World.
-#[derive(Drop)]
-pub struct Machine {
+/// The session numbers in use.
+#[derive(Clone, Copy)]
+pub struct Numbers {
     /// The session numbers below this one have been given out.
     pub issued: u8,
     pub live: [bool; 64],
+    /// The session that keeps this one apart, if any.
     pub kept_by: [Option<SessionId>; 64],
-    /// What each partition's word shows.
-    pub words: [u32; 16],
-    /// What each session's wait word shows.
-    pub wait_words: [u8; 64],
+}
+
+/// What the words of the shared table show.
+#[derive(Clone, Copy, Debug)]
+pub struct Words {
+    /// The lightweight lock of each partition.
+    pub partitions: [u32; 16],
+    /// The wait word of each session.
+    pub waits: [u8; 64],
+}
+
+/// The contents of the partitions.
+#[derive(Drop)]
+pub struct Contents {
     /// The partitions that are in a session's hand.
     pub hands: [Option<InHand>; 16],
-    /// The content of each partition.
     pub parts: Vec<PlainPart>,
+}
+
+/// The waits of the sessions by their own account.
+#[derive(Clone, Copy)]
+pub struct OwnWaits {
     /// The wait of each session, until it has cleared its wait word.
     pub awaited: [Option<Awaited>; 64],
     /// Whether the session has seen its wait word show that this wait was granted.
     pub seen: [bool; 64],
+}
+
+/// What the plain machine keeps of a World.
+#[derive(Drop)]
+pub struct Machine {
+    pub numbers: Numbers,
+    pub words: Words,
+    pub contents: Contents,
+    pub waits: OwnWaits,
 }
 
 impl Machine {
@@ -37,7 +62,7 @@ impl Machine {
     ghost use Rattle.lock_world.specs.World.{World, opening};
     ghost use Rattle.lock_world.specs.Safe.{Safe};
     ghost use Rattle.lock_model.specs.Plain.{IsPlainOf, holds_of};
-    ghost use Rattle.lock_model.specs.Shows.{Shows, ShowsSafe, Follows, makes_steps, hand_of, awaits};
+    ghost use Rattle.lock_model.specs.Shows.{Shows, ShowsSafe, Follows, makes_steps};
     ghost use Rattle.lock_table.specs.Parts.{contents_in};
     ghost use Rattle.modes_core.specs.Tag.{partition_of};
 
@@ -46,15 +71,23 @@ impl Machine {
         ensures { IfOk result (λ machine. Shows machine (opening 64)) }
     {
         Ok(Machine {
-            issued: 0,
-            live: [false; 64],
-            kept_by: [None; 64],
-            words: [0x2000_0000; 16],
-            wait_words: [0; 64],
-            hands: [None; 16],
-            parts: empty_parts(alloc)?,
-            awaited: [None; 64],
-            seen: [false; 64],
+            numbers: Numbers {
+                issued: 0,
+                live: [false; 64],
+                kept_by: [None; 64],
+            },
+            words: Words {
+                partitions: [0x2000_0000; 16],
+                waits: [0; 64],
+            },
+            contents: Contents {
+                hands: [None; 16],
+                parts: empty_parts(alloc)?,
+            },
+            waits: OwnWaits {
+                awaited: [None; 64],
+                seen: [false; 64],
+            },
         })
     }
 
@@ -63,47 +96,7 @@ impl Machine {
         ensures { result ≡ makes_steps self.now session }
     {
         let index = usize::from(session.number());
-        self.live[index] && self.kept_by[index].is_none()
-    }
-
-    /// The partition in hand, where the session makes steps of its own and has it.
-    pub fn hand_of(&self, session: SessionId, partition: u8) -> Option<InHand>
-        ensures { result ≡ hand_of self.now session partition }
-    {
-        let hands = self.hands.as_slice();
-        let index = usize::from(partition);
-        if index >= hands.len() || !self.makes_steps(session) {
-            return None;
-        }
-        match hands[index] {
-            Some(hand) => {
-                if hand.holder == session {
-                    Some(hand)
-                } else {
-                    None
-                }
-            }
-            None => None,
-        }
-    }
-
-    /// Whether the session waits for the mode on the object.
-    pub fn awaits(&self, session: SessionId, tag: Tag, mode: Mode) -> bool
-        ensures { result ≡ awaits (slice_index_or self.now.awaited session None) tag mode }
-    {
-        match self.awaited[usize::from(session.number())] {
-            Some(wait) => wait.tag.is_same(tag) && wait.mode.is_same(mode),
-            None => false,
-        }
-    }
-
-    /// Whether the session may ask for the mode on the object: it waits for nothing, and hasn't the hold.
-    pub fn may_ask(&self, session: SessionId, tag: Tag, mode: Mode) -> bool
-        requires shown { ShowsSafe self.now }
-        ensures { result ≡ (is_none (slice_index_or self.now.awaited session None) && not ((contents_in self.now.parts.items (partition_of tag)).holds session tag mode)) }
-    {
-        let part = &self.parts[usize::from(tag.partition())];
-        self.awaited[usize::from(session.number())].is_none() && !part.held(session, tag).has(mode)
+        self.numbers.live[index] && self.numbers.kept_by[index].is_none()
     }
 
     /// Makes the event's step, where it is lawful.
@@ -131,24 +124,12 @@ impl Machine {
         ensures shown { IfOk result (λ plain. (w : World) → Safe w → Shows self w → IsPlainOf plain w) }
         ensures in_order { IfOk result (λ plain. IsSorted ⟦<Hold as Ord>⟧.cmp (holds_of plain)) }
     {
-        let holds = gather_holds(alloc, self.parts.as_slice())?;
-        let waits = gather_waits(alloc, self.parts.as_slice())?;
-        let Machine {
-            issued: _,
-            live: _,
-            kept_by: _,
-            words,
-            wait_words,
-            hands: _,
-            parts: _,
-            awaited: _,
-            seen: _,
-        } = self;
+        let holds = gather_holds(alloc, self.contents.parts.as_slice())?;
+        let waits = gather_waits(alloc, self.contents.parts.as_slice())?;
         Ok(Plain {
             holds,
             waits,
-            partitions: words,
-            wait_words,
+            words: self.words,
         })
     }
 }

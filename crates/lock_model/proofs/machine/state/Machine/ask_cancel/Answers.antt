@@ -1,12 +1,12 @@
 use Rattle.std.proofs.Common.{◌≡◌, ◌<◌, length, sym, ◌∙◌, arith}
-use Rattle.lock_model.proofs.FollowingWaiting.{was_asked, ask_refused}
+use Rattle.lock_model.proofs.Follows.Waits.Asks.{was_asked, ask_refused}
 use Rattle.lock_model.proofs.machine.state.Machine.ask_cancel.Goals as goal
 
 pub returns-then-makes_steps : goal.returns-then-makes_steps
 returns-then-makes_steps c = λ w safe shows.
     let now = c.args.self.now in
     let place : c.from-index.result ≡ c.args.other = c.from-index.ensures ∙ c.number.ensures.value in
-    let in_wait_words : c.args.other < length now.wait_words = omega arith in
+    let in_wait_words : c.args.other < length now.words.waits = omega arith in
     rw place (was_asked now w safe shows c.args.session c.args.other (sym c.if-makes_steps.ensures) in_wait_words)
 
 pub returns-else-makes_steps : goal.returns-else-makes_steps

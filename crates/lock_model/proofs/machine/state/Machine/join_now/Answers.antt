@@ -3,8 +3,8 @@ use Rattle.modes_core.specs.Tag.{partition_of}
 use Rattle.lock_table.specs.Content.{Content}
 use Rattle.lock_table.specs.PartView.{content_of}
 use Rattle.lock_table.specs.Queue.{Before, add_wait, awaits_mode, waits_there}
-use Rattle.lock_model.proofs.PlaceLemmas.{part_read, get_or-one_value}
-use Rattle.lock_model.proofs.FollowingJoins.{asks_not_awaited, asks_stands_not, marked_within, was_set_waiting}
+use Rattle.lock_model.proofs.Shows.Places.{part_read, get_or-one_value}
+use Rattle.lock_model.proofs.Follows.Waits.Joins.{asks_not_awaited, asks_stands_not, marked_within, was_set_waiting}
 use Rattle.lock_model.proofs.machine.state.Machine.join_now.Goals as goal
 
 pub begin-requires-clause-not_awaited : goal.begin-requires-clause-not_awaited
@@ -12,9 +12,9 @@ begin-requires-clause-not_awaited c =
     let now = c.args.self.now in
     let place : c.from.result ≡ partition_of c.args.tag = c.from.ensures ∙ c.partition-partition.ensures.value in
     let below = c.partition-partition.ensures.within in
-    let sixteen : length now.parts.items ≡ 16 = c.requires.shown.2.sixteen in
-    let within : c.from.result < length now.parts.items = omega arith in
-    let part = part_read now.parts.items c.from.result (partition_of c.args.tag) c.index_mut-part.result.now place within c.index_mut-part.ensures.value in
+    let sixteen : length now.contents.parts.items ≡ 16 = c.requires.shown.2.contents.sixteen in
+    let within : c.from.result < length now.contents.parts.items = omega arith in
+    let part = part_read now.contents.parts.items c.from.result (partition_of c.args.tag) c.index_mut-part.result.now place within c.index_mut-part.ensures.value in
     ap (λ x. awaits_mode ((content_of x).waits c.args.tag) c.args.session c.args.mode) part
     ∙ asks_not_awaited now c.requires.shown.0 c.requires.shown.1 c.requires.shown.2 c.args.session c.args.tag c.args.mode c.requires.no_wait
 
@@ -23,9 +23,9 @@ join-requires-clause-no_wait c =
     let now = c.args.self.now in
     let place : c.from.result ≡ partition_of c.args.tag = c.from.ensures ∙ c.partition-partition.ensures.value in
     let below = c.partition-partition.ensures.within in
-    let sixteen : length now.parts.items ≡ 16 = c.requires.shown.2.sixteen in
-    let within : c.from.result < length now.parts.items = omega arith in
-    let part = part_read now.parts.items c.from.result (partition_of c.args.tag) c.index_mut-part.result.now place within c.index_mut-part.ensures.value in
+    let sixteen : length now.contents.parts.items ≡ 16 = c.requires.shown.2.contents.sixteen in
+    let within : c.from.result < length now.contents.parts.items = omega arith in
+    let part = part_read now.contents.parts.items c.from.result (partition_of c.args.tag) c.index_mut-part.result.now place within c.index_mut-part.ensures.value in
     ap (λ (x : Content). waits_there (x.waits c.args.tag) c.args.session) (c.begin.ensures.content ∙ ap content_of part)
     ∙ asks_stands_not now c.requires.shown.0 c.requires.shown.1 c.requires.shown.2 c.args.session c.args.tag c.requires.no_wait
 
@@ -34,9 +34,9 @@ join-requires-clause-place c =
     let now = c.args.self.now in
     let place : c.from.result ≡ partition_of c.args.tag = c.from.ensures ∙ c.partition-partition.ensures.value in
     let below = c.partition-partition.ensures.within in
-    let sixteen : length now.parts.items ≡ 16 = c.requires.shown.2.sixteen in
-    let within : c.from.result < length now.parts.items = omega arith in
-    let part = part_read now.parts.items c.from.result (partition_of c.args.tag) c.index_mut-part.result.now place within c.index_mut-part.ensures.value in
+    let sixteen : length now.contents.parts.items ≡ 16 = c.requires.shown.2.contents.sixteen in
+    let within : c.from.result < length now.contents.parts.items = omega arith in
+    let part = part_read now.contents.parts.items c.from.result (partition_of c.args.tag) c.index_mut-part.result.now place within c.index_mut-part.ensures.value in
     subst (λ (x : Content). c.args.place ≤ length (x.waits c.args.tag)) (sym (c.begin.ensures.content ∙ ap content_of part))
     (marked_within _ c.args.session c.args.tag c.args.mode c.args.place c.requires.told)
 
@@ -45,13 +45,12 @@ returns c = λ w safe shows.
     let now = c.args.self.now in
     let place : c.from.result ≡ partition_of c.args.tag = c.from.ensures ∙ c.partition-partition.ensures.value in
     let below = c.partition-partition.ensures.within in
-    let sixteen : length now.parts.items ≡ 16 = shows.sixteen in
-    let within : c.from.result < length now.parts.items = omega arith in
-    let part = part_read now.parts.items c.from.result (partition_of c.args.tag) c.index_mut-part.result.now place within c.index_mut-part.ensures.value in
-    let in_wait_words : c.args.session < length now.wait_words = omega arith in
-    let in_awaited : c.args.session < length now.awaited = omega arith in
-    let in_seen : c.args.session < length now.seen = omega arith in
+    let sixteen : length now.contents.parts.items ≡ 16 = shows.contents.sixteen in
+    let within : c.from.result < length now.contents.parts.items = omega arith in
+    let part = part_read now.contents.parts.items c.from.result (partition_of c.args.tag) c.index_mut-part.result.now place within c.index_mut-part.ensures.value in
+    let in_wait_words : c.args.session < length now.words.waits = omega arith in
+    let below_64 : c.args.session < 64 = omega arith in
     rw (c.begin_wait.ensures, c.record.ensures, place, c.partition-partition.ensures.value)
     (was_set_waiting now w safe shows c.args.session c.args.tag c.args.mode c.args.hand c.args.place c.join.new.self _ c.requires.in_hand c.requires.unmoved c.requires.no_wait c.requires.not_held c.requires.told
     (c.join.ensures.content ∙ ap (λ (x : Content). add_wait x c.args.session c.args.tag c.args.mode (Before c.args.place)) (c.begin.ensures.content ∙ ap content_of part))
-    c.join.ensures.ended (λ k. get_or-one_value 64 false k) in_wait_words in_awaited in_seen)
+    c.join.ensures.ended (λ k. get_or-one_value 64 false k) in_wait_words below_64)

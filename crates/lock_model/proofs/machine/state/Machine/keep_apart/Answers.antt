@@ -1,9 +1,9 @@
 use Rattle.std.proofs.Common.{Some, ◌≡◌, ◌≢◌, ◌<◌, length, sym, ◌∙◌, arith}
 use Rattle.lock_world.specs.declared.events.Step.TheVariants.{JoinSeat}
 use Rattle.std.proofs.lemmas.Bool.{eqb-false, not-true, not-false, eqb-true}
-use Rattle.lock_model.proofs.Showing.{steps_not}
-use Rattle.lock_model.proofs.Following.{skipped}
-use Rattle.lock_model.proofs.FollowingSeats.{was_kept_apart, some_word}
+use Rattle.lock_model.proofs.Shows.Looks.{steps_not}
+use Rattle.lock_model.proofs.Follows.Skipped.{skipped}
+use Rattle.lock_model.proofs.Follows.Seats.{was_kept_apart, some_word}
 use Rattle.lock_model.proofs.machine.state.Machine.keep_apart.Goals as goal
 use Rattle.lock_model.proofs.machine.state.Machine.keep_apart.Goals.{else-makes_steps-via-then-makes_steps+then-ne+then-makes_steps-2+else-not-has_a_word, else-makes_steps-via-then-makes_steps+then-ne+else-makes_steps-2, else-makes_steps-via-then-makes_steps+else-ne, else-makes_steps-via-else-makes_steps}
 
@@ -11,7 +11,7 @@ pub returns-then-not-has_a_word : goal.returns-then-not-has_a_word
 returns-then-not-has_a_word c = λ w safe shows.
     let now = c.args.self.now in
     let place : c.from.result ≡ c.args.session = c.from.ensures ∙ c.number.ensures.value in
-    let in_kept_by : c.args.session < length now.kept_by = omega arith in
+    let in_kept_by : c.args.session < length now.numbers.kept_by = omega arith in
     let another : c.args.joiner ≢ c.args.session = eqb-false c.args.joiner c.args.session (not-true _ (sym c.if-ne.ensures)) in
     rw place (was_kept_apart now w safe shows c.args.session c.args.joiner
     (sym c.if-makes_steps.ensures) another (sym c.if-makes_steps-2.ensures) (sym c.if-not-has_a_word.ensures) in_kept_by)

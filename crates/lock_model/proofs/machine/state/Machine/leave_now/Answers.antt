@@ -1,12 +1,12 @@
-use Rattle.std.proofs.Common.{◌≡◌, ◌<◌, length, ap, ◌∙◌, subst, arith}
+use Rattle.std.proofs.Common.{◌≡◌, ◌<◌, true, false, not, length, ap, ◌∙◌, subst, arith}
 use Rattle.modes_core.specs.Tag.{partition_of}
 use Rattle.lock_table.specs.Content.{Content}
 use Rattle.lock_table.specs.PartView.{PartView, content_of}
-use Rattle.lock_table.specs.Queue.{Wakes, remove_wait}
+use Rattle.lock_table.specs.Queue.{waits_there, Wakes, remove_wait}
 use Rattle.lock_model.specs.Shows.{names_in}
-use Rattle.lock_model.proofs.MarkLemmas.{names_in-granted}
-use Rattle.lock_model.proofs.PlaceLemmas.{part_read}
-use Rattle.lock_model.proofs.FollowingClears.{left}
+use Rattle.lock_model.proofs.Shows.Hands.{names_in-granted}
+use Rattle.lock_model.proofs.Shows.Places.{part_read}
+use Rattle.lock_model.proofs.Follows.Waits.Clears.{left}
 use Rattle.lock_model.proofs.machine.state.Machine.leave_now.Goals as goal
 
 pub returns : goal.returns
@@ -14,17 +14,19 @@ returns c = λ w safe shows.
     let now = c.args.self.now in
     let place : c.from.result ≡ partition_of c.args.tag = c.from.ensures ∙ c.partition-partition.ensures.value in
     let below = c.partition-partition.ensures.within in
-    let sixteen : length now.parts.items ≡ 16 = shows.sixteen in
-    let within : c.from.result < length now.parts.items = omega arith in
-    let part = part_read now.parts.items c.from.result (partition_of c.args.tag) c.index_mut-part.result.now place within c.index_mut-part.ensures.value in
-    let in_wait_words : c.args.session < length now.wait_words = omega arith in
-    let in_awaited : c.args.session < length now.awaited = omega arith in
-    let in_seen : c.args.session < length now.seen = omega arith in
-    let woken = c.wake-woken.ensures.woken in
+    let sixteen : length now.contents.parts.items ≡ 16 = shows.contents.sixteen in
+    let within : c.from.result < length now.contents.parts.items = omega arith in
+    let part = part_read now.contents.parts.items c.from.result (partition_of c.args.tag) c.index_mut-part.result.now place within c.index_mut-part.ensures.value in
+    let in_wait_words : c.args.session < length now.words.waits = omega arith in
+    let below_64 : c.args.session < 64 = omega arith in
+    let stands : waits_there ((content_of c.index_mut-part.result.now).waits c.args.tag) c.args.session ≡ true =
+    ap (λ (x : PartView). waits_there ((content_of x).waits c.args.tag) c.args.session) part ∙ c.requires.in_queue in
+    let was_there : c.remove_waiter-removed.result.was_granted ≡ false = c.remove_waiter-removed.ensures.found ∙ ap not stands in
+    let woken = rw was_there at c.remove_waiter-removed.ensures.removed in
     rw (c.end_wait.ensures, c.record.ensures, place, c.partition-partition.ensures.value)
-    (left now w safe shows c.args.session c.requires.awaited.0 c.args.tag c.args.hand c.wake-woken.new.self woken.0 _ c.requires.awaited.1 c.requires.awaited.2 c.requires.in_hand c.requires.unmoved c.requires.in_queue
-    (subst (λ (x : Content). Wakes x c.args.tag woken.0 (content_of c.wake-woken.new.self))
-    (c.leave.ensures.content ∙ ap (λ (x : PartView). remove_wait (content_of x) c.args.session c.args.tag) part) woken.1)
-    (c.wake-woken.ensures.begun ∙ c.leave.ensures.begun ∙ ap (λ (x : PartView). x.begun) part ∙ shows.none_begun (partition_of c.args.tag))
+    (left now w safe shows c.args.session c.requires.awaited.0 c.args.tag c.args.hand c.remove_waiter-removed.new.part woken.0 _ c.requires.awaited.1 c.requires.awaited.2 c.requires.in_hand c.requires.unmoved c.requires.in_queue
+    (subst (λ (x : Content). Wakes x c.args.tag woken.0 (content_of c.remove_waiter-removed.new.part))
+    (ap (λ (x : PartView). remove_wait (content_of x) c.args.session c.args.tag) part) woken.1)
+    (c.remove_waiter-removed.ensures.begun ∙ ap (λ (x : PartView). x.begun) part ∙ shows.contents.none_begun (partition_of c.args.tag))
     (λ k. c.unmarked_of.ensures k ∙ ap (λ xs. names_in xs k) woken.2 ∙ names_in-granted woken.0 k)
-    in_wait_words in_awaited in_seen)
+    in_wait_words below_64)

@@ -2,7 +2,7 @@ use Rattle.std.proofs.Common.{IfSome, get_or, None, sym, subst}
 use Rattle.lock_model.specs.MovedPart.{IsMoved}
 use Rattle.lock_table.specs.Parts.{part_at}
 use Rattle.lock_model.specs.Shows.{IsOwnFor}
-use Rattle.lock_model.proofs.FollowingMarks.{Marks, mark_first, mark_not_woken, mark_by_no_move}
+use Rattle.lock_model.proofs.Follows.Waits.Marks.{Marks, mark_first, mark_not_woken, mark_by_no_move}
 use Rattle.lock_model.proofs.machine.state.Machine.mark_first.Goals as goal
 
 pub returns-in_default : goal.returns-in_default
@@ -12,8 +12,8 @@ returns-in_default c = λ w safe shows.
 pub returns-then-is_among : goal.returns-then-is_among
 returns-then-is_among c = λ w safe shows.
     let now = c.args.self.now in
-    let moved = subst (λ found. IfSome found (IsMoved (part_at now.parts.items c.args.partition) c.args.session c.args.done)) c.in-Some.is c.in_ok-moved.ensures.moved in
-    let own = subst (λ found. IfSome found (λ _. IsOwnFor (get_or now.awaited c.args.session None) c.args.done)) c.in-Some.is c.in_ok-moved.ensures.own in
+    let moved = subst (λ found. IfSome found (IsMoved (part_at now.contents.parts.items c.args.partition) c.args.session c.args.done)) c.in-Some.is c.in_ok-moved.ensures.moved in
+    let own = subst (λ found. IfSome found (λ _. IsOwnFor (get_or now.waits.awaited c.args.session None) c.args.done)) c.in-Some.is c.in_ok-moved.ensures.own in
     subst (Marks w c.args.session c.args.other c.args.partition c.args.done) (sym c.mark.ensures)
     (rw c.from.ensures
     (mark_first now w safe shows c.args.session c.args.other c.args.partition c.args.hand c.args.done c.in-Some.moved c.unmarked_of-unmarked.result c.requires.in_hand c.requires.unmoved c.requires.object c.requires.wakes moved own
@@ -22,5 +22,5 @@ returns-then-is_among c = λ w safe shows.
 pub returns-else-is_among : goal.returns-else-is_among
 returns-else-is_among c = λ w safe shows.
     let now = c.args.self.now in
-    let moved = subst (λ found. IfSome found (IsMoved (part_at now.parts.items c.args.partition) c.args.session c.args.done)) c.in-Some.is c.in_ok-moved.ensures.moved in
+    let moved = subst (λ found. IfSome found (IsMoved (part_at now.contents.parts.items c.args.partition) c.args.session c.args.done)) c.in-Some.is c.in_ok-moved.ensures.moved in
     mark_not_woken now w safe shows c.args.session c.args.other c.args.partition c.args.hand c.args.done c.in-Some.moved c.requires.in_hand c.requires.unmoved moved (sym c.if-is_among.ensures)

@@ -1,5 +1,5 @@
 use Rattle.std.proofs.Common.{◌∙◌, sym, inl, inr, subst}
-use Rattle.lock_model.proofs.FollowingMarks.{Marks, mark_without_hand, mark_of_another, mark_next}
+use Rattle.lock_model.proofs.Follows.Waits.Marks.{Marks, mark_without_hand, mark_of_another, mark_next}
 use Rattle.lock_model.proofs.machine.state.Machine.mark_in.Goals as goal
 use Rattle.lock_model.proofs.machine.state.Machine.mark_in.Goals.{else-is_same-via-then-is_same+else-is_unmarked, else-is_same-via-else-is_same}
 

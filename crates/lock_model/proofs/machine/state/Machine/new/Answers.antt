@@ -1,5 +1,5 @@
 use Rattle.std.proofs.Common.{refl}
-use Rattle.lock_model.proofs.ShowsLemmas.{opening-shown}
+use Rattle.lock_model.proofs.Shows.Runs.{opening-shown}
 use Rattle.lock_model.proofs.machine.state.Machine.new.Goals as goal
 
 pub returns : goal.returns

@@ -3,6 +3,7 @@ use Rattle.std.specs.Vec.{with_item}
 use Rattle.std.proofs.lemmas.Bool.{both_ways}
 use Rattle.modes_core.specs.Tag.{partition_of}
 use Rattle.lock_model.specs.declared.machine.state.Machine.{Machine}
+use Rattle.lock_model.specs.declared.machine.state.Contents.{Contents}
 use Rattle.lock_table.specs.declared.moves.Move.TheVariants.{Grant}
 use Rattle.lock_world.specs.declared.events.Step.TheVariants.{PutExclusive}
 use Rattle.lock_world.specs.declared.events.Word.TheVariants.{Partition}
@@ -14,9 +15,10 @@ use Rattle.lock_table.specs.Told.{IsTold}
 use Rattle.lock_world.specs.World.{World}
 use Rattle.lock_world.specs.Happens.{Next}
 use Rattle.lock_model.specs.Shows.{Shows}
-use Rattle.lock_model.proofs.Following.{skipped}
-use Rattle.lock_model.proofs.FollowingPuts.{granted, granting, told-granted, exists_from, asks_not_awaited}
-use Rattle.lock_model.proofs.PlaceLemmas.{changed_there, part_read}
+use Rattle.lock_model.proofs.Follows.Skipped.{skipped}
+use Rattle.lock_model.proofs.Follows.Partitions.{granted, granting, told-granted, exists_from, asks_not_awaited}
+use Rattle.lock_model.proofs.Shows.Places.{part_read}
+use Rattle.lock_model.proofs.Shows.Changes.{changed_there}
 use Rattle.lock_model.proofs.machine.state.Machine.put_granting.Goals as goal
 use Rattle.lock_model.proofs.machine.state.Machine.put_granting.Goals.{then-partition-via-then-partition, then-partition-via-else-partition+then-not-may_ask}
 
@@ -34,11 +36,11 @@ pub returns-in_default : goal.returns-in_default
 returns-in_default c = λ w safe shows.
     let now = c.args.self.now in
     let below = exists_from now w safe shows c.args.session c.args.partition c.requires.in_hand in
-    let in_parts : c.args.partition < length now.parts.items = subst (λ n. c.args.partition < n) (sym shows.sixteen) below in
-    let read = part_read now.parts.items c.from-index.result c.args.partition c.index.result.now c.from-index.ensures (subst (λ n. n < length now.parts.items) (sym c.from-index.ensures) in_parts) c.index.ensures in
+    let in_parts : c.args.partition < length now.contents.parts.items = subst (λ n. c.args.partition < n) (sym shows.contents.sixteen) below in
+    let read = part_read now.contents.parts.items c.from-index.result c.args.partition c.index.result.now c.from-index.ensures (subst (λ n. n < length now.contents.parts.items) (sym c.from-index.ensures) in_parts) c.index.ensures in
     skipped now w safe shows c.args.session (PutExclusive (Partition c.args.partition) (Grant c.args.tag c.args.mode))
     (λ lawful. let needs = granting now w safe shows c.args.session c.args.partition c.args.tag c.args.mode c.requires.in_hand lawful in
-    c.in_default.not-Granted (told-granted (contents_in now.parts.items c.args.partition) c.args.session c.args.tag c.args.mode c.waiting_answer.result
+    c.in_default.not-Granted (told-granted (contents_in now.contents.parts.items c.args.partition) c.args.session c.args.tag c.args.mode c.waiting_answer.result
     (subst (λ part. IsTold (content_of part) c.args.session c.args.tag c.args.mode c.waiting_answer.result) read c.waiting_answer.ensures) needs.2))
 
 pub begin-requires-clause-not_awaited : goal.begin-requires-clause-not_awaited
@@ -46,11 +48,11 @@ begin-requires-clause-not_awaited c =
     let now = c.args.self.now in
     let shown = c.requires.shown in
     let below = exists_from now shown.0 shown.1 shown.2 c.args.session c.args.partition c.requires.in_hand in
-    let in_parts : c.args.partition < length now.parts.items = subst (λ n. c.args.partition < n) (sym shown.2.sixteen) below in
-    let read = part_read now.parts.items c.from-index.result c.args.partition c.index_mut-part.result.now c.from-index.ensures (subst (λ n. n < length now.parts.items) (sym c.from-index.ensures) in_parts) c.index_mut-part.ensures.value in
+    let in_parts : c.args.partition < length now.contents.parts.items = subst (λ n. c.args.partition < n) (sym shown.2.contents.sixteen) below in
+    let read = part_read now.contents.parts.items c.from-index.result c.args.partition c.index_mut-part.result.now c.from-index.ensures (subst (λ n. n < length now.contents.parts.items) (sym c.from-index.ensures) in_parts) c.index_mut-part.ensures.value in
     let object : partition_of c.args.tag ≡ c.args.partition = sym c.partition.ensures.value ∙ c.if-partition.false in
     ap (λ part. awaits_mode ((content_of part).waits c.args.tag) c.args.session c.args.mode) read
-    ∙ sym (ap (λ p. awaits_mode ((contents_in now.parts.items p).waits c.args.tag) c.args.session c.args.mode) object)
+    ∙ sym (ap (λ p. awaits_mode ((contents_in now.contents.parts.items p).waits c.args.tag) c.args.session c.args.mode) object)
     ∙ asks_not_awaited now shown.0 shown.1 shown.2 c.args.session c.args.tag c.args.mode (sym c.may_ask.ensures ∙ c.if-not-may_ask.false)
 
 pub returns : goal.returns
@@ -58,16 +60,16 @@ returns c = λ w safe shows.
     let now = c.args.self.now in
     let in_hand = c.requires.in_hand in
     let below = exists_from now w safe shows c.args.session c.args.partition in_hand in
-    let in_words : c.args.partition < length now.words = omega (arith, below) in
-    let in_parts : c.args.partition < length now.parts.items = subst (λ n. c.args.partition < n) (sym shows.sixteen) below in
+    let in_words : c.args.partition < length now.words.partitions = omega (arith, below) in
+    let in_parts : c.args.partition < length now.contents.parts.items = subst (λ n. c.args.partition < n) (sym shows.contents.sixteen) below in
     let object : partition_of c.args.tag ≡ c.args.partition = sym c.partition.ensures.value ∙ c.if-partition.false in
-    let looked = part_read now.parts.items c.from-index.result c.args.partition c.index.result.now c.from-index.ensures (subst (λ n. n < length now.parts.items) (sym c.from-index.ensures) in_parts) c.index.ensures in
-    let read = part_read now.parts.items c.from-index.result c.args.partition c.index_mut-part.result.now c.from-index.ensures (subst (λ n. n < length now.parts.items) (sym c.from-index.ensures) in_parts) c.index_mut-part.ensures.value in
+    let looked = part_read now.contents.parts.items c.from-index.result c.args.partition c.index.result.now c.from-index.ensures (subst (λ n. n < length now.contents.parts.items) (sym c.from-index.ensures) in_parts) c.index.ensures in
+    let read = part_read now.contents.parts.items c.from-index.result c.args.partition c.index_mut-part.result.now c.from-index.ensures (subst (λ n. n < length now.contents.parts.items) (sym c.from-index.ensures) in_parts) c.index_mut-part.ensures.value in
     let content = c.grant.ensures.content ∙ ap (λ x. add_hold x c.args.session c.args.tag c.args.mode) (c.begin.ensures.content ∙ ap content_of read) in
-    let changed : Machine = record now { parts = with_item now.parts c.from-index.result c.grant.new.self } in
+    let changed : Contents = record (now.contents) { parts = with_item now.contents.parts c.from-index.result c.grant.new.self } in
     let P : Machine → Type 0 = λ m. (v : World) × Next w (record { session = c.args.session; step = PutExclusive (Partition c.args.partition) (Grant c.args.tag c.args.mode) }) v × Shows m v in
     subst P (sym c.set_free.ensures)
     (granted now w safe shows c.args.session c.args.partition c.args.tag c.args.mode changed in_hand object (sym c.may_ask.ensures ∙ c.if-not-may_ask.false)
     (subst (λ part. WaitingAnswer (content_of part) c.args.session c.args.tag c.args.mode Granted) looked c.in-Granted.ensures) in_words
-    (changed_there now.parts.items c.from-index.result c.args.partition c.grant.new.self (add_hold (contents_in now.parts.items c.args.partition) c.args.session c.args.tag c.args.mode)
+    (changed_there now.contents.parts.items c.from-index.result c.args.partition c.grant.new.self (add_hold (contents_in now.contents.parts.items c.args.partition) c.args.session c.args.tag c.args.mode)
     c.from-index.ensures in_parts content c.grant.ensures.ended))

@@ -7,8 +7,8 @@ use Rattle.lock_world.specs.World.{World}
 use Rattle.lock_world.specs.Happens.{Next}
 use Rattle.lock_world.specs.Happens.Partitions.{IsMadeByPutting}
 use Rattle.lock_model.specs.Shows.{Shows}
-use Rattle.lock_model.proofs.Following.{skipped}
-use Rattle.lock_model.proofs.FollowingPuts.{kept, only_made, exists_from}
+use Rattle.lock_model.proofs.Follows.Skipped.{skipped}
+use Rattle.lock_model.proofs.Follows.Partitions.{kept, only_made, exists_from}
 use Rattle.lock_model.proofs.machine.state.Machine.put_made.Goals as goal
 
 pub set_free-requires : goal.set_free-requires
@@ -19,7 +19,7 @@ returns-in-Keep c = λ w safe shows.
     let now = c.args.self.now in
     let in_hand = c.requires.in_hand in
     let below = exists_from now w safe shows c.args.session c.args.partition in_hand in
-    let in_words : c.args.partition < length now.words = omega (arith, below) in
+    let in_words : c.args.partition < length now.words.partitions = omega (arith, below) in
     let P : Machine → Type 0 = λ m. (v : World) × Next w (record { session = c.args.session; step = PutExclusive (Partition c.args.partition) Keep }) v × Shows m v in
     rw c.in-Keep.is (subst P (sym c.set_free.ensures) (kept now w safe shows c.args.session c.args.partition in_hand in_words))
 

@@ -7,10 +7,10 @@ use Rattle.lock_world.specs.declared.events.Word.TheVariants.{Partition}
 use Rattle.lock_world.specs.World.{World}
 use Rattle.lock_world.specs.Happens.{Next}
 use Rattle.lock_model.specs.Shows.{Shows}
-use Rattle.lock_model.proofs.Following.{skipped}
-use Rattle.lock_model.proofs.FollowingPuts.{recorded_put, not_in_hand, only_recorded}
+use Rattle.lock_model.proofs.Follows.Skipped.{skipped}
+use Rattle.lock_model.proofs.Follows.Partitions.{recorded_put, not_in_hand, only_recorded}
 use Rattle.lock_table.proofs.MoveTests.{move_eq-same, move_eq-refl}
-use Rattle.lock_model.proofs.Showing.{hand_from}
+use Rattle.lock_model.proofs.Shows.Looks.{hand_from}
 use Rattle.lock_model.proofs.machine.state.Machine.put_partition.Goals as goal
 use Rattle.lock_model.proofs.machine.state.Machine.put_partition.Goals.{else-is_same-via-then-is_same+then-none_unmarked+else-is_over, else-is_same-via-then-is_same+else-none_unmarked, else-is_same-via-else-is_same}
 
@@ -30,7 +30,7 @@ returns-then-is_over c = λ w safe shows.
     let now = c.args.self.now in
     let in_hand = sym c.hand_of.ensures ∙ c.in-Some.is in
     let below = (hand_from now w safe shows c.args.session c.args.partition c.in-Some.hand in_hand).exists in
-    let in_words : c.args.partition < length now.words = omega (arith, below) in
+    let in_words : c.args.partition < length now.words.partitions = omega (arith, below) in
     let same = move_eq-same c.in-Some-recorded.recorded c.args.done (sym c.if-is_same.ensures) in
     let P : Machine → Type 0 = λ m. (v : World) × Next w (record { session = c.args.session; step = PutExclusive (Partition c.args.partition) c.args.done }) v × Shows m v in
     subst P (sym c.set_free.ensures)

@@ -5,6 +5,7 @@ use Rattle.std.proofs.lemmas.Bool.{both_ways, eqb-true}
 use Rattle.std.proofs.lemmas.List.{nil_from_length, length-map}
 use Rattle.modes_core.specs.Tag.{partition_of}
 use Rattle.lock_model.specs.declared.machine.state.Machine.{Machine}
+use Rattle.lock_model.specs.declared.machine.state.Contents.{Contents}
 use Rattle.lock_table.specs.declared.moves.Move.TheVariants.{Release}
 use Rattle.lock_world.specs.declared.events.Step.TheVariants.{PutExclusive}
 use Rattle.lock_world.specs.declared.events.Word.TheVariants.{Partition}
@@ -16,9 +17,9 @@ use Rattle.lock_table.specs.Waiter.{whose_and_mode}
 use Rattle.lock_world.specs.World.{World}
 use Rattle.lock_world.specs.Happens.{Next}
 use Rattle.lock_model.specs.Shows.{Shows, IsOwnFor}
-use Rattle.lock_model.proofs.Following.{skipped}
-use Rattle.lock_model.proofs.FollowingPuts.{released, releasing, release_wakes, exists_from}
-use Rattle.lock_model.proofs.PlaceLemmas.{changed_there}
+use Rattle.lock_model.proofs.Follows.Skipped.{skipped}
+use Rattle.lock_model.proofs.Follows.Partitions.{released, releasing, release_wakes, exists_from}
+use Rattle.lock_model.proofs.Shows.Changes.{changed_there}
 use Rattle.lock_model.proofs.machine.state.Machine.put_releasing.Goals as goal
 
 pub returns-in_default : goal.returns-in_default
@@ -33,25 +34,25 @@ returns-then-is_empty c = λ w safe shows.
     let in_hand = c.requires.in_hand in
     let done = Release c.args.tag c.args.mode in
     let below = exists_from now w safe shows c.args.session c.args.partition in_hand in
-    let in_words : c.args.partition < length now.words = omega (arith, below) in
-    let in_parts : c.args.partition < length now.parts.items = subst (λ n. c.args.partition < n) (sym shows.sixteen) below in
+    let in_words : c.args.partition < length now.words.partitions = omega (arith, below) in
+    let in_parts : c.args.partition < length now.contents.parts.items = subst (λ n. c.args.partition < n) (sym shows.contents.sixteen) below in
     let object : partition_of c.args.tag ≡ c.args.partition = sym c.partition.ensures.value ∙ c.if-partition.false in
-    let moved = subst (λ found. IfSome found (IsMoved (part_at now.parts.items c.args.partition) c.args.session done)) c.in-Some.is c.in_ok-moved.ensures.moved in
-    let own = subst (λ found. IfSome found (λ _. IsOwnFor (get_or now.awaited c.args.session None) done)) c.in-Some.is c.in_ok-moved.ensures.own in
+    let moved = subst (λ found. IfSome found (IsMoved (part_at now.contents.parts.items c.args.partition) c.args.session done)) c.in-Some.is c.in_ok-moved.ensures.moved in
+    let own = subst (λ found. IfSome found (λ _. IsOwnFor (get_or now.waits.awaited c.args.session None) done)) c.in-Some.is c.in_ok-moved.ensures.own in
     let none : length c.in-Some.moved.woken.items ≡ 0 = eqb-true (length c.in-Some.moved.woken.items) 0 (sym c.is_empty.ensures ∙ c.if-is_empty.true) in
     let nobody : moved.granted ≡ [] = nil_from_length moved.granted (sym (length-map moved.granted whose_and_mode) ∙ sym (ap length moved.told) ∙ none) in
-    let changed : Machine = record now { parts = with_item now.parts c.from.result c.in-Some.moved.part } in
+    let changed : Contents = record (now.contents) { parts = with_item now.contents.parts c.from.result c.in-Some.moved.part } in
     let P : Machine → Type 0 = λ m. (v : World) × Next w (record { session = c.args.session; step = PutExclusive (Partition c.args.partition) (Release c.args.tag c.args.mode) }) v × Shows m v in
     subst P (sym c.set_free.ensures)
     (released now w safe shows c.args.session c.args.partition c.args.tag c.args.mode (content_of c.in-Some.moved.part) changed in_hand object own
-    (subst (λ granted. Moves (contents_in now.parts.items c.args.partition) c.args.session done granted (content_of c.in-Some.moved.part)) nobody moved.moves) in_words
-    (changed_there now.parts.items c.from.result c.args.partition c.in-Some.moved.part (content_of c.in-Some.moved.part) c.from.ensures in_parts refl (moved.begun ∙ shows.none_begun c.args.partition)))
+    (subst (λ granted. Moves (contents_in now.contents.parts.items c.args.partition) c.args.session done granted (content_of c.in-Some.moved.part)) nobody moved.moves) in_words
+    (changed_there now.contents.parts.items c.from.result c.args.partition c.in-Some.moved.part (content_of c.in-Some.moved.part) c.from.ensures in_parts refl (moved.begun ∙ shows.contents.none_begun c.args.partition)))
 
 pub returns-else-is_empty : goal.returns-else-is_empty
 returns-else-is_empty c = λ w safe shows.
     let now = c.args.self.now in
     let done = Release c.args.tag c.args.mode in
-    let moved = subst (λ found. IfSome found (IsMoved (part_at now.parts.items c.args.partition) c.args.session done)) c.in-Some.is c.in_ok-moved.ensures.moved in
+    let moved = subst (λ found. IfSome found (IsMoved (part_at now.contents.parts.items c.args.partition) c.args.session done)) c.in-Some.is c.in_ok-moved.ensures.moved in
     skipped now w safe shows c.args.session (PutExclusive (Partition c.args.partition) done)
     (λ lawful.
     let nobody = release_wakes now w safe shows c.args.session c.args.partition c.args.tag c.args.mode moved.granted (content_of c.in-Some.moved.part) c.requires.in_hand moved.moves lawful in

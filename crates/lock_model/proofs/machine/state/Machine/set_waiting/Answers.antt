@@ -3,8 +3,8 @@ use Rattle.modes_core.specs.Tag.{partition_of}
 use Rattle.lock_table.specs.PartView.{content_of}
 use Rattle.lock_table.specs.Told.{IsTold}
 use Rattle.lock_model.specs.Shows.{hand_of}
-use Rattle.lock_model.proofs.PlaceLemmas.{part_read}
-use Rattle.lock_model.proofs.FollowingJoins.{join_without_hand, join_after_move, join_may_not, join_not_told, asks_new}
+use Rattle.lock_model.proofs.Shows.Places.{part_read}
+use Rattle.lock_model.proofs.Follows.Waits.Joins.{join_without_hand, join_after_move, join_may_not, join_not_told, asks_new}
 use Rattle.lock_model.proofs.machine.state.Machine.set_waiting.Goals as goal
 use Rattle.lock_model.proofs.machine.state.Machine.set_waiting.Goals.{then-is_some-via-then-is_some, then-is_some-via-else-is_some+then-not-may_ask}
 
@@ -27,10 +27,10 @@ pub returns-in_default-waiting_answer : goal.returns-in_default-waiting_answer
 returns-in_default-waiting_answer c = λ w safe shows.
     let now = c.args.self.now in
     let place : c.from.result ≡ partition_of c.args.tag = c.from.ensures ∙ c.partition-partition.ensures.value in
-    let sixteen : length now.parts.items ≡ 16 = shows.sixteen in
+    let sixteen : length now.contents.parts.items ≡ 16 = shows.contents.sixteen in
     let below = c.partition-partition.ensures.within in
-    let within : c.from.result < length now.parts.items = omega arith in
-    let part = part_read now.parts.items c.from.result (partition_of c.args.tag) c.index-part.result.now place within c.index-part.ensures in
+    let within : c.from.result < length now.contents.parts.items = omega arith in
+    let part = part_read now.contents.parts.items c.from.result (partition_of c.args.tag) c.index-part.result.now place within c.index-part.ensures in
     join_not_told now w safe shows c.args.session c.args.tag c.args.mode c.waiting_answer.result
     (subst (λ x. IsTold (content_of x) c.args.session c.args.tag c.args.mode c.waiting_answer.result) part c.waiting_answer.ensures) (λ k is. c.in_default-waiting_answer.not-InQueue k is)
 

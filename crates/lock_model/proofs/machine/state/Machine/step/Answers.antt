@@ -23,3 +23,6 @@ returns-in-LoadWait c = rw c.in-LoadWait.is c.load_wait.ensures
 
 pub returns-in-ClearWait : goal.returns-in-ClearWait
 returns-in-ClearWait c = rw c.in-ClearWait.is c.clear_wait.ensures
+
+pub returns-in-SplitSeat : goal.returns-in-SplitSeat
+returns-in-SplitSeat c = rw c.in-SplitSeat.is c.split_seat.ensures

@@ -1,0 +1,5 @@
+-- The machine follows each kind of event: it shows the World that the event leads to.
+pub mod Skipped
+pub mod Seats
+pub mod Partitions
+pub mod Waits

@@ -1,0 +1,185 @@
+use Rattle.std.proofs.Common.{◌≡◌, ◌≢◌, ℕ, ◌+◌, ◌<◌, Bool, true, false, not, List, length, get_or, Option, Some, None, is_none, refl, sym, ap, ◌∙◌, subst, inl, inr}
+use Rattle.std.specs.Prelude.{◌==◌}
+use Rattle.std.specs.List.{list_any}
+use Rattle.std.proofs.Math.ListN.{set}
+use Rattle.std.proofs.lemmas.Bool.{both_ways, false≢true, and_parts, and_from, eq-eqb, eqb-true, false_from_ne_true}
+use Rattle.std.proofs.lemmas.List.Folds.{list_any_at}
+use Rattle.modes_core.specs.declared.modes.Mode.{Mode}
+use Rattle.modes_core.specs.declared.tags.Tag.{Tag}
+use Rattle.modes_core.specs.Tag.{partition_of}
+use Rattle.lock_world.specs.declared.events.Step.TheVariants.{SplitSeat, JoinSeat}
+use Rattle.lock_model.specs.declared.machine.state.Machine.{Machine}
+use Rattle.lock_table.specs.declared.request.Request.{Request}
+use Rattle.lock_table.specs.Parts.{no_part, part_at}
+use Rattle.lock_table.specs.PartView.{PartView, holds_in}
+use Rattle.lock_table.specs.Request.{is_request_of}
+use Rattle.lock_world.specs.World.{World}
+use Rattle.lock_world.specs.Happens.{Next}
+use Rattle.lock_world.specs.Happens.Seats.{MayBeIssued, after_issuing, after_going_on, MayBeKeptApart, after_keeping_apart, MayClose, after_closing}
+use Rattle.lock_world.specs.Safe.{Safe}
+use Rattle.lock_table.specs.OwnWait.{is_for}
+use Rattle.lock_model.specs.Shows.{Shows, is_number, is_holder, makes_steps, awaits}
+use Rattle.lock_model.proofs.Shows.Changes.{get_or-set_at}
+use Rattle.lock_table.proofs.ListLemmas.{any_found, any_weaker, found_within}
+use Rattle.lock_table.proofs.Same.{same_triple-refl}
+use Rattle.lock_model.proofs.Shows.Looks.{hand_kept, kept_hand, steps_from, own_from, content_from, awaits_from, no_wait_from}
+
+-- The events on session numbers, as the machine makes them, and what its tests of them say of the World.
+
+number_of_some : (o : Option ℕ) (s : ℕ) → is_number s o ≡ true → o ≡ Some s
+number_of_some None s e = absurd (false≢true e)
+number_of_some (Some k) s e = ap Some (eqb-true k s e)
+
+some_of_number : (o : Option ℕ) (s : ℕ) → o ≡ Some s → is_number s o ≡ true
+some_of_number o s e = ap (is_number s) e ∙ eq-eqb s s refl
+
+-- whether a part has a hold of the session
+abbrev has_hold_of : ℕ → PartView → Bool
+has_hold_of s part = list_any (λ hold. hold.session == s) part.holds
+
+-- A hold of a list is a hold of its session there.
+session_of_hold : (xs : List Request) (s : ℕ) (t : Tag) (n : Mode) → holds_in xs s t n ≡ true → list_any (λ hold. hold.session == s) xs ≡ true
+session_of_hold xs s t n has =
+    any_weaker (λ hold. is_request_of hold s t n) (λ hold. hold.session == s) xs (λ hold e. eq-eqb hold.session s (sym (eqb-true s hold.session (and_parts _ _ e).0))) has
+
+-- Who has a hold in a list holds something there.
+hold_of_session : (xs : List Request) (s : ℕ) → list_any (λ hold. hold.session == s) xs ≡ true → (t : Tag) × (n : Mode) × (holds_in xs s t n ≡ true)
+hold_of_session xs s any =
+    let found = any_found (λ hold. hold.session == s) xs any in
+    let h : Request = found.1 in
+    let its : is_request_of h s h.tag h.mode ≡ true = ap (λ k. is_request_of h k h.tag h.mode) (sym (eqb-true h.session s found.4)) ∙ same_triple-refl h.session h.tag h.mode in (
+      h.tag,
+      h.mode,
+      found_at (λ hold. is_request_of hold s h.tag h.mode) found.0 found.2 (ap (λ hold. is_request_of hold s h.tag h.mode) (found.3 h) ∙ its),
+    ) where
+      found_at : (p : Request → Bool) (i : ℕ) → i < length xs → p (get_or xs i (any_found (λ hold. hold.session == s) xs any).1) ≡ true → list_any p xs ≡ true
+      found_at p i within e = list_any_at p xs i _ within e
+
+module _ (m : Machine) (w : World) (safe : Safe w) (shows : Shows m w) where
+  pub was_issued : (s : ℕ) → s ≡ m.numbers.issued → s < 64 → s < length m.numbers.live
+      → (v : World) × Next w (record { session = s; step = SplitSeat }) v × Shows (record m { numbers = record (m.numbers) { issued = m.numbers.issued + 1; live = set m.numbers.live s true } }) v
+  was_issued s next below in_live =
+      let may : MayBeIssued w s = record { next = next ∙ shows.numbers.issued; within = subst (λ n. s < n) (sym shows.numbers.limit) below } in (
+        after_issuing w s,
+        inl (inl (may, refl)),
+        record {
+          numbers = record {
+            limit = shows.numbers.limit;
+            issued = ap (λ n. n + 1) (sym next);
+            live = get_or-set_at m.numbers.live s true false w.numbers.live in_live shows.numbers.live;
+            kept_by = shows.numbers.kept_by;
+          };
+          words = shows.words;
+          contents = shows.contents;
+          waits = shows.waits;
+        },
+      )
+
+  pub went_on : (s joiner : ℕ) → get_or m.numbers.kept_by s None ≡ Some joiner → s < length m.numbers.kept_by
+      → (v : World) × Next w (record { session = s; step = SplitSeat }) v × Shows (record m { numbers = record (m.numbers) { kept_by = set m.numbers.kept_by s None } }) v
+  went_on s joiner kept in_kept_by = (
+    after_going_on w s,
+    inl (inr ((joiner, sym (shows.numbers.kept_by s) ∙ kept), refl)),
+    record {
+      numbers = record {
+        limit = shows.numbers.limit;
+        issued = shows.numbers.issued;
+        live = shows.numbers.live;
+        kept_by = get_or-set_at m.numbers.kept_by s None None w.numbers.kept_by in_kept_by shows.numbers.kept_by;
+      };
+      words = shows.words;
+      contents = shows.contents;
+      waits = shows.waits;
+    },
+  )
+
+  pub no_word : (s : ℕ) → list_any (is_holder s) m.contents.hands ≡ false → (p : ℕ) → w.sessions.holds_partition s p ≡ false
+  no_word s none p =
+      false_from_ne_true _ (λ held. both_ways (list_any (is_holder s) m.contents.hands) none
+      (found_within (is_holder s) m.contents.hands p None refl
+      (hand_kept (get_or m.contents.hands p None) (w.contents.hand p) s (shows.contents.hand p) (sym (safe.table.carriers.hands p s) ∙ held)).0))
+
+  pub some_word : (s : ℕ) → list_any (is_holder s) m.contents.hands ≡ true → ((p : ℕ) → w.sessions.holds_partition s p ≡ false) → ⊥
+  some_word s any none =
+      let found = any_found (is_holder s) m.contents.hands any in
+      let its : is_holder s (get_or m.contents.hands found.0 None) ≡ true = ap (is_holder s) (found.3 None) ∙ found.4 in
+      both_ways (w.sessions.holds_partition s found.0) (none found.0)
+      (safe.table.carriers.hands found.0 s ∙ kept_hand (get_or m.contents.hands found.0 None) (w.contents.hand found.0) s (shows.contents.hand found.0) its)
+
+  pub no_hold : (s : ℕ) → list_any (has_hold_of s) m.contents.parts.items ≡ false → (t : Tag) (n : Mode) → w.sessions.own s t n ≡ false
+  no_hold s none t n = false_from_ne_true _ (λ own.
+      let there : (w.contents.now (partition_of t)).holds s t n ≡ true = (and_parts _ _ (sym (own_from m w safe shows s t n) ∙ own)).0 in
+      let listed : holds_in (part_at m.contents.parts.items (partition_of t)).holds s t n ≡ true = ap (λ c. c.holds s t n) (content_from m w safe shows t) ∙ there in
+      both_ways (list_any (has_hold_of s) m.contents.parts.items) none
+      (found_within (has_hold_of s) m.contents.parts.items (partition_of t) no_part refl (session_of_hold _ s t n listed)))
+
+  pub some_hold : (s : ℕ) → list_any (has_hold_of s) m.contents.parts.items ≡ true → w.sessions.awaited s ≡ None → ((t : Tag) (n : Mode) → w.sessions.own s t n ≡ false) → ⊥
+  some_hold s any no_wait none =
+      let found = any_found (has_hold_of s) m.contents.parts.items any in
+      let p : ℕ = found.0 in
+      let hold = hold_of_session (part_at m.contents.parts.items p).holds s (ap (has_hold_of s) (found.3 no_part) ∙ found.4) in
+      let t : Tag = hold.0 in
+      let n : Mode = hold.1 in
+      let there : (w.contents.now p).holds s t n ≡ true = sym (ap (λ c. c.holds s t n) (shows.contents.now p (subst (λ k. p < k) shows.contents.sixteen found.2))) ∙ hold.2 in
+      let home : partition_of t ≡ p = safe.table.promise.one_place.no_hold_elsewhere p s t n there in
+      let not_awaited : awaits (get_or m.waits.awaited s None) t n ≡ false = awaits_from m w safe shows s t n ∙ ap (λ o. is_for o t n) no_wait in
+      both_ways (w.sessions.own s t n) (none t n)
+      (own_from m w safe shows s t n ∙ and_from _ _ (ap (λ q. (w.contents.now q).holds s t n) home ∙ there) (ap not not_awaited))
+
+  pub keeps_nobody : (s : ℕ) → list_any (is_number s) m.numbers.kept_by ≡ false → (k : ℕ) → w.numbers.kept_by k ≢ Some s
+  keeps_nobody s none k kept =
+      both_ways (list_any (is_number s) m.numbers.kept_by) none (found_within (is_number s) m.numbers.kept_by k None refl (some_of_number _ s (shows.numbers.kept_by k ∙ kept)))
+
+  pub keeps_somebody : (s : ℕ) → list_any (is_number s) m.numbers.kept_by ≡ true → ((k : ℕ) → w.numbers.kept_by k ≢ Some s) → ⊥
+  keeps_somebody s any nobody =
+      let found = any_found (is_number s) m.numbers.kept_by any in
+      nobody found.0 (sym (shows.numbers.kept_by found.0) ∙ number_of_some (get_or m.numbers.kept_by found.0 None) s (ap (is_number s) (found.3 None) ∙ found.4))
+
+  pub was_kept_apart : (s joiner : ℕ) → makes_steps m s ≡ true → joiner ≢ s → makes_steps m joiner ≡ true → list_any (is_holder s) m.contents.hands ≡ false → s < length m.numbers.kept_by
+      → (v : World) × Next w (record { session = s; step = JoinSeat (Some joiner) }) v × Shows (record m { numbers = record (m.numbers) { kept_by = set m.numbers.kept_by s (Some joiner) } }) v
+  was_kept_apart s joiner steps another joiner_steps no_hand in_kept_by =
+      let may : MayBeKeptApart w s joiner = record {
+        steps = steps_from m w safe shows s steps;
+        another = another;
+        joiner_steps = steps_from m w safe shows joiner joiner_steps;
+        no_word = no_word s no_hand;
+      } in (
+        after_keeping_apart w s joiner,
+        inl (may, refl),
+        record {
+          numbers = record {
+            limit = shows.numbers.limit;
+            issued = shows.numbers.issued;
+            live = shows.numbers.live;
+            kept_by = get_or-set_at m.numbers.kept_by s (Some joiner) None w.numbers.kept_by in_kept_by shows.numbers.kept_by;
+          };
+          words = shows.words;
+          contents = shows.contents;
+          waits = shows.waits;
+        },
+      )
+
+  pub was_closed : (s : ℕ) → makes_steps m s ≡ true → list_any (is_holder s) m.contents.hands ≡ false → list_any (has_hold_of s) m.contents.parts.items ≡ false → is_none (get_or m.waits.awaited s None) ≡ true → list_any (is_number s) m.numbers.kept_by ≡ false → s < length m.numbers.live
+      → (v : World) × Next w (record { session = s; step = JoinSeat None }) v × Shows (record m { numbers = record (m.numbers) { live = set m.numbers.live s false } }) v
+  was_closed s steps no_hand none_held no_wait keeps_none in_live =
+      let may : MayClose w s = record {
+        steps = steps_from m w safe shows s steps;
+        no_word = no_word s no_hand;
+        no_hold = no_hold s none_held;
+        no_wait = no_wait_from m w safe shows s no_wait;
+        keeps_nobody = keeps_nobody s keeps_none;
+      } in (
+        after_closing w s,
+        inl (may, refl),
+        record {
+          numbers = record {
+            limit = shows.numbers.limit;
+            issued = shows.numbers.issued;
+            live = get_or-set_at m.numbers.live s false false w.numbers.live in_live shows.numbers.live;
+            kept_by = shows.numbers.kept_by;
+          };
+          words = shows.words;
+          contents = shows.contents;
+          waits = shows.waits;
+        },
+      )

@@ -1,0 +1,5 @@
+-- The steps on wait words.
+pub mod Asks
+pub mod Joins
+pub mod Marks
+pub mod Clears

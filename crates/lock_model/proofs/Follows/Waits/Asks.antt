@@ -1,0 +1,94 @@
+use Rattle.std.proofs.Common.{◌≡◌, ◌≢◌, ℕ, ◌<◌, Bool, true, false, ◌||◌, length, get_or, None, option_map, refl, sym, ap, ◌∙◌, inl}
+use Rattle.std.specs.Prelude.{◌==◌}
+use Rattle.std.proofs.Math.ListN.{set, length-set}
+use Rattle.std.proofs.lemmas.Bool.{eq-eqb, ne_eqb}
+use Rattle.lock_world.specs.declared.events.Step.TheVariants.{AskCancel, LoadWait}
+use Rattle.lock_model.specs.declared.machine.state.Machine.{Machine}
+use Rattle.lock_table.specs.Parts.{part_at, contents_in}
+use Rattle.lock_world.specs.WaitWord.{wait_state, asked_word}
+use Rattle.lock_world.specs.World.{World}
+use Rattle.lock_table.specs.Put.{set_at}
+use Rattle.lock_world.specs.Happens.{Next}
+use Rattle.lock_world.specs.Happens.Waits.{after_asking, after_loading_wait}
+use Rattle.lock_world.specs.Safe.{Safe}
+use Rattle.lock_model.specs.Shows.{Shows, ShowsHandIfAny, awaited_of, makes_steps}
+use Rattle.lock_model.proofs.Follows.Skipped.{skipped}
+use Rattle.lock_model.proofs.Shows.Changes.{get_or-set_at, wait_word-set}
+use Rattle.lock_table.proofs.PutLemmas.{set_at-same}
+use Rattle.lock_model.proofs.Shows.Looks.{steps_from, steps_not}
+
+-- Asking to cancel, and loading the own wait word.
+
+module _ (m : Machine) (w : World) (safe : Safe w) (shows : Shows m w) where
+  pub was_asked : (s k : ℕ) → makes_steps m s ≡ true → k < length m.words.waits
+      → (v : World) × Next w (record { session = s; step = AskCancel k }) v × Shows (record m { words = record (m.words) { waits = set m.words.waits k (asked_word (get_or m.words.waits k 0)) } }) v
+  was_asked s k steps in_wait_words = (
+    after_asking w s k,
+    inl (steps_from m w safe shows s steps, refl),
+    record {
+      numbers = shows.numbers;
+      words = wait_word-set m.words w.words k _ _ shows.words in_wait_words (ap asked_word (shows.words.wait k));
+      contents = shows.contents;
+      waits = shows.waits;
+    },
+  )
+
+  pub ask_refused : (s k : ℕ) → makes_steps m s ≡ false → (v : World) × Next w (record { session = s; step = AskCancel k }) v × Shows m v
+  ask_refused s k no_steps = skipped m w safe shows s (AskCancel k) (λ lawful. steps_not m w safe shows s no_steps lawful.1.0)
+
+  -- A load by which the session sees that its wait was granted.
+  pub was_seen : (s n : ℕ) → makes_steps m s ≡ true → n ≡ get_or m.words.waits s 0 → wait_state n ≡ 2 → s < length m.waits.seen
+      → (v : World) × Next w (record { session = s; step = LoadWait n }) v × Shows (record m { waits = record (m.waits) { seen = set m.waits.seen s true } }) v
+  was_seen s n steps is_word granted in_seen = (
+    after_loading_wait w s n,
+    inl (record { steps = steps_from m w safe shows s steps; is_word = is_word ∙ shows.words.wait s }, refl),
+    record {
+      numbers = shows.numbers;
+      words = shows.words;
+      contents = shows.contents;
+      waits = record {
+        sixty_four = shows.waits.sixty_four;
+        sixty_four_seen = length-set m.waits.seen s true ∙ shows.waits.sixty_four_seen;
+        awaited = shows.waits.awaited;
+        seen = λ j. get_or-set_at m.waits.seen s true false w.sessions.seen in_seen shows.waits.seen j ∙ ap (λ b. set_at w.sessions.seen s b j) (sym sees);
+      };
+    },
+  ) where
+    or_true : (b : Bool) → (b || true) ≡ true
+    or_true true = refl
+    or_true false = refl
+
+    sees : (w.sessions.seen s || (wait_state (w.words.wait s) == 2)) ≡ true
+    sees = ap (λ b. w.sessions.seen s || b) (eq-eqb (wait_state (w.words.wait s)) 2 (sym (ap wait_state (is_word ∙ shows.words.wait s)) ∙ granted)) ∙ or_true (w.sessions.seen s)
+
+  -- One by which it sees nothing.
+  pub was_loaded : (s n : ℕ) → makes_steps m s ≡ true → n ≡ get_or m.words.waits s 0 → wait_state n ≢ 2 → (v : World) × Next w (record { session = s; step = LoadWait n }) v × Shows m v
+  was_loaded s n steps is_word not_granted = (
+    after_loading_wait w s n,
+    inl (record { steps = steps_from m w safe shows s steps; is_word = is_word ∙ shows.words.wait s }, refl),
+    record {
+      numbers = shows.numbers;
+      words = shows.words;
+      contents = shows.contents;
+      waits = record {
+        sixty_four = shows.waits.sixty_four;
+        sixty_four_seen = shows.waits.sixty_four_seen;
+        awaited = shows.waits.awaited;
+        seen = λ j. shows.waits.seen j ∙ ap (λ f. f j) (sym (set_at-same w.sessions.seen s _ sees));
+      };
+    },
+  ) where
+    or_false : (b : Bool) → (b || false) ≡ b
+    or_false true = refl
+    or_false false = refl
+
+    sees : (w.sessions.seen s || (wait_state (w.words.wait s) == 2)) ≡ w.sessions.seen s
+    sees =
+        ap (λ b. w.sessions.seen s || b) (ne_eqb (wait_state (w.words.wait s)) 2 (λ e. not_granted (ap wait_state (is_word ∙ shows.words.wait s) ∙ e)))
+        ∙ or_false (w.sessions.seen s)
+
+  pub load_refused : (s n : ℕ) → makes_steps m s ≡ false → (v : World) × Next w (record { session = s; step = LoadWait n }) v × Shows m v
+  load_refused s n no_steps = skipped m w safe shows s (LoadWait n) (λ lawful. steps_not m w safe shows s no_steps lawful.1.0.steps)
+
+  pub load_of_another : (s n : ℕ) → n ≢ get_or m.words.waits s 0 → (v : World) × Next w (record { session = s; step = LoadWait n }) v × Shows m v
+  load_of_another s n another = skipped m w safe shows s (LoadWait n) (λ lawful. another (lawful.1.0.is_word ∙ sym (shows.words.wait s)))

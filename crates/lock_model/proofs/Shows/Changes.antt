@@ -1,0 +1,128 @@
+use Rattle.std.proofs.Common.{◌≡◌, ◌≢◌, ℕ, ◌<◌, Bool, false, List, length, get_or, Option, None, option_map, refl, sym, ap, ◌∙◌, subst, inl, inr}
+use Rattle.std.specs.Vec.{with_item}
+use Rattle.std.proofs.Math.ListN.{set, length-set}
+use Rattle.std.proofs.lemmas.Bool.{cases_eq}
+use Rattle.std.proofs.lemmas.List.{get_or-set_same, get_or-set_other}
+use Rattle.lock_model.specs.declared.machine.hands.InHand.{InHand}
+use Rattle.lock_model.specs.declared.machine.own_waits.Awaited.{Awaited}
+use Rattle.lock_model.specs.declared.machine.state.Words.{Words}
+use Rattle.lock_model.specs.declared.machine.state.Contents.{Contents}
+use Rattle.lock_model.specs.declared.machine.state.OwnWaits.{OwnWaits}
+use Rattle.lock_table.specs.Content.{Content}
+use Rattle.lock_table.specs.OwnWait.{OwnWait}
+use Rattle.lock_table.specs.Parts.{no_part, part_at, contents_in}
+use Rattle.lock_table.specs.PartView.{PartView, content_of}
+use Rattle.lock_table.specs.Put.{set_at}
+use Rattle.lw_word.specs.LightweightWord.{free_word}
+use Rattle.lock_world.specs.World as world
+use Rattle.lock_model.specs.Shows.{ShowsHandIfAny, ShowsWords, ShowsContents, ShowsWaits, awaited_of}
+use Rattle.lock_table.proofs.PutLemmas.{set_at-here, set_at-else}
+
+-- What the machine shows once one place of it was written, for each record of `Shows`.
+
+-- A list with one place written reads as the function changed there.
+pub get_or-set_at : {A : Type 0} (xs : List A) (k : ℕ) (a d : A) (f : ℕ → A) → k < length xs → ((j : ℕ) → get_or xs j d ≡ f j) → (j : ℕ) → get_or (set xs k a) j d ≡ set_at f k a j
+get_or-set_at xs k a d f within reads j =
+    elim (cases_eq j k) [
+      | inl same ↦ ap (λ i. get_or (set xs k a) i d) same ∙ get_or-set_same xs k a d within ∙ sym (set_at-here f k a j same)
+      | inr other ↦ get_or-set_other xs k j a d other ∙ reads j ∙ sym (set_at-else f k a j other)
+    ]
+
+-- A partition's word, and a session's wait word.
+pub partition_word-set : (shown : Words) (words : world.Words) (p a b : ℕ) → ShowsWords shown words → p < length shown.partitions → a ≡ b
+    → ShowsWords (record shown { partitions = set shown.partitions p a }) (record words { partition = set_at words.partition p b })
+partition_word-set shown words p a b shows within same = record {
+  partition = λ q. get_or-set_at shown.partitions p a free_word words.partition within shows.partition q ∙ ap (λ n. set_at words.partition p n q) same;
+  wait = shows.wait;
+}
+
+pub wait_word-set : (shown : Words) (words : world.Words) (s a b : ℕ) → ShowsWords shown words → s < length shown.waits → a ≡ b
+    → ShowsWords (record shown { waits = set shown.waits s a }) (record words { wait = set_at words.wait s b })
+wait_word-set shown words s a b shows within same = record {
+  partition = shows.partition;
+  wait = λ k. get_or-set_at shown.waits s a 0 words.wait within shows.wait k ∙ ap (λ n. set_at words.wait s n k) same;
+}
+
+-- A hand.
+hands-set : (xs : List (Option InHand)) (p : ℕ) (mine : Option InHand) (hand : Option world.Hand) (f : ℕ → Option world.Hand) → p < length xs → ShowsHandIfAny mine hand
+    → ((q : ℕ) → ShowsHandIfAny (get_or xs q None) (f q)) → (q : ℕ) → ShowsHandIfAny (get_or (set xs p mine) q None) (set_at f p hand q)
+hands-set xs p mine hand f within is reads q =
+    elim (cases_eq q p) [
+      | inl same ↦
+          subst (λ h. ShowsHandIfAny (get_or (set xs p mine) q None) h) (sym (set_at-here f p hand q same))
+          (subst (λ x. ShowsHandIfAny x hand) (sym (ap (λ i. get_or (set xs p mine) i None) same ∙ get_or-set_same xs p mine None within)) is)
+      | inr other ↦
+          subst (λ h. ShowsHandIfAny (get_or (set xs p mine) q None) h) (sym (set_at-else f p hand q other))
+          (subst (λ x. ShowsHandIfAny x (f q)) (sym (get_or-set_other xs p q mine None other)) (reads q))
+    ]
+
+pub hand-set : (shown : Contents) (contents : world.Contents) (p : ℕ) (mine : Option InHand) (hand : Option world.Hand) → ShowsContents shown contents → p < 16 → ShowsHandIfAny mine hand
+    → ShowsContents (record shown { hands = set shown.hands p mine }) (record contents { hand = set_at contents.hand p hand })
+hand-set shown contents p mine hand shows exists is = record {
+  sixteen_hands = length-set shown.hands p mine ∙ shows.sixteen_hands;
+  hand = hands-set shown.hands p mine hand contents.hand (subst (λ n. p < n) (sym shows.sixteen_hands) exists) is shows.hand;
+  sixteen = shows.sixteen;
+  now = shows.now;
+  none_begun = shows.none_begun;
+}
+
+-- A content. Of the parts one alone was changed, with this content now, and no request is begun in it.
+pub record IsChangedAt (before after : List PartView) (p : ℕ) (now : Content) : Type 0 where
+  pub as_many : length after ≡ length before
+  pub content : content_of (part_at after p) ≡ now
+  pub none_begun : (part_at after p).begun ≡ None
+  pub others : (q : ℕ) → q ≢ p → part_at after q ≡ part_at before q
+
+pub changed_nowhere : (parts : List PartView) (p : ℕ) (content : Content) → content_of (part_at parts p) ≡ content → (part_at parts p).begun ≡ None → IsChangedAt parts parts p content
+changed_nowhere parts p content is none = record { as_many = refl; content = is; none_begun = none; others = λ q other. refl }
+
+pub changed_there : (parts : List PartView) (i p : ℕ) (part : PartView) (content : Content) → i ≡ p → p < length parts → content_of part ≡ content → part.begun ≡ None → IsChangedAt parts (set parts i part) p content
+changed_there parts i p part content at within is none = subst (λ j. IsChangedAt parts (set parts j part) p content) (sym at) (record {
+  as_many = length-set parts p part;
+  content = ap content_of there ∙ is;
+  none_begun = ap (λ x. x.begun) there ∙ none;
+  others = λ q other. get_or-set_other parts p q part no_part other;
+}) where
+  there : part_at (set parts p part) p ≡ part
+  there = get_or-set_same parts p part no_part within
+
+pub parts-changed : (shown changed : Contents) (contents : world.Contents) (p : ℕ) (content : Content) → ShowsContents shown contents → IsChangedAt shown.parts.items changed.parts.items p content
+    → ShowsContents (record shown { parts = changed.parts }) (record contents { now = set_at contents.now p content })
+parts-changed shown changed contents p content shows at = record {
+  sixteen_hands = shows.sixteen_hands;
+  hand = shows.hand;
+  sixteen = at.as_many ∙ shows.sixteen;
+  now = λ q below. elim (cases_eq q p) [
+    | inl same ↦ ap (contents_in changed.parts.items) same ∙ at.content ∙ sym (set_at-here contents.now p content q same)
+    | inr other ↦ ap content_of (at.others q other) ∙ shows.now q below ∙ sym (set_at-else contents.now p content q other)
+  ];
+  none_begun = λ q. elim (cases_eq q p) [
+    | inl same ↦ ap (λ i. (part_at changed.parts.items i).begun) same ∙ at.none_begun
+    | inr other ↦ ap (λ part. part.begun) (at.others q other) ∙ shows.none_begun q
+  ];
+}
+
+pub part-set : (shown : Contents) (contents : world.Contents) (p : ℕ) (part : PartView) (content : Content) → ShowsContents shown contents → p < 16 → content_of part ≡ content → part.begun ≡ None
+    → ShowsContents (record shown { parts = with_item shown.parts p part }) (record contents { now = set_at contents.now p content })
+part-set shown contents p part content shows exists is none =
+    parts-changed shown (record shown { parts = with_item shown.parts p part }) contents p content shows
+    (changed_there shown.parts.items p p part content refl (subst (λ n. p < n) (sym shows.sixteen) exists) is none)
+
+-- A session's own wait, which has not seen a grant then.
+own_waits-set : (xs : List (Option Awaited)) (s : ℕ) (mine : Option Awaited) (its : Option OwnWait) (f : ℕ → Option OwnWait) → s < length xs → mine ≡ option_map awaited_of its
+    → ((k : ℕ) → get_or xs k None ≡ option_map awaited_of (f k)) → (k : ℕ) → get_or (set xs s mine) k None ≡ option_map awaited_of (set_at f s its k)
+own_waits-set xs s mine its f within is reads k =
+    elim (cases_eq k s) [
+      | inl same ↦ ap (λ i. get_or (set xs s mine) i None) same ∙ get_or-set_same xs s mine None within ∙ is ∙ sym (ap (option_map awaited_of) (set_at-here f s its k same))
+      | inr other ↦ get_or-set_other xs s k mine None other ∙ reads k ∙ sym (ap (option_map awaited_of) (set_at-else f s its k other))
+    ]
+
+pub own_wait-set : (shown : OwnWaits) (wait : ℕ → Option OwnWait) (has_seen : ℕ → Bool) (s : ℕ) (mine : Option Awaited) (its : Option OwnWait) → ShowsWaits shown wait has_seen
+    → s < 64 → mine ≡ option_map awaited_of its
+    → ShowsWaits (record { awaited = set shown.awaited s mine; seen = set shown.seen s false }) (set_at wait s its) (set_at has_seen s false)
+own_wait-set shown wait has_seen s mine its shows below is = record {
+  sixty_four = length-set shown.awaited s mine ∙ shows.sixty_four;
+  sixty_four_seen = length-set shown.seen s false ∙ shows.sixty_four_seen;
+  awaited = own_waits-set shown.awaited s mine its wait (subst (λ n. s < n) (sym shows.sixty_four) below) is shows.awaited;
+  seen = get_or-set_at shown.seen s false false has_seen (subst (λ n. s < n) (sym shows.sixty_four_seen) below) shows.seen;
+}

@@ -1,0 +1,178 @@
+use Rattle.std.proofs.Common.{◌≡◌, ℕ, ◌<◌, ◌≤◌, Bool, true, false, not, ◌&&◌, ◌||◌, length, is_none, get_or, option_map, Option, Some, None, refl, sym, ap, ◌∙◌, subst, inl, inr, arith}
+use Rattle.std.specs.Prelude.{◌==◌}
+use Rattle.std.proofs.lemmas.Bool.{cases_Bool, cases_lt, both_ways, false≢true, and_parts, and_from, eqb-true, false_from_ne_true, cond-true, cond-false}
+use Rattle.std.proofs.lemmas.List.{get_or_past}
+use Rattle.modes_core.specs.declared.modes.Mode.{Mode}
+use Rattle.modes_core.specs.declared.tags.Tag.{Tag}
+use Rattle.modes_core.specs.Tag.{partition_of}
+use Rattle.lock_model.specs.declared.machine.hands.InHand.{InHand}
+use Rattle.lock_model.specs.declared.machine.state.Machine.{Machine}
+use Rattle.lock_table.specs.OwnWait.{OwnWait, Stage, InQueue, WasGranted, HasLeft, is_for, is_pending, queued_by}
+use Rattle.lock_table.specs.Parts.{contents_in}
+use Rattle.lock_table.specs.Queue.{waits_there, awaits_mode}
+use Rattle.lock_world.specs.World.{World, Hand, MakesSteps, recorded_in, is_unmarked}
+use Rattle.lock_world.specs.Safe.{Safe, is_hand_of, stages}
+use Rattle.lock_model.specs.Shows.{Shows, ShowsHand, ShowsHandIfAny, is_unmarked_in, is_holder, makes_steps, hand_of, awaits, awaited_of}
+use Rattle.lock_table.proofs.ListLemmas.{any_weaker, filter_nothing}
+
+-- What the machine's looks tell of a safe World that it shows.
+
+-- The session makes steps and has the partition in hand, and this is what the machine keeps of the hand.
+pub record HasInHand (w : World) (s p : ℕ) (shown : InHand) : Type 0 where
+  pub steps : MakesSteps w.numbers s
+  pub holding : w.sessions.holds_partition s p ≡ true
+  pub exists : p < 16
+  pub hand : Hand
+  pub is_hand : w.contents.hand p ≡ Some hand
+  pub shows : ShowsHand shown hand
+  pub whose : hand.holder ≡ s
+
+pub recorded_from : (w : World) (s p : ℕ) (shown : InHand) → HasInHand w s p shown → recorded_in (w.contents.hand p) ≡ shown.recorded
+recorded_from w s p shown has = ap recorded_in has.is_hand ∙ sym has.shows.recorded
+
+pub unmarked_from : (w : World) (s p : ℕ) (shown : InHand) → HasInHand w s p shown → (k : ℕ) → is_unmarked (w.contents.hand p) k ≡ is_unmarked_in shown.unmarked k
+unmarked_from w s p shown has k = ap (λ h. is_unmarked h k) has.is_hand ∙ sym (has.shows.unmarked k)
+
+none_of : {A : Type 0} (o : Option A) → is_none o ≡ true → o ≡ None
+none_of None e = refl
+none_of (Some k) e = absurd (false≢true e)
+
+and_not_true : (a b : Bool) → b ≡ true → (a && not b) ≡ false
+and_not_true true b e = ap not e
+and_not_true false b e = refl
+
+and_not_false : (a b : Bool) → b ≡ false → (a && not b) ≡ a
+and_not_false true b e = ap not e
+and_not_false false b e = refl
+
+or_false : (a b : Bool) → b ≡ false → (a || b) ≡ a
+or_false true b e = refl
+or_false false b e = e
+
+-- A wait for another mode or another object gives no pending grant.
+not_pending : (awaited : Option OwnWait) (stage : Stage) (t : Tag) (n : Mode) → is_for awaited t n ≡ false → is_pending awaited stage t n ≡ false
+not_pending awaited InQueue t n e = refl
+not_pending awaited WasGranted t n e = e
+not_pending awaited HasLeft t n e = refl
+
+awaits_same : (awaited : Option OwnWait) (t : Tag) (n : Mode) → awaits (option_map awaited_of awaited) t n ≡ is_for awaited t n
+awaits_same None t n = refl
+awaits_same (Some wait) t n = refl
+
+none_kept : (awaited : Option OwnWait) → is_none (option_map awaited_of awaited) ≡ true → awaited ≡ None
+none_kept None e = refl
+none_kept (Some wait) e = absurd (false≢true e)
+
+-- A session's hand is kept as its own.
+pub hand_kept : (o : Option InHand) (h : Option Hand) (s : ℕ) → ShowsHandIfAny o h → is_hand_of h s ≡ true → (is_holder s o ≡ true) × (o ≡ None → ⊥)
+hand_kept None None s shows e = absurd (false≢true e)
+hand_kept (Some shown) (Some hand) s shows e = (ap (λ k. k == s) shows.holder ∙ e, λ none. false≢true (ap is_none none))
+hand_kept None (Some hand) s shows e = absurd shows
+hand_kept (Some shown) None s shows e = absurd shows
+
+and_no : (b : Bool) → (b && false) ≡ false
+and_no true = refl
+and_no false = refl
+
+-- Past the list no partition is in hand, and whoever makes no steps has none.
+pub hand_of-past : (m : Machine) (s p : ℕ) → length m.contents.hands ≤ p → hand_of m s p ≡ None
+hand_of-past m s p past =
+    let none : get_or m.contents.hands p None ≡ None = get_or_past m.contents.hands p None past in
+    cond-false _ (get_or m.contents.hands p None) None (ap (λ o. makes_steps m s && is_holder s o) none ∙ and_no (makes_steps m s))
+
+pub hand_of-idle : (m : Machine) (s p : ℕ) → makes_steps m s ≡ false → hand_of m s p ≡ None
+hand_of-idle m s p idle =
+    cond-false _ (get_or m.contents.hands p None) None (ap (λ b. b && is_holder s (get_or m.contents.hands p None)) idle)
+
+-- A partition in hand is one of the list.
+pub hand_within : (m : Machine) (s p : ℕ) (shown : InHand) → hand_of m s p ≡ Some shown → p < length m.contents.hands
+hand_within m s p shown e =
+    elim (cases_lt p (length m.contents.hands)) [
+      | inl within ↦ within
+      | inr past ↦ absurd (false≢true (ap is_none (sym e ∙ hand_of-past m s p past)))
+    ]
+
+pub kept_hand : (o : Option InHand) (h : Option Hand) (s : ℕ) → ShowsHandIfAny o h → is_holder s o ≡ true → is_hand_of h s ≡ true
+kept_hand None None s shows e = absurd (false≢true e)
+kept_hand (Some shown) (Some hand) s shows e = sym (ap (λ k. k == s) shows.holder) ∙ e
+kept_hand None (Some hand) s shows e = absurd shows
+kept_hand (Some shown) None s shows e = absurd shows
+
+module _ (m : Machine) (w : World) (safe : Safe w) (shows : Shows m w) where
+  pub steps_from : (s : ℕ) → makes_steps m s ≡ true → MakesSteps w.numbers s
+  steps_from s e =
+      let parts = and_parts (get_or m.numbers.live s false) (is_none (get_or m.numbers.kept_by s None)) e in
+      record {
+        live = sym (shows.numbers.live s) ∙ parts.0;
+        by_itself = sym (shows.numbers.kept_by s) ∙ none_of (get_or m.numbers.kept_by s None) parts.1;
+      }
+
+  steps_kept : (s : ℕ) → MakesSteps w.numbers s → makes_steps m s ≡ true
+  steps_kept s steps =
+      and_from (get_or m.numbers.live s false) (is_none (get_or m.numbers.kept_by s None)) (shows.numbers.live s ∙ steps.live) (ap is_none (shows.numbers.kept_by s ∙ steps.by_itself))
+
+  pub steps_not : (s : ℕ) → makes_steps m s ≡ false → MakesSteps w.numbers s → ⊥
+  steps_not s e steps = both_ways (makes_steps m s) e (steps_kept s steps)
+
+  pub hand_from : (s p : ℕ) (shown : InHand) → hand_of m s p ≡ Some shown → HasInHand w s p shown
+  hand_from s p shown e =
+      elim (cases_Bool (makes_steps m s && is_holder s (get_or m.contents.hands p None))) [
+        | inl own ↦
+            let both = and_parts (makes_steps m s) (is_holder s (get_or m.contents.hands p None)) own in
+            let is : get_or m.contents.hands p None ≡ Some shown = sym (cond-true _ (get_or m.contents.hands p None) None own) ∙ e in
+            at (w.contents.hand p) both.0 (sym (ap (is_holder s) is) ∙ both.1) refl (subst (λ o. ShowsHandIfAny o (w.contents.hand p)) is (shows.contents.hand p))
+        | inr other ↦ let none : hand_of m s p ≡ None = cond-false _ (get_or m.contents.hands p None) None other in absurd (false≢true (ap is_none (sym e ∙ none)))
+      ] where
+        at : (h : Option Hand) → makes_steps m s ≡ true → is_holder s (Some shown) ≡ true → w.contents.hand p ≡ h → ShowsHandIfAny (Some shown) h → HasInHand w s p shown
+        at None steps own is it = absurd it
+        at (Some hand) steps own is it =
+            let whose : hand.holder ≡ s = sym it.holder ∙ eqb-true shown.holder s own in
+            record {
+              steps = steps_from s steps;
+              holding = safe.table.carriers.hands p s ∙ ap (λ h. is_hand_of h s) is ∙ sym (ap (λ k. k == s) it.holder) ∙ own;
+              exists = subst (λ n. p < n) shows.contents.sixteen_hands (hand_within m s p shown e);
+              hand = hand;
+              is_hand = is;
+              shows = it;
+              whose = whose;
+            }
+
+  pub hand_not : (s p : ℕ) → hand_of m s p ≡ None → MakesSteps w.numbers s → w.sessions.holds_partition s p ≡ true → ⊥
+  hand_not s p e steps holding =
+      let kept = hand_kept (get_or m.contents.hands p None) (w.contents.hand p) s (shows.contents.hand p) (sym (safe.table.carriers.hands p s) ∙ holding) in
+      let own = and_from (makes_steps m s) (is_holder s (get_or m.contents.hands p None)) (steps_kept s steps) kept.0 in
+      kept.1 (sym (cond-true _ (get_or m.contents.hands p None) None own) ∙ e)
+
+  pub awaits_from : (s : ℕ) (t : Tag) (n : Mode) → awaits (get_or m.waits.awaited s None) t n ≡ is_for (w.sessions.awaited s) t n
+  awaits_from s t n = ap (λ o. awaits o t n) (shows.waits.awaited s) ∙ awaits_same (w.sessions.awaited s) t n
+
+  -- A session's own holds are those of the contents, but what it awaits.
+  pub own_from : (s : ℕ) (t : Tag) (n : Mode) → w.sessions.own s t n ≡ ((w.contents.now (partition_of t)).holds s t n && not (awaits (get_or m.waits.awaited s None) t n))
+  own_from s t n =
+      let there = (w.contents.now (partition_of t)).holds s t n in
+      elim (cases_Bool (is_for (w.sessions.awaited s) t n)) [
+        | inl its ↦ safe.table.promise.one_place.awaited_is_not_own s t n its ∙ sym (and_not_true there _ (awaits_from s t n ∙ its))
+        | inr other ↦
+            sym (or_false (w.sessions.own s t n) _ (not_pending (w.sessions.awaited s) (stages w s) t n other))
+            ∙ sym ((safe.table.promise.one_place.on_object t).held s n) ∙ sym (and_not_false there _ (awaits_from s t n ∙ other))
+      ]
+
+  pub content_from : (t : Tag) → contents_in m.contents.parts.items (partition_of t) ≡ w.contents.now (partition_of t)
+  content_from t = shows.contents.now (partition_of t) (omega arith)
+
+  pub no_wait_from : (s : ℕ) → is_none (get_or m.waits.awaited s None) ≡ true → w.sessions.awaited s ≡ None
+  no_wait_from s e = none_kept (w.sessions.awaited s) (sym (ap is_none (shows.waits.awaited s)) ∙ e)
+
+  pub some_wait_from : (s : ℕ) → is_none (get_or m.waits.awaited s None) ≡ false → w.sessions.awaited s ≡ None → ⊥
+  some_wait_from s e none = both_ways _ e (ap is_none (shows.waits.awaited s ∙ ap (option_map awaited_of) none))
+
+  -- Who waits for nothing stands in no queue.
+  pub stands_not : (s : ℕ) → w.sessions.awaited s ≡ None → (t : Tag) → waits_there ((w.contents.now (partition_of t)).waits t) s ≡ false
+  stands_not s none t =
+      filter_nothing (λ wait. wait.session == s) ((w.contents.now (partition_of t)).waits t)
+      ((safe.table.promise.one_place.on_object t).in_queue s ∙ ap (λ o. queued_by s o (stages w s) t) none)
+
+  pub awaits_not : (s : ℕ) → w.sessions.awaited s ≡ None → (t : Tag) (n : Mode) → awaits_mode ((w.contents.now (partition_of t)).waits t) s n ≡ false
+  awaits_not s none t n =
+      false_from_ne_true _ (λ any. both_ways _ (stands_not s none t)
+      (any_weaker _ (λ wait. wait.session == s) ((w.contents.now (partition_of t)).waits t) (λ wait e. (and_parts _ _ e).0) any))

@@ -1,0 +1,116 @@
+use Rattle.std.proofs.Common.{◌≡◌, ◌≢◌, ℕ, Bool, true, false, cond, List, [], length, get_or, Option, None, refl, sym, ap, ◌∙◌, subst, inl, inr, arith}
+use Rattle.std.specs.Prelude.{replicate, map, filter}
+use Rattle.std.specs.List.Sorted.{IsSortedByKey}
+use Rattle.std.specs.Ordering.{nat_cmp, on}
+use Rattle.std.specs.Cmp.Lexicographic.{slice_cmp}
+use Rattle.std.proofs.lemmas.Bool.{cases_lt, false≢true}
+use Rattle.std.proofs.lemmas.List.{length-replicate, get_or_past}
+use Rattle.modes_core.specs.declared.modes.Mode.{Mode}
+use Rattle.modes_core.specs.declared.tags.Tag.{Tag}
+use Rattle.modes_core.specs.Tag.{tag_eq, numbers_of, partition_of}
+use Rattle.lock_world.specs.declared.events.Word.{Word}
+use Rattle.lock_world.specs.declared.events.Word.TheVariants.{Partition, Fast, Database, Slot, Wait, Strong, Sleep}
+use Rattle.lock_model.specs.declared.machine.hands.InHand.{InHand}
+use Rattle.lock_model.specs.declared.machine.own_waits.Awaited.{Awaited}
+use Rattle.lock_model.specs.declared.machine.plain.Hold.{Hold}
+use Rattle.lock_model.specs.declared.machine.plain.QueuedWait.{QueuedWait}
+use Rattle.lock_model.specs.declared.machine.plain.Plain.{Plain}
+use Rattle.lock_model.specs.declared.machine.state.Machine.{Machine}
+use Rattle.lock_table.specs.Content.{empty_content}
+use Rattle.lw_word.specs.LightweightWord.{free_word}
+use Rattle.lock_table.specs.Parts.{AreAtHome, no_part, part_at, contents_in}
+use Rattle.lock_table.specs.PartView.{PartView, content_of}
+use Rattle.lock_model.specs.Plain.{IsPlainOf, word_of, holds_of, waits_of, wait_of}
+use Rattle.lock_world.specs.World.{WordExists, word_in, World, opening}
+use Rattle.lock_world.specs.Safe.{Safe}
+use Rattle.lock_model.specs.Shows.{Shows, ShowsHandIfAny, AreInTable, ListsHolds}
+use Rattle.lock_model.proofs.Shows.Places.{get_or-one_value}
+use Rattle.lock_model.proofs.Shows.Looks.{content_from}
+
+-- The machine as it is made shows the opening World.
+pub opening-shown : (m : Machine) → m.numbers.issued ≡ 0 → m.numbers.live ≡ replicate 64 false → m.numbers.kept_by ≡ replicate 64 None → m.words.partitions ≡ replicate 16 536870912
+    → m.words.waits ≡ replicate 64 0 → m.contents.hands ≡ replicate 16 None → m.waits.awaited ≡ replicate 64 None → m.waits.seen ≡ replicate 64 false
+    → length m.contents.parts.items ≡ 16 → ((p : ℕ) → (contents_in m.contents.parts.items p ≡ empty_content) × ((part_at m.contents.parts.items p).begun ≡ None)) → Shows m (opening 64)
+opening-shown m issued live kept_by words wait_words hands awaited seen sixteen empty = record {
+  numbers = record {
+    limit = refl;
+    issued = issued;
+    live = λ k. ap (λ list. get_or list k false) live ∙ get_or-one_value 64 false k;
+    kept_by = λ k. ap (λ list. get_or list k None) kept_by ∙ get_or-one_value 64 None k;
+  };
+  words = record {
+    partition = λ p. ap (λ list. get_or list p free_word) words ∙ get_or-one_value 16 536870912 p;
+    wait = λ k. ap (λ list. get_or list k 0) wait_words ∙ get_or-one_value 64 0 k;
+  };
+  contents = record {
+    sixteen_hands = ap length hands ∙ length-replicate {A = Option InHand} 16 None;
+    hand = λ p. subst (λ o. ShowsHandIfAny o None) (sym (ap (λ list. get_or list p None) hands ∙ get_or-one_value 16 None p)) tt;
+    sixteen = sixteen;
+    now = λ p within. (empty p).0;
+    none_begun = λ p. (empty p).1;
+  };
+  waits = record {
+    sixty_four = ap length awaited ∙ length-replicate {A = Option Awaited} 64 None;
+    sixty_four_seen = ap length seen ∙ length-replicate {A = Bool} 64 false;
+    awaited = λ k. ap (λ list. get_or list k None) awaited ∙ get_or-one_value 64 None k;
+    seen = λ k. ap (λ list. get_or list k false) seen ∙ get_or-one_value 64 false k;
+  };
+}
+
+-- In a safe World each hold and each wait that the machine keeps stands in the partition that its object lies in.
+pub parts_at_home : (m : Machine) (w : World) → Safe w → Shows m w → AreAtHome m.contents.parts.items
+parts_at_home m w safe shows = record { holds = held; waits = waiting } where
+  held : (p s : ℕ) (t : Tag) (n : Mode) → (contents_in m.contents.parts.items p).holds s t n ≡ true → partition_of t ≡ p
+  held p s t n has =
+      elim (cases_lt p 16) [
+        | inl within ↦ safe.table.promise.one_place.no_hold_elsewhere p s t n (sym (ap (λ c. c.holds s t n) (shows.contents.now p within)) ∙ has)
+        | inr past ↦
+            let none : part_at m.contents.parts.items p ≡ no_part = get_or_past m.contents.parts.items p no_part (let sixteen = shows.contents.sixteen in omega (arith, sixteen)) in
+            absurd (false≢true (sym (ap (λ part. (content_of part).holds s t n) none) ∙ has))
+      ]
+
+  waiting : (p : ℕ) (t : Tag) → partition_of t ≢ p → (contents_in m.contents.parts.items p).waits t ≡ []
+  waiting p t elsewhere =
+      elim (cases_lt p 16) [
+        | inl within ↦ ap (λ c. c.waits t) (shows.contents.now p within) ∙ safe.table.promise.one_place.no_wait_elsewhere p t elsewhere
+        | inr past ↦
+            let none : part_at m.contents.parts.items p ≡ no_part = get_or_past m.contents.parts.items p no_part (let sixteen = shows.contents.sixteen in omega (arith, sixteen)) in
+            ap (λ part. (content_of part).waits t) none
+      ]
+
+-- What is gathered of parts that are at home.
+abbrev pub GathersHolds : List PartView → List Hold → Type 0
+GathersHolds parts list = AreAtHome parts → ListsHolds list (λ s t n. (contents_in parts (partition_of t)).holds s t n)
+
+abbrev pub GathersWaits : List PartView → List QueuedWait → Type 0
+GathersWaits parts list = AreAtHome parts → (t : Tag) → map wait_of (filter (λ queued. tag_eq queued.tag t) list) ≡ (contents_in parts (partition_of t)).waits t
+
+-- What the machine gives in the end is what the World has.
+pub plain-shown : (m : Machine) (w : World) → Safe w → Shows m w → (plain : Plain) (parts parts_2 : List PartView) → parts ≡ m.contents.parts.items → parts_2 ≡ m.contents.parts.items
+    → GathersHolds parts (holds_of plain) → AreInTable (holds_of plain) → GathersWaits parts_2 (waits_of plain)
+    → IsSortedByKey (λ queued. queued.tag) (on numbers_of (slice_cmp nat_cmp)) (waits_of plain)
+    → plain.words ≡ m.words → IsPlainOf plain w
+plain-shown m w safe shows plain parts parts_2 these those gathered in_table gathered_waits by_tag same = record {
+  holds = λ s t n. holds at_home s t n ∙ ap (λ c. cond (c.holds s t n) 1 0) (content_from m w safe shows t);
+  in_table = in_table;
+  waits = λ t. waits at_home t ∙ ap (λ c. c.waits t) (content_from m w safe shows t);
+  waits_by_tag = by_tag;
+  words = word_shown;
+} where
+  at_home : AreAtHome m.contents.parts.items
+  at_home = parts_at_home m w safe shows
+
+  holds : GathersHolds m.contents.parts.items (holds_of plain)
+  holds = subst (λ items. GathersHolds items (holds_of plain)) these gathered
+
+  waits : GathersWaits m.contents.parts.items (waits_of plain)
+  waits = subst (λ items. GathersWaits items (waits_of plain)) those gathered_waits
+
+  word_shown : (word : Word) → WordExists word → word_of plain word ≡ word_in w.words word
+  word_shown (Partition p) exists = ap (λ words. get_or words.partitions p free_word) same ∙ shows.words.partition p
+  word_shown (Fast k) exists = sym (safe.table.carriers.not_yet.fast k)
+  word_shown (Database k) exists = sym (safe.table.carriers.not_yet.database k)
+  word_shown (Slot k i) exists = sym (safe.table.carriers.not_yet.slot k i)
+  word_shown (Wait k) exists = ap (λ words. get_or words.waits k 0) same ∙ shows.words.wait k
+  word_shown (Strong i) exists = sym (safe.table.carriers.not_yet.strong i)
+  word_shown (Sleep k) exists = sym (safe.table.carriers.not_yet.sleep k)

@@ -1,7 +1,0 @@
-use Rattle.std.proofs.Common.{◌≡◌, take, ◌++◌}
-use Rattle.std.specs.Prelude.{map}
-use Rattle.lock_model.specs.Gathered.{table_hold_of}
-use Rattle.lock_model.proofs.machine.gathered.append_holds.Given as goal
-
-abbrev pub invariant-loop-hold : goal.invariant-loop-hold
-invariant-loop-hold l = l.list.items ≡ l.fn.list.items ++ map table_hold_of (take l.hold-index l.hold-items)

@@ -1,0 +1,100 @@
+//! What a move that can grant waits makes of a partition, worked out on a copy: whether an event is lawful
+//! may depend on whom the move would grant.
+
+ghost use Rattle.std.specs.Prelude.{◌≡◌, true, false, List, map, None, IfOk, IfSome};
+ghost use Rattle.lock_table.specs.Content.{Wait};
+ghost use Rattle.lock_table.specs.Queue.{waits_there};
+ghost use Rattle.lock_table.specs.Moves.{Moves};
+ghost use Rattle.lock_table.specs.PartView.{PartView, content_of};
+ghost use Rattle.lock_table.specs.Waiter.{whose_and_mode};
+ghost use Rattle.lock_table.specs.declared.moves.Move.{Move};
+ghost use Rattle.lock_table.specs.declared.moves.Move.TheVariants.{Release, Leave};
+ghost use Rattle.lock_model.specs.MovedPart.{IsMoved};
+
+use super::state::Machine;
+use lock_table::{Move, NoMemory, PartTable, PlainPart, Woken};
+use modes_core::{Mode, SessionId, Tag};
+use wait_queue::{release, remove_waiter};
+
+/// A part after a move, and those whose waits the move granted.
+#[derive(Drop)]
+pub struct MovedPart {
+    pub part: PlainPart,
+    pub woken: Woken,
+}
+
+/// The part once the session's hold is released, with those woken whom that lets go. Nothing where it has
+/// no such hold.
+pub fn after_release(
+    part: &PlainPart,
+    session: SessionId,
+    tag: Tag,
+    mode: Mode,
+) -> Result<Option<MovedPart>, NoMemory>
+    ensures moved { IfOk result (λ found. IfSome found (IsMoved part.now session (Release tag mode))) }
+    ensures no_hold { IfOk result (λ found. found ≡ None → (content_of part.now).holds session tag mode ≡ false) }
+{
+    if !part.held(session, tag).has(mode) {
+        return Ok(None);
+    }
+    let mut after = part.copy()?;
+    let woken = release(&mut after, session, tag, mode);
+    Ok(Some(MovedPart { part: after, woken }))
+}
+
+/// The part once the session's wait has left the object's queue, with those woken whom that lets go.
+/// Nothing where it has no wait there.
+pub fn after_leaving(
+    part: &PlainPart,
+    session: SessionId,
+    tag: Tag,
+) -> Result<Option<MovedPart>, NoMemory>
+    ensures moved { IfOk result (λ found. IfSome found (IsMoved part.now session (Leave tag))) }
+    ensures no_wait { IfOk result (λ found. found ≡ None → waits_there ((content_of part.now).waits tag) session ≡ false) }
+{
+    let mut after = part.copy()?;
+    let removed = remove_waiter(&mut after, session, tag);
+    if removed.was_granted {
+        return Ok(None);
+    }
+    Ok(Some(MovedPart {
+        part: after,
+        woken: removed.woken,
+    }))
+}
+
+impl Machine {
+    ghost use Rattle.std.specs.Prelude.{◌≡◌, ◌<◌, length, IfOk, IfSome, slice_index_or, None};
+    ghost use Rattle.lock_table.specs.Parts.{part_at, contents_in};
+    ghost use Rattle.lock_model.specs.MovedPart.{IsMoved};
+    ghost use Rattle.lock_model.specs.Shows.{IsOwnFor, CannotMake};
+
+    /// What a release or a leave of the session's makes of the partition. Nothing where it may not make it.
+    pub fn after_move(
+        &self,
+        session: SessionId,
+        partition: u8,
+        done: Move,
+    ) -> Result<Option<MovedPart>, NoMemory>
+        requires exists { partition < 16 }
+        requires sixteen { length self.now.contents.parts.items ≡ 16 }
+        ensures moved { IfOk result (λ found. IfSome found (IsMoved (part_at self.now.contents.parts.items partition) session done)) }
+        ensures own { IfOk result (λ found. IfSome found (λ _. IsOwnFor (slice_index_or self.now.waits.awaited session None) done)) }
+        ensures cannot { IfOk result (λ found. found ≡ None → CannotMake (slice_index_or self.now.waits.awaited session None) (contents_in self.now.contents.parts.items partition) session done) }
+    {
+        let part = &self.contents.parts[usize::from(partition)];
+        match done {
+            Move::Keep => Ok(None),
+            Move::Grant { tag: _, mode: _ } => Ok(None),
+            Move::Join { tag: _, mode: _ } => Ok(None),
+            Move::Release { tag, mode } => {
+                if self.awaits(session, tag, mode) {
+                    Ok(None)
+                } else {
+                    after_release(part, session, tag, mode)
+                }
+            }
+            Move::Leave { tag } => after_leaving(part, session, tag),
+        }
+    }
+}

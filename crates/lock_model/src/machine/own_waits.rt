@@ -1,0 +1,65 @@
+//! What each session waits for, by its own account.
+
+use super::state::Machine;
+use lock_table::PartTable;
+use modes_core::{Mode, SessionId, Tag};
+
+/// What a session waits for.
+#[derive(Clone, Copy, Debug, PartialEq, Eq)]
+pub struct Awaited {
+    pub tag: Tag,
+    pub mode: Mode,
+}
+
+impl Machine {
+    ghost use Rattle.std.specs.Prelude.{◌≡◌, ◌&&◌, true, false, not, is_none, slice_set, slice_index_or, Some, None};
+    ghost use Rattle.modes_core.specs.Tag.{partition_of};
+    ghost use Rattle.lock_table.specs.Parts.{contents_in};
+    ghost use Rattle.lock_model.specs.Shows.{ShowsSafe, awaits};
+
+    /// Whether the session waits for the mode on the object.
+    pub fn awaits(&self, session: SessionId, tag: Tag, mode: Mode) -> bool
+        ensures { result ≡ awaits (slice_index_or self.now.waits.awaited session None) tag mode }
+    {
+        match self.waits.awaited[usize::from(session.number())] {
+            Some(wait) => wait.tag.is_same(tag) && wait.mode.is_same(mode),
+            None => false,
+        }
+    }
+
+    /// Whether the session may ask for the mode on the object: it waits for nothing, and hasn't the hold.
+    pub fn may_ask(&self, session: SessionId, tag: Tag, mode: Mode) -> bool
+        requires shown { ShowsSafe self.now }
+        ensures { result ≡ (is_none (slice_index_or self.now.waits.awaited session None) && not ((contents_in self.now.contents.parts.items (partition_of tag)).holds session tag mode)) }
+    {
+        let part = &self.contents.parts[usize::from(tag.partition())];
+        self.waits.awaited[usize::from(session.number())].is_none()
+            && !part.held(session, tag).has(mode)
+    }
+
+    /// The session waits from now on, by its own account and by its wait word.
+    pub fn begin_wait(&mut self, session: SessionId, tag: Tag, mode: Mode)
+        ensures { self.new ≡ record self.old {
+          words = record (self.old.words) { waits = slice_set self.old.words.waits session 1 };
+          waits = record { awaited = slice_set self.old.waits.awaited session (Some (record { tag = tag; mode = mode })); seen = slice_set self.old.waits.seen session false };
+        } }
+    {
+        let index = usize::from(session.number());
+        self.words.waits[index] = 1;
+        self.waits.awaited[index] = Some(Awaited { tag, mode });
+        self.waits.seen[index] = false;
+    }
+
+    /// The session's wait is over, by its own account and by its wait word.
+    pub fn end_wait(&mut self, session: SessionId)
+        ensures { self.new ≡ record self.old {
+          words = record (self.old.words) { waits = slice_set self.old.words.waits session 0 };
+          waits = record { awaited = slice_set self.old.waits.awaited session None; seen = slice_set self.old.waits.seen session false };
+        } }
+    {
+        let index = usize::from(session.number());
+        self.words.waits[index] = 0;
+        self.waits.awaited[index] = None;
+        self.waits.seen[index] = false;
+    }
+}

@@ -1,0 +1,173 @@
+//! The plain machine's steps on lightweight locks: a partition is taken, and put back after a move.
+
+use super::state::Machine;
+use lock_table::{Move, NoMemory, PartTable, Told, waiting_answer};
+use lock_world::Word;
+use modes_core::{Mode, SessionId, Tag};
+
+impl Machine {
+    ghost use Rattle.std.specs.Prelude.{◌≡◌, OnOk, slice_index_or, None};
+    ghost use Rattle.lock_world.specs.declared.events.Step.{Step};
+    ghost use Rattle.lock_world.specs.declared.events.Word.{Word};
+    ghost use Rattle.lock_table.specs.declared.moves.Move.{Move};
+    ghost use Rattle.lock_model.specs.Shows.{ShowsSafe, Follows, HasUnmoved, is_over};
+
+    /// Takes a word exclusively, where nobody holds it: that of a partition, with its content
+    /// (`LWLockAcquire` with `LW_EXCLUSIVE` in lwlock.c).
+    pub fn take_exclusive(&mut self, session: SessionId, word: Word)
+        ensures { Follows self.old session (Step.TakeExclusive word) self.new }
+    {
+        match word {
+            Word::Partition(partition) => self.take_partition(session, partition),
+            Word::Fast(_) => {}
+            Word::Database(_) => {}
+            Word::Slot(_, _) => {}
+            Word::Wait(_) => {}
+            Word::Strong(_) => {}
+            Word::Sleep(_) => {}
+        }
+    }
+
+    /// Puts a word back, with the move that the session has made on what the word guards
+    /// (`LWLockRelease` in lwlock.c).
+    pub fn put_exclusive(
+        &mut self,
+        session: SessionId,
+        word: Word,
+        done: Move,
+    ) -> Result<(), NoMemory>
+        requires shown { ShowsSafe self.old }
+        ensures { OnOk result (Follows self.old session (Step.PutExclusive word done) self.new) }
+    {
+        match word {
+            Word::Partition(partition) => self.put_partition(session, partition, done),
+            Word::Fast(_) => Ok(()),
+            Word::Database(_) => Ok(()),
+            Word::Slot(_, _) => Ok(()),
+            Word::Wait(_) => Ok(()),
+            Word::Strong(_) => Ok(()),
+            Word::Sleep(_) => Ok(()),
+        }
+    }
+
+    /// Takes a partition, where nobody holds its word.
+    fn take_partition(&mut self, session: SessionId, partition: u8)
+        ensures { Follows self.old session (Step.TakeExclusive (Word.Partition partition)) self.new }
+    {
+        let index = usize::from(partition);
+        if self.makes_steps(session)
+            && index < 16
+            && self.words.partitions[index] % 0x200_0000 == 0
+        {
+            self.set_held(session, partition);
+        }
+    }
+
+    /// Puts a partition back: with the move that stands recorded in the hand, or with one that is made as it is put.
+    fn put_partition(
+        &mut self,
+        session: SessionId,
+        partition: u8,
+        done: Move,
+    ) -> Result<(), NoMemory>
+        requires shown { ShowsSafe self.old }
+        ensures { OnOk result (Follows self.old session (Step.PutExclusive (Word.Partition partition) done) self.new) }
+    {
+        let Some(hand) = self.hand_of(session, partition) else {
+            return Ok(());
+        };
+        let Some(recorded) = hand.recorded else {
+            return self.put_made(session, partition, done);
+        };
+        if recorded.is_same(done)
+            && hand.none_unmarked()
+            && self.is_over(session, partition, done)
+        {
+            self.set_free(partition);
+        }
+        Ok(())
+    }
+
+    /// Whether the session has no wait on an object of the partition that the move should have ended.
+    fn is_over(&self, session: SessionId, partition: u8, done: Move) -> bool
+        ensures { result ≡ is_over (slice_index_or self.now.waits.awaited session None) partition done }
+    {
+        if !done.is_leave() {
+            return true;
+        }
+        match self.waits.awaited[usize::from(session.number())] {
+            Some(wait) => wait.tag.partition() != partition,
+            None => true,
+        }
+    }
+
+    /// Puts a partition back with a move that is made as it is put.
+    fn put_made(&mut self, session: SessionId, partition: u8, done: Move) -> Result<(), NoMemory>
+        requires shown { ShowsSafe self.old }
+        requires in_hand { HasUnmoved self.old session partition }
+        ensures { OnOk result (Follows self.old session (Step.PutExclusive (Word.Partition partition) done) self.new) }
+    {
+        match done {
+            Move::Keep => {
+                self.set_free(partition);
+                Ok(())
+            }
+            Move::Grant { tag, mode } => self.put_granting(session, partition, tag, mode),
+            Move::Join { tag: _, mode: _ } => Ok(()),
+            Move::Release { tag, mode } => self.put_releasing(session, partition, tag, mode),
+            Move::Leave { tag: _ } => Ok(()),
+        }
+    }
+
+    /// Puts a partition back with one hold of the session more, where the request for it is granted.
+    fn put_granting(
+        &mut self,
+        session: SessionId,
+        partition: u8,
+        tag: Tag,
+        mode: Mode,
+    ) -> Result<(), NoMemory>
+        requires shown { ShowsSafe self.old }
+        requires in_hand { HasUnmoved self.old session partition }
+        ensures { OnOk result (Follows self.old session (Step.PutExclusive (Word.Partition partition) (Move.Grant tag mode)) self.new) }
+    {
+        if tag.partition() != partition || !self.may_ask(session, tag, mode) {
+            return Ok(());
+        }
+        let index = usize::from(partition);
+        let Told::Granted = waiting_answer(&self.contents.parts[index], session, tag, mode) else {
+            return Ok(());
+        };
+        let part = &mut self.contents.parts[index];
+        part.begin(session, tag, mode)?;
+        part.grant(session, tag, mode);
+        self.set_free(partition);
+        Ok(())
+    }
+
+    /// Puts a partition back with one hold of the session less, where that wakes nobody.
+    fn put_releasing(
+        &mut self,
+        session: SessionId,
+        partition: u8,
+        tag: Tag,
+        mode: Mode,
+    ) -> Result<(), NoMemory>
+        requires shown { ShowsSafe self.old }
+        requires in_hand { HasUnmoved self.old session partition }
+        ensures { OnOk result (Follows self.old session (Step.PutExclusive (Word.Partition partition) (Move.Release tag mode)) self.new) }
+    {
+        if tag.partition() != partition {
+            return Ok(());
+        }
+        let done = Move::Release { tag, mode };
+        let Some(moved) = self.after_move(session, partition, done)? else {
+            return Ok(());
+        };
+        if moved.woken.is_empty() {
+            self.contents.parts[usize::from(partition)] = moved.part;
+            self.set_free(partition);
+        }
+        Ok(())
+    }
+}

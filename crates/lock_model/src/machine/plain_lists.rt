@@ -1,0 +1,80 @@
+//! What stands in all parts of the lock table, in two plain lists.
+
+ghost use Rattle.std.specs.Prelude.{◌≡◌, ◌++◌, map, filter, IfOk, OnOk};
+ghost use Rattle.std.specs.List.Sorted.{IsSorted, IsSortedByKey};
+ghost use Rattle.std.specs.Ordering.{nat_cmp, on};
+ghost use Rattle.std.specs.Cmp.Lexicographic.{slice_cmp};
+ghost use Rattle.modes_core.specs.declared.tags.Tag.{Tag};
+ghost use Rattle.modes_core.specs.Tag.{tag_eq, numbers_of, partition_of};
+ghost use Rattle.lock_model.specs.Shows.{ListsHolds, AreInTable};
+ghost use Rattle.lock_table.specs.PartWaits.{EachOnce};
+ghost use Rattle.lock_model.specs.Plain.{wait_of};
+ghost use Rattle.lock_table.specs.Parts.{AreAtHome, contents_in};
+ghost use Rattle.lock_model.specs.PlainLists.{table_hold_of, queued_of};
+
+use super::plain::{Hold, QueuedWait, Spot};
+use lock_table::{NoMemory, PlainPart};
+use std::alloc::Global;
+
+#[cfg(test)]
+mod tests;
+
+/// The holds of all parts, by session, tag and mode. Where each object's holds stand in the partition that it
+/// lies in, the list has each of them once.
+pub fn gather_holds(alloc: Global, parts: &[PlainPart]) -> Result<Vec<Hold>, NoMemory>
+    ensures all { IfOk result (λ list. AreAtHome parts.now → ListsHolds list.items (λ session tag mode. (contents_in parts.now (partition_of tag)).holds session tag mode)) }
+    ensures in_table { IfOk result (λ list. AreInTable list.items) }
+    ensures in_order { IfOk result (λ list. IsSorted ⟦<Hold as Ord>⟧.cmp list.items) }
+{
+    let mut holds = Vec::new(alloc);
+    for part in parts {
+        append_holds(part, &mut holds)?;
+    }
+    holds.sort_unstable();
+    Ok(holds)
+}
+
+/// The waits of all parts, by tag. Where each object's waits stand in the partition that it lies in, those of
+/// one object are its queue, in its order.
+pub fn gather_waits(alloc: Global, parts: &[PlainPart]) -> Result<Vec<QueuedWait>, NoMemory>
+    ensures all { IfOk result (λ list. AreAtHome parts.now → (tag : Tag) → map wait_of (filter (λ queued. tag_eq queued.tag tag) list.items) ≡ (contents_in parts.now (partition_of tag)).waits tag) }
+    ensures by_tag { IfOk result (λ list. IsSortedByKey (λ queued. queued.tag) (on numbers_of (slice_cmp nat_cmp)) list.items) }
+{
+    let mut waits = Vec::new(alloc);
+    for part in parts {
+        append_waits(part, &mut waits)?;
+    }
+    waits.sort_by_key(|wait| wait.tag)?;
+    Ok(waits)
+}
+
+/// Appends the part's holds. Each request is held there once at most.
+fn append_holds(part: &PlainPart, list: &mut Vec<Hold>) -> Result<(), NoMemory>
+    ensures added { OnOk result (list.new.items ≡ list.old.items ++ map table_hold_of part.now.holds) }
+    ensures each_once { EachOnce part.now.holds part.now.waits }
+{
+    for hold in part.holds() {
+        list.push(Hold {
+            session: hold.session,
+            tag: hold.tag,
+            mode: hold.mode,
+            spot: Spot::Table,
+        })?;
+    }
+    Ok(())
+}
+
+/// Appends the part's waits.
+fn append_waits(part: &PlainPart, list: &mut Vec<QueuedWait>) -> Result<(), NoMemory>
+    ensures { OnOk result (list.new.items ≡ list.old.items ++ map queued_of part.now.waits) }
+{
+    for wait in part.waits() {
+        list.push(QueuedWait {
+            session: wait.waiter.session,
+            tag: wait.tag,
+            mode: wait.waiter.mode,
+            held: wait.waiter.held,
+        })?;
+    }
+    Ok(())
+}

@@ -1,0 +1,243 @@
+//! The plain machine's steps on wait words.
+
+use super::hands::{InHand, is_among, unmarked_of};
+use super::state::Machine;
+use lock_table::{Move, NoMemory, PartTable, Told, waiting_answer};
+use modes_core::{Mode, SessionId, Tag};
+use wait_queue::remove_waiter;
+
+impl Machine {
+    ghost use Rattle.std.specs.Prelude.{◌≡◌, ◌≢◌, ◌<◌, ◌+◌, ◌&&◌, true, false, not, length, is_some, is_none, OnOk, IfOk, IfSome, slice_set, slice_index_or, Some, None};
+    ghost use Rattle.modes_core.specs.Tag.{partition_of};
+    ghost use Rattle.lock_world.specs.declared.events.Step.{Step};
+    ghost use Rattle.lock_model.specs.declared.machine.own_waits.Awaited.{Awaited};
+    ghost use Rattle.lock_table.specs.Queue.{waits_there};
+    ghost use Rattle.lock_table.specs.Told.{IsTold};
+    ghost use Rattle.lock_table.specs.declared.answering.Told.TheVariants.{InQueue};
+    ghost use Rattle.lock_table.specs.Moves.{IsInPartition};
+    ghost use Rattle.lock_model.specs.MovedPart.{IsMoved};
+    ghost use Rattle.lock_table.specs.Parts.{part_at, contents_in};
+    ghost use Rattle.lock_world.specs.WaitWord.{wait_state};
+    ghost use Rattle.lock_model.specs.Shows.{ShowsSafe, Follows, FollowsMarking, IsWaking, IsOwnFor, CannotMake, makes_steps, hand_of};
+
+    /// Asks the other session, whoever it is, to cancel: bit 2 of its wait word is set.
+    pub fn ask_cancel(&mut self, session: SessionId, other: SessionId)
+        ensures { Follows self.old session (Step.AskCancel other) self.new }
+    {
+        let index = usize::from(other.number());
+        if self.makes_steps(session) {
+            self.words.waits[index] |= 4;
+        }
+    }
+
+    /// Loads the own wait word: where it shows that the wait was granted, the session has seen it.
+    pub fn load_wait(&mut self, session: SessionId, shown: u8)
+        ensures { Follows self.old session (Step.LoadWait shown) self.new }
+    {
+        let index = usize::from(session.number());
+        if self.makes_steps(session) && shown == self.words.waits[index] && shown % 4 == 2 {
+            self.waits.seen[index] = true;
+        }
+    }
+
+    /// Joins the object's queue, and sets the own wait word to waiting.
+    pub fn set_waiting(&mut self, session: SessionId, tag: Tag, mode: Mode) -> Result<(), NoMemory>
+        requires shown { ShowsSafe self.old }
+        ensures { OnOk result (Follows self.old session (Step.SetWaiting tag mode) self.new) }
+    {
+        let partition = tag.partition();
+        let Some(hand) = self.hand_of(session, partition) else {
+            return Ok(());
+        };
+        if hand.recorded.is_some() || !self.may_ask(session, tag, mode) {
+            return Ok(());
+        }
+        let part = &self.contents.parts[usize::from(partition)];
+        let Told::InQueue(place) = waiting_answer(part, session, tag, mode) else {
+            return Ok(());
+        };
+        self.join_now(session, tag, mode, hand, place)
+    }
+
+    /// Marks the wait of the other session granted, by a release or a leave of the session's own.
+    pub fn mark_granted(
+        &mut self,
+        session: SessionId,
+        other: SessionId,
+        done: Move,
+    ) -> Result<(), NoMemory>
+        requires shown { ShowsSafe self.old }
+        ensures { OnOk result (Follows self.old session (Step.MarkGranted other done) self.new) }
+    {
+        if other == session || self.words.waits[usize::from(other.number())] % 4 != 1 {
+            return Ok(());
+        }
+        match done {
+            Move::Keep => Ok(()),
+            Move::Grant { tag: _, mode: _ } => Ok(()),
+            Move::Join { tag: _, mode: _ } => Ok(()),
+            Move::Release { tag, mode: _ } => self.mark_in(session, other, tag.partition(), done),
+            Move::Leave { tag } => self.mark_in(session, other, tag.partition(), done),
+        }
+    }
+
+    /// Clears the own wait word, where the session has seen its grant or has the partition in hand and its
+    /// wait is in the queue no more; with leaving, this step may take it out.
+    pub fn clear_wait(&mut self, session: SessionId, leaving: bool)
+        requires shown { ShowsSafe self.old }
+        ensures { Follows self.old session (Step.ClearWait leaving) self.new }
+    {
+        if !self.makes_steps(session) {
+            return;
+        }
+        let Some(wait) = self.waits.awaited[usize::from(session.number())] else {
+            return;
+        };
+        if leaving {
+            self.leave_queue(session, wait.tag);
+        } else if self.waits.seen[usize::from(session.number())]
+            || self.is_gone(session, wait.tag)
+        {
+            self.end_wait(session);
+        }
+    }
+
+    /// Makes the join: the session's wait goes into the object's queue, at the place that it was answered.
+    fn join_now(
+        &mut self,
+        session: SessionId,
+        tag: Tag,
+        mode: Mode,
+        hand: InHand,
+        place: usize,
+    ) -> Result<(), NoMemory>
+        requires shown { ShowsSafe self.old }
+        requires in_hand { hand_of self.old session (partition_of tag) ≡ Some hand }
+        requires unmoved { hand.recorded ≡ None }
+        requires no_wait { is_none (slice_index_or self.old.waits.awaited session None) ≡ true }
+        requires not_held { (contents_in self.old.contents.parts.items (partition_of tag)).holds session tag mode ≡ false }
+        requires told { IsTold (contents_in self.old.contents.parts.items (partition_of tag)) session tag mode (InQueue place) }
+        ensures { OnOk result (Follows self.old session (Step.SetWaiting tag mode) self.new) }
+    {
+        let partition = tag.partition();
+        let part = &mut self.contents.parts[usize::from(partition)];
+        part.begin(session, tag, mode)?;
+        part.join(session, tag, mode, place);
+        self.record(partition, hand, Move::Join { tag, mode }, [false; 64]);
+        self.begin_wait(session, tag, mode);
+        Ok(())
+    }
+
+    /// Marks the wait granted, of a session that waits, by a move in the partition.
+    fn mark_in(
+        &mut self,
+        session: SessionId,
+        other: SessionId,
+        partition: u8,
+        done: Move,
+    ) -> Result<(), NoMemory>
+        requires shown { ShowsSafe self.old }
+        requires another { other ≢ session }
+        requires waiting { wait_state (slice_index_or self.old.words.waits other 0) ≡ 1 }
+        requires object { IsInPartition partition done }
+        requires wakes { IsWaking done }
+        ensures { OnOk result (FollowsMarking self.old session other partition done self.new) }
+    {
+        let Some(hand) = self.hand_of(session, partition) else {
+            return Ok(());
+        };
+        let Some(recorded) = hand.recorded else {
+            return self.mark_first(session, other, partition, hand, done);
+        };
+        if recorded.is_same(done) && hand.is_unmarked(other) {
+            self.mark(partition, hand, other, done, hand.unmarked);
+        }
+        Ok(())
+    }
+
+    /// Makes the move, where it grants the other session's wait, and marks that one first.
+    fn mark_first(
+        &mut self,
+        session: SessionId,
+        other: SessionId,
+        partition: u8,
+        hand: InHand,
+        done: Move,
+    ) -> Result<(), NoMemory>
+        requires shown { ShowsSafe self.old }
+        requires another { other ≢ session }
+        requires waiting { wait_state (slice_index_or self.old.words.waits other 0) ≡ 1 }
+        requires in_hand { hand_of self.old session partition ≡ Some hand }
+        requires unmoved { hand.recorded ≡ None }
+        requires object { IsInPartition partition done }
+        requires wakes { IsWaking done }
+        ensures { OnOk result (FollowsMarking self.old session other partition done self.new) }
+    {
+        let Some(moved) = self.after_move(session, partition, done)? else {
+            return Ok(());
+        };
+        if is_among(&moved.woken, other) {
+            let unmarked = unmarked_of(&moved.woken);
+            self.contents.parts[usize::from(partition)] = moved.part;
+            self.mark(partition, hand, other, done, unmarked);
+        }
+        Ok(())
+    }
+
+    /// Whether the session has the object's partition in hand, and no wait in the object's queue.
+    fn is_gone(&self, session: SessionId, tag: Tag) -> bool
+        requires shown { ShowsSafe self.now }
+        ensures { result ≡ (is_some (hand_of self.now session (partition_of tag)) && not (waits_there ((contents_in self.now.contents.parts.items (partition_of tag)).waits tag) session)) }
+    {
+        let partition = tag.partition();
+        match self.hand_of(session, partition) {
+            Some(_) => !self.contents.parts[usize::from(partition)].has_wait_of(session, tag),
+            None => false,
+        }
+    }
+
+    /// Takes the session's wait out of the object's queue, and clears its wait word. Where that leave stands
+    /// recorded already, it clears the word.
+    fn leave_queue(&mut self, session: SessionId, tag: Tag)
+        requires shown { ShowsSafe self.old }
+        requires steps { makes_steps self.old session ≡ true }
+        requires awaited { (wait : Awaited) × (slice_index_or self.old.waits.awaited session None ≡ Some wait) × (wait.tag ≡ tag) }
+        ensures { Follows self.old session (Step.ClearWait true) self.new }
+    {
+        let partition = tag.partition();
+        let Some(hand) = self.hand_of(session, partition) else {
+            return;
+        };
+        let waits = self.contents.parts[usize::from(partition)].has_wait_of(session, tag);
+        let Some(recorded) = hand.recorded else {
+            if waits {
+                self.leave_now(session, tag, hand);
+            }
+            return;
+        };
+        if recorded.is_same(Move::Leave { tag }) && !waits {
+            self.end_wait(session);
+        }
+    }
+
+    /// Makes the leave: takes the session's wait out of the object's queue, and clears its wait word.
+    fn leave_now(&mut self, session: SessionId, tag: Tag, hand: InHand)
+        requires shown { ShowsSafe self.old }
+        requires awaited { (wait : Awaited) × (slice_index_or self.old.waits.awaited session None ≡ Some wait) × (wait.tag ≡ tag) }
+        requires in_hand { hand_of self.old session (partition_of tag) ≡ Some hand }
+        requires unmoved { hand.recorded ≡ None }
+        requires in_queue { waits_there ((contents_in self.old.contents.parts.items (partition_of tag)).waits tag) session ≡ true }
+        ensures { Follows self.old session (Step.ClearWait true) self.new }
+    {
+        let partition = tag.partition();
+        let part = &mut self.contents.parts[usize::from(partition)];
+        let removed = remove_waiter(part, session, tag);
+        self.record(
+            partition,
+            hand,
+            Move::Leave { tag },
+            unmarked_of(&removed.woken),
+        );
+        self.end_wait(session);
+    }
+}
