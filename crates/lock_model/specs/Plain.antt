@@ -1,4 +1,4 @@
-use Rattle.std.specs.Prelude.{◌≡◌, ℕ, ◌<◌, List, map, filter, slice_index_or}
+use Rattle.std.specs.Prelude.{◌≡◌, ℕ, List, map, filter, slice_index_or}
 use Rattle.std.specs.Ordering.{nat_cmp, on}
 use Rattle.std.specs.Cmp.Lexicographic.{slice_cmp}
 use Rattle.std.specs.List.Sorted.{IsSortedByKey}
@@ -13,28 +13,8 @@ use Rattle.lock_model.specs.declared.machine.plain.Plain.{Plain}
 use Rattle.lock_table.specs.Content.{Holds}
 use Rattle.lock_table.specs.Content as content
 use Rattle.lw_word.specs.LightweightWord.{free_word}
-use Rattle.lock_world.specs.World.{World, Words}
+use Rattle.lock_world.specs.World.{World, WordExists, word_in}
 use Rattle.lock_model.specs.Shows.{ListsHolds, AreInTable}
-
--- There is such a word.
-abbrev pub WordExists : Word → Type 0
-WordExists (Partition p) = p < 16
-WordExists (Fast session) = Unit {0}
-WordExists (Database session) = Unit {0}
-WordExists (Slot session place) = place < 16
-WordExists (Wait session) = Unit {0}
-WordExists (Strong index) = index < 1024
-WordExists (Sleep session) = Unit {0}
-
--- what a word shows in the World
-abbrev pub word_in : Words → Word → ℕ
-word_in words (Partition p) = words.partition p
-word_in words (Fast session) = words.fast session
-word_in words (Database session) = words.database session
-word_in words (Slot session place) = words.slot session place
-word_in words (Wait session) = words.wait session
-word_in words (Strong index) = words.strong index
-word_in words (Sleep session) = words.sleep session
 
 -- what the answer of a run says: its holds, its waits, and what each word shows
 abbrev pub holds_of : Plain → List Hold

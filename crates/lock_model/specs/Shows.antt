@@ -77,7 +77,15 @@ pub record ShowsNumbers (shown : Numbers) (numbers : world.Numbers) : Type 0 whe
 -- The words show what they show in the World.
 pub record ShowsWords (shown : Words) (words : world.Words) : Type 0 where
   pub partition : (p : ℕ) → slice_index_or shown.partitions p free_word ≡ words.partition p
+  -- no event so far changes the words of fast-path locks
+  pub fast : (session : ℕ) → words.fast session ≡ free_word
   pub wait : (session : ℕ) → slice_index_or shown.waits session 0 ≡ words.wait session
+
+-- No event so far takes the lock of fast-path slots or shares a lock, so nobody has one, and the machine keeps none.
+pub record NobodyHas (holds_fast shares_fast shares_partition : ℕ → ℕ → Bool) : Type 0 where
+  pub fast : (session owner : ℕ) → holds_fast session owner ≡ false
+  pub shared_fast : (session owner : ℕ) → shares_fast session owner ≡ false
+  pub shared_partition : (session p : ℕ) → shares_partition session p ≡ false
 
 -- The contents, at home and in hand, are the World's, and no request is begun in any.
 pub record ShowsContents (shown : Contents) (contents : world.Contents) : Type 0 where
@@ -99,6 +107,7 @@ pub record ShowsWaits (shown : OwnWaits) (wait : ℕ → Option OwnWait) (has_se
 pub record Shows (machine : Machine) (w : World) : Type 0 where
   pub numbers : ShowsNumbers machine.numbers w.numbers
   pub words : ShowsWords machine.words w.words
+  pub locks : NobodyHas w.sessions.holds_fast w.sessions.shares_fast w.sessions.shares_partition
   pub contents : ShowsContents machine.contents w.contents
   pub waits : ShowsWaits machine.waits w.sessions.awaited w.sessions.seen
 

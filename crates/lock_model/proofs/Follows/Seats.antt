@@ -70,6 +70,7 @@ module _ (m : Machine) (w : World) (safe : Safe w) (shows : Shows m w) where
             kept_by = shows.numbers.kept_by;
           };
           words = shows.words;
+          locks = shows.locks;
           contents = shows.contents;
           waits = shows.waits;
         },
@@ -88,6 +89,7 @@ module _ (m : Machine) (w : World) (safe : Safe w) (shows : Shows m w) where
         kept_by = get_or-set_at m.numbers.kept_by s None None w.numbers.kept_by in_kept_by shows.numbers.kept_by;
       };
       words = shows.words;
+      locks = shows.locks;
       contents = shows.contents;
       waits = shows.waits;
     },
@@ -143,6 +145,7 @@ module _ (m : Machine) (w : World) (safe : Safe w) (shows : Shows m w) where
         another = another;
         joiner_steps = steps_from m w safe shows joiner joiner_steps;
         no_word = no_word s no_hand;
+        no_fast_word = shows.locks.fast s;
       } in (
         after_keeping_apart w s joiner,
         inl (may, refl),
@@ -154,6 +157,7 @@ module _ (m : Machine) (w : World) (safe : Safe w) (shows : Shows m w) where
             kept_by = get_or-set_at m.numbers.kept_by s (Some joiner) None w.numbers.kept_by in_kept_by shows.numbers.kept_by;
           };
           words = shows.words;
+          locks = shows.locks;
           contents = shows.contents;
           waits = shows.waits;
         },
@@ -165,6 +169,9 @@ module _ (m : Machine) (w : World) (safe : Safe w) (shows : Shows m w) where
       let may : MayClose w s = record {
         steps = steps_from m w safe shows s steps;
         no_word = no_word s no_hand;
+        no_fast_word = shows.locks.fast s;
+        no_shared_word = shows.locks.shared_partition s;
+        no_shared_fast_word = shows.locks.shared_fast s;
         no_hold = no_hold s none_held;
         no_wait = no_wait_from m w safe shows s no_wait;
         keeps_nobody = keeps_nobody s keeps_none;
@@ -179,6 +186,7 @@ module _ (m : Machine) (w : World) (safe : Safe w) (shows : Shows m w) where
             kept_by = shows.numbers.kept_by;
           };
           words = shows.words;
+          locks = shows.locks;
           contents = shows.contents;
           waits = shows.waits;
         },

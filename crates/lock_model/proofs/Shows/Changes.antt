@@ -33,6 +33,7 @@ pub partition_word-set : (shown : Words) (words : world.Words) (p a b : ℕ) →
     → ShowsWords (record shown { partitions = set shown.partitions p a }) (record words { partition = set_at words.partition p b })
 partition_word-set shown words p a b shows within same = record {
   partition = λ q. get_or-set_at shown.partitions p a free_word words.partition within shows.partition q ∙ ap (λ n. set_at words.partition p n q) same;
+  fast = shows.fast;
   wait = shows.wait;
 }
 
@@ -40,6 +41,7 @@ pub wait_word-set : (shown : Words) (words : world.Words) (s a b : ℕ) → Show
     → ShowsWords (record shown { waits = set shown.waits s a }) (record words { wait = set_at words.wait s b })
 wait_word-set shown words s a b shows within same = record {
   partition = shows.partition;
+  fast = shows.fast;
   wait = λ k. get_or-set_at shown.waits s a 0 words.wait within shows.wait k ∙ ap (λ n. set_at words.wait s n k) same;
 }
 

@@ -40,8 +40,10 @@ opening-shown m issued live kept_by words wait_words hands awaited seen sixteen 
   };
   words = record {
     partition = λ p. ap (λ list. get_or list p free_word) words ∙ get_or-one_value 16 536870912 p;
+    fast = λ k. refl;
     wait = λ k. ap (λ list. get_or list k 0) wait_words ∙ get_or-one_value 64 0 k;
   };
+  locks = record { fast = λ s o. refl; shared_fast = λ s o. refl; shared_partition = λ s p. refl };
   contents = record {
     sixteen_hands = ap length hands ∙ length-replicate {A = Option InHand} 16 None;
     hand = λ p. subst (λ o. ShowsHandIfAny o None) (sym (ap (λ list. get_or list p None) hands ∙ get_or-one_value 16 None p)) tt;
@@ -108,7 +110,7 @@ plain-shown m w safe shows plain parts parts_2 these those gathered in_table gat
 
   word_shown : (word : Word) → WordExists word → word_of plain word ≡ word_in w.words word
   word_shown (Partition p) exists = ap (λ words. get_or words.partitions p free_word) same ∙ shows.words.partition p
-  word_shown (Fast k) exists = sym (safe.table.carriers.not_yet.fast k)
+  word_shown (Fast k) exists = sym (shows.words.fast k)
   word_shown (Database k) exists = sym (safe.table.carriers.not_yet.database k)
   word_shown (Slot k i) exists = sym (safe.table.carriers.not_yet.slot k i)
   word_shown (Wait k) exists = ap (λ words. get_or words.waits k 0) same ∙ shows.words.wait k

@@ -28,6 +28,7 @@ module _ (m : Machine) (w : World) (safe : Safe w) (shows : Shows m w) where
     record {
       numbers = shows.numbers;
       words = wait_word-set m.words w.words k _ _ shows.words in_wait_words (ap asked_word (shows.words.wait k));
+      locks = shows.locks;
       contents = shows.contents;
       waits = shows.waits;
     },
@@ -45,6 +46,7 @@ module _ (m : Machine) (w : World) (safe : Safe w) (shows : Shows m w) where
     record {
       numbers = shows.numbers;
       words = shows.words;
+      locks = shows.locks;
       contents = shows.contents;
       waits = record {
         sixty_four = shows.waits.sixty_four;
@@ -69,6 +71,7 @@ module _ (m : Machine) (w : World) (safe : Safe w) (shows : Shows m w) where
     record {
       numbers = shows.numbers;
       words = shows.words;
+      locks = shows.locks;
       contents = shows.contents;
       waits = record {
         sixty_four = shows.waits.sixty_four;

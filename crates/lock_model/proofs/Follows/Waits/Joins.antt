@@ -112,6 +112,7 @@ module _ (m : Machine) (w : World) (safe : Safe w) (shows : Shows m w) where
     record {
       numbers = shows.numbers;
       words = wait_word-set m.words w.words s 1 1 shows.words in_wait_words refl;
+      locks = shows.locks;
       contents = hand-set _ _ p _ _
           (part-set m.contents w.contents p part content shows.contents has.exists (is ∙ found.2 ∙ ap (λ (c : Content). add_wait c s t n found.0) same) begun) has.exists
           (recording-shown (w.contents.hand p) has.hand shown.holder (Join t n) marks (λ _. false) has.is_hand has.shows.holder unmarked);

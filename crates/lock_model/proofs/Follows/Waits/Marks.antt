@@ -113,6 +113,7 @@ module _ (m : Machine) (w : World) (safe : Safe w) (shows : Shows m w) where
     record {
       numbers = shows.numbers;
       words = wait_word-set m.words w.words k _ _ shows.words (word_within m.words.waits k waiting) (ap granted_word (shows.words.wait k));
+      locks = shows.locks;
       contents = hand-set m.contents w.contents p _ _ shows.contents has.exists
           (recording-shown (w.contents.hand p) has.hand hand.holder done (set hand.unmarked k false) (without (is_unmarked (w.contents.hand p)) k) has.is_hand has.shows.holder
           (marks-without hand.unmarked (is_unmarked (w.contents.hand p)) k (unmarked_within hand.unmarked k unmarked) (λ j. sym (unmarked_from w s p hand has j))));
@@ -145,6 +146,7 @@ module _ (m : Machine) (w : World) (safe : Safe w) (shows : Shows m w) where
     record {
       numbers = shows.numbers;
       words = wait_word-set m.words w.words k _ _ shows.words (word_within m.words.waits k waiting) (ap granted_word (shows.words.wait k));
+      locks = shows.locks;
       contents = hand-set _ _ p _ _
           (part-set m.contents w.contents p after.part (content_of after.part) shows.contents has.exists refl (moved.begun ∙ shows.contents.none_begun p)) has.exists
           (recording-shown (w.contents.hand p) has.hand hand.holder done (set unmarked k false) (without (waits_there moved.granted) k) has.is_hand has.shows.holder

@@ -1,4 +1,4 @@
-use Rattle.std.proofs.Common.{◌≡◌, [], ◌∷◌, ◌++◌, take, refl, sym, ap, ◌∙◌, subst}
+use Rattle.std.proofs.Common.{◌≡◌, [], ◌∷◌, ◌++◌, take, refl, arith, sym, ap, ◌∙◌, subst}
 use Rattle.std.proofs.lemmas.List.{take_more, take_all}
 use Rattle.std.proofs.lemmas.Result.{IfOk-weaker}
 use Rattle.lock_world.specs.declared.events.Event.{Event}
@@ -23,7 +23,7 @@ loop-event-preserved c =
     )
 
 pub loop-event-init : goal.loop-event-init
-loop-event-init c = (opening 64, refl, opening-safe 64, c.in_ok-machine.ensures)
+loop-event-init c = (opening 64, refl, opening-safe 64 (omega arith), c.in_ok-machine.ensures)
 
 pub step-requires : goal.step-requires
 step-requires c = let before = c.loop-event.invariant in record { shown = (before.0, before.2, before.3) }

@@ -1,0 +1,4 @@
+use Rattle.lock_model.proofs.machine.state.Machine.take_exclusive.Goals as goal
+
+pub returns-in-Partition : goal.returns-in-Partition
+returns-in-Partition c = rw c.in-Partition.is c.take_partition.ensures
