@@ -88,20 +88,32 @@ mode_bit-lt mode weak = let positive = number_of-positive mode in let low : numb
 with-fits : (word : ℕ) (mode : Mode) → number_of mode ≤ 3 → bit_or (mode_bits word) (mode_bit mode) < 2 ^ 3
 with-fits word mode weak = or_lt 3 (mode_bits word) (mode_bit mode) (omega arith) (mode_bit-lt mode weak)
 
+-- where a mode is shown the slot is in use, and of that relation
+has_mode-in_use : (word : ℕ) (mode : Mode) → has_mode word mode ≡ true → in_use word ≡ true
+has_mode-in_use word mode set = elim (cases_Bool (nat_eq (mode_bits word) 0)) [
+  | inl none ↦
+      let bit : bit_at (mode_bits word) (number_of mode - 1) ≡ 0 = ap (λ bits. bit_at bits (number_of mode - 1)) (eqb-true (mode_bits word) 0 none) ∙ bit_at-zero (number_of mode - 1) in
+      absurd (false≢true (sym (ap (λ b. nat_eq b 1) bit) ∙ set))
+  | inr some ↦ ap not some
+]
+
+both_true : (a b : Bool) → (a && b) ≡ true → (a ≡ true) × (b ≡ true)
+both_true true true is = (refl, refl)
+both_true true false is = absurd (false≢true is)
+both_true false b is = absurd (false≢true is)
+
+pub shows-of : (word relation : ℕ) (mode : Mode) → shows word relation mode ≡ true → (in_use word ≡ true) × (relation_in word ≡ relation)
+shows-of word relation mode shown =
+    let parts = both_true (has_mode word mode) (nat_eq (relation_in word) relation) shown in
+    (has_mode-in_use word mode parts.0, eqb-true (relation_in word) relation parts.1)
+
 pub shows-word_with :
     (word relation : ℕ) (mode : Mode) → relation < 2 ^ 32 → number_of mode ≤ 3 → (in_use word ≡ true → relation_in word ≡ relation) →
     (other : ℕ) (its : Mode) → shows (word_with word relation mode) other its ≡ (mode_eq its mode && nat_eq relation other || shows word other its)
 shows-word_with word relation mode fits weak its_slot other its =
     shows-slot_word relation (bit_or (mode_bits word) (mode_bit mode)) other its fits (with-fits word mode weak)
     ∙ ap (λ b. b && nat_eq relation other) (with_bit (mode_bits word) mode its)
-    ∙ apart (mode_eq its mode) (has_mode word its) (nat_eq relation other) (nat_eq (relation_in word) other) (λ set. ap (λ r. nat_eq r other) (its_slot (used set))) where
-      used : has_mode word its ≡ true → in_use word ≡ true
-      used set = elim (cases_Bool (nat_eq (mode_bits word) 0)) [
-        | inl none ↦
-            let bit : bit_at (mode_bits word) (number_of its - 1) ≡ 0 = ap (λ bits. bit_at bits (number_of its - 1)) (eqb-true (mode_bits word) 0 none) ∙ bit_at-zero (number_of its - 1) in
-            absurd (false≢true (sym (ap (λ b. nat_eq b 1) bit) ∙ set))
-        | inr some ↦ ap not some
-      ]
+    ∙ apart (mode_eq its mode) (has_mode word its) (nat_eq relation other) (nat_eq (relation_in word) other) (λ set. ap (λ r. nat_eq r other) (its_slot (has_mode-in_use word its set)))
 
 pub relation_in-word_with : (word relation : ℕ) (mode : Mode) → relation < 2 ^ 32 → number_of mode ≤ 3 → relation_in (word_with word relation mode) ≡ relation
 relation_in-word_with word relation mode fits weak = relation_in-slot_word relation (bit_or (mode_bits word) (mode_bit mode)) fits (with-fits word mode weak)
@@ -213,7 +225,14 @@ word_without-emptied word mode empty = elim (cases_eq (bits_without word mode) 0
       absurd (some (sym bits ∙ eqb-true (mode_bits (word_without word mode)) 0 none))
 ]
 
--- A slot in use shows some mode, and where it shows one it is in use.
+-- a slot that stays in use keeps its relation
+pub relation_in-word_without : (word : ℕ) (mode : Mode) → in_use (word_without word mode) ≡ true → relation_in (word_without word mode) ≡ relation_in word
+relation_in-word_without word mode used = elim (cases_eq (bits_without word mode) 0) [
+  | inl none ↦ absurd (false≢true (sym (ap in_use (word_without-last word mode none)) ∙ used))
+  | inr some ↦ ap relation_in (word_without-more word mode some) ∙ relation_in-slot_word (relation_in word) (bits_without word mode) (omega arith) (bits_without-lt word mode)
+]
+
+-- A slot in use shows some mode.
 
 pub in_use-shows : (word : ℕ) → in_use word ≡ true → (mode : Mode) × (number_of mode ≤ 3) × (shows word (relation_in word) mode ≡ true)
 in_use-shows word used = by_bits (mode_bits word) (omega arith) refl where

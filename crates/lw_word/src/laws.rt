@@ -82,5 +82,7 @@ pub fn a_slot_shows_one_relation()
     ensures relation { (relation bits : ℕ) → relation < 2 ^ 32 → bits < 2 ^ 3 → relation_in (slot_word relation bits) ≡ relation }
     ensures modes { (relation bits : ℕ) → relation < 2 ^ 32 → bits < 2 ^ 3 → mode_bits (slot_word relation bits) ≡ bits }
     ensures used { (word : ℕ) → in_use word ≡ true → (mode : Mode) × (number_of mode ≤ 3) × (shows word (relation_in word) mode ≡ true) }
+    ensures shown { (word relation : ℕ) (mode : Mode) → shows word relation mode ≡ true → relation_in word ≡ relation }
+    ensures shown_used { (word relation : ℕ) (mode : Mode) → shows word relation mode ≡ true → in_use word ≡ true }
     ensures empty { (word relation : ℕ) (mode : Mode) → in_use word ≡ false → shows word relation mode ≡ false }
 {}

@@ -86,6 +86,7 @@ impl SlotWord {
         ensures number { result ≡ word_without self mode }
         ensures shown { shows result ≡ λ other its. not (mode_eq its mode) && shows self other its }
         ensures emptied { in_use result ≡ false → result ≡ 0 }
+        ensures of_relation { in_use result ≡ true → relation_in result ≡ relation_in self }
     {
         let modes = self.mode_bits() & (Self::ALL_MODES - Self::mode_bit(mode));
         if modes == 0 {

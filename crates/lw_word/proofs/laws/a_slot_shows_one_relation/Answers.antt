@@ -1,4 +1,4 @@
-use Rattle.lw_word.proofs.SlotLemmas.{relation_in-slot_word, mode_bits-slot_word, in_use-shows, not_in_use-shows}
+use Rattle.lw_word.proofs.SlotLemmas.{relation_in-slot_word, mode_bits-slot_word, in_use-shows, not_in_use-shows, shows-of}
 use Rattle.lw_word.proofs.laws.a_slot_shows_one_relation.Goals as goal
 
 pub returns-clause-relation : goal.returns-clause-relation
@@ -12,3 +12,9 @@ returns-clause-used c = in_use-shows
 
 pub returns-clause-empty : goal.returns-clause-empty
 returns-clause-empty c = not_in_use-shows
+
+pub returns-clause-shown : goal.returns-clause-shown
+returns-clause-shown c = λ word relation mode is. (shows-of word relation mode is).1
+
+pub returns-clause-shown_used : goal.returns-clause-shown_used
+returns-clause-shown_used c = λ word relation mode is. (shows-of word relation mode is).0
