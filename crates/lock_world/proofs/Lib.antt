@@ -1,5 +1,6 @@
 pub mod Totals
 pub mod Words
+pub mod Slots
 pub mod Moves
 pub mod Waits
 pub mod Table
