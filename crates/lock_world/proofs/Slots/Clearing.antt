@@ -1,5 +1,5 @@
-use Rattle.std.proofs.Common.{◌≡◌, ◌≢◌, ℕ, ◌<◌, ◌≤◌, Bool, true, false, not, ◌&&◌, nat_eq, refl, sym, ap, ◌∙◌, inl, inr}
-use Rattle.std.proofs.lemmas.Bool.{cases_eq, cases_Bool, both_ways, false_from_ne_true, and_parts, and_from, eqb-true, eq-eqb}
+use Rattle.std.proofs.Common.{◌≡◌, ◌≢◌, ℕ, ◌<◌, ◌≤◌, true, false, not, ◌&&◌, nat_eq, refl, sym, ap, ◌∙◌, inl, inr}
+use Rattle.std.proofs.lemmas.Bool.{cases_eq, cases_Bool, false_from_ne_true, and_parts, eqb-true}
 use Rattle.modes_core.specs.declared.modes.Mode.{Mode}
 use Rattle.modes_core.specs.declared.tags.Tag.{Tag}
 use Rattle.modes_core.specs.Mode.{mode_eq, number_of}
@@ -9,7 +9,7 @@ use Rattle.lw_word.specs.SlotWord.{relation_in, in_use, has_mode, shows, word_wi
 use Rattle.lw_word.proofs.SlotLemmas.{shows-word_without, in_use-shows}
 use Rattle.lock_table.specs.Put.{put, set_at}
 use Rattle.lock_table.proofs.PutLemmas.{set_at-here, set_at-else}
-use Rattle.lock_table.proofs.HoldLemmas.{IsTheHold, SetHoldAt, here, elsewhere, set_hold-at}
+use Rattle.lock_table.proofs.HoldLemmas.{IsTheHold, here, elsewhere, set_hold-at}
 use Rattle.lock_world.specs.SlotHolds.{slot_count, relation_of, slot_holds, IsHeldIn, is_slot_of, OneSlotEach}
 use Rattle.lock_world.proofs.Slots.Eligible.{eligible-is, eligible-same, shown-in_use, slot_holds-same, slot_holds-none}
 

@@ -1,4 +1,4 @@
-use Rattle.std.proofs.Common.{◌≡◌, ◌≢◌, ℕ, ◌<◌, ◌≤◌, Bool, true, false, not, ◌&&◌, nat_eq, nat_le, refl, sym, ap, ◌∙◌, inl, inr, arith}
+use Rattle.std.proofs.Common.{◌≡◌, ◌≢◌, ℕ, ◌<◌, ◌≤◌, true, false, not, ◌&&◌, nat_eq, nat_le, sym, ap, ◌∙◌, inl, inr}
 use Rattle.std.proofs.lemmas.Bool.{cases_Bool, false≢true, both_ways, false_from_ne_true, and_parts, and_from, and_left, eqb-true, eq-eqb, leb-true, not-true}
 use Rattle.modes_core.specs.declared.modes.Mode.{Mode}
 use Rattle.modes_core.specs.declared.tags.Tag.{Tag}
@@ -7,8 +7,8 @@ use Rattle.modes_core.specs.Mode.{number_of}
 use Rattle.modes_core.specs.Tag.{is_eligible_for}
 use Rattle.lw_word.specs.SlotWord.{relation_in, in_use, has_mode, shows}
 use Rattle.lw_word.proofs.SlotLemmas.{not_in_use-shows}
-use Rattle.lock_world.specs.SlotHolds.{slot_count, any_below, relation_of, slot_holds, IsHeldIn, is_slot_of, NoSlotInUse}
-use Rattle.lock_world.proofs.Slots.Some.{any_below-at, any_below-found, any_below-same, any_below-none}
+use Rattle.lock_world.specs.SlotHolds.{slot_count, any_below, relation_of, slot_holds, IsHeldIn, is_slot_of}
+use Rattle.lock_world.proofs.Slots.Some.{any_below-at, any_below-found, any_below-same}
 
 -- What is eligible: a relation of the database, which is not 0, in a mode of at most 3.
 pub eligible-is : (database : ℕ) (tag : Tag) (mode : Mode) → is_eligible_for database tag mode ≡ true → (tag ≡ Relation database (relation_of tag)) × (database ≢ 0) × (number_of mode ≤ 3)

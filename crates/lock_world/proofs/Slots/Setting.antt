@@ -1,4 +1,4 @@
-use Rattle.std.proofs.Common.{◌≡◌, ◌≢◌, ℕ, ◌^◌, ◌<◌, ◌≤◌, Bool, true, false, ◌&&◌, ◌||◌, nat_eq, refl, sym, ap, ◌∙◌, inl, inr}
+use Rattle.std.proofs.Common.{◌≡◌, ◌≢◌, ℕ, ◌^◌, ◌<◌, ◌≤◌, true, false, ◌&&◌, ◌||◌, nat_eq, refl, sym, ap, ◌∙◌, inl, inr}
 use Rattle.std.proofs.lemmas.Bool.{cases_eq, both_ways, false_from_ne_true, and_parts, and_from, or_left, eqb-true, eq-eqb}
 use Rattle.modes_core.specs.declared.modes.Mode.{Mode}
 use Rattle.modes_core.specs.declared.tags.Tag.{Tag}
@@ -9,7 +9,7 @@ use Rattle.lw_word.specs.SlotWord.{relation_in, in_use, shows, word_with}
 use Rattle.lw_word.proofs.SlotLemmas.{shows-word_with, relation_in-word_with}
 use Rattle.lock_table.specs.Put.{put, set_at}
 use Rattle.lock_table.proofs.PutLemmas.{set_at-here, set_at-else}
-use Rattle.lock_table.proofs.HoldLemmas.{IsTheHold, SetHoldAt, here, elsewhere, set_hold-at}
+use Rattle.lock_table.proofs.HoldLemmas.{IsTheHold, here, elsewhere, set_hold-at}
 use Rattle.lock_world.specs.SlotHolds.{slot_count, relation_of, slot_holds, is_slot_of, OneSlotEach, IsSlotToGrant}
 use Rattle.lock_world.proofs.Slots.Eligible.{eligible-is, eligible-same, is_in-held, slot_holds-same}
 
