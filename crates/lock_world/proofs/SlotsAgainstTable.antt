@@ -1,4 +1,4 @@
-use Rattle.std.proofs.Common.{◌≡◌, ℕ, ◌<◌, true, false, not, ◌&&◌, nat_eq, nat_le, List}
+use Rattle.std.proofs.Common.{◌≡◌, ℕ, ◌<◌, true, false, not, ◌&&◌, nat_eq, nat_le, List, Option}
 use Rattle.std.proofs.lemmas.Bool.{false≢true, both_ways, false_from_ne_true, and_parts, and_from}
 use Rattle.modes_core.specs.declared.modes.Mode.{Mode}
 use Rattle.modes_core.specs.declared.tags.Tag.{Tag}
@@ -9,7 +9,6 @@ use Rattle.modes_core.specs.Tag.{is_eligible_for, is_strong_on}
 use Rattle.modes_core.proofs.Laws.{weak-conflict}
 use Rattle.lock_table.specs.Content.{Holds}
 use Rattle.lock_table.specs.OwnWait.{OwnWait, is_for}
-use Rattle.std.specs.Prelude.{Option}
 use Rattle.lock_world.specs.SlotHolds.{slot_holds}
 use Rattle.lock_world.specs.Counted.{Counted, is_done, StrongIsDone, PastHasNoSlot}
 use Rattle.lock_world.proofs.Slots.Eligible.{held-is_in}

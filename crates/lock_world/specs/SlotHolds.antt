@@ -12,7 +12,7 @@ use Rattle.lw_word.specs.SlotWord.{relation_in, in_use, shows}
 abbrev pub slot_count : ℕ
 slot_count = 16
 
--- whether a relation may be put in this slot: in each
+-- whether a relation's holds may be in this slot: in any
 abbrev pub may_use : ℕ → ℕ → Bool
 may_use relation place = true
 
@@ -31,7 +31,7 @@ abbrev pub slot_holds : ℕ → (ℕ → ℕ) → Tag → Mode → Bool
 slot_holds database slot tag mode =
     is_eligible_for database tag mode && any_below slot_count (λ place. shows (slot place) (relation_of tag) mode)
 
--- The hold is in this slot.
+-- The hold is in this slot, where it is found and cleared (FastPathUnGrantRelationLock in lock.c).
 pub record IsHeldIn (database : ℕ) (slot : ℕ → ℕ) (tag : Tag) (mode : Mode) (place : ℕ) : Type 0 where
   pub eligible : is_eligible_for database tag mode ≡ true
   pub within : place < slot_count

@@ -62,6 +62,7 @@ slot_holds-clear database slot tag mode place one its = λ i o n. at o n i where
         ]
       ]
 
+  -- one session's holds, read as those of a number 0
   at : (o : Tag) (n : Mode) → slot_holds database after o n ≡ put tag_eq (slot_holds database slot) tag (put mode_eq (slot_holds database slot tag) mode false) o n
   at o n =
       elim (set_hold-at (λ _. slot_holds database slot) 0 tag mode false 0 o n) [

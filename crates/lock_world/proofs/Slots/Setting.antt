@@ -61,6 +61,7 @@ slot_holds-set database slot tag mode place eligible fits takes = λ i o n. at o
         | inr other ↦ ap (λ w. shows w (relation_of o) n) (set_at-else slot place (word_with (slot place) (relation_of tag) mode) k other)
       ]
 
+  -- one session's holds, read as those of a number 0
   at : (o : Tag) (n : Mode) → slot_holds database after o n ≡ put tag_eq (slot_holds database slot) tag (put mode_eq (slot_holds database slot tag) mode true) o n
   at o n =
       elim (set_hold-at (λ _. slot_holds database slot) 0 tag mode true 0 o n) [
