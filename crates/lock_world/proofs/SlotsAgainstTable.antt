@@ -14,7 +14,7 @@ use Rattle.lock_world.specs.Counted.{Counted, is_done, StrongIsDone, PastHasNoSl
 use Rattle.lock_world.proofs.Slots.Eligible.{held-is_in}
 use Rattle.lock_world.proofs.Counters.Passing.{is_at-past}
 
--- Slots against the lock table: a hold that a slot shows conflicts with no other session's mode.
+-- Slots against the lock table: a hold that a slot shows conflicts with nothing that any session has or awaits.
 
 -- What conflicts with an eligible mode is strong: modes 1 to 3 conflict only with 5 to 8.
 pub conflict-strong : (database : ℕ) (tag : Tag) (mode its : Mode) → is_eligible_for database tag mode ≡ true → conflict mode its ≡ true → is_strong_on tag its ≡ true

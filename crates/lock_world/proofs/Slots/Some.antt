@@ -37,10 +37,3 @@ any_below-same zero f g same = refl
 any_below-same (suc limit) f g same =
     ap (λ b. b || f limit) (any_below-same limit f g (λ k below. same k (omega arith)))
     ∙ ap (λ b. any_below limit g || b) (same limit (omega arith))
-
--- Where each fails none passes.
-pub any_below-none : (limit : ℕ) (test : ℕ → Bool) → ((k : ℕ) → k < limit → test k ≡ false) → any_below limit test ≡ false
-unfolding any_below
-any_below-none zero test none = refl
-any_below-none (suc limit) test none =
-    ap (λ b. b || test limit) (any_below-none limit test (λ k below. none k (omega arith))) ∙ none limit (omega arith)
