@@ -1,5 +1,8 @@
 pub mod Totals
 pub mod Words
+pub mod Slots
+pub mod Counters
+pub mod SlotsAgainstTable
 pub mod Moves
 pub mod Waits
 pub mod Table

@@ -1,0 +1,5 @@
+pub mod Lists
+pub mod Counting
+pub mod Uncounting
+pub mod Passing
+pub mod Sums

@@ -1,0 +1,5 @@
+pub mod Some
+pub mod Eligible
+pub mod Setting
+pub mod Clearing
+pub mod Databases
