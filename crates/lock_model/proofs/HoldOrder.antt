@@ -1,8 +1,7 @@
-use Rattle.std.proofs.Common.{◌≡◌, ℕ, refl, ap, subst, ◌∙◌}
+use Rattle.std.proofs.Common.{◌≡◌, refl, ap, subst, ◌∙◌}
 use Rattle.std.specs.Ordering.{nat_cmp, on, ordering_then}
 use Rattle.std.specs.Cmp.Lexicographic.{slice_cmp}
 use Rattle.std.specs.declared.cmp.Ordering.{Ordering}
-use Rattle.std.specs.declared.cmp.Ordering.TheVariants.{Less, Equal, Greater}
 use Rattle.std.specs.List.Sorted.{IsSorted}
 use Rattle.std.specs.Prelude.{List}
 use Rattle.modes_core.specs.declared.modes.Mode.{Mode}

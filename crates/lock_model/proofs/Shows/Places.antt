@@ -1,18 +1,12 @@
-use Rattle.std.proofs.Common.{◌≡◌, ◌≢◌, ℕ, ◌<◌, Bool, true, false, List, [], ◌∷◌, length, get_or, Option, None, zero, suc, refl, sym, ap, ◌∙◌, subst, inl, inr, arith}
+use Rattle.std.proofs.Common.{◌≡◌, ℕ, ◌<◌, Bool, true, false, List, [], ◌∷◌, length, get_or, zero, suc, refl, ap, ◌∙◌, inl, inr, arith}
 use Rattle.std.specs.Prelude.{replicate}
 use Rattle.std.specs.List.{list_any}
-use Rattle.std.proofs.Math.ListN.{set, length-set}
-use Rattle.std.proofs.lemmas.Bool.{cases_eq, cases_lt, both_ways, not-true, not_from_false, or_from, false_from_ne_true}
-use Rattle.std.proofs.lemmas.List.{get_or-set_same, get_or-set_other, get_or-replicate, length-replicate, get_or_past, get_or_default}
-use Rattle.lock_model.specs.declared.machine.hands.InHand.{InHand}
-use Rattle.lock_world.specs.World.{Hand}
-use Rattle.lock_table.specs.Put.{set_at}
-use Rattle.lock_table.specs.Content.{Content}
-use Rattle.lock_table.specs.PartView.{PartView, content_of}
+use Rattle.std.proofs.lemmas.Bool.{cases_lt, both_ways, not-true, not_from_false, or_from, false_from_ne_true}
+use Rattle.std.proofs.lemmas.List.{get_or-replicate, length-replicate, get_or_past, get_or_default}
+use Rattle.lock_table.specs.PartView.{PartView}
 use Rattle.lock_table.specs.Parts.{no_part, part_at}
-use Rattle.lock_model.specs.Shows.{ShowsHandIfAny, is_unmarked_in, none_unmarked}
+use Rattle.lock_model.specs.Shows.{is_unmarked_in, none_unmarked}
 use Rattle.lock_table.proofs.ListLemmas.{found_within}
-use Rattle.lock_table.proofs.PutLemmas.{set_at-here, set_at-else}
 
 -- A list of one value reads as that value everywhere, also past its end.
 pub get_or-one_value : {A : Type 0} (n : ℕ) (a : A) (k : ℕ) → get_or (replicate n a) k a ≡ a
