@@ -26,7 +26,7 @@ use Rattle.lock_world.specs.Happens.Partitions.{after_taking_partition, IsMadeBy
 use Rattle.lock_world.specs.Safe.{Safe}
 use Rattle.lock_model.specs.Shows.{Shows, is_unmarked_in, none_unmarked, makes_steps, hand_of, awaits, awaited_of, HasUnmoved, is_over, CannotMake}
 use Rattle.lock_table.proofs.OneAnswer.{waiting_answer-one}
-use Rattle.lock_model.proofs.Shows.Places.{none_unmarked-each, each-none_unmarked}
+use Rattle.lock_model.proofs.Shows.Hands.{none_unmarked-each, each-none_unmarked}
 use Rattle.lock_model.proofs.Shows.Changes.{partition_word-set, hand-set, IsChangedAt, changed_nowhere, parts-changed}
 use Rattle.lock_table.proofs.QueueLaws.{one_wakes}
 use Rattle.lock_model.proofs.Shows.Looks.{recorded_from, unmarked_from, steps_from, hand_from, hand_not, own_from, content_from, awaits_from, no_wait_from, some_wait_from}
@@ -48,7 +48,7 @@ from_over awaited p (Release t n) over = refl
 from_over None p (Leave t) over = refl
 from_over (Some own) p (Leave t) over = not_from_false _ (ne_eqb (partition_of own.tag) p (over own refl))
 
--- A request whose answer is a grant is told so.
+-- A request whose answer is a grant is answered so.
 pub told-granted : (c : Content) (s : ℕ) (t : Tag) (n : Mode) (answer : Told) → IsTold c s t n answer → WaitingAnswer c s t n Granted → answer ≡ told.Granted
 told-granted c s t n told.Granted is granted = refl
 told-granted c s t n (told.InQueue place) (inl is) granted = let e = waiting_answer-one c s t n _ _ is granted in absurd (cc)

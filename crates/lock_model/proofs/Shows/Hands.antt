@@ -1,8 +1,9 @@
-use Rattle.std.proofs.Common.{◌≡◌, ℕ, ◌+◌, ◌<◌, Bool, true, false, not, ◌||◌, ◌&&◌, List, [], ◌∷◌, length, take, map, get_or, Option, Some, None, option_map, refl, sym, ap, ◌∙◌, subst, inl, inr}
+use Rattle.std.proofs.Common.{◌≡◌, ℕ, zero, suc, ◌+◌, ◌<◌, Bool, true, false, not, ◌||◌, ◌&&◌, List, [], ◌∷◌, length, take, map, get_or, Option, Some, None, option_map, refl, sym, ap, ◌∙◌, subst, inl, inr}
 use Rattle.std.specs.Prelude.{◌==◌}
 use Rattle.std.proofs.Math.ListN.{set}
 use Rattle.std.proofs.Math.Bool.{or-true, or-false, and-true, and-false}
-use Rattle.std.proofs.lemmas.Bool.{cases_eq, eq-eqb, ne_eqb}
+use Rattle.std.specs.List.{list_any}
+use Rattle.std.proofs.lemmas.Bool.{cases_eq, eq-eqb, ne_eqb, both_ways, not-true, not_from_false, or_from, false_from_ne_true}
 use Rattle.std.proofs.lemmas.List.{get_or-set_same, get_or-set_other}
 use Rattle.std.proofs.lemmas.List.Folds.{list_any_more}
 use Rattle.modes_core.specs.declared.modes.Mode.{Mode}
@@ -12,7 +13,8 @@ use Rattle.lock_table.specs.Content.{Wait}
 use Rattle.lock_table.specs.OwnWait.{OwnWait}
 use Rattle.lock_world.specs.Happens.Waits.{recording, without}
 use Rattle.lock_table.specs.Queue.{waits_there}
-use Rattle.lock_model.specs.Shows.{ShowsHandIfAny, is_unmarked_in, names_in, awaited_of}
+use Rattle.lock_table.proofs.ListLemmas.{found_within}
+use Rattle.lock_model.specs.Shows.{ShowsHandIfAny, is_unmarked_in, none_unmarked, names_in, awaited_of}
 use Rattle.lock_table.specs.Waiter.{whose_and_mode}
 use Rattle.lock_world.specs.World.{Hand}
 
@@ -30,6 +32,17 @@ marks-one_more marks woken n whose i within place in_woken is so_far k =
     ] where
       more : names_in (take (n + 1) woken) k ≡ (names_in (take n woken) k || (whose.0 == k))
       more = list_any_more (λ x. x.0 == k) woken n whose in_woken ∙ ap (λ (x : ℕ × Mode). names_in (take n woken) k || (x.0 == k)) (sym is)
+
+-- Where nobody is unmarked no session is, and the other way round.
+pub none_unmarked-each : (unmarked : List Bool) → none_unmarked unmarked ≡ true → (k : ℕ) → is_unmarked_in unmarked k ≡ false
+none_unmarked-each unmarked e k = false_from_ne_true _ (λ marked. both_ways (list_any (λ b. b) unmarked) (not-true _ e) (found_within (λ b. b) unmarked k false refl marked))
+
+none_found : (unmarked : List Bool) → ((k : ℕ) → is_unmarked_in unmarked k ≡ false) → list_any (λ b. b) unmarked ≡ false
+none_found [] none = refl
+none_found (b ∷ unmarked) none = or_from b (list_any (λ b. b) unmarked) (none zero) (none_found unmarked (λ k. none (suc k)))
+
+pub each-none_unmarked : (unmarked : List Bool) → ((k : ℕ) → is_unmarked_in unmarked k ≡ false) → none_unmarked unmarked ≡ true
+each-none_unmarked unmarked none = not_from_false _ (none_found unmarked none)
 
 -- Those that a wakeup names are those whose waits it granted.
 pub names_in-granted : (granted : List Wait) (k : ℕ) → names_in (map whose_and_mode granted) k ≡ waits_there granted k

@@ -34,7 +34,7 @@ use Rattle.lock_model.proofs.Shows.Looks.{HasInHand, recorded_from, hand_from, h
 
 -- Joining a queue, and setting the own wait word to waiting.
 
--- The place that is told of a request is within the queue.
+-- The place that a request is answered is within the queue.
 place_within : (c : Content) (s : ℕ) (t : Tag) (m : Mode) (held : Mode → Bool) (n : ℕ) → PlaceIs c s t m held (Before n) → n ≤ length (c.waits t)
 place_within c s t m held n (inl last) = let differ : Before n ≡ Last = last.1 in absurd (cc)
 place_within c s t m held n (inr found) =
@@ -70,7 +70,7 @@ told_place c s t m n (inr last) =
           ∙ ap (λ back. c.waits t ++ joining_wait c s t m ∷ back) (drop_all n (c.waits t) all)),
     )
 
--- Whoever is told another thing is not to join.
+-- Whoever is answered another thing is not to join.
 pub told_not : (c : Content) (s : ℕ) (t : Tag) (m : Mode) (what : Told) (place : Place) → IsTold c s t m what → ((n : ℕ) → what ≡ InQueue n → ⊥) → WaitingAnswer c s t m (Queued place) → ⊥
 told_not c s t m told.Granted place is not_queued answer = let same = waiting_answer-one c s t m Granted (Queued place) is answer in absurd (cc)
 told_not c s t m (told.InQueue n) place is not_queued answer = not_queued n refl

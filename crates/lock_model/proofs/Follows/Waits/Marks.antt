@@ -155,7 +155,7 @@ module _ (m : Machine) (w : World) (safe : Safe w) (shows : Shows m w) where
     has = hand_from m w safe shows s p hand in_hand
 
     granted_named : (j : ℕ) → names_in after.woken.items j ≡ waits_there moved.granted j
-    granted_named j = ap (λ xs. names_in xs j) moved.told ∙ names_in-granted moved.granted j
+    granted_named j = ap (λ xs. names_in xs j) moved.named ∙ names_in-granted moved.granted j
 
     moves : Moves (w.contents.now p) s done moved.granted (content_of after.part)
     moves = moves_there s p done moved.granted (content_of after.part) has.exists moved.moves
@@ -182,7 +182,7 @@ module _ (m : Machine) (w : World) (safe : Safe w) (shows : Shows m w) where
     never : (u : World) → HappensMarkingIn w s k p done u → ⊥
     never u (inl first) =
         both_ways (names_in after.woken.items k) not_among
-        (ap (λ xs. names_in xs k) moved.told ∙ names_in-granted moved.granted k
+        (ap (λ xs. names_in xs k) moved.named ∙ names_in-granted moved.granted k
         ∙ ap (λ g. waits_there g k) (one_moved (w.contents.now p) s done moved.granted first.0 (content_of after.part) first.1 moves first.2.may_move.moved).0 ∙ first.2.among)
     never u (inr next) = recorded_some (recorded_in (w.contents.hand p)) done next.0.recorded (recorded_from w s p hand has ∙ unmoved)
 

@@ -1,6 +1,6 @@
 use Rattle.lock_model.proofs.HoldOrder.{IsSorted-hold}
 use Rattle.std.proofs.Common.{arith}
-use Rattle.lock_model.proofs.Gathered.{table_holds_of, gathered-more, gathered-all, EachOnce-more, ListsHolds-moved, AreInTable-moved}
+use Rattle.lock_model.proofs.PlainLists.{table_holds_of, gathered-more, gathered-all, EachOnce-more, ListsHolds-moved, AreInTable-moved}
 use Rattle.lock_model.proofs.machine.plain_lists.gather_holds.Goals as goal
 
 pub loop-part-preserved : goal.loop-part-preserved
