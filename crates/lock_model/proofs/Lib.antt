@@ -1,3 +1,4 @@
-pub mod Gathered
+pub mod PlainLists
+pub mod HoldOrder
 pub mod Shows
 pub mod Follows

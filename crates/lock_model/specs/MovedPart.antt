@@ -10,5 +10,5 @@ use Rattle.lock_table.specs.Waiter.{whose_and_mode}
 pub record IsMoved (before : PartView) (session : ℕ) (done : Move) (after : MovedPart) : Type 0 where
   pub granted : List Wait
   pub moves : Moves (content_of before) session done granted (content_of after.part)
-  pub told : after.woken.items ≡ map whose_and_mode granted
+  pub named : after.woken.items ≡ map whose_and_mode granted
   pub begun : after.part.begun ≡ before.begun

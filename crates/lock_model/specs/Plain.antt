@@ -1,13 +1,18 @@
 use Rattle.std.specs.Prelude.{◌≡◌, ℕ, List, map, filter, slice_index_or}
-use Rattle.std.specs.Ordering.{nat_cmp, on}
+use Rattle.std.specs.Ordering.{nat_cmp, on, then_cmp}
+use Rattle.std.specs.declared.cmp.Ordering.{Ordering}
+use Rattle.std.specs.declared.cmp.Ordering.TheVariants.{Less, Equal, Greater}
 use Rattle.std.specs.Cmp.Lexicographic.{slice_cmp}
 use Rattle.std.specs.List.Sorted.{IsSortedByKey}
 use Rattle.modes_core.specs.declared.tags.Tag.{Tag}
+use Rattle.modes_core.specs.Mode.{number_of}
 use Rattle.modes_core.specs.ModeSet.{set_has}
 use Rattle.modes_core.specs.Tag.{tag_eq, numbers_of, partition_of}
 use Rattle.lock_world.specs.declared.events.Word.{Word}
 use Rattle.lock_world.specs.declared.events.Word.TheVariants.{Partition, Fast, Database, Slot, Wait, Strong, Sleep}
 use Rattle.lock_model.specs.declared.machine.plain.Hold.{Hold}
+use Rattle.lock_model.specs.declared.machine.plain.Spot.{Spot}
+use Rattle.lock_model.specs.declared.machine.plain.Spot.TheVariants as spot
 use Rattle.lock_model.specs.declared.machine.plain.QueuedWait.{QueuedWait}
 use Rattle.lock_model.specs.declared.machine.plain.Plain.{Plain}
 use Rattle.lock_table.specs.Content.{Holds}
@@ -31,6 +36,21 @@ word_of plain (Slot session place) = 0
 word_of plain (Wait session) = slice_index_or plain.words.waits session 0
 word_of plain (Strong index) = 0
 word_of plain (Sleep session) = 0
+
+-- the order of where holds stand: the fast-path slots by their places, and the lock table after them
+abbrev pub spot_cmp : Spot → Spot → Ordering
+spot_cmp (spot.Slot place) (spot.Slot other) = nat_cmp place other
+spot_cmp (spot.Slot place) spot.Table = Less
+spot_cmp spot.Table (spot.Slot other) = Greater
+spot_cmp spot.Table spot.Table = Equal
+
+-- the order of holds: by session, then by the tag's numbers, then by the mode's number, then by where they stand
+abbrev pub hold_cmp : Hold → Hold → Ordering
+hold_cmp =
+    then_cmp (on (λ (hold : Hold). hold.session) nat_cmp)
+    (then_cmp (on (λ (hold : Hold). numbers_of hold.tag) (slice_cmp nat_cmp))
+    (then_cmp (on (λ (hold : Hold). number_of hold.mode) nat_cmp)
+    (on (λ (hold : Hold). hold.spot) spot_cmp)))
 
 -- the wait that an entry of the list of waits is
 abbrev pub wait_of : QueuedWait → content.Wait

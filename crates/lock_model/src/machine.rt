@@ -5,7 +5,7 @@ ghost use Rattle.std.specs.List.Sorted.{IsSorted};
 ghost use Rattle.lock_world.specs.World.{World, opening};
 ghost use Rattle.lock_world.specs.Happens.{Runs};
 ghost use Rattle.lock_world.specs.Safe.{Safe};
-ghost use Rattle.lock_model.specs.Plain.{IsPlainOf, holds_of};
+ghost use Rattle.lock_model.specs.Plain.{IsPlainOf, hold_cmp, holds_of};
 
 mod hands;
 mod moved_part;
@@ -29,7 +29,7 @@ use std::alloc::Global;
 /// lawful where it comes is skipped. The World after them, and each one on the way, is safe.
 pub fn run_events(alloc: Global, events: &[Event]) -> Result<Plain, NoMemory>
     ensures ran { IfOk result (λ plain. (w : World) × Runs (opening 64) events.now w × Safe w × IsPlainOf plain w) }
-    ensures in_order { IfOk result (λ plain. IsSorted ⟦<Hold as Ord>⟧.cmp (holds_of plain)) }
+    ensures in_order { IfOk result (λ plain. IsSorted hold_cmp (holds_of plain)) }
 {
     let mut machine = Machine::new(alloc)?;
     for event in events {

@@ -1,6 +1,6 @@
-use Rattle.std.proofs.Common.{◌≡◌, ℕ, ◌+◌, ◌%◌, ◌<◌, Bool, true, false, not, ◌&&◌, is_none, option_map, List, [], length, get_or, Option, Some, None, refl, sym, ap, ◌∙◌, subst, inl, inr}
-use Rattle.std.proofs.Math.ListN.{set, length-set}
-use Rattle.std.proofs.lemmas.Bool.{cases_Bool, cases_eq, both_ways, false≢true, and_parts, and_from, and_left, not-true, not_from_false, eqb-false, ne_eqb, true_from_ne_false, false_from_ne_true, MatchBool-at_true, MatchBool-at_false}
+use Rattle.std.proofs.Common.{◌≡◌, ℕ, ◌<◌, Bool, true, false, not, ◌&&◌, is_none, option_map, List, [], length, get_or, Option, Some, None, refl, sym, ap, ◌∙◌, subst, inl, inr}
+use Rattle.std.proofs.Math.ListN.{set}
+use Rattle.std.proofs.lemmas.Bool.{cases_Bool, both_ways, false≢true, and_parts, and_from, and_left, not-true, not_from_false, eqb-false, ne_eqb, true_from_ne_false, false_from_ne_true, MatchBool-at_true, MatchBool-at_false}
 use Rattle.modes_core.specs.declared.modes.Mode.{Mode}
 use Rattle.modes_core.specs.declared.tags.Tag.{Tag}
 use Rattle.modes_core.specs.Tag.{partition_of}
@@ -16,23 +16,20 @@ use Rattle.lock_model.specs.declared.machine.state.Contents.{Contents}
 use Rattle.lw_word.specs.LightweightWord.{free_word, taken_word, put_word, IsHeldByNobody}
 use Rattle.lock_table.specs.Content.{Wait, Content, add_hold, remove_hold}
 use Rattle.lock_table.specs.Told.{IsTold}
-use Rattle.lock_table.specs.Queue.{some_awaits_conflict, awaits_mode, Wakes, Granted, WaitingAnswer}
+use Rattle.lock_table.specs.Queue.{some_awaits_conflict, Wakes, Granted, WaitingAnswer}
 use Rattle.lock_table.specs.Moves.{Moves, WakesFor, IsInPartition, FitsOwn}
 use Rattle.lock_table.specs.OwnWait.{OwnWait, is_for}
-use Rattle.lock_table.specs.PartView.{content_of}
-use Rattle.lock_table.specs.Parts.{part_at, contents_in}
+use Rattle.lock_table.specs.Parts.{contents_in}
 use Rattle.lock_world.specs.World.{World}
-use Rattle.lock_table.specs.Put.{set_at}
 use Rattle.lock_world.specs.Happens.{Lawful, Next}
-use Rattle.lock_world.specs.Happens.Partitions.{MayTakePartition, after_taking_partition, IsMadeByPutting, MayPutPartition, after_putting_partition, WaitIsOver, MayPutRecorded, after_putting_recorded}
+use Rattle.lock_world.specs.Happens.Partitions.{after_taking_partition, IsMadeByPutting, MayPutPartition, after_putting_partition, WaitIsOver, MayPutRecorded, after_putting_recorded}
 use Rattle.lock_world.specs.Safe.{Safe}
 use Rattle.lock_model.specs.Shows.{Shows, is_unmarked_in, none_unmarked, makes_steps, hand_of, awaits, awaited_of, HasUnmoved, is_over, CannotMake}
 use Rattle.lock_table.proofs.OneAnswer.{waiting_answer-one}
-use Rattle.lock_model.proofs.Shows.Places.{none_unmarked-each, each-none_unmarked}
+use Rattle.lock_model.proofs.Shows.Hands.{none_unmarked-each, each-none_unmarked}
 use Rattle.lock_model.proofs.Shows.Changes.{partition_word-set, hand-set, IsChangedAt, changed_nowhere, parts-changed}
-use Rattle.lock_table.proofs.PutLemmas.{set_at-here, set_at-else}
 use Rattle.lock_table.proofs.QueueLaws.{one_wakes}
-use Rattle.lock_model.proofs.Shows.Looks.{recorded_from, unmarked_from, steps_from, hand_from, hand_not, own_from, content_from, awaits_from, no_wait_from, some_wait_from, awaits_not}
+use Rattle.lock_model.proofs.Shows.Looks.{recorded_from, unmarked_from, steps_from, hand_from, hand_not, own_from, content_from, awaits_from, no_wait_from, some_wait_from}
 
 -- What the code asks of the own wait before a leave is put is what the World asks.
 over_from : (awaited : Option OwnWait) (p : ℕ) (done : Move) → is_over (option_map awaited_of awaited) p done ≡ true → WaitIsOver awaited p done
@@ -51,7 +48,7 @@ from_over awaited p (Release t n) over = refl
 from_over None p (Leave t) over = refl
 from_over (Some own) p (Leave t) over = not_from_false _ (ne_eqb (partition_of own.tag) p (over own refl))
 
--- A request whose answer is a grant is told so.
+-- A request whose answer is a grant is answered so.
 pub told-granted : (c : Content) (s : ℕ) (t : Tag) (n : Mode) (answer : Told) → IsTold c s t n answer → WaitingAnswer c s t n Granted → answer ≡ told.Granted
 told-granted c s t n told.Granted is granted = refl
 told-granted c s t n (told.InQueue place) (inl is) granted = let e = waiting_answer-one c s t n _ _ is granted in absurd (cc)
@@ -202,12 +199,6 @@ module _ (m : Machine) (w : World) (safe : Safe w) (shows : Shows m w) where
       let absent : (w.contents.now (partition_of t)).holds s t n ≡ false =
       false_from_ne_true _ (λ held. both_ways (w.sessions.own s t n) own (own_from m w safe shows s t n ∙ and_from _ _ held (not_from_false _ not_awaited))) in
       and_from _ _ no_wait (not_from_false _ (ap (λ c. c.holds s t n) (content_from m w safe shows t) ∙ absent))
-
-  -- What a session may ask for it does not await.
-  pub asks_not_awaited : (s : ℕ) (t : Tag) (n : Mode) → (is_none (get_or m.waits.awaited s None) && not ((contents_in m.contents.parts.items (partition_of t)).holds s t n)) ≡ true
-      → awaits_mode ((contents_in m.contents.parts.items (partition_of t)).waits t) s n ≡ false
-  asks_not_awaited s t n e =
-      ap (λ c. awaits_mode (c.waits t) s n) (content_from m w safe shows t) ∙ awaits_not m w safe shows s (fits_from s t n e).0 t n
 
   pub granted : (s p : ℕ) (t : Tag) (n : Mode) (changed : Contents) → HasUnmoved m s p → partition_of t ≡ p
       → (is_none (get_or m.waits.awaited s None) && not ((contents_in m.contents.parts.items (partition_of t)).holds s t n)) ≡ true

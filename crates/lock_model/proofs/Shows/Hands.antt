@@ -1,23 +1,22 @@
-use Rattle.std.proofs.Common.{◌≡◌, ℕ, ◌+◌, ◌<◌, Bool, true, false, not, ◌||◌, ◌&&◌, List, [], ◌∷◌, length, take, map, get_or, Option, Some, None, option_map, refl, sym, ap, ◌∙◌, subst, inl, inr}
+use Rattle.std.proofs.Common.{◌≡◌, ℕ, zero, suc, ◌+◌, ◌<◌, Bool, true, false, not, ◌||◌, ◌&&◌, List, [], ◌∷◌, length, take, map, get_or, Option, Some, None, option_map, refl, sym, ap, ◌∙◌, subst, inl, inr}
 use Rattle.std.specs.Prelude.{◌==◌}
 use Rattle.std.proofs.Math.ListN.{set}
-use Rattle.std.proofs.lemmas.Bool.{cases_eq, eq-eqb, ne_eqb}
+use Rattle.std.proofs.Math.Bool.{or-true, or-false, and-true, and-false}
+use Rattle.std.specs.List.{list_any}
+use Rattle.std.proofs.lemmas.Bool.{cases_eq, eq-eqb, ne_eqb, both_ways, not-true, not_from_false, or_from, false_from_ne_true}
 use Rattle.std.proofs.lemmas.List.{get_or-set_same, get_or-set_other}
 use Rattle.std.proofs.lemmas.List.Folds.{list_any_more}
 use Rattle.modes_core.specs.declared.modes.Mode.{Mode}
 use Rattle.lock_table.specs.declared.moves.Move.{Move}
 use Rattle.lock_model.specs.declared.machine.own_waits.Awaited.{Awaited}
-use Rattle.lock_table.specs.Content.{Wait, Content}
+use Rattle.lock_table.specs.Content.{Wait}
 use Rattle.lock_table.specs.OwnWait.{OwnWait}
 use Rattle.lock_world.specs.Happens.Waits.{recording, without}
-use Rattle.lock_table.specs.Parts.{no_part, part_at, contents_in}
-use Rattle.lock_table.specs.PartView.{PartView, content_of}
 use Rattle.lock_table.specs.Queue.{waits_there}
-use Rattle.lock_model.specs.Shows.{ShowsHandIfAny, is_unmarked_in, names_in, awaited_of}
+use Rattle.lock_table.proofs.ListLemmas.{found_within}
+use Rattle.lock_model.specs.Shows.{ShowsHandIfAny, is_unmarked_in, none_unmarked, names_in, awaited_of}
 use Rattle.lock_table.specs.Waiter.{whose_and_mode}
 use Rattle.lock_world.specs.World.{Hand}
-use Rattle.lock_table.specs.Put.{set_at}
-use Rattle.lock_table.proofs.PutLemmas.{set_at-here, set_at-else}
 
 -- One of those woken marked, with those before it.
 pub marks-one_more : (marks : List Bool) (woken : List (ℕ × Mode)) (n : ℕ) (whose : ℕ × Mode) (i : ℕ) → i < length marks → i ≡ whose.0 → n < length woken → whose ≡ get_or woken n whose
@@ -26,21 +25,24 @@ marks-one_more marks woken n whose i within place in_woken is so_far k =
     elim (cases_eq k i) [
       | inl same ↦
           ap (is_unmarked_in (set marks i true)) same ∙ get_or-set_same marks i true false within
-          ∙ sym (more ∙ ap (λ b. names_in (take n woken) k || b) (eq-eqb whose.0 k (sym place ∙ sym same)) ∙ or_true (names_in (take n woken) k))
+          ∙ sym (more ∙ ap (λ b. names_in (take n woken) k || b) (eq-eqb whose.0 k (sym place ∙ sym same)) ∙ or-true (names_in (take n woken) k))
       | inr other ↦
           get_or-set_other marks i k true false other ∙ so_far k
-          ∙ sym (more ∙ ap (λ b. names_in (take n woken) k || b) (ne_eqb whose.0 k (λ e. other (sym e ∙ sym place))) ∙ or_false (names_in (take n woken) k))
+          ∙ sym (more ∙ ap (λ b. names_in (take n woken) k || b) (ne_eqb whose.0 k (λ e. other (sym e ∙ sym place))) ∙ or-false (names_in (take n woken) k))
     ] where
       more : names_in (take (n + 1) woken) k ≡ (names_in (take n woken) k || (whose.0 == k))
       more = list_any_more (λ x. x.0 == k) woken n whose in_woken ∙ ap (λ (x : ℕ × Mode). names_in (take n woken) k || (x.0 == k)) (sym is)
 
-      or_true : (b : Bool) → (b || true) ≡ true
-      or_true true = refl
-      or_true false = refl
+-- Where nobody is unmarked no session is, and the other way round.
+pub none_unmarked-each : (unmarked : List Bool) → none_unmarked unmarked ≡ true → (k : ℕ) → is_unmarked_in unmarked k ≡ false
+none_unmarked-each unmarked e k = false_from_ne_true _ (λ marked. both_ways (list_any (λ b. b) unmarked) (not-true _ e) (found_within (λ b. b) unmarked k false refl marked))
 
-      or_false : (b : Bool) → (b || false) ≡ b
-      or_false true = refl
-      or_false false = refl
+none_found : (unmarked : List Bool) → ((k : ℕ) → is_unmarked_in unmarked k ≡ false) → list_any (λ b. b) unmarked ≡ false
+none_found [] none = refl
+none_found (b ∷ unmarked) none = or_from b (list_any (λ b. b) unmarked) (none zero) (none_found unmarked (λ k. none (suc k)))
+
+pub each-none_unmarked : (unmarked : List Bool) → ((k : ℕ) → is_unmarked_in unmarked k ≡ false) → none_unmarked unmarked ≡ true
+each-none_unmarked unmarked none = not_from_false _ (none_found unmarked none)
 
 -- Those that a wakeup names are those whose waits it granted.
 pub names_in-granted : (granted : List Wait) (k : ℕ) → names_in (map whose_and_mode granted) k ≡ waits_there granted k
@@ -53,18 +55,11 @@ marks-without marks unmarked marked within is k =
     elim (cases_eq k marked) [
       | inl same ↦
           ap (is_unmarked_in (set marks marked false)) same ∙ get_or-set_same marks marked false false within
-          ∙ sym (ap (λ b. unmarked k && not b) (eq-eqb k marked same) ∙ and_false (unmarked k))
+          ∙ sym (ap (λ b. unmarked k && not b) (eq-eqb k marked same) ∙ and-false (unmarked k))
       | inr other ↦
           get_or-set_other marks marked k false false other ∙ is k
-          ∙ sym (ap (λ b. unmarked k && not b) (ne_eqb k marked other) ∙ and_true (unmarked k))
-    ] where
-      and_false : (b : Bool) → (b && false) ≡ false
-      and_false true = refl
-      and_false false = refl
-
-      and_true : (b : Bool) → (b && true) ≡ b
-      and_true true = refl
-      and_true false = refl
+          ∙ sym (ap (λ b. unmarked k && not b) (ne_eqb k marked other) ∙ and-true (unmarked k))
+    ]
 
 -- A hand that records a move is shown by the machine's hand that does.
 pub recording-shown : (h : Option Hand) (hand : Hand) (holder : ℕ) (done : Move) (marks : List Bool) (unmarked : ℕ → Bool) → h ≡ Some hand → holder ≡ hand.holder → ((k : ℕ) → is_unmarked_in marks k ≡ unmarked k)

@@ -1,12 +1,14 @@
 use Rattle.std.proofs.Common.{◌≡◌, ℕ, ◌<◌, ◌≤◌, Bool, true, false, not, ◌&&◌, ◌||◌, length, is_none, get_or, option_map, Option, Some, None, refl, sym, ap, ◌∙◌, subst, inl, inr, arith}
 use Rattle.std.specs.Prelude.{◌==◌}
-use Rattle.std.proofs.lemmas.Bool.{cases_Bool, cases_lt, both_ways, false≢true, and_parts, and_from, eqb-true, false_from_ne_true, cond-true, cond-false}
+use Rattle.std.proofs.Math.Bool.{or-false, and-true, and-false}
+use Rattle.std.proofs.lemmas.Bool.{cases_Bool, cases_lt, both_ways, false≢true, and_parts, and_from, eqb-true, false_from_ne_true, cond-true, cond-false, not-true}
 use Rattle.std.proofs.lemmas.List.{get_or_past}
 use Rattle.modes_core.specs.declared.modes.Mode.{Mode}
 use Rattle.modes_core.specs.declared.tags.Tag.{Tag}
 use Rattle.modes_core.specs.Tag.{partition_of}
 use Rattle.lock_model.specs.declared.machine.hands.InHand.{InHand}
 use Rattle.lock_model.specs.declared.machine.state.Machine.{Machine}
+use Rattle.lock_table.specs.Content.{Content}
 use Rattle.lock_table.specs.OwnWait.{OwnWait, Stage, InQueue, WasGranted, HasLeft, is_for, is_pending, queued_by}
 use Rattle.lock_table.specs.Parts.{contents_in}
 use Rattle.lock_table.specs.Queue.{waits_there, awaits_mode}
@@ -37,17 +39,14 @@ none_of : {A : Type 0} (o : Option A) → is_none o ≡ true → o ≡ None
 none_of None e = refl
 none_of (Some k) e = absurd (false≢true e)
 
-and_not_true : (a b : Bool) → b ≡ true → (a && not b) ≡ false
-and_not_true true b e = ap not e
-and_not_true false b e = refl
+pub and_not_true : (a b : Bool) → b ≡ true → (a && not b) ≡ false
+and_not_true a b e = ap (λ c. a && not c) e ∙ and-false a
 
 and_not_false : (a b : Bool) → b ≡ false → (a && not b) ≡ a
-and_not_false true b e = ap not e
-and_not_false false b e = refl
+and_not_false a b e = ap (λ c. a && not c) e ∙ and-true a
 
 or_false : (a b : Bool) → b ≡ false → (a || b) ≡ a
-or_false true b e = refl
-or_false false b e = e
+or_false a b e = ap (λ c. a || c) e ∙ or-false a
 
 -- A wait for another mode or another object gives no pending grant.
 not_pending : (awaited : Option OwnWait) (stage : Stage) (t : Tag) (n : Mode) → is_for awaited t n ≡ false → is_pending awaited stage t n ≡ false
@@ -70,15 +69,11 @@ hand_kept (Some shown) (Some hand) s shows e = (ap (λ k. k == s) shows.holder �
 hand_kept None (Some hand) s shows e = absurd shows
 hand_kept (Some shown) None s shows e = absurd shows
 
-and_no : (b : Bool) → (b && false) ≡ false
-and_no true = refl
-and_no false = refl
-
 -- Past the list no partition is in hand, and whoever makes no steps has none.
 pub hand_of-past : (m : Machine) (s p : ℕ) → length m.contents.hands ≤ p → hand_of m s p ≡ None
 hand_of-past m s p past =
     let none : get_or m.contents.hands p None ≡ None = get_or_past m.contents.hands p None past in
-    cond-false _ (get_or m.contents.hands p None) None (ap (λ o. makes_steps m s && is_holder s o) none ∙ and_no (makes_steps m s))
+    cond-false _ (get_or m.contents.hands p None) None (ap (λ o. makes_steps m s && is_holder s o) none ∙ and-false (makes_steps m s))
 
 pub hand_of-idle : (m : Machine) (s p : ℕ) → makes_steps m s ≡ false → hand_of m s p ≡ None
 hand_of-idle m s p idle =
@@ -176,3 +171,15 @@ module _ (m : Machine) (w : World) (safe : Safe w) (shows : Shows m w) where
   awaits_not s none t n =
       false_from_ne_true _ (λ any. both_ways _ (stands_not s none t)
       (any_weaker _ (λ wait. wait.session == s) ((w.contents.now (partition_of t)).waits t) (λ wait e. (and_parts _ _ e).0) any))
+
+  -- So the machine's contents have no wait of it.
+  pub stands_not_here : (s : ℕ) (t : Tag) → is_none (get_or m.waits.awaited s None) ≡ true → waits_there ((contents_in m.contents.parts.items (partition_of t)).waits t) s ≡ false
+  stands_not_here s t none = ap (λ (c : Content). waits_there (c.waits t) s) (content_from t) ∙ stands_not s (no_wait_from s none) t
+
+  pub awaits_not_here : (s : ℕ) (t : Tag) (n : Mode) → is_none (get_or m.waits.awaited s None) ≡ true → awaits_mode ((contents_in m.contents.parts.items (partition_of t)).waits t) s n ≡ false
+  awaits_not_here s t n none = ap (λ (c : Content). awaits_mode (c.waits t) s n) (content_from t) ∙ awaits_not s (no_wait_from s none) t n
+
+  -- Whoever may ask waits for nothing and has not the hold.
+  pub asks_new : (s : ℕ) (t : Tag) (n : Mode) → (is_none (get_or m.waits.awaited s None) && not ((contents_in m.contents.parts.items (partition_of t)).holds s t n)) ≡ true
+      → (is_none (get_or m.waits.awaited s None) ≡ true) × ((contents_in m.contents.parts.items (partition_of t)).holds s t n ≡ false)
+  asks_new s t n may = let both = and_parts _ _ may in (both.0, not-true _ both.1)

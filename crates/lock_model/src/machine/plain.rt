@@ -11,7 +11,8 @@ pub enum Spot {
     Table,
 }
 
-/// A hold. Holds are ordered by session, tag and mode.
+/// A hold. Holds are ordered by session, then by the tag's numbers, then by the mode's number, and then by
+/// where they stand: the fast-path slots by their places, and the lock table after them.
 #[derive(Clone, Copy, Debug, PartialEq, Eq, PartialOrd, Ord)]
 pub struct Hold {
     pub session: SessionId,
@@ -38,12 +39,12 @@ pub struct Plain {
 }
 
 impl Plain {
-    ghost use Rattle.std.specs.Prelude.{◌≡◌, ◌<◌};
+    ghost use Rattle.std.specs.Prelude.{◌≡◌, ◌<◌, ◌≤◌};
     ghost use Rattle.lock_world.specs.declared.events.Word.TheVariants.{Strong};
     ghost use Rattle.lock_model.specs.Plain.{holds_of, waits_of, word_of};
     ghost use Rattle.lock_world.specs.World.{WordExists};
 
-    /// The holds, by session, tag and mode.
+    /// The holds, by session, then by the tag's numbers, then by the mode's number, then by where they stand.
     pub fn holds(&self) -> &[Hold]
         ensures { result.now ≡ holds_of self.now }
     {
@@ -57,21 +58,29 @@ impl Plain {
         self.waits.as_slice()
     }
 
-    /// What a strong lock counter shows.
+    /// What a strong lock counter shows, and 0 where there is no counter of this index: there are 1,024.
     pub fn counter(&self, index: u16) -> u64
-        requires { index < 1024 }
-        ensures { result ≡ word_of self.now (Strong index) }
+        ensures shown { index < 1024 → result ≡ word_of self.now (Strong index) }
+        ensures absent { 1024 ≤ index → result ≡ 0 }
     {
         self.word(Word::Strong(index))
     }
 
-    /// What a word shows.
+    /// What a word shows, and 0 where there is no such word: there are 16 partitions, 16 fast-path slots a
+    /// session, and 1,024 strong lock counters.
     pub fn word(&self, word: Word) -> u64
-        requires { WordExists word }
-        ensures { result ≡ word_of self.now word }
+        ensures shown { WordExists word → result ≡ word_of self.now word }
+        ensures absent { ¬ (WordExists word) → result ≡ 0 }
     {
         match word {
-            Word::Partition(partition) => u64::from(self.words.partitions[usize::from(partition)]),
+            Word::Partition(partition) => {
+                let index = usize::from(partition);
+                if index < 16 {
+                    u64::from(self.words.partitions[index])
+                } else {
+                    0
+                }
+            }
             Word::Fast(_) => 0x2000_0000,
             Word::Database(_) => 0,
             Word::Slot(_, _) => 0,

@@ -8,7 +8,7 @@ ghost use Rattle.modes_core.specs.declared.tags.Tag.{Tag};
 ghost use Rattle.modes_core.specs.Tag.{tag_eq, numbers_of, partition_of};
 ghost use Rattle.lock_model.specs.Shows.{ListsHolds, AreInTable};
 ghost use Rattle.lock_table.specs.PartWaits.{EachOnce};
-ghost use Rattle.lock_model.specs.Plain.{wait_of};
+ghost use Rattle.lock_model.specs.Plain.{hold_cmp, wait_of};
 ghost use Rattle.lock_table.specs.Parts.{AreAtHome, contents_in};
 ghost use Rattle.lock_model.specs.PlainLists.{table_hold_of, queued_of};
 
@@ -19,12 +19,12 @@ use std::alloc::Global;
 #[cfg(test)]
 mod tests;
 
-/// The holds of all parts, by session, tag and mode. Where each object's holds stand in the partition that it
+/// The holds of all parts, in the order of holds. Where each object's holds stand in the partition that it
 /// lies in, the list has each of them once.
 pub fn gather_holds(alloc: Global, parts: &[PlainPart]) -> Result<Vec<Hold>, NoMemory>
     ensures all { IfOk result (λ list. AreAtHome parts.now → ListsHolds list.items (λ session tag mode. (contents_in parts.now (partition_of tag)).holds session tag mode)) }
     ensures in_table { IfOk result (λ list. AreInTable list.items) }
-    ensures in_order { IfOk result (λ list. IsSorted ⟦<Hold as Ord>⟧.cmp list.items) }
+    ensures in_order { IfOk result (λ list. IsSorted hold_cmp list.items) }
 {
     let mut holds = Vec::new(alloc);
     for part in parts {

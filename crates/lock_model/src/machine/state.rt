@@ -61,7 +61,7 @@ impl Machine {
     ghost use Rattle.std.specs.List.Sorted.{IsSorted};
     ghost use Rattle.lock_world.specs.World.{World, opening};
     ghost use Rattle.lock_world.specs.Safe.{Safe};
-    ghost use Rattle.lock_model.specs.Plain.{IsPlainOf, holds_of};
+    ghost use Rattle.lock_model.specs.Plain.{IsPlainOf, hold_cmp, holds_of};
     ghost use Rattle.lock_model.specs.Shows.{Shows, ShowsSafe, Follows, makes_steps};
     ghost use Rattle.lock_table.specs.Parts.{contents_in};
     ghost use Rattle.modes_core.specs.Tag.{partition_of};
@@ -122,7 +122,7 @@ impl Machine {
     /// What the machine shows, with its holds and waits in order.
     pub fn into_plain(self, alloc: Global) -> Result<Plain, NoMemory>
         ensures shown { IfOk result (λ plain. (w : World) → Safe w → Shows self w → IsPlainOf plain w) }
-        ensures in_order { IfOk result (λ plain. IsSorted ⟦<Hold as Ord>⟧.cmp (holds_of plain)) }
+        ensures in_order { IfOk result (λ plain. IsSorted hold_cmp (holds_of plain)) }
     {
         let holds = gather_holds(alloc, self.contents.parts.as_slice())?;
         let waits = gather_waits(alloc, self.contents.parts.as_slice())?;

@@ -97,9 +97,15 @@ fn no_event_leaves_the_opening_world(rt: HostRuntime) -> Result<(), Fail> {
     for index in 0..1024u16 {
         assert_eq!(rt; plain.counter(index), 0);
     }
+    assert_eq!(rt; plain.counter(1024), 0, "there is no such counter");
     for partition in 0..16u8 {
         assert_eq!(rt; plain.word(Word::Partition(partition)), 0x2000_0000);
     }
+    assert_eq!(rt;
+        plain.word(Word::Partition(16)),
+        0,
+        "there is no such partition"
+    );
     assert_eq!(rt; plain.word(Word::Fast(a)), 0x2000_0000);
     assert_eq!(rt; plain.word(Word::Database(a)), 0);
     assert_eq!(rt; plain.word(Word::Slot(a, 15)), 0);

@@ -1,17 +1,17 @@
-use Rattle.std.proofs.Common.{◌≡◌, ◌≢◌, ℕ, ◌<◌, Bool, true, false, ◌||◌, length, get_or, None, option_map, refl, sym, ap, ◌∙◌, inl}
+use Rattle.std.proofs.Common.{◌≡◌, ◌≢◌, ℕ, ◌<◌, true, false, ◌||◌, length, get_or, refl, sym, ap, ◌∙◌, inl}
 use Rattle.std.specs.Prelude.{◌==◌}
 use Rattle.std.proofs.Math.ListN.{set, length-set}
+use Rattle.std.proofs.Math.Bool.{or-true, or-false}
 use Rattle.std.proofs.lemmas.Bool.{eq-eqb, ne_eqb}
 use Rattle.lock_world.specs.declared.events.Step.TheVariants.{AskCancel, LoadWait}
 use Rattle.lock_model.specs.declared.machine.state.Machine.{Machine}
-use Rattle.lock_table.specs.Parts.{part_at, contents_in}
 use Rattle.lock_world.specs.WaitWord.{wait_state, asked_word}
 use Rattle.lock_world.specs.World.{World}
 use Rattle.lock_table.specs.Put.{set_at}
 use Rattle.lock_world.specs.Happens.{Next}
 use Rattle.lock_world.specs.Happens.Waits.{after_asking, after_loading_wait}
 use Rattle.lock_world.specs.Safe.{Safe}
-use Rattle.lock_model.specs.Shows.{Shows, ShowsHandIfAny, awaited_of, makes_steps}
+use Rattle.lock_model.specs.Shows.{Shows, makes_steps}
 use Rattle.lock_model.proofs.Follows.Skipped.{skipped}
 use Rattle.lock_model.proofs.Shows.Changes.{get_or-set_at, wait_word-set}
 use Rattle.lock_table.proofs.PutLemmas.{set_at-same}
@@ -56,12 +56,8 @@ module _ (m : Machine) (w : World) (safe : Safe w) (shows : Shows m w) where
       };
     },
   ) where
-    or_true : (b : Bool) → (b || true) ≡ true
-    or_true true = refl
-    or_true false = refl
-
     sees : (w.sessions.seen s || (wait_state (w.words.wait s) == 2)) ≡ true
-    sees = ap (λ b. w.sessions.seen s || b) (eq-eqb (wait_state (w.words.wait s)) 2 (sym (ap wait_state (is_word ∙ shows.words.wait s)) ∙ granted)) ∙ or_true (w.sessions.seen s)
+    sees = ap (λ b. w.sessions.seen s || b) (eq-eqb (wait_state (w.words.wait s)) 2 (sym (ap wait_state (is_word ∙ shows.words.wait s)) ∙ granted)) ∙ or-true (w.sessions.seen s)
 
   -- One by which it sees nothing.
   pub was_loaded : (s n : ℕ) → makes_steps m s ≡ true → n ≡ get_or m.words.waits s 0 → wait_state n ≢ 2 → (v : World) × Next w (record { session = s; step = LoadWait n }) v × Shows m v
@@ -81,14 +77,10 @@ module _ (m : Machine) (w : World) (safe : Safe w) (shows : Shows m w) where
       };
     },
   ) where
-    or_false : (b : Bool) → (b || false) ≡ b
-    or_false true = refl
-    or_false false = refl
-
     sees : (w.sessions.seen s || (wait_state (w.words.wait s) == 2)) ≡ w.sessions.seen s
     sees =
         ap (λ b. w.sessions.seen s || b) (ne_eqb (wait_state (w.words.wait s)) 2 (λ e. not_granted (ap wait_state (is_word ∙ shows.words.wait s) ∙ e)))
-        ∙ or_false (w.sessions.seen s)
+        ∙ or-false (w.sessions.seen s)
 
   pub load_refused : (s n : ℕ) → makes_steps m s ≡ false → (v : World) × Next w (record { session = s; step = LoadWait n }) v × Shows m v
   load_refused s n no_steps = skipped m w safe shows s (LoadWait n) (λ lawful. steps_not m w safe shows s no_steps lawful.1.0.steps)

@@ -1,6 +1,6 @@
 use Rattle.std.proofs.Common.{◌≡◌, ℕ, ◌<◌, Bool, true, false, not, ◌&&◌, List, length, get_or, Option, Some, None, is_some, option_map, refl, sym, ap, ◌∙◌, subst, inl, inr}
 use Rattle.std.specs.Vec.{with_item}
-use Rattle.std.proofs.Math.ListN.{set, length-set}
+use Rattle.std.proofs.Math.ListN.{set}
 use Rattle.std.proofs.lemmas.Bool.{both_ways, and_parts, and_from, not-true, not_from_false}
 use Rattle.modes_core.specs.declared.tags.Tag.{Tag}
 use Rattle.modes_core.specs.Tag.{partition_of}
@@ -17,7 +17,7 @@ use Rattle.lock_table.specs.OwnWait.{OwnWait}
 use Rattle.lock_table.specs.Queue.{waits_there, Wakes, remove_wait}
 use Rattle.lock_world.specs.World.{World, recorded_in, MakesSteps}
 use Rattle.lock_world.specs.Happens.Partitions.{MayMove}
-use Rattle.lock_world.specs.Happens.Waits.{recording, MayClearSeen, MayClearInHand, after_clearing, after_leaving, HappensClearing}
+use Rattle.lock_world.specs.Happens.Waits.{MayClearSeen, MayClearInHand, after_clearing, after_leaving, HappensClearing}
 use Rattle.lock_world.specs.Happens.{Next}
 use Rattle.lock_world.specs.Safe.{Safe}
 use Rattle.lock_model.specs.Shows.{Shows, is_unmarked_in, hand_of, awaited_of, makes_steps}

@@ -1,7 +1,7 @@
 use Rattle.std.proofs.Common.{◌≡◌, ℕ, ◌<◌, ◌≤◌, Bool, true, false, not, ◌&&◌, List, [], ◌++◌, ◌∷◌, length, length-append, drop, get_or, Option, Some, None, is_none, is_some, option_map, refl, sym, ap, ◌∙◌, subst, inl, inr, arith}
 use Rattle.std.specs.Vec.{with_item}
-use Rattle.std.proofs.Math.ListN.{set, length-set}
-use Rattle.std.proofs.lemmas.Bool.{both_ways, and_parts, and_from, not-true, not_from_false, false_from_ne_true}
+use Rattle.std.proofs.Math.ListN.{set}
+use Rattle.std.proofs.lemmas.Bool.{both_ways, and_from, not_from_false, false_from_ne_true}
 use Rattle.std.proofs.lemmas.List.{take_all, drop_all}
 use Rattle.modes_core.specs.declared.modes.Mode.{Mode}
 use Rattle.modes_core.specs.declared.tags.Tag.{Tag}
@@ -18,11 +18,11 @@ use Rattle.lock_table.specs.Clash.{Clash}
 use Rattle.lock_table.specs.Content.{Content}
 use Rattle.lock_table.specs.Parts.{contents_in}
 use Rattle.lock_table.specs.PartView.{PartView, content_of}
-use Rattle.lock_table.specs.Queue.{Place, Last, Before, AtOnce, Deadlock, Granted, Queued, SimpleDeadlock, answer_of_place, PlaceIs, WaitingAnswer, WaitingAnswerAt, awaits_mode, waits_there, joining_wait, with_queue, add_wait}
+use Rattle.lock_table.specs.Queue.{Place, Last, Before, AtOnce, Deadlock, Granted, Queued, SimpleDeadlock, answer_of_place, PlaceIs, WaitingAnswer, WaitingAnswerAt, joining_wait, with_queue, add_wait}
 use Rattle.lock_table.specs.Told.{IsTold}
 use Rattle.lock_world.specs.World.{World}
 use Rattle.lock_world.specs.Happens.Partitions.{MayMove}
-use Rattle.lock_world.specs.Happens.Waits.{recording, after_setting_waiting}
+use Rattle.lock_world.specs.Happens.Waits.{after_setting_waiting}
 use Rattle.lock_world.specs.Happens.{Next}
 use Rattle.lock_world.specs.Safe.{Safe}
 use Rattle.lock_model.specs.Shows.{Shows, is_unmarked_in, hand_of, awaits, awaited_of}
@@ -30,11 +30,11 @@ use Rattle.lock_model.proofs.Shows.Changes.{wait_word-set, hand-set, part-set, o
 use Rattle.lock_model.proofs.Shows.Hands.{recording-shown}
 use Rattle.lock_table.proofs.OneAnswer.{waiting_answer-one}
 use Rattle.lock_model.proofs.Follows.Skipped.{skipped}
-use Rattle.lock_model.proofs.Shows.Looks.{HasInHand, recorded_from, hand_from, hand_not, own_from, content_from, no_wait_from, stands_not, awaits_not}
+use Rattle.lock_model.proofs.Shows.Looks.{HasInHand, recorded_from, hand_from, hand_not, own_from, content_from, no_wait_from}
 
 -- Joining a queue, and setting the own wait word to waiting.
 
--- The place that is told of a request is within the queue.
+-- The place that a request is answered is within the queue.
 place_within : (c : Content) (s : ℕ) (t : Tag) (m : Mode) (held : Mode → Bool) (n : ℕ) → PlaceIs c s t m held (Before n) → n ≤ length (c.waits t)
 place_within c s t m held n (inl last) = let differ : Before n ≡ Last = last.1 in absurd (cc)
 place_within c s t m held n (inr found) =
@@ -70,7 +70,7 @@ told_place c s t m n (inr last) =
           ∙ ap (λ back. c.waits t ++ joining_wait c s t m ∷ back) (drop_all n (c.waits t) all)),
     )
 
--- Whoever is told another thing is not to join.
+-- Whoever is answered another thing is not to join.
 pub told_not : (c : Content) (s : ℕ) (t : Tag) (m : Mode) (what : Told) (place : Place) → IsTold c s t m what → ((n : ℕ) → what ≡ InQueue n → ⊥) → WaitingAnswer c s t m (Queued place) → ⊥
 told_not c s t m told.Granted place is not_queued answer = let same = waiting_answer-one c s t m Granted (Queued place) is answer in absurd (cc)
 told_not c s t m (told.InQueue n) place is not_queued answer = not_queued n refl
@@ -82,17 +82,6 @@ none_awaits None t n e = refl
 none_awaits (Some wait) t n e = absurd (cc)
 
 module _ (m : Machine) (w : World) (safe : Safe w) (shows : Shows m w) where
-  -- Whoever may ask stands in no queue of the object.
-  pub asks_new : (s : ℕ) (t : Tag) (n : Mode) → (is_none (get_or m.waits.awaited s None) && not ((contents_in m.contents.parts.items (partition_of t)).holds s t n)) ≡ true
-      → (is_none (get_or m.waits.awaited s None) ≡ true) × ((contents_in m.contents.parts.items (partition_of t)).holds s t n ≡ false)
-  asks_new s t n may = let both = and_parts _ _ may in (both.0, not-true _ both.1)
-
-  pub asks_not_awaited : (s : ℕ) (t : Tag) (n : Mode) → is_none (get_or m.waits.awaited s None) ≡ true → awaits_mode ((contents_in m.contents.parts.items (partition_of t)).waits t) s n ≡ false
-  asks_not_awaited s t n none = ap (λ (c : Content). awaits_mode (c.waits t) s n) (content_from m w safe shows t) ∙ awaits_not m w safe shows s (no_wait_from m w safe shows s none) t n
-
-  pub asks_stands_not : (s : ℕ) (t : Tag) → is_none (get_or m.waits.awaited s None) ≡ true → waits_there ((contents_in m.contents.parts.items (partition_of t)).waits t) s ≡ false
-  asks_stands_not s t none = ap (λ (c : Content). waits_there (c.waits t) s) (content_from m w safe shows t) ∙ stands_not m w safe shows s (no_wait_from m w safe shows s none) t
-
   pub was_set_waiting : (s : ℕ) (t : Tag) (n : Mode) (shown : InHand) (place : ℕ) (part : PartView) (marks : List Bool) → hand_of m s (partition_of t) ≡ Some shown → shown.recorded ≡ None
       → is_none (get_or m.waits.awaited s None) ≡ true → (contents_in m.contents.parts.items (partition_of t)).holds s t n ≡ false → IsTold (contents_in m.contents.parts.items (partition_of t)) s t n (InQueue place)
       → content_of part ≡ add_wait (contents_in m.contents.parts.items (partition_of t)) s t n (Before place) → part.begun ≡ None → ((k : ℕ) → is_unmarked_in marks k ≡ false) → s < length m.words.waits → s < 64

@@ -1,6 +1,6 @@
-use Rattle.std.proofs.Common.{◌≡◌, ◌≢◌, ◌⊎◌, ℕ, ◌+◌, ◌<◌, Bool, true, false, not, ◌&&◌, List, length, get_or, Option, Some, None, refl, sym, ap, ◌∙◌, subst, inl, inr, arith}
+use Rattle.std.proofs.Common.{◌≡◌, ◌≢◌, ◌⊎◌, ℕ, ◌<◌, Bool, true, false, not, List, length, get_or, Option, Some, None, refl, sym, ap, ◌∙◌, subst, inl, inr, arith}
 use Rattle.std.specs.Vec.{with_item}
-use Rattle.std.proofs.Math.ListN.{set, length-set}
+use Rattle.std.proofs.Math.ListN.{set}
 use Rattle.std.proofs.lemmas.Bool.{cases_lt, both_ways, and_from}
 use Rattle.std.proofs.lemmas.List.{get_or_past}
 use Rattle.modes_core.specs.Tag.{partition_of}
@@ -18,16 +18,15 @@ use Rattle.lock_table.specs.PartView.{content_of}
 use Rattle.lock_table.specs.Queue.{waits_there}
 use Rattle.lock_world.specs.WaitWord.{wait_state, granted_word}
 use Rattle.lock_world.specs.World.{World, recorded_in, is_unmarked}
-use Rattle.lock_table.specs.Put.{set_at}
 use Rattle.lock_world.specs.Happens.Partitions.{MayMove}
-use Rattle.lock_world.specs.Happens.Waits.{MayMark, recording, without, after_marking_first, after_marking_next, HappensMarkingIn}
+use Rattle.lock_world.specs.Happens.Waits.{MayMark, without, after_marking_first, after_marking_next, HappensMarkingIn}
 use Rattle.lock_world.specs.Safe.{Safe}
 use Rattle.lock_model.specs.Shows.{Shows, is_unmarked_in, names_in, hand_of, awaits, IsWaking, IsOwnFor, CannotMake}
 use Rattle.lock_model.proofs.Shows.Changes.{wait_word-set, hand-set, part-set}
 use Rattle.lock_model.proofs.Shows.Hands.{names_in-granted, marks-without, recording-shown}
 use Rattle.lock_table.proofs.MoveTests.{move_eq-same, move_eq-refl}
 use Rattle.lock_table.proofs.OneMove.{one_moved}
-use Rattle.lock_model.proofs.Shows.Looks.{HasInHand, recorded_from, unmarked_from, hand_from, hand_not, own_from}
+use Rattle.lock_model.proofs.Shows.Looks.{HasInHand, and_not_true, recorded_from, unmarked_from, hand_from, hand_not, own_from}
 
 -- Marking the wait of another session granted.
 
@@ -158,7 +157,7 @@ module _ (m : Machine) (w : World) (safe : Safe w) (shows : Shows m w) where
     has = hand_from m w safe shows s p hand in_hand
 
     granted_named : (j : ℕ) → names_in after.woken.items j ≡ waits_there moved.granted j
-    granted_named j = ap (λ xs. names_in xs j) moved.told ∙ names_in-granted moved.granted j
+    granted_named j = ap (λ xs. names_in xs j) moved.named ∙ names_in-granted moved.granted j
 
     moves : Moves (w.contents.now p) s done moved.granted (content_of after.part)
     moves = moves_there s p done moved.granted (content_of after.part) has.exists moved.moves
@@ -185,7 +184,7 @@ module _ (m : Machine) (w : World) (safe : Safe w) (shows : Shows m w) where
     never : (u : World) → HappensMarkingIn w s k p done u → ⊥
     never u (inl first) =
         both_ways (names_in after.woken.items k) not_among
-        (ap (λ xs. names_in xs k) moved.told ∙ names_in-granted moved.granted k
+        (ap (λ xs. names_in xs k) moved.named ∙ names_in-granted moved.granted k
         ∙ ap (λ g. waits_there g k) (one_moved (w.contents.now p) s done moved.granted first.0 (content_of after.part) first.1 moves first.2.may_move.moved).0 ∙ first.2.among)
     never u (inr next) = recorded_some (recorded_in (w.contents.hand p)) done next.0.recorded (recorded_from w s p hand has ∙ unmoved)
 
@@ -195,10 +194,7 @@ module _ (m : Machine) (w : World) (safe : Safe w) (shows : Shows m w) where
   cannot_make s p (Grant t n) granted after below wakes cannot fits moves = wakes
   cannot_make s p (Join t n) granted after below wakes cannot fits moves = wakes
   cannot_make s p (Release t n) granted after below wakes (inl awaited) fits moves =
-      both_ways (w.sessions.own s t n) (own_from m w safe shows s t n ∙ and_not ((w.contents.now (partition_of t)).holds s t n) (awaits (get_or m.waits.awaited s None) t n) awaited) fits where
-        and_not : (a b : Bool) → b ≡ true → (a && not b) ≡ false
-        and_not true b e = ap not e
-        and_not false b e = refl
+      both_ways (w.sessions.own s t n) (own_from m w safe shows s t n ∙ and_not_true ((w.contents.now (partition_of t)).holds s t n) (awaits (get_or m.waits.awaited s None) t n) awaited) fits
   cannot_make s p (Release t n) granted after below wakes (inr none) fits moves =
       both_ways ((w.contents.now p).holds s t n) (ap (λ (c : Content). c.holds s t n) (sym (shows.contents.now p below)) ∙ none) moves.0
   cannot_make s p (Leave t) granted after below wakes cannot fits moves =

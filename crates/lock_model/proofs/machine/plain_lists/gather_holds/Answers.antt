@@ -1,5 +1,6 @@
+use Rattle.lock_model.proofs.HoldOrder.{IsSorted-hold}
 use Rattle.std.proofs.Common.{arith}
-use Rattle.lock_model.proofs.Gathered.{table_holds_of, gathered-more, gathered-all, EachOnce-more, ListsHolds-moved, AreInTable-moved}
+use Rattle.lock_model.proofs.PlainLists.{table_holds_of, gathered-more, gathered-all, EachOnce-more, ListsHolds-moved, AreInTable-moved}
 use Rattle.lock_model.proofs.machine.plain_lists.gather_holds.Goals as goal
 
 pub loop-part-preserved : goal.loop-part-preserved
@@ -24,3 +25,6 @@ returns-clause-in_table c =
     AreInTable-moved c.args.parts.now c.loop-part.holds.items c.sort_unstable.new.self.items
     (gathered-all table_holds_of c.args.parts.now c.loop-part.part-index c.loop-part.holds.items c.loop-part-test.false c.loop-part.invariant.so_far)
     c.sort_unstable.ensures.permutation
+
+pub returns-clause-in_order : goal.returns-clause-in_order
+returns-clause-in_order c = IsSorted-hold c.sort_unstable.new.self.items c.sort_unstable.ensures.sorted

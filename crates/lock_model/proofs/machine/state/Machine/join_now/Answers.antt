@@ -4,7 +4,8 @@ use Rattle.lock_table.specs.Content.{Content}
 use Rattle.lock_table.specs.PartView.{content_of}
 use Rattle.lock_table.specs.Queue.{Before, add_wait, awaits_mode, waits_there}
 use Rattle.lock_model.proofs.Shows.Places.{part_read, get_or-one_value}
-use Rattle.lock_model.proofs.Follows.Waits.Joins.{asks_not_awaited, asks_stands_not, marked_within, was_set_waiting}
+use Rattle.lock_model.proofs.Shows.Looks.{stands_not_here, awaits_not_here}
+use Rattle.lock_model.proofs.Follows.Waits.Joins.{marked_within, was_set_waiting}
 use Rattle.lock_model.proofs.machine.state.Machine.join_now.Goals as goal
 
 pub begin-requires-clause-not_awaited : goal.begin-requires-clause-not_awaited
@@ -16,7 +17,7 @@ begin-requires-clause-not_awaited c =
     let within : c.from.result < length now.contents.parts.items = omega arith in
     let part = part_read now.contents.parts.items c.from.result (partition_of c.args.tag) c.index_mut-part.result.now place within c.index_mut-part.ensures.value in
     ap (λ x. awaits_mode ((content_of x).waits c.args.tag) c.args.session c.args.mode) part
-    ∙ asks_not_awaited now c.requires.shown.0 c.requires.shown.1 c.requires.shown.2 c.args.session c.args.tag c.args.mode c.requires.no_wait
+    ∙ awaits_not_here now c.requires.shown.0 c.requires.shown.1 c.requires.shown.2 c.args.session c.args.tag c.args.mode c.requires.no_wait
 
 pub join-requires-clause-no_wait : goal.join-requires-clause-no_wait
 join-requires-clause-no_wait c =
@@ -27,7 +28,7 @@ join-requires-clause-no_wait c =
     let within : c.from.result < length now.contents.parts.items = omega arith in
     let part = part_read now.contents.parts.items c.from.result (partition_of c.args.tag) c.index_mut-part.result.now place within c.index_mut-part.ensures.value in
     ap (λ (x : Content). waits_there (x.waits c.args.tag) c.args.session) (c.begin.ensures.content ∙ ap content_of part)
-    ∙ asks_stands_not now c.requires.shown.0 c.requires.shown.1 c.requires.shown.2 c.args.session c.args.tag c.requires.no_wait
+    ∙ stands_not_here now c.requires.shown.0 c.requires.shown.1 c.requires.shown.2 c.args.session c.args.tag c.requires.no_wait
 
 pub join-requires-clause-place : goal.join-requires-clause-place
 join-requires-clause-place c =

@@ -16,7 +16,8 @@ use Rattle.lock_world.specs.World.{World}
 use Rattle.lock_world.specs.Happens.{Next}
 use Rattle.lock_model.specs.Shows.{Shows}
 use Rattle.lock_model.proofs.Follows.Skipped.{skipped}
-use Rattle.lock_model.proofs.Follows.Partitions.{granted, granting, told-granted, exists_from, asks_not_awaited}
+use Rattle.lock_model.proofs.Follows.Partitions.{granted, granting, told-granted, exists_from}
+use Rattle.lock_model.proofs.Shows.Looks.{asks_new, awaits_not_here}
 use Rattle.lock_model.proofs.Shows.Places.{part_read}
 use Rattle.lock_model.proofs.Shows.Changes.{changed_there}
 use Rattle.lock_model.proofs.machine.state.Machine.put_granting.Goals as goal
@@ -53,7 +54,7 @@ begin-requires-clause-not_awaited c =
     let object : partition_of c.args.tag ≡ c.args.partition = sym c.partition.ensures.value ∙ c.if-partition.false in
     ap (λ part. awaits_mode ((content_of part).waits c.args.tag) c.args.session c.args.mode) read
     ∙ sym (ap (λ p. awaits_mode ((contents_in now.contents.parts.items p).waits c.args.tag) c.args.session c.args.mode) object)
-    ∙ asks_not_awaited now shown.0 shown.1 shown.2 c.args.session c.args.tag c.args.mode (sym c.may_ask.ensures ∙ c.if-not-may_ask.false)
+    ∙ awaits_not_here now shown.0 shown.1 shown.2 c.args.session c.args.tag c.args.mode (asks_new now shown.0 shown.1 shown.2 c.args.session c.args.tag c.args.mode (sym c.may_ask.ensures ∙ c.if-not-may_ask.false)).0
 
 pub returns : goal.returns
 returns c = λ w safe shows.

@@ -4,7 +4,8 @@ use Rattle.lock_table.specs.PartView.{content_of}
 use Rattle.lock_table.specs.Told.{IsTold}
 use Rattle.lock_model.specs.Shows.{hand_of}
 use Rattle.lock_model.proofs.Shows.Places.{part_read}
-use Rattle.lock_model.proofs.Follows.Waits.Joins.{join_without_hand, join_after_move, join_may_not, join_not_told, asks_new}
+use Rattle.lock_model.proofs.Shows.Looks.{asks_new}
+use Rattle.lock_model.proofs.Follows.Waits.Joins.{join_without_hand, join_after_move, join_may_not, join_not_told}
 use Rattle.lock_model.proofs.machine.state.Machine.set_waiting.Goals as goal
 use Rattle.lock_model.proofs.machine.state.Machine.set_waiting.Goals.{then-is_some-via-then-is_some, then-is_some-via-else-is_some+then-not-may_ask}
 
