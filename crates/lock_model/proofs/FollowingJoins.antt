@@ -1,25 +1,21 @@
-use Rattle.std.proofs.Common.{◌≡◌, ℕ, ◌<◌, ◌≤◌, Bool, true, false, not, ◌&&◌, List, [], ◌++◌, ◌∷◌, length, length-append, drop, get_or, Option, Some, None, is_none, is_some, option_map, refl, sym, ap, ◌∙◌, subst, inl, inr, arith}
+use Rattle.std.proofs.Common.{◌≡◌, ℕ, ◌<◌, Bool, true, false, not, ◌&&◌, List, [], length, get_or, Option, Some, None, is_none, is_some, option_map, refl, sym, ap, ◌∙◌, subst, inl}
 use Rattle.std.specs.Vec.{with_item}
 use Rattle.std.proofs.Math.ListN.{set, length-set}
 use Rattle.std.proofs.lemmas.Bool.{both_ways, and_parts, and_from, not-true, not_from_false, false_from_ne_true}
-use Rattle.std.proofs.lemmas.List.{take_all, drop_all}
 use Rattle.modes_core.specs.declared.modes.Mode.{Mode}
 use Rattle.modes_core.specs.declared.tags.Tag.{Tag}
 use Rattle.modes_core.specs.Tag.{partition_of}
-use Rattle.lock_table.specs.declared.answering.Told.{Told}
-use Rattle.lock_table.specs.declared.answering.Told.TheVariants.{InQueue}
-use Rattle.lock_table.specs.declared.answering.Told.TheVariants as told
+use Rattle.lock_table.specs.declared.answering.Answer.{Answer}
+use Rattle.lock_table.specs.declared.answering.Answer.TheVariants.{Queued}
 use Rattle.lock_table.specs.declared.moves.Move.TheVariants.{Join}
 use Rattle.lock_world.specs.declared.events.Step.TheVariants.{SetWaiting}
 use Rattle.lock_model.specs.declared.machine.hands.InHand.{InHand}
 use Rattle.lock_model.specs.declared.machine.hands.Awaited.{Awaited}
 use Rattle.lock_model.specs.declared.machine.state.Machine.{Machine}
-use Rattle.lock_table.specs.Clash.{Clash}
 use Rattle.lock_table.specs.Content.{Content}
 use Rattle.lock_table.specs.Parts.{contents_in}
 use Rattle.lock_table.specs.PartView.{PartView, content_of}
-use Rattle.lock_table.specs.Queue.{Place, Last, Before, AtOnce, Deadlock, Granted, Queued, SimpleDeadlock, answer_of_place, PlaceIs, WaitingAnswer, WaitingAnswerAt, awaits_mode, waits_there, joining_wait, with_queue, add_wait}
-use Rattle.lock_table.specs.Told.{IsTold}
+use Rattle.lock_table.specs.Queue.{WaitingAnswer, awaits_mode, waits_there, add_wait}
 use Rattle.lock_world.specs.World.{World}
 use Rattle.lock_world.specs.Happens.Partitions.{MayMove}
 use Rattle.lock_world.specs.Happens.Waits.{recording, after_setting_waiting}
@@ -35,47 +31,9 @@ use Rattle.lock_model.proofs.Showing.{HasInHand, recorded_from, hand_from, hand_
 
 -- Joining a queue, and setting the own wait word to waiting.
 
--- The place that is told of a request is within the queue.
-place_within : (c : Content) (s : ℕ) (t : Tag) (m : Mode) (held : Mode → Bool) (n : ℕ) → PlaceIs c s t m held (Before n) → n ≤ length (c.waits t)
-place_within c s t m held n (inl last) = let differ : Before n ≡ Last = last.1 in absurd (cc)
-place_within c s t m held n (inr found) =
-    let place : n ≡ length found.0 = found.4.2 in
-    let sum = ap length found.3.parts ∙ length-append found.0 (found.1 ∷ found.2) in
-    omega (arith, place, sum)
-
-answer_within : (c : Content) (s : ℕ) (t : Tag) (m : Mode) (n : ℕ) → WaitingAnswer c s t m (Queued (Before n)) → n ≤ length (c.waits t)
-answer_within c s t m n answer = at answer.0 answer.2 where
-  at_place : (place : Place) → PlaceIs c s t m (c.holds s t) place → Queued (Before n) ≡ answer_of_place place → n ≤ length (c.waits t)
-  at_place Last is e = absurd (cc)
-  at_place (Before k) is e = let same : n ≡ k = cc in subst (λ j. j ≤ length (c.waits t)) (sym same) (place_within c s t m (c.holds s t) k is)
-  at_place AtOnce is e = absurd (cc)
-  at_place (Deadlock k) is e = absurd (cc)
-
-  at : (clash : Option Clash) → WaitingAnswerAt clash c s t m (Queued (Before n)) → n ≤ length (c.waits t)
-  at None e = absurd (cc)
-  at (Some clash) found = at_place found.0 found.1 found.2
-
-pub marked_within : (c : Content) (s : ℕ) (t : Tag) (m : Mode) (n : ℕ) → IsTold c s t m (InQueue n) → n ≤ length (c.waits t)
-marked_within c s t m n (inl before) = answer_within c s t m n before
-marked_within c s t m n (inr last) = let place : n ≡ length (c.waits t) = last.1 in omega arith
-
--- It is the place of the answer.
-pub told_place : (c : Content) (s : ℕ) (t : Tag) (m : Mode) (n : ℕ) → IsTold c s t m (InQueue n) → (place : Place) × WaitingAnswer c s t m (Queued place) × (add_wait c s t m (Before n) ≡ add_wait c s t m place)
-told_place c s t m n (inl before) = (Before n, before, refl)
-told_place c s t m n (inr last) =
-    let all : length (c.waits t) ≤ n = let place : n ≡ length (c.waits t) = last.1 in omega arith in (
-      Last,
-      last.0,
-      ap (with_queue c t)
-          (ap (λ front. front ++ joining_wait c s t m ∷ drop n (c.waits t)) (take_all n (c.waits t) all)
-          ∙ ap (λ back. c.waits t ++ joining_wait c s t m ∷ back) (drop_all n (c.waits t) all)),
-    )
-
--- Whoever is told another thing is not to join.
-pub told_not : (c : Content) (s : ℕ) (t : Tag) (m : Mode) (what : Told) (place : Place) → IsTold c s t m what → ((n : ℕ) → what ≡ InQueue n → ⊥) → WaitingAnswer c s t m (Queued place) → ⊥
-told_not c s t m told.Granted place is not_queued answer = let same = waiting_answer-one c s t m Granted (Queued place) is answer in absurd (cc)
-told_not c s t m (told.InQueue n) place is not_queued answer = not_queued n refl
-told_not c s t m (told.Deadlock k) place is not_queued answer = let same = waiting_answer-one c s t m (SimpleDeadlock k) (Queued place) is answer in absurd (cc)
+-- Whoever is answered another thing is not to join.
+pub queued_not : (c : Content) (s : ℕ) (t : Tag) (m : Mode) (what : Answer) (place : ℕ) → WaitingAnswer c s t m what → ((n : ℕ) → what ≡ Queued n → ⊥) → WaitingAnswer c s t m (Queued place) → ⊥
+queued_not c s t m what place is not_queued answer = not_queued place (waiting_answer-one c s t m what (Queued place) is answer)
 
 -- Whoever waits for nothing waits for no mode.
 none_awaits : (o : Option Awaited) (t : Tag) (n : Mode) → is_none o ≡ true → awaits o t n ≡ false
@@ -95,8 +53,8 @@ module _ (m : Machine) (w : World) (safe : Safe w) (shows : Shows m w) where
   asks_stands_not s t none = ap (λ (c : Content). waits_there (c.waits t) s) (content_from m w safe shows t) ∙ stands_not m w safe shows s (no_wait_from m w safe shows s none) t
 
   pub was_set_waiting : (s : ℕ) (t : Tag) (n : Mode) (shown : InHand) (place : ℕ) (part : PartView) (marks : List Bool) → hand_of m s (partition_of t) ≡ Some shown → shown.recorded ≡ None
-      → is_none (get_or m.awaited s None) ≡ true → (contents_in m.parts.items (partition_of t)).holds s t n ≡ false → IsTold (contents_in m.parts.items (partition_of t)) s t n (InQueue place)
-      → content_of part ≡ add_wait (contents_in m.parts.items (partition_of t)) s t n (Before place) → part.begun ≡ None → ((k : ℕ) → is_unmarked_in marks k ≡ false) → s < length m.wait_words → s < length m.awaited → s < length m.seen
+      → is_none (get_or m.awaited s None) ≡ true → (contents_in m.parts.items (partition_of t)).holds s t n ≡ false → WaitingAnswer (contents_in m.parts.items (partition_of t)) s t n (Queued place)
+      → content_of part ≡ add_wait (contents_in m.parts.items (partition_of t)) s t n place → part.begun ≡ None → ((k : ℕ) → is_unmarked_in marks k ≡ false) → s < length m.wait_words → s < length m.awaited → s < length m.seen
       → (v : World) × Next w (record { session = s; step = SetWaiting t n }) v
       × Shows
       (record m {
@@ -106,7 +64,7 @@ module _ (m : Machine) (w : World) (safe : Safe w) (shows : Shows m w) where
         awaited = set m.awaited s (Some (record { tag = t; mode = n }));
         seen = set m.seen s false;
       }) v
-  was_set_waiting s t n shown place part marks in_hand unmoved none not_held is_told is begun unmarked in_wait_words in_awaited in_seen = (
+  was_set_waiting s t n shown place part marks in_hand unmoved none not_held answer is begun unmarked in_wait_words in_awaited in_seen = (
     after_setting_waiting w s t n content,
     inl (content, may, refl),
     shown_with m _ w _ shows (record { numbers = refl; partition = refl; issued = refl; live = refl; kept_by = refl; words = refl; hands = length-set m.hands p _ }) (record {
@@ -114,7 +72,7 @@ module _ (m : Machine) (w : World) (safe : Safe w) (shows : Shows m w) where
       hand = hand-set_at m.hands p (Some (record { holder = shown.holder; recorded = Some (Join t n); unmarked = marks })) (recording (w.contents.hand p) (Join t n) (λ _. false)) w.contents.hand in_hands
           (recording-shown (w.contents.hand p) has.hand shown.holder (Join t n) marks (λ _. false) has.is_hand has.shows.holder unmarked) shows.hand;
       sixteen = length-set m.parts.items p part ∙ shows.sixteen;
-      content = contents-set_at m.parts.items p part content w.contents.now in_parts (is ∙ found.2 ∙ ap (λ (c : Content). add_wait c s t n found.0) same) shows.content;
+      content = contents-set_at m.parts.items p part content w.contents.now in_parts (is ∙ ap (λ (c : Content). add_wait c s t n place) same) shows.content;
       none_begun = begun-set_at m.parts.items p part in_parts begun shows.none_begun;
       awaited = awaited-set_at m.awaited s (Some (record { tag = t; mode = n })) (Some (record { tag = t; mode = n; held = (w.contents.now p).holds s t })) w.sessions.awaited in_awaited refl shows.awaited;
       seen = get_or-set_at m.seen s false false w.sessions.seen in_seen shows.seen;
@@ -135,11 +93,8 @@ module _ (m : Machine) (w : World) (safe : Safe w) (shows : Shows m w) where
     same : contents_in m.parts.items p ≡ w.contents.now p
     same = content_from m w safe shows t
 
-    found : (place' : Place) × WaitingAnswer (contents_in m.parts.items p) s t n (Queued place') × (add_wait (contents_in m.parts.items p) s t n (Before place) ≡ add_wait (contents_in m.parts.items p) s t n place')
-    found = told_place (contents_in m.parts.items p) s t n place is_told
-
     content : Content
-    content = add_wait (w.contents.now p) s t n found.0
+    content = add_wait (w.contents.now p) s t n place
 
     may : MayMove w s p (Join t n) [] content
     may = record {
@@ -151,7 +106,7 @@ module _ (m : Machine) (w : World) (safe : Safe w) (shows : Shows m w) where
         no_wait_from m w safe shows s none,
         own_from m w safe shows s t n ∙ ap (λ b. b && not (awaits (get_or m.awaited s None) t n)) (sym (ap (λ (c : Content). c.holds s t n) same) ∙ not_held),
       );
-      moved = (found.0, subst (λ (c : Content). WaitingAnswer c s t n (Queued found.0)) same found.1, refl, refl);
+      moved = (place, subst (λ (c : Content). WaitingAnswer c s t n (Queued place)) same answer, refl, refl);
     }
 
   pub join_without_hand : (s : ℕ) (t : Tag) (n : Mode) → hand_of m s (partition_of t) ≡ None → (v : World) × Next w (record { session = s; step = SetWaiting t n }) v × Shows m v
@@ -176,8 +131,8 @@ module _ (m : Machine) (w : World) (safe : Safe w) (shows : Shows m w) where
       ∙ and_from _ _ (sym (ap (λ (c : Content). c.holds s t n) (content_from m w safe shows t)) ∙ held) (not_from_false _ (none_awaits (get_or m.awaited s None) t n none)))) in
       both_ways _ may_not (and_from _ _ none (not_from_false _ not_held)))
 
-  pub join_not_told : (s : ℕ) (t : Tag) (n : Mode) (what : Told) → IsTold (contents_in m.parts.items (partition_of t)) s t n what → ((k : ℕ) → what ≡ InQueue k → ⊥)
+  pub join_not_answered : (s : ℕ) (t : Tag) (n : Mode) (what : Answer) → WaitingAnswer (contents_in m.parts.items (partition_of t)) s t n what → ((k : ℕ) → what ≡ Queued k → ⊥)
       → (v : World) × Next w (record { session = s; step = SetWaiting t n }) v × Shows m v
-  join_not_told s t n what is not_queued =
+  join_not_answered s t n what is not_queued =
       skipped m w safe shows s (SetWaiting t n)
-      (λ lawful. told_not (w.contents.now (partition_of t)) s t n what lawful.1.1.moved.0 (subst (λ (c : Content). IsTold c s t n what) (content_from m w safe shows t) is) not_queued lawful.1.1.moved.1)
+      (λ lawful. queued_not (w.contents.now (partition_of t)) s t n what lawful.1.1.moved.0 (subst (λ (c : Content). WaitingAnswer c s t n what) (content_from m w safe shows t) is) not_queued lawful.1.1.moved.1)

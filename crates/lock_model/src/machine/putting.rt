@@ -2,7 +2,7 @@
 
 use super::hands::InHand;
 use super::state::Machine;
-use lock_table::{Move, NoMemory, PartTable, Told, waiting_answer};
+use lock_table::{Answer, Move, NoMemory, PartTable, waiting_answer};
 use lock_world::Word;
 use modes_core::{Mode, SessionId, Tag};
 
@@ -115,7 +115,7 @@ impl Machine {
             return Ok(());
         }
         let index = usize::from(partition);
-        let Told::Granted = waiting_answer(&self.parts[index], session, tag, mode) else {
+        let Answer::Granted = waiting_answer(&self.parts[index], session, tag, mode) else {
             return Ok(());
         };
         let part = &mut self.parts[index];

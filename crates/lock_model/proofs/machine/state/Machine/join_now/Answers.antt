@@ -2,9 +2,10 @@ use Rattle.std.proofs.Common.{◌≡◌, ◌<◌, ◌≤◌, false, length, sym,
 use Rattle.modes_core.specs.Tag.{partition_of}
 use Rattle.lock_table.specs.Content.{Content}
 use Rattle.lock_table.specs.PartView.{content_of}
-use Rattle.lock_table.specs.Queue.{Before, add_wait, awaits_mode, waits_there}
+use Rattle.lock_table.specs.Queue.{add_wait, awaits_mode, waits_there}
+use Rattle.lock_table.proofs.QueueLemmas.{queued-within}
 use Rattle.lock_model.proofs.PlaceLemmas.{part_read, get_or-one_value}
-use Rattle.lock_model.proofs.FollowingJoins.{asks_not_awaited, asks_stands_not, marked_within, was_set_waiting}
+use Rattle.lock_model.proofs.FollowingJoins.{asks_not_awaited, asks_stands_not, was_set_waiting}
 use Rattle.lock_model.proofs.machine.state.Machine.join_now.Goals as goal
 
 pub begin-requires-clause-not_awaited : goal.begin-requires-clause-not_awaited
@@ -38,7 +39,7 @@ join-requires-clause-place c =
     let within : c.from.result < length now.parts.items = omega arith in
     let part = part_read now.parts.items c.from.result (partition_of c.args.tag) c.index_mut-part.result.now place within c.index_mut-part.ensures.value in
     subst (λ (x : Content). c.args.place ≤ length (x.waits c.args.tag)) (sym (c.begin.ensures.content ∙ ap content_of part))
-    (marked_within _ c.args.session c.args.tag c.args.mode c.args.place c.requires.told)
+    (queued-within _ c.args.session c.args.tag c.args.mode c.args.place c.requires.answer)
 
 pub returns : goal.returns
 returns c = λ w safe shows.
@@ -52,6 +53,6 @@ returns c = λ w safe shows.
     let in_awaited : c.args.session < length now.awaited = omega arith in
     let in_seen : c.args.session < length now.seen = omega arith in
     rw (c.begin_wait.ensures, c.record.ensures, place, c.partition-partition.ensures.value)
-    (was_set_waiting now w safe shows c.args.session c.args.tag c.args.mode c.args.hand c.args.place c.join.new.self _ c.requires.in_hand c.requires.unmoved c.requires.no_wait c.requires.not_held c.requires.told
-    (c.join.ensures.content ∙ ap (λ (x : Content). add_wait x c.args.session c.args.tag c.args.mode (Before c.args.place)) (c.begin.ensures.content ∙ ap content_of part))
+    (was_set_waiting now w safe shows c.args.session c.args.tag c.args.mode c.args.hand c.args.place c.join.new.self _ c.requires.in_hand c.requires.unmoved c.requires.no_wait c.requires.not_held c.requires.answer
+    (c.join.ensures.content ∙ ap (λ (x : Content). add_wait x c.args.session c.args.tag c.args.mode c.args.place) (c.begin.ensures.content ∙ ap content_of part))
     c.join.ensures.ended (λ k. get_or-one_value 64 false k) in_wait_words in_awaited in_seen)
