@@ -14,9 +14,6 @@ use Rattle.local_locks.specs.declared.answers.Unlocked.{Unlocked}
 use Rattle.local_locks.specs.declared.answers.Unlocked.TheVariants.{Released, StillHeld}
 use Rattle.local_locks.specs.Owned.{has_entry, entry_of, count_for, total_of, owner_count_of, with_one_more, with_one_less, IsCounted}
 use Rattle.lock_table.specs.Content.{Content, set_hold, add_hold}
-use Rattle.lock_table.specs.Clash.{Clash, ClashIs}
-use Rattle.lock_table.specs.Queue.{ConditionalAnswer, ConditionalAnswerAt}
-use Rattle.lock_table.specs.Queue as answer
 use Rattle.lock_scenario.proofs.Entries.{same_key, same_key-refl, same_key-from, has_entry-none, has_entry-some, has_entry-with_one_more, has_entry-with_one_less}
 use Rattle.lock_scenario.proofs.DeskLemmas.{set_hold-same}
 
@@ -64,13 +61,6 @@ pub queues-acquire : (before after : Content) (s : ℕ) (tag : Tag) (mode : Mode
 queues-acquire before after s tag mode (Ok Granted) granted other = ap (λ (content : Content). content.waits) (granted refl)
 queues-acquire before after s tag mode (Ok AlreadyHeld) granted other = ap (λ (content : Content). content.waits) (other held_not_granted)
 queues-acquire before after s tag mode (Err refusal) granted other = ap (λ (content : Content). content.waits) (other (refused_not_granted refusal))
-
--- What is granted at once clashes with nothing.
-pub granted-clash : (content : Content) (s : ℕ) (tag : Tag) (mode : Mode) → ConditionalAnswer content s tag mode answer.Granted → ClashIs content s tag mode None
-granted-clash content s tag mode found = at found.0 found.1 found.2 where
-  at : (clash : Option Clash) → ClashIs content s tag mode clash → ConditionalAnswerAt clash answer.Granted → ClashIs content s tag mode None
-  at None is granted = is
-  at (Some clash) is granted = absurd (cc)
 
 -- After a release the entries of other objects and modes are as they were,
 pub others-give_up :

@@ -10,9 +10,8 @@ use Rattle.modes_core.proofs.Laws.{mode_eq-refl, mode_eq-same, tag_eq-refl}
 use Rattle.local_locks.specs.declared.records.Entry.{Entry}
 use Rattle.local_locks.specs.Owned.{has_entry, with_one_more}
 use Rattle.lock_table.specs.Content.{Wait, Content}
-use Rattle.lock_table.specs.Clash.{Clash, ClashIs}
 use Rattle.lock_table.specs.Put.{set_at}
-use Rattle.lock_table.specs.Queue.{Wakes, Place, Last, Before, AtOnce, Deadlock, Queued, joined, joining_wait, add_wait, queue_without, remove_wait, answer_of_place, WaitingAnswer, WaitingAnswerAt}
+use Rattle.lock_table.specs.Queue.{Wakes, joined, joining_wait, add_wait, queue_without, remove_wait}
 use Rattle.lock_table.proofs.PutLemmas.{put_here, put_else, set_at-here, set_at-else}
 use Rattle.lock_scenario.specs.declared.sessions.OwnWait.{OwnWait}
 use Rattle.lock_scenario.specs.Sessions.{marked, is_pending, is_awaiting}
@@ -20,45 +19,13 @@ use Rattle.lock_scenario.specs.Waiting.{is_wait_of, AgreesOn, Agrees}
 use Rattle.lock_scenario.proofs.Agreement.{count-cons, Agrees-change, Agrees-wakes, Agrees-same}
 use Rattle.lock_scenario.proofs.Entries.{same_key, has_entry-with_one_more}
 
--- The place is one in the queue.
-abbrev pub InQueue : Place → Type 0
-InQueue Last = Unit {0}
-InQueue (Before n) = Unit {0}
-InQueue AtOnce = ⊥
-InQueue (Deadlock k) = ⊥
-
--- Who is told to wait has a place in the queue.
-pub queued-in_queue : (content : Content) (s : ℕ) (t : Tag) (m : Mode) (place : Place) → WaitingAnswer content s t m (Queued place) → InQueue place
-queued-in_queue content s t m place found = at found.0 found.1 found.2 where
-  it : (place p : Place) → Queued place ≡ answer_of_place p → InQueue place
-  it Last p e = tt
-  it (Before n) p e = tt
-  it AtOnce Last e = absurd (cc)
-  it AtOnce (Before n) e = absurd (cc)
-  it AtOnce AtOnce e = absurd (cc)
-  it AtOnce (Deadlock k) e = absurd (cc)
-  it (Deadlock j) Last e = absurd (cc)
-  it (Deadlock j) (Before n) e = absurd (cc)
-  it (Deadlock j) AtOnce e = absurd (cc)
-  it (Deadlock j) (Deadlock k) e = absurd (cc)
-
-  at : (clash : Option Clash) → ClashIs content s t m clash → WaitingAnswerAt clash content s t m (Queued place) → InQueue place
-  at None is e = absurd (cc)
-  at (Some clash) is found = it place found.0 found.2
-
 -- One wait more in the queue.
-count-joined : (p : Wait → Bool) (place : Place) (w : Wait) (queue : List Wait) → InQueue place → count_by p (joined place w queue) ≡ (if p w then 1 else 0) + count_by p queue
-count-joined p Last w queue there =
-    let both : count_by p (queue ++ w ∷ []) ≡ count_by p queue + count_by p (w ∷ []) = sum_by-append (λ x. if p x then 1 else 0) queue (w ∷ []) in
-    let one : count_by p (w ∷ []) ≡ (if p w then 1 else 0) + 0 = count-cons p w [] in
-    omega arith
-count-joined p (Before n) w queue there =
+count-joined : (p : Wait → Bool) (n : ℕ) (w : Wait) (queue : List Wait) → count_by p (joined n w queue) ≡ (if p w then 1 else 0) + count_by p queue
+count-joined p n w queue =
     let both : count_by p (take n queue ++ w ∷ drop n queue) ≡ count_by p (take n queue) + count_by p (w ∷ drop n queue) = sum_by-append (λ x. if p x then 1 else 0) (take n queue) (w ∷ drop n queue) in
     let one : count_by p (w ∷ drop n queue) ≡ (if p w then 1 else 0) + count_by p (drop n queue) = count-cons p w (drop n queue) in
     let whole : count_by p (take n queue) + count_by p (drop n queue) ≡ count_by p queue = sum_by-take-drop (λ x. if p x then 1 else 0) queue n in
     omega arith
-count-joined p AtOnce w queue there = absurd there
-count-joined p (Deadlock k) w queue there = absurd there
 
 mode_eq-comm : (m n : Mode) → mode_eq m n ≡ mode_eq n m
 mode_eq-comm m n =
@@ -87,10 +54,10 @@ none_plus : (a : ℕ) → 0 + a ≡ a
 none_plus a = omega arith
 
 -- They agree after a session that did not wait joins the object's queue.
-pub Agrees-join : (contents : ℕ → Content) (entries : ℕ → List Entry) (waits : ℕ → Option OwnWait) (p s : ℕ) (t : Tag) (m : Mode) (place : Place) (own : OwnWait) →
-    Agrees contents entries waits → p ≡ partition_of t → InQueue place → waits s ≡ None → IsNewWait own t m →
+pub Agrees-join : (contents : ℕ → Content) (entries : ℕ → List Entry) (waits : ℕ → Option OwnWait) (p s : ℕ) (t : Tag) (m : Mode) (place : ℕ) (own : OwnWait) →
+    Agrees contents entries waits → p ≡ partition_of t → waits s ≡ None → IsNewWait own t m →
     Agrees (set_at contents p (add_wait (contents p) s t m place)) entries (set_at waits s (Some own))
-Agrees-join contents entries waits p s t m place own agrees partition there none new =
+Agrees-join contents entries waits p s t m place own agrees partition none new =
     Agrees-change contents entries entries waits (set_at waits s (Some own)) p t (add_wait (contents p) s t m place) agrees partition
     (record { holds = λ k o n other. refl; waits = λ o other. put_else tag_eq (contents p).waits t (joined place (joining_wait (contents p) s t m) ((contents p).waits t)) o other })
     (record {
@@ -106,7 +73,7 @@ Agrees-join contents entries waits p s t m place own agrees partition there none
       held = λ k n. (on_it.held k n) ∙ ap (λ b. has_entry (entries k) t n || b) (sym (pending k t n));
       awaited = λ k n.
           ap (count_by (is_wait_of k n)) (put_here tag_eq (contents p).waits t (joined place (joining_wait (contents p) s t m) ((contents p).waits t)) t (tag_eq-refl t)) ∙
-          count-joined (is_wait_of k n) place (joining_wait (contents p) s t m) ((contents p).waits t) there ∙
+          count-joined (is_wait_of k n) place (joining_wait (contents p) s t m) ((contents p).waits t) ∙
           sum k n (cases_eq k s);
     }) where
       on_it : AgreesOn (contents p) t entries waits

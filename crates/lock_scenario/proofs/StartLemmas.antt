@@ -21,7 +21,7 @@ use Rattle.lock_scenario.specs.Waiting.{Agrees}
 use Rattle.lock_scenario.specs.Desk.{IsInOrder, IsDesk}
 use Rattle.lock_scenario.proofs.Agreement.{GoneAt}
 use Rattle.lock_scenario.proofs.Entries.{same_key, same_key-refl, has_entry-with_one_more}
-use Rattle.lock_scenario.proofs.JoinLemmas.{Agrees-join, queued-in_queue}
+use Rattle.lock_scenario.proofs.JoinLemmas.{Agrees-join}
 use Rattle.lock_scenario.proofs.DeskLemmas.{Finds, in_parts, in_sessions, held_there, wait_there, set_hold-same, IsDesk-after, IsDesk-told}
 
 -- One count more of an object and mode gives it an entry, and no other.
@@ -65,8 +65,7 @@ IsDesk-started Queued parts sessions limit max_local p s session tag part it fou
     (subst (λ (content : Content). Agrees (set_at (content_in parts) p content) (set_at (entries_in sessions) s after.locals.entries) (set_at (waits_in sessions) s after.wait)) (sym here)
     (subst (λ (all : ℕ → List Entry). Agrees (set_at (content_in parts) p (add_wait (content_in parts p) s tag mode is.0)) all (set_at (waits_in sessions) s after.wait)) same
     (subst (λ (own : Option OwnWait). Agrees (set_at (content_in parts) p (add_wait (content_in parts p) s tag mode is.0)) (entries_in sessions) (set_at (waits_in sessions) s own)) (sym wait)
-    (Agrees-join (content_in parts) (entries_in sessions) (waits_in sessions) p s tag mode is.0 (record { tag = tag; mode = mode; owner = owner; is_granted = false; cancel_asked = false }) found.desk.agrees found.partition
-    (queued-in_queue (content_of part) session tag mode is.0 is.1) (ap (waits_in sessions) found.number ∙ none) (record { tag = refl; mode = refl; is_not_granted = refl })))))
+    (Agrees-join (content_in parts) (entries_in sessions) (waits_in sessions) p s tag mode is.0 (record { tag = tag; mode = mode; owner = owner; is_granted = false; cancel_asked = false }) found.desk.agrees found.partition (ap (waits_in sessions) found.number ∙ none) (record { tag = refl; mode = refl; is_not_granted = refl })))))
 
 -- The session is ready for what it awaits.
 pub started_ready : (started : Started) (tag : Tag) (mode : Mode) (owner : Owner) (own : Option OwnWait) (P : OwnWait → Type 0) → own ≡ wait_started started tag mode owner →

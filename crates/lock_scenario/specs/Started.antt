@@ -6,8 +6,8 @@ use Rattle.modes_core.specs.declared.sessions.Owner.{Owner}
 use Rattle.local_locks.specs.declared.records.Entry.{Entry}
 use Rattle.local_locks.specs.Owned.{with_one_more}
 use Rattle.lock_table.specs.Content.{Content, add_hold}
-use Rattle.lock_table.specs.Queue.{Place, WaitingAnswer, add_wait}
-use Rattle.lock_table.specs.Queue as answer
+use Rattle.lock_table.specs.Queue.{WaitingAnswer, add_wait}
+use Rattle.lock_table.specs.declared.answering.Answer.TheVariants as answer
 use Rattle.lock_scenario.specs.declared.acquire.Started.{Started}
 use Rattle.lock_scenario.specs.declared.acquire.Started.TheVariants.{Granted, AlreadyHeld, Queued}
 
@@ -16,7 +16,7 @@ abbrev pub IsStarted : Content → ℕ → Tag → Mode → Content → Started 
 IsStarted before session tag mode after Granted = WaitingAnswer before session tag mode answer.Granted × (after ≡ add_hold before session tag mode)
 IsStarted before session tag mode after AlreadyHeld = after ≡ before
 IsStarted before session tag mode after Queued =
-    (place : Place) × WaitingAnswer before session tag mode (answer.Queued place) × (after ≡ add_wait before session tag mode place)
+    (place : ℕ) × WaitingAnswer before session tag mode (answer.Queued place) × (after ≡ add_wait before session tag mode place)
 
 -- the entries after it
 abbrev pub entries_started : Started → List Entry → Tag → Mode → Owner → List Entry

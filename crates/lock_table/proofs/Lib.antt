@@ -17,4 +17,4 @@ pub mod MovedLemmas
 pub mod QueueLaws
 pub mod FindLemmas
 pub mod WalkLemmas
-pub mod StandingLemmas
+pub mod PlaceLemmas

@@ -5,8 +5,11 @@ use Rattle.std.proofs.lemmas.List.Folds.{list_any-append}
 use Rattle.modes_core.specs.declared.modes.Mode.{Mode}
 use Rattle.modes_core.specs.declared.tags.Tag.{Tag}
 use Rattle.lock_table.specs.Content.{Holds, Wait, Content}
-use Rattle.lock_table.specs.Clash.{Clash, ClashIs, first_waiter}
-use Rattle.lock_table.specs.Queue.{conflicts_with_some, Place, Last, Before, AtOnce, Deadlock, IsFirstAgainst, PlaceAtWaiter, PlaceIs, Answer, answer_of_place, WaitingAnswer, WaitingAnswerAt}
+use Rattle.lock_table.specs.declared.answering.Clash.{Clash}
+use Rattle.lock_table.specs.declared.answering.Answer.{Answer}
+use Rattle.lock_table.specs.declared.answering.Answer.TheVariants.{Granted, Queued, SimpleDeadlock}
+use Rattle.lock_table.specs.Clash.{ClashIs, first_waiter}
+use Rattle.lock_table.specs.Queue.{conflicts_with_some, IsFirstAgainst, AnswerAtWaiter, AnswerByPlace, WaitingAnswer, WaitingAnswerAt}
 use Rattle.lock_table.proofs.QueueLaws.{clash-not_free, no_clash-free}
 
 -- A list has one first element that passes, and one list of those before it.
@@ -35,32 +38,28 @@ first-not_none set queue ahead waiter behind first none =
       against : Wait → Bool
       against wait = conflicts_with_some wait.mode set
 
--- There is one place of a request that meets this waiter.
-one_place_at : (holds : Holds) (s : ℕ) (t : Tag) (m : Mode) (ahead : List Wait) (w : Wait) (one two : Place) → PlaceAtWaiter holds s t m ahead w one → PlaceAtWaiter holds s t m ahead w two → one ≡ two
-one_place_at holds s t m ahead w Last two first second = absurd first
-one_place_at holds s t m ahead w (Deadlock k) Last first second = absurd second
-one_place_at holds s t m ahead w (Deadlock k) (Deadlock l) first second = ap Deadlock (first.1 ∙ sym second.1)
-one_place_at holds s t m ahead w (Deadlock k) AtOnce first second = absurd (both_ways (conflicts_with_some m w.held) second.0 first.0)
-one_place_at holds s t m ahead w (Deadlock k) (Before n) first second = absurd (both_ways (conflicts_with_some m w.held) second.0 first.0)
-one_place_at holds s t m ahead w AtOnce Last first second = absurd second
-one_place_at holds s t m ahead w AtOnce (Deadlock l) first second = absurd (both_ways (conflicts_with_some m w.held) first.0 second.0)
-one_place_at holds s t m ahead w AtOnce AtOnce first second = refl
-one_place_at holds s t m ahead w AtOnce (Before n) first second = absurd (second.1 first.1)
-one_place_at holds s t m ahead w (Before n) Last first second = absurd second
-one_place_at holds s t m ahead w (Before n) (Deadlock l) first second = absurd (both_ways (conflicts_with_some m w.held) first.0 second.0)
-one_place_at holds s t m ahead w (Before n) AtOnce first second = absurd (first.1 second.1)
-one_place_at holds s t m ahead w (Before n) (Before o) first second = ap Before (first.2 ∙ sym second.2)
+-- There is one answer to a request that meets this waiter.
+one_answer-at : (holds : Holds) (s : ℕ) (t : Tag) (m : Mode) (ahead : List Wait) (w : Wait) (one two : Answer) → AnswerAtWaiter holds s t m ahead w one → AnswerAtWaiter holds s t m ahead w two → one ≡ two
+one_answer-at holds s t m ahead w (SimpleDeadlock k) (SimpleDeadlock l) first second = ap SimpleDeadlock (first.1 ∙ sym second.1)
+one_answer-at holds s t m ahead w (SimpleDeadlock k) Granted first second = absurd (both_ways (conflicts_with_some m w.held) second.0 first.0)
+one_answer-at holds s t m ahead w (SimpleDeadlock k) (Queued n) first second = absurd (both_ways (conflicts_with_some m w.held) second.0 first.0)
+one_answer-at holds s t m ahead w Granted (SimpleDeadlock l) first second = absurd (both_ways (conflicts_with_some m w.held) first.0 second.0)
+one_answer-at holds s t m ahead w Granted Granted first second = refl
+one_answer-at holds s t m ahead w Granted (Queued n) first second = absurd (second.1 first.1)
+one_answer-at holds s t m ahead w (Queued n) (SimpleDeadlock l) first second = absurd (both_ways (conflicts_with_some m w.held) first.0 second.0)
+one_answer-at holds s t m ahead w (Queued n) Granted first second = absurd (first.1 second.1)
+one_answer-at holds s t m ahead w (Queued n) (Queued o) first second = ap Queued (first.2 ∙ sym second.2)
 
--- There is one place of a request.
-pub one_place : (c : Content) (s : ℕ) (t : Tag) (m : Mode) (held : Mode → Bool) (one two : Place) → PlaceIs c s t m held one → PlaceIs c s t m held two → one ≡ two
-one_place c s t m held one two (inl first) (inl second) = first.1 ∙ sym second.1
-one_place c s t m held one two (inl first) (inr second) = absurd (first-not_none held (c.waits t) second.0 second.1 second.2 second.3 first.0)
-one_place c s t m held one two (inr first) (inl second) = absurd (first-not_none held (c.waits t) first.0 first.1 first.2 first.3 second.0)
-one_place c s t m held one two (inr first) (inr second) =
-    let same = one_first (λ wait. conflicts_with_some wait.mode held) first.0 second.0 first.1 second.1 first.2 second.2 (sym first.3.parts ∙ second.3.parts)
+-- There is one answer by the place of a request.
+by_place-one : (c : Content) (s : ℕ) (t : Tag) (m : Mode) (one two : Answer) → AnswerByPlace c s t m one → AnswerByPlace c s t m two → one ≡ two
+by_place-one c s t m one two (inl first) (inl second) = first.1 ∙ sym second.1
+by_place-one c s t m one two (inl first) (inr second) = absurd (first-not_none (c.holds s t) (c.waits t) second.0 second.1 second.2 second.3 first.0)
+by_place-one c s t m one two (inr first) (inl second) = absurd (first-not_none (c.holds s t) (c.waits t) first.0 first.1 first.2 first.3 second.0)
+by_place-one c s t m one two (inr first) (inr second) =
+    let same = one_first (λ wait. conflicts_with_some wait.mode (c.holds s t)) first.0 second.0 first.1 second.1 first.2 second.2 (sym first.3.parts ∙ second.3.parts)
     first.3.passed second.3.passed first.3.met second.3.met in
-    one_place_at c.holds s t m second.0 second.1 one two
-    (subst (λ w. PlaceAtWaiter c.holds s t m second.0 w one) same.1 (subst (λ ahead. PlaceAtWaiter c.holds s t m ahead first.1 one) same.0 first.4)) second.4
+    one_answer-at c.holds s t m second.0 second.1 one two
+    (subst (λ w. AnswerAtWaiter c.holds s t m second.0 w one) same.1 (subst (λ ahead. AnswerAtWaiter c.holds s t m ahead first.1 one) same.0 first.4)) second.4
 
 -- There is one answer to a request that may wait.
 pub waiting_answer-one : (c : Content) (s : ℕ) (t : Tag) (m : Mode) (answer other : Answer) → WaitingAnswer c s t m answer → WaitingAnswer c s t m other → answer ≡ other
@@ -74,5 +73,4 @@ waiting_answer-one c s t m answer other one two = at one.0 two.0 one.1 two.1 one
   at None None is its_is first second = first ∙ sym second
   at None (Some its) is its_is first second = absurd (apart its is its_is)
   at (Some clash) None is its_is first second = absurd (apart clash its_is is)
-  at (Some clash) (Some its) is its_is first second =
-      first.2 ∙ ap answer_of_place (one_place c s t m (c.holds s t) first.0 second.0 first.1 second.1) ∙ sym second.2
+  at (Some clash) (Some its) is its_is first second = by_place-one c s t m answer other first second

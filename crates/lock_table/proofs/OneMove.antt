@@ -5,7 +5,8 @@ use Rattle.modes_core.specs.declared.tags.Tag.{Tag}
 use Rattle.lock_table.specs.declared.moves.Move.{Move}
 use Rattle.lock_table.specs.declared.moves.Move.TheVariants.{Keep, Grant, Join, Release, Leave}
 use Rattle.lock_table.specs.Content.{Wait, Content, remove_hold}
-use Rattle.lock_table.specs.Queue.{Place, Queued, WaitingAnswer, some_awaits_conflict, Wakes, add_wait, remove_wait}
+use Rattle.lock_table.specs.declared.answering.Answer.TheVariants.{Queued}
+use Rattle.lock_table.specs.Queue.{WaitingAnswer, some_awaits_conflict, Wakes, add_wait, remove_wait}
 use Rattle.lock_table.specs.Moves.{Moves, WakesFor}
 use Rattle.lock_table.proofs.QueueLaws.{one_wakes}
 use Rattle.lock_table.proofs.OneAnswer.{waiting_answer-one}
@@ -24,7 +25,7 @@ one_woken m before t granted granted' after after' one two =
     ]
 
 -- A request that is to wait joins at one place.
-one_joined : (before : Content) (s : ℕ) (t : Tag) (m : Mode) (place other : Place) → WaitingAnswer before s t m (Queued place) → WaitingAnswer before s t m (Queued other) → place ≡ other
+one_joined : (before : Content) (s : ℕ) (t : Tag) (m : Mode) (place other : ℕ) → WaitingAnswer before s t m (Queued place) → WaitingAnswer before s t m (Queued other) → place ≡ other
 one_joined before s t m place other one two = let same : Queued place ≡ Queued other = waiting_answer-one before s t m (Queued place) (Queued other) one two in cc
 
 -- A move leads to one content, and grants one list of waits.

@@ -1,8 +1,8 @@
-use Rattle.std.proofs.Common.{◌≡◌, ◌≢◌, ℕ, Bool, true, false, ◌||◌, List, [], ◌∷◌, ◌++◌, length, take, drop, Option, Some, None, refl, sym, ap, ◌∙◌, subst, inl, inr, append_assoc}
+use Rattle.std.proofs.Common.{◌≡◌, ◌≢◌, ℕ, Bool, true, false, ◌||◌, List, [], ◌∷◌, ◌++◌, length, Option, Some, None, refl, sym, ap, ◌∙◌, subst, inl, inr, append_assoc, arith}
 use Rattle.std.specs.Prelude.{◌==◌, find}
 use Rattle.std.specs.List.{list_any}
 use Rattle.std.proofs.lemmas.Bool.{cases_Bool, both_ways, false_from_ne_true, or_parts, or_from, ne_eqb, cond-false, cond-true}
-use Rattle.std.proofs.lemmas.List.{append-nil}
+use Rattle.std.proofs.lemmas.List.{append-nil, take_all, drop_all}
 use Rattle.std.proofs.Math.Seq.{take-append_seam, drop-append_seam}
 use Rattle.std.proofs.lemmas.List.Folds.{list_any-append}
 use Rattle.modes_core.specs.declared.modes.Mode.{Mode}
@@ -10,8 +10,10 @@ use Rattle.modes_core.specs.declared.tags.Tag.{Tag}
 use Rattle.modes_core.specs.Conflict.{conflict}
 use Rattle.modes_core.proofs.Laws.{conflict_comm, tag_eq-refl, tag_eq-same}
 use Rattle.lock_table.specs.Content.{Holds, Wait, Content, set_hold, remove_hold}
-use Rattle.lock_table.specs.Clash.{NoConflictingHolder, Clash, ClashIs, ClashAfterWaiters, first_waiter}
-use Rattle.lock_table.specs.Queue.{IsFree, some_awaits_conflict, Place, Last, Before, AtOnce, Deadlock, Granted, Queued, PlaceIs, joined, answer_of_place, ConditionalAnswer, ConditionalAnswerAt, WaitingAnswer, WaitingAnswerAt, SplitsBehind, hold_all, Wakes, NoneFreeBehind, NoneFree, NoConflictAmong, IsSplitOf}
+use Rattle.lock_table.specs.declared.answering.Clash.{Clash}
+use Rattle.lock_table.specs.declared.answering.Answer.TheVariants.{Queued}
+use Rattle.lock_table.specs.Clash.{NoConflictingHolder, ClashIs, ClashAfterWaiters, first_waiter}
+use Rattle.lock_table.specs.Queue.{IsFree, some_awaits_conflict, AnswerByPlace, joined, WaitingAnswer, WaitingAnswerAt, SplitsBehind, hold_all, Wakes, NoneFreeBehind, NoneFree, NoConflictAmong, IsSplitOf}
 use Rattle.lock_table.specs.Put.{put}
 use Rattle.modes_core.specs.Tag.{tag_eq}
 use Rattle.lock_table.proofs.PutLemmas.{put_here, put_else}
@@ -254,38 +256,34 @@ clash-not_free (Some w) c s t m clash is e free = both_ways (some_awaits_conflic
         | inr fail ↦ ap (λ b. b || some_awaits_conflict queue m) fail ∙ found_passes queue (sym (cond-false (conflict m v.mode) (Some v) (find (λ w. conflict m w.mode) queue) fail) ∙ some)
       ]
 
-queued-place : (place p : Place) → Queued place ≡ answer_of_place p → place ≡ p
-queued-place place Last e = cc
-queued-place place (Before n) e = cc
-queued-place place AtOnce e = absurd (cc)
-queued-place place (Deadlock k) e = absurd (cc)
-
 -- A request that is to wait is not free where it joins, so that it leaves none free.
-pub joined-none_free : (c : Content) (s : ℕ) (t : Tag) (m : Mode) (place : Place) (held : Mode → Bool) → WaitingAnswer c s t m (Queued place) → NoneFree c t → NoneFreeBehind [] c.holds t (joined place (record { session = s; mode = m; held = held }) (c.waits t))
+pub joined-none_free : (c : Content) (s : ℕ) (t : Tag) (m : Mode) (place : ℕ) (held : Mode → Bool) → WaitingAnswer c s t m (Queued place) → NoneFree c t → NoneFreeBehind [] c.holds t (joined place (record { session = s; mode = m; held = held }) (c.waits t))
 joined-none_free c s t m place held answer none = at answer.0 answer.1 answer.2 where
   w : Wait
   w = record { session = s; mode = m; held = held }
 
-  last : (clash : Clash) → ClashIs c s t m (Some clash) → NoneFreeBehind [] c.holds t (c.waits t ++ w ∷ [])
-  last clash is = NoneFreeBehind-join [] c.holds t (c.waits t) [] w (subst (λ q. NoneFreeBehind [] c.holds t q) (sym (append-nil (c.waits t))) none)
-      (clash-not_free (first_waiter (c.waits t) m) c s t m clash refl is)
+  last : (clash : Clash) → ClashIs c s t m (Some clash) → NoneFreeBehind [] c.holds t (joined (length (c.waits t)) w (c.waits t))
+  last clash is =
+      rw (take_all (length (c.waits t)) (c.waits t) (omega arith), drop_all (length (c.waits t)) (c.waits t) (omega arith))
+      (NoneFreeBehind-join [] c.holds t (c.waits t) [] w (subst (λ q. NoneFreeBehind [] c.holds t q) (sym (append-nil (c.waits t))) none)
+      (clash-not_free (first_waiter (c.waits t) m) c s t m clash refl is))
 
-  before : (ahead behind : List Wait) (first : Wait) → c.waits t ≡ ahead ++ first ∷ behind → (IsFree c.holds s t m ahead → ⊥) → NoneFreeBehind [] c.holds t (take (length ahead) (c.waits t) ++ w ∷ drop (length ahead) (c.waits t))
+  before : (ahead behind : List Wait) (first : Wait) → c.waits t ≡ ahead ++ first ∷ behind → (IsFree c.holds s t m ahead → ⊥) → NoneFreeBehind [] c.holds t (joined (length ahead) w (c.waits t))
   before ahead behind first parts not_free =
       rw (parts, take-append_seam ahead (first ∷ behind), drop-append_seam ahead (first ∷ behind))
       (NoneFreeBehind-join [] c.holds t ahead (first ∷ behind) w (subst (λ q. NoneFreeBehind [] c.holds t q) parts none) not_free)
 
-  at_place : (p : Place) (clash : Clash) → ClashIs c s t m (Some clash) → PlaceIs c s t m (c.holds s t) p → NoneFreeBehind [] c.holds t (joined p w (c.waits t))
-  at_place p clash is (inl e) = subst (λ q. NoneFreeBehind [] c.holds t (joined q w (c.waits t))) (sym e.1) (last clash is)
-  at_place Last clash is (inr found) = last clash is
-  at_place AtOnce clash is (inr found) = none
-  at_place (Deadlock k) clash is (inr found) = none
-  at_place (Before n) clash is (inr found) =
-      subst (λ k. NoneFreeBehind [] c.holds t (take k (c.waits t) ++ w ∷ drop k (c.waits t))) (sym found.4.2) (before found.0 found.2 found.1 found.3.parts found.4.1)
+  by_place : (clash : Clash) → ClashIs c s t m (Some clash) → AnswerByPlace c s t m (Queued place) → NoneFreeBehind [] c.holds t (joined place w (c.waits t))
+  by_place clash is (inl end) =
+      let e = end.1 in
+      let at_end : length (c.waits t) ≡ place = cc in
+      subst (λ k. NoneFreeBehind [] c.holds t (joined k w (c.waits t))) at_end (last clash is)
+  by_place clash is (inr found) =
+      subst (λ k. NoneFreeBehind [] c.holds t (joined k w (c.waits t))) (sym found.4.2) (before found.0 found.2 found.1 found.3.parts found.4.1)
 
   at : (clash : Option Clash) → ClashIs c s t m clash → WaitingAnswerAt clash c s t m (Queued place) → NoneFreeBehind [] c.holds t (joined place w (c.waits t))
   at None is e = absurd (cc)
-  at (Some clash) is found = rw (queued-place place found.0 found.2) (at_place found.0 clash is found.1)
+  at (Some clash) is found = by_place clash is found
 
 pub woken-split : (before : Content) (t : Tag) (granted : List Wait) (after : Content) → Wakes before t granted after → IsSplitOf (before.waits t) granted (after.waits t)
 woken-split before t granted after wakes =
@@ -309,9 +307,3 @@ no_clash-free None c s t m is free = (free, none_found (c.waits t) (sym is)) whe
             ∙ none_found queue (sym (cond-false (conflict m v.mode) (Some v) (find (λ w. conflict m w.mode) queue) fail) ∙ none)
       ]
 no_clash-free (Some w) c s t m is e = absurd (cc)
-
-pub conditional-free : (c : Content) (s : ℕ) (t : Tag) (m : Mode) → ConditionalAnswer c s t m Granted → NoConflictingHolder c.holds s t m × (some_awaits_conflict (c.waits t) m ≡ false)
-conditional-free c s t m answer = at answer.0 answer.1 answer.2 where
-  at : (clash : Option Clash) → ClashIs c s t m clash → ConditionalAnswerAt clash Granted → NoConflictingHolder c.holds s t m × (some_awaits_conflict (c.waits t) m ≡ false)
-  at None is e = no_clash-free (first_waiter (c.waits t) m) c s t m refl is
-  at (Some clash) is e = absurd (cc)

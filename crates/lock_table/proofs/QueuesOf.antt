@@ -2,12 +2,12 @@ use Rattle.std.proofs.Common.{◌≡◌, ◌≢◌, ◌⊎◌, ℕ, Bool, true, 
 use Rattle.std.specs.Prelude.{filter}
 use Rattle.std.specs.List.{list_any}
 use Rattle.std.proofs.lemmas.Bool.{cases_eq, eq-eqb, ne_eqb, cond-true, cond-false, both_ways}
-use Rattle.std.proofs.lemmas.List.{append-nil, take-append-drop}
+use Rattle.std.proofs.lemmas.List.{take-append-drop}
 use Rattle.std.proofs.lemmas.List.Elements.{filter-append}
 use Rattle.modes_core.specs.declared.modes.Mode.{Mode}
 use Rattle.modes_core.specs.Mode.{mode_eq}
 use Rattle.lock_table.specs.Content.{Wait}
-use Rattle.lock_table.specs.Queue.{Place, Last, Before, AtOnce, Deadlock, joined, waits_there, awaits_mode, queue_without, IsSplitOf}
+use Rattle.lock_table.specs.Queue.{joined, waits_there, awaits_mode, queue_without, IsSplitOf}
 
 -- A session's waits in a queue.
 
@@ -83,34 +83,21 @@ pub granted-there : (k : ℕ) (queue granted left : List Wait) → IsSplitOf que
 granted-there k queue granted left split none = none-there k granted (split-none k queue granted left split none).0
 
 -- A queue that another session joins.
-pub joined-other : (k : ℕ) (place : Place) (w : Wait) (queue : List Wait) → w.session ≢ k → of_session k (joined place w queue) ≡ of_session k queue
-joined-other k Last w queue other =
-    filter-append (λ wait. wait.session == k) queue (w ∷ []) ∙ ap (λ l. of_session k queue ++ l) (of-other k w [] other) ∙ append-nil (of_session k queue)
-joined-other k (Before n) w queue other =
+pub joined-other : (k n : ℕ) (w : Wait) (queue : List Wait) → w.session ≢ k → of_session k (joined n w queue) ≡ of_session k queue
+joined-other k n w queue other =
     filter-append (λ wait. wait.session == k) (take n queue) (w ∷ drop n queue) ∙ ap (λ l. of_session k (take n queue) ++ l) (of-other k w (drop n queue) other)
     ∙ sym (filter-append (λ wait. wait.session == k) (take n queue) (drop n queue)) ∙ ap (of_session k) (take-append-drop n queue)
-joined-other k AtOnce w queue other = refl
-joined-other k (Deadlock j) w queue other = refl
-
--- A place in the queue.
-pub data IsInQueue (place : Place) : Type 0 where
-  at_end : place ≡ Last → IsInQueue place
-  ahead_of : (n : ℕ) → place ≡ Before n → IsInQueue place
 
 both_none : (xs ys : List Wait) → xs ++ ys ≡ [] → (xs ≡ []) × (ys ≡ [])
 both_none [] ys e = (refl, e)
 both_none (x ∷ xs) ys e = absurd (cc)
 
 -- A queue that a session with no wait in it joins has its one wait then.
-pub joined-its : (k : ℕ) (place : Place) (w : Wait) (queue : List Wait) → IsInQueue place → w.session ≡ k → of_session k queue ≡ [] → of_session k (joined place w queue) ≡ w ∷ []
-joined-its k place w queue (at_end is) its none =
-    ap (λ p. of_session k (joined p w queue)) is
-    ∙ filter-append (λ wait. wait.session == k) queue (w ∷ []) ∙ ap (λ l. l ++ of_session k (w ∷ [])) none ∙ of-its k w [] its
-joined-its k place w queue (ahead_of n is) its none =
+pub joined-its : (k n : ℕ) (w : Wait) (queue : List Wait) → w.session ≡ k → of_session k queue ≡ [] → of_session k (joined n w queue) ≡ w ∷ []
+joined-its k n w queue its none =
     let parts = both_none (of_session k (take n queue)) (of_session k (drop n queue))
     (sym (filter-append (λ wait. wait.session == k) (take n queue) (drop n queue)) ∙ ap (of_session k) (take-append-drop n queue) ∙ none) in
-    ap (λ p. of_session k (joined p w queue)) is
-    ∙ filter-append (λ wait. wait.session == k) (take n queue) (w ∷ drop n queue) ∙ ap (λ l. l ++ of_session k (w ∷ drop n queue)) parts.0
+    filter-append (λ wait. wait.session == k) (take n queue) (w ∷ drop n queue) ∙ ap (λ l. l ++ of_session k (w ∷ drop n queue)) parts.0
     ∙ of-its k w (drop n queue) its ∙ ap (λ l. w ∷ l) parts.1
 
 -- The queue without a session's wait.

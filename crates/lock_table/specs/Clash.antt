@@ -1,10 +1,10 @@
 use Rattle.std.specs.Prelude.{◌≡◌, ◌≢◌, ℕ, ◌<◌, true, false, List, Option, Some, None, find, nat_lt, nat_le, ◌==◌, ◌||◌, ◌&&◌, if◌then◌else◌}
 use Rattle.modes_core.specs.declared.modes.Mode.{Mode}
 use Rattle.modes_core.specs.declared.tags.Tag.{Tag}
-use Rattle.modes_core.specs.declared.refusals.How.{How}
 use Rattle.modes_core.specs.declared.refusals.How.TheVariants.{Held, Awaited}
 use Rattle.modes_core.specs.Mode.{number_of}
 use Rattle.modes_core.specs.Conflict.{conflict}
+use Rattle.lock_table.specs.declared.answering.Clash.{Clash}
 use Rattle.lock_table.specs.Content.{Holds, Wait, Content}
 
 -- No session other than this one holds the object in a mode that conflicts with the mode.
@@ -36,18 +36,17 @@ lower_holder_of (Some lowest) session mode =
 abbrev pub first_waiter : List Wait → Mode → Option Wait
 first_waiter waits mode = find (λ w. conflict mode w.mode) waits
 
--- What stands in the way of a request: the first waiter that awaits a conflicting mode, else the conflicting holder.
-pub record Clash : Type 0 where
-  pub session : ℕ
-  pub mode : Mode
-  pub how : How
-
 abbrev pub ClashAfterWaiters : Option Wait → Content → ℕ → Tag → Mode → Option Clash → Type 0
 ClashAfterWaiters (Some w) content session tag mode found = found ≡ Some (record { session = w.session; mode = w.mode; how = Awaited })
 ClashAfterWaiters None content session tag mode None = NoConflictingHolder content.holds session tag mode
 ClashAfterWaiters None content session tag mode (Some found) =
     IsConflictingHolder content.holds session tag mode found.session found.mode × (found.how ≡ Held)
 
--- what a request for the mode on the object clashes with in the content, if anything
+-- What a request for the mode on the object clashes with in the content, if anything: the first waiter that awaits a
+-- conflicting mode, else the conflicting holder.
 abbrev pub ClashIs : Content → ℕ → Tag → Mode → Option Clash → Type 0
 ClashIs content session tag mode found = ClashAfterWaiters (first_waiter (content.waits tag) mode) content session tag mode found
+
+-- Something is in the way of a request for the mode.
+abbrev pub Clashes : Content → ℕ → Tag → Mode → Type 0
+Clashes content session tag mode = (clash : Clash) × ClashIs content session tag mode (Some clash)

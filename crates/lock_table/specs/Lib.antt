@@ -8,8 +8,6 @@ pub mod PartWaits
 pub mod PlainPart
 pub mod Queue
 pub mod Walk
-pub mod Standing
-pub mod Told
 pub mod Moves
 pub mod Waiter
 pub mod OwnWait

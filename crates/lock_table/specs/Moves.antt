@@ -6,7 +6,8 @@ use Rattle.modes_core.specs.Tag.{partition_of}
 use Rattle.lock_table.specs.declared.moves.Move.{Move}
 use Rattle.lock_table.specs.declared.moves.Move.TheVariants.{Keep, Grant, Join, Release, Leave}
 use Rattle.lock_table.specs.Content.{Holds, Wait, Content, add_hold, remove_hold}
-use Rattle.lock_table.specs.Queue.{Place, some_awaits_conflict, waits_there, WaitingAnswer, Granted, Queued, Wakes, add_wait, remove_wait}
+use Rattle.lock_table.specs.declared.answering.Answer.TheVariants.{Granted, Queued}
+use Rattle.lock_table.specs.Queue.{some_awaits_conflict, waits_there, WaitingAnswer, Wakes, add_wait, remove_wait}
 use Rattle.lock_table.specs.OwnWait.{OwnWait}
 
 -- After a hold of the mode is gone, the object's queue is woken where somebody awaits a mode in conflict with it, and only there.
@@ -20,7 +21,7 @@ Moves before session Keep granted after = (granted ≡ []) × (after ≡ before)
 Moves before session (Grant tag mode) granted after =
     WaitingAnswer before session tag mode Granted × (granted ≡ []) × (after ≡ add_hold before session tag mode)
 Moves before session (Join tag mode) granted after =
-    (place : Place) × WaitingAnswer before session tag mode (Queued place) × (granted ≡ []) × (after ≡ add_wait before session tag mode place)
+    (place : ℕ) × WaitingAnswer before session tag mode (Queued place) × (granted ≡ []) × (after ≡ add_wait before session tag mode place)
 Moves before session (Release tag mode) granted after =
     (before.holds session tag mode ≡ true) × WakesFor mode (remove_hold before session tag mode) tag granted after
 Moves before session (Leave tag) granted after =

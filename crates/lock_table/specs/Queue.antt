@@ -8,7 +8,10 @@ use Rattle.modes_core.specs.Mode.{mode_eq}
 use Rattle.modes_core.specs.Tag.{tag_eq}
 use Rattle.lock_table.specs.Put.{put}
 use Rattle.lock_table.specs.Content.{Holds, Wait, Content, set_hold}
-use Rattle.lock_table.specs.Clash.{NoConflictingHolder, Clash, ClashIs}
+use Rattle.lock_table.specs.Clash.{NoConflictingHolder, ClashIs}
+use Rattle.lock_table.specs.declared.answering.Clash.{Clash}
+use Rattle.lock_table.specs.declared.answering.Answer.{Answer}
+use Rattle.lock_table.specs.declared.answering.Answer.TheVariants.{Granted, Queued, SimpleDeadlock}
 
 -- whether the mode conflicts with a mode of the set
 abbrev pub conflicts_with_some : Mode → (Mode → Bool) → Bool
@@ -23,15 +26,7 @@ pub record IsFree (holds : Holds) (session : ℕ) (tag : Tag) (mode : Mode) (ahe
   pub beside_holders : NoConflictingHolder holds session tag mode
   pub behind_waiters : some_awaits_conflict ahead mode ≡ false
 
--- The place of a new waiter in the queue of its object.
-
--- Where a new waiter goes: to the end of the queue; before the waiter at a place, counted from the front; not into the
--- queue but to its hold at once; or nowhere, since it and the session named would wait for one another.
-pub data Place : Type 0 where
-  Last : Place
-  Before : ℕ → Place
-  AtOnce : Place
-  Deadlock : ℕ → Place
+-- What a request that may wait is answered.
 
 -- The waiter is the first one of the queue whose mode conflicts with a mode of the set; these are ahead of it, and these behind.
 pub record IsFirstAgainst (set : Mode → Bool) (queue ahead : List Wait) (waiter : Wait) (behind : List Wait) : Type 0 where
@@ -39,29 +34,35 @@ pub record IsFirstAgainst (set : Mode → Bool) (queue ahead : List Wait) (waite
   pub passed : list_any (λ wait. conflicts_with_some wait.mode set) ahead ≡ false
   pub met : conflicts_with_some waiter.mode set ≡ true
 
--- The place of a request that meets this waiter, with these ahead of it: the waiter's own holds may stand in its way, or
+-- The answer to a request that meets this waiter, with these ahead of it: the waiter's own holds may stand in its way, or
 -- nothing may, or else it goes before the waiter (the early insertion of ProcSleep in proc.c).
-abbrev pub PlaceAtWaiter : Holds → ℕ → Tag → Mode → List Wait → Wait → Place → Type 0
-PlaceAtWaiter holds session tag mode ahead waiter Last = ⊥
-PlaceAtWaiter holds session tag mode ahead waiter (Deadlock other) = (conflicts_with_some mode waiter.held ≡ true) × (other ≡ waiter.session)
-PlaceAtWaiter holds session tag mode ahead waiter AtOnce = (conflicts_with_some mode waiter.held ≡ false) × IsFree holds session tag mode ahead
-PlaceAtWaiter holds session tag mode ahead waiter (Before place) =
+abbrev pub AnswerAtWaiter : Holds → ℕ → Tag → Mode → List Wait → Wait → Answer → Type 0
+AnswerAtWaiter holds session tag mode ahead waiter (SimpleDeadlock other) = (conflicts_with_some mode waiter.held ≡ true) × (other ≡ waiter.session)
+AnswerAtWaiter holds session tag mode ahead waiter Granted = (conflicts_with_some mode waiter.held ≡ false) × IsFree holds session tag mode ahead
+AnswerAtWaiter holds session tag mode ahead waiter (Queued place) =
     (conflicts_with_some mode waiter.held ≡ false) × (IsFree holds session tag mode ahead → ⊥) × (place ≡ length ahead)
 
--- The place of a request of a session that holds these modes of the object: with no waiter whose mode conflicts with
--- one of them it is last, else it depends on the first such waiter.
-abbrev pub PlaceIs : Content → ℕ → Tag → Mode → (Mode → Bool) → Place → Type 0
-PlaceIs content session tag mode held place =
-    ((list_any (λ wait. conflicts_with_some wait.mode held) (content.waits tag) ≡ false) × (place ≡ Last))
-    ⊎ ((ahead : List Wait) × (waiter : Wait) × (behind : List Wait) × IsFirstAgainst held (content.waits tag) ahead waiter behind
-    × PlaceAtWaiter content.holds session tag mode ahead waiter place)
+-- The answer to a request that something stands in the way of: behind all where no waiter's mode conflicts with one that its
+-- session holds of the object, and else by the first such waiter.
+abbrev pub AnswerByPlace : Content → ℕ → Tag → Mode → Answer → Type 0
+AnswerByPlace content session tag mode answer =
+    ((list_any (λ wait. conflicts_with_some wait.mode (content.holds session tag)) (content.waits tag) ≡ false) × (answer ≡ Queued (length (content.waits tag))))
+    ⊎ ((ahead : List Wait) × (waiter : Wait) × (behind : List Wait) × IsFirstAgainst (content.holds session tag) (content.waits tag) ahead waiter behind
+    × AnswerAtWaiter content.holds session tag mode ahead waiter answer)
 
--- the queue with a new wait at its place
-abbrev pub joined : Place → Wait → List Wait → List Wait
-joined Last wait queue = queue ++ wait ∷ []
-joined (Before place) wait queue = take place queue ++ wait ∷ drop place queue
-joined AtOnce wait queue = queue
-joined (Deadlock other) wait queue = queue
+abbrev pub WaitingAnswerAt : Option Clash → Content → ℕ → Tag → Mode → Answer → Type 0
+WaitingAnswerAt None content session tag mode answer = answer ≡ Granted
+WaitingAnswerAt (Some clash) content session tag mode answer = AnswerByPlace content session tag mode answer
+
+-- A request that may wait is granted where it clashes with nothing, and else answered by its place. (One that may not wait
+-- is granted where it clashes with nothing, and else refused with what it clashes with: `ClashIs` is its answer.)
+abbrev pub WaitingAnswer : Content → ℕ → Tag → Mode → Answer → Type 0
+WaitingAnswer content session tag mode answer =
+    (clash : Option Clash) × ClashIs content session tag mode clash × WaitingAnswerAt clash content session tag mode answer
+
+-- the queue with a new wait at this place, counted from the front: before the wait there, or behind all
+abbrev pub joined : ℕ → Wait → List Wait → List Wait
+joined place wait queue = take place queue ++ wait ∷ drop place queue
 
 -- A session's wait in a queue.
 
@@ -90,49 +91,13 @@ abbrev pub joining_wait : Content → ℕ → Tag → Mode → Wait
 joining_wait content session tag mode = record { session = session; mode = mode; held = content.holds session tag }
 
 -- the content with one wait more, at its place
-abbrev pub add_wait : Content → ℕ → Tag → Mode → Place → Content
+abbrev pub add_wait : Content → ℕ → Tag → Mode → ℕ → Content
 add_wait content session tag mode place =
     with_queue content tag (joined place (joining_wait content session tag mode) (content.waits tag))
 
 -- the content with the session's wait on the object gone
 abbrev pub remove_wait : Content → ℕ → Tag → Content
 remove_wait content session tag = with_queue content tag (queue_without (content.waits tag) session)
-
--- What a request is answered.
-
--- A request is granted; or it is refused with what it clashes with; or it is refused since it and a session would wait for
--- one another; or it joins the queue at a place.
-pub data Answer : Type 0 where
-  Granted : Answer
-  Conflict : Clash → Answer
-  SimpleDeadlock : ℕ → Answer
-  Queued : Place → Answer
-
--- the answer to a request that may wait and that something stands in the way of, by its place
-abbrev pub answer_of_place : Place → Answer
-answer_of_place Last = Queued Last
-answer_of_place (Before place) = Queued (Before place)
-answer_of_place AtOnce = Granted
-answer_of_place (Deadlock other) = SimpleDeadlock other
-
-abbrev pub ConditionalAnswerAt : Option Clash → Answer → Type 0
-ConditionalAnswerAt None answer = answer ≡ Granted
-ConditionalAnswerAt (Some clash) answer = answer ≡ Conflict clash
-
--- A conditional request is granted where it clashes with nothing, and else refused.
-abbrev pub ConditionalAnswer : Content → ℕ → Tag → Mode → Answer → Type 0
-ConditionalAnswer content session tag mode answer =
-    (clash : Option Clash) × ClashIs content session tag mode clash × ConditionalAnswerAt clash answer
-
-abbrev pub WaitingAnswerAt : Option Clash → Content → ℕ → Tag → Mode → Answer → Type 0
-WaitingAnswerAt None content session tag mode answer = answer ≡ Granted
-WaitingAnswerAt (Some clash) content session tag mode answer =
-    (place : Place) × PlaceIs content session tag mode (content.holds session tag) place × (answer ≡ answer_of_place place)
-
--- A request that may wait is granted where it clashes with nothing, and else answered by its place.
-abbrev pub WaitingAnswer : Content → ℕ → Tag → Mode → Answer → Type 0
-WaitingAnswer content session tag mode answer =
-    (clash : Option Clash) × ClashIs content session tag mode clash × WaitingAnswerAt clash content session tag mode answer
 
 -- The wakeup of an object's queue (ProcLockWakeup in proc.c).
 

@@ -1,16 +1,15 @@
-//! What a content answers a lock request: what the request clashes with, and where it stands in the
+//! What a content answers a lock request: what the request clashes with, and where it goes in the
 //! object's queue. Each function here only reads, and works on any keeper of a partition's content.
 
-ghost use Rattle.std.specs.Prelude.{option_map};
 ghost use Rattle.lock_table.specs.Clash.{ClashIs};
-ghost use Rattle.lock_table.specs.Told.{clash_of, IsTold};
+ghost use Rattle.lock_table.specs.Queue.{WaitingAnswer};
 
 pub mod place;
 pub mod walk;
 
 use crate::part_table::PartTable;
 use modes_core::{How, Mode, SessionId, Tag};
-pub use place::{Standing, standing_of};
+pub use place::answer_by_place;
 pub use walk::first_against;
 
 /// What stands in the way of a request: another session, with its mode.
@@ -25,7 +24,7 @@ pub struct Clash {
 /// mode, else the lowest-numbered session that holds one (`LockCheckConflicts` in lock.c, after the
 /// look at `waitMask`).
 pub fn clash_with<P: PartTable>(part: &P, session: SessionId, tag: Tag, mode: Mode) -> Option<Clash>
-    ensures { ClashIs (P.content part.now) session tag mode (option_map clash_of result) }
+    ensures { ClashIs (P.content part.now) session tag mode result }
 {
     if let Some(waiter) = first_against(part, tag, mode) {
         return Some(Clash {
@@ -42,29 +41,25 @@ pub fn clash_with<P: PartTable>(part: &P, session: SessionId, tag: Tag, mode: Mo
     })
 }
 
-/// What a request that may wait is told.
+/// What a request that may wait is answered.
 #[derive(Clone, Copy, Debug, PartialEq, Eq)]
-pub enum Told {
+pub enum Answer {
     /// It is to have its hold.
     Granted,
-    /// It is to wait before the waiter at this place of the queue, counted from the front. Behind all
-    /// where nobody is there.
-    InQueue(usize),
+    /// It is to wait before the waiter at this place of the queue, counted from the front, and behind all
+    /// where the place is the number of its waiters.
+    Queued(usize),
     /// It is refused: it and this session would wait for one another.
-    Deadlock(SessionId),
+    SimpleDeadlock(SessionId),
 }
 
 /// The answer to a request for the mode that may wait: granted where it clashes with nothing, and else
 /// by its place in the queue (`LockAcquireExtended` in lock.c, with `ProcSleep` in proc.c).
-pub fn waiting_answer<P: PartTable>(part: &P, session: SessionId, tag: Tag, mode: Mode) -> Told
-    ensures { IsTold (P.content part.now) session tag mode result }
+pub fn waiting_answer<P: PartTable>(part: &P, session: SessionId, tag: Tag, mode: Mode) -> Answer
+    ensures { WaitingAnswer (P.content part.now) session tag mode result }
 {
-    let Some(_) = clash_with(part, session, tag, mode) else {
-        return Told::Granted;
-    };
-    match standing_of(part, session, tag, mode) {
-        Standing::InQueue(place) => Told::InQueue(place),
-        Standing::AtOnce => Told::Granted,
-        Standing::Deadlock(other) => Told::Deadlock(other),
+    match clash_with(part, session, tag, mode) {
+        None => Answer::Granted,
+        Some(_) => answer_by_place(part, session, tag, mode),
     }
 }

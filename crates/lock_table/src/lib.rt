@@ -13,9 +13,7 @@ pub mod request;
 pub mod rows;
 pub mod waits;
 
-pub use answering::{
-    Clash, Standing, Told, clash_with, first_against, standing_of, waiting_answer,
-};
+pub use answering::{Answer, Clash, answer_by_place, clash_with, first_against, waiting_answer};
 pub use moves::Move;
 pub use no_memory::NoMemory;
 pub use part_table::PartTable;

@@ -3,7 +3,7 @@ ghost use Rattle.modes_core.specs.ModeSet.{set_has};
 ghost use Rattle.lock_table.specs.Content.{Wait, Content, add_hold, remove_hold};
 ghost use Rattle.lock_table.specs.Clash.{HolderInTheWay};
 ghost use Rattle.lock_table.specs.Listing.{AppendsListing};
-ghost use Rattle.lock_table.specs.Queue.{Before, Wakes, awaits_mode, waits_there, wait_in, add_wait, remove_wait};
+ghost use Rattle.lock_table.specs.Queue.{Wakes, awaits_mode, waits_there, wait_in, add_wait, remove_wait};
 ghost use Rattle.lock_table.specs.Waiter.{wait_of, whose_and_mode};
 ghost use Rattle.lock_table.specs.declared.request.Request.{Request};
 
@@ -71,7 +71,7 @@ pub trait PartTable {
         requires begun { begun self.old ≡ Some (record { session = session; tag = tag; mode = mode }) }
         requires no_wait { waits_there ((content self.old).waits tag) session ≡ false }
         requires place { place ≤ length ((content self.old).waits tag) }
-        ensures content { content self.new ≡ add_wait (content self.old) session tag mode (Before place) }
+        ensures content { content self.new ≡ add_wait (content self.old) session tag mode place }
         ensures ended { begun self.new ≡ None };
 
     /// Takes the session's wait out of the object's queue (`RemoveFromWaitQueue` in lock.c), and says for

@@ -6,8 +6,10 @@ ghost use Rattle.std.specs.List.{list_any};
 ghost use Rattle.modes_core.specs.declared.modes.Mode.{Mode};
 ghost use Rattle.modes_core.specs.declared.tags.Tag.{Tag};
 ghost use Rattle.lock_table.specs.Content.{Wait, Content, remove_hold};
-ghost use Rattle.lock_table.specs.Clash.{NoConflictingHolder};
-ghost use Rattle.lock_table.specs.Queue.{Place, Answer, Granted, Queued, some_awaits_conflict, joined, ConditionalAnswer, WaitingAnswer, Wakes, NoneFreeBehind, NoneFree, NoConflictAmong, IsSplitOf};
+ghost use Rattle.lock_table.specs.Clash.{NoConflictingHolder, ClashIs};
+ghost use Rattle.lock_table.specs.declared.answering.Answer.{Answer};
+ghost use Rattle.lock_table.specs.declared.answering.Answer.TheVariants.{Granted, Queued};
+ghost use Rattle.lock_table.specs.Queue.{some_awaits_conflict, joined, WaitingAnswer, Wakes, NoneFreeBehind, NoneFree, NoConflictAmong, IsSplitOf};
 
 /// A request that may wait and is granted conflicts with no other session's hold.
 pub fn what_is_granted_conflicts_with_no_holder()
@@ -15,11 +17,18 @@ pub fn what_is_granted_conflicts_with_no_holder()
         WaitingAnswer content session tag mode Granted → NoConflictingHolder content.holds session tag mode }
 {}
 
-/// A conditional request that is granted conflicts with no other session's hold and with no wait.
+/// A conditional request that is granted, since it clashes with nothing, conflicts with no other
+/// session's hold and with no wait.
 pub fn what_is_granted_at_once_conflicts_with_nothing()
     ensures { (content : Content) (session : ℕ) (tag : Tag) (mode : Mode) →
-        ConditionalAnswer content session tag mode Granted →
+        ClashIs content session tag mode None →
         NoConflictingHolder content.holds session tag mode × (some_awaits_conflict (content.waits tag) mode ≡ false) }
+{}
+
+/// A conditional request that is granted, since it clashes with nothing, is granted also if it may wait.
+pub fn what_is_granted_at_once_need_not_wait()
+    ensures { (content : Content) (session : ℕ) (tag : Tag) (mode : Mode) →
+        ClashIs content session tag mode None → WaitingAnswer content session tag mode Granted }
 {}
 
 /// Where no two sessions' holds conflict, none do after a wakeup.
@@ -60,7 +69,7 @@ pub fn waking_again_changes_nothing()
 
 /// Where nobody in the queue is free to go, nobody is once a request has joined it at its place.
 pub fn joining_leaves_none_free()
-    ensures { (content : Content) (session : ℕ) (tag : Tag) (mode : Mode) (place : Place) →
+    ensures { (content : Content) (session : ℕ) (tag : Tag) (mode : Mode) (place : ℕ) →
         WaitingAnswer content session tag mode (Queued place) → NoneFree content tag →
         NoneFreeBehind [] content.holds tag
         (joined place (record { session = session; mode = mode; held = content.holds session tag }) (content.waits tag)) }

@@ -1,9 +1,9 @@
 ghost use Rattle.std.specs.Prelude.{◌≡◌, ◌≢◌, false, IfOk, IfErr, OnErr};
 ghost use Rattle.lock_table.specs.Queue.{waits_there};
-ghost use Rattle.lock_table.specs.Told.{Clashes};
+ghost use Rattle.lock_table.specs.Clash.{Clashes};
 ghost use Rattle.wait_queue.specs.Decide.{IsDecided, RefusedFor};
 
-use lock_table::{PartTable, Standing, clash_with, standing_of};
+use lock_table::{Answer, PartTable, answer_by_place, clash_with};
 use modes_core::{Mode, Refusal, SessionId, Tag};
 
 /// Whether a request may wait (`dontWait` of `LockAcquireExtended` in lock.c).
@@ -108,16 +108,16 @@ fn settle<P: PartTable>(
     ensures unchanged { OnErr result (P.content part.new ≡ P.content part.old) }
     ensures ended { P.begun part.new ≡ None }
 {
-    match standing_of(part, session, tag, mode) {
-        Standing::InQueue(place) => {
+    match answer_by_place(part, session, tag, mode) {
+        Answer::Queued(place) => {
             part.join(session, tag, mode, place);
             Ok(Decision::Queued)
         }
-        Standing::AtOnce => {
+        Answer::Granted => {
             part.grant(session, tag, mode);
             Ok(Decision::Granted)
         }
-        Standing::Deadlock(other) => {
+        Answer::SimpleDeadlock(other) => {
             part.withdraw(session, tag, mode);
             Err(Refusal::SimpleDeadlock { session: other })
         }

@@ -4,8 +4,7 @@ use Rattle.std.proofs.lemmas.Bool.{cases_Bool, both_ways, false≢true, and_part
 use Rattle.modes_core.specs.declared.modes.Mode.{Mode}
 use Rattle.modes_core.specs.declared.tags.Tag.{Tag}
 use Rattle.modes_core.specs.Tag.{partition_of}
-use Rattle.lock_table.specs.declared.answering.Told.{Told}
-use Rattle.lock_table.specs.declared.answering.Told.TheVariants as told
+use Rattle.lock_table.specs.declared.answering.Answer.TheVariants.{Granted}
 use Rattle.lock_table.specs.declared.moves.Move.{Move}
 use Rattle.lock_table.specs.declared.moves.Move.TheVariants.{Keep, Grant, Join, Release, Leave}
 use Rattle.lock_world.specs.declared.events.Step.TheVariants.{TakeExclusive, PutExclusive}
@@ -15,8 +14,7 @@ use Rattle.lock_model.specs.declared.machine.state.Machine.{Machine}
 use Rattle.lock_model.specs.declared.machine.state.Contents.{Contents}
 use Rattle.lw_word.specs.LightweightWord.{free_word, taken_word, put_word, IsHeldByNobody}
 use Rattle.lock_table.specs.Content.{Wait, Content, add_hold, remove_hold}
-use Rattle.lock_table.specs.Told.{IsTold}
-use Rattle.lock_table.specs.Queue.{some_awaits_conflict, Wakes, Granted, WaitingAnswer}
+use Rattle.lock_table.specs.Queue.{some_awaits_conflict, Wakes, WaitingAnswer}
 use Rattle.lock_table.specs.Moves.{Moves, WakesFor, IsInPartition, FitsOwn}
 use Rattle.lock_table.specs.OwnWait.{OwnWait, is_for}
 use Rattle.lock_table.specs.Parts.{contents_in}
@@ -25,7 +23,6 @@ use Rattle.lock_world.specs.Happens.{Lawful, Next}
 use Rattle.lock_world.specs.Happens.Partitions.{after_taking_partition, IsMadeByPutting, MayPutPartition, after_putting_partition, WaitIsOver, MayPutRecorded, after_putting_recorded}
 use Rattle.lock_world.specs.Safe.{Safe}
 use Rattle.lock_model.specs.Shows.{Shows, is_unmarked_in, none_unmarked, makes_steps, hand_of, awaits, awaited_of, HasUnmoved, is_over, CannotMake}
-use Rattle.lock_table.proofs.OneAnswer.{waiting_answer-one}
 use Rattle.lock_model.proofs.Shows.Hands.{none_unmarked-each, each-none_unmarked}
 use Rattle.lock_model.proofs.Shows.Changes.{partition_word-set, hand-set, IsChangedAt, changed_nowhere, parts-changed}
 use Rattle.lock_table.proofs.QueueLaws.{one_wakes}
@@ -47,13 +44,6 @@ from_over awaited p (Join t n) over = refl
 from_over awaited p (Release t n) over = refl
 from_over None p (Leave t) over = refl
 from_over (Some own) p (Leave t) over = not_from_false _ (ne_eqb (partition_of own.tag) p (over own refl))
-
--- A request whose answer is a grant is answered so.
-pub told-granted : (c : Content) (s : ℕ) (t : Tag) (n : Mode) (answer : Told) → IsTold c s t n answer → WaitingAnswer c s t n Granted → answer ≡ told.Granted
-told-granted c s t n told.Granted is granted = refl
-told-granted c s t n (told.InQueue place) (inl is) granted = let e = waiting_answer-one c s t n _ _ is granted in absurd (cc)
-told-granted c s t n (told.InQueue place) (inr is) granted = let e = waiting_answer-one c s t n _ _ is.0 granted in absurd (cc)
-told-granted c s t n (told.Deadlock other) is granted = let e = waiting_answer-one c s t n _ _ is granted in absurd (cc)
 
 -- One list of waits is granted after a hold of the mode is gone.
 pub WakesFor-one : (m : Mode) (before : Content) (t : Tag) (granted other : List Wait) (after its : Content) → WakesFor m before t granted after → WakesFor m before t other its → granted ≡ other

@@ -1,7 +1,7 @@
 //! The plain machine's steps on lightweight locks: a partition is taken, and put back after a move.
 
 use super::state::Machine;
-use lock_table::{Move, NoMemory, PartTable, Told, waiting_answer};
+use lock_table::{Answer, Move, NoMemory, PartTable, waiting_answer};
 use lock_world::Word;
 use modes_core::{Mode, SessionId, Tag};
 
@@ -135,7 +135,7 @@ impl Machine {
             return Ok(());
         }
         let index = usize::from(partition);
-        let Told::Granted = waiting_answer(&self.contents.parts[index], session, tag, mode) else {
+        let Answer::Granted = waiting_answer(&self.contents.parts[index], session, tag, mode) else {
             return Ok(());
         };
         let part = &mut self.contents.parts[index];

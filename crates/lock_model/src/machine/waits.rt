@@ -2,7 +2,7 @@
 
 use super::hands::{InHand, is_among, unmarked_of};
 use super::state::Machine;
-use lock_table::{Move, NoMemory, PartTable, Told, waiting_answer};
+use lock_table::{Answer, Move, NoMemory, PartTable, waiting_answer};
 use modes_core::{Mode, SessionId, Tag};
 use wait_queue::remove_waiter;
 
@@ -11,9 +11,8 @@ impl Machine {
     ghost use Rattle.modes_core.specs.Tag.{partition_of};
     ghost use Rattle.lock_world.specs.declared.events.Step.{Step};
     ghost use Rattle.lock_model.specs.declared.machine.own_waits.Awaited.{Awaited};
-    ghost use Rattle.lock_table.specs.Queue.{waits_there};
-    ghost use Rattle.lock_table.specs.Told.{IsTold};
-    ghost use Rattle.lock_table.specs.declared.answering.Told.TheVariants.{InQueue};
+    ghost use Rattle.lock_table.specs.Queue.{WaitingAnswer, waits_there};
+    ghost use Rattle.lock_table.specs.declared.answering.Answer.TheVariants.{Queued};
     ghost use Rattle.lock_table.specs.Moves.{IsInPartition};
     ghost use Rattle.lock_model.specs.MovedPart.{IsMoved};
     ghost use Rattle.lock_table.specs.Parts.{part_at, contents_in};
@@ -53,7 +52,7 @@ impl Machine {
             return Ok(());
         }
         let part = &self.contents.parts[usize::from(partition)];
-        let Told::InQueue(place) = waiting_answer(part, session, tag, mode) else {
+        let Answer::Queued(place) = waiting_answer(part, session, tag, mode) else {
             return Ok(());
         };
         self.join_now(session, tag, mode, hand, place)
@@ -116,7 +115,7 @@ impl Machine {
         requires unmoved { hand.recorded ≡ None }
         requires no_wait { is_none (slice_index_or self.old.waits.awaited session None) ≡ true }
         requires not_held { (contents_in self.old.contents.parts.items (partition_of tag)).holds session tag mode ≡ false }
-        requires told { IsTold (contents_in self.old.contents.parts.items (partition_of tag)) session tag mode (InQueue place) }
+        requires answer { WaitingAnswer (contents_in self.old.contents.parts.items (partition_of tag)) session tag mode (Queued place) }
         ensures { OnOk result (Follows self.old session (Step.SetWaiting tag mode) self.new) }
     {
         let partition = tag.partition();

@@ -4,7 +4,7 @@ ghost use Rattle.lock_table.specs.Queue.{waits_there};
 ghost use Rattle.lock_table.specs.declared.request.Request.{Request};
 
 use super::PlainPart;
-use crate::{NoMemory, PartTable, TableRow, Told, waiting_answer};
+use crate::{Answer, NoMemory, PartTable, TableRow, waiting_answer};
 use modes_core::{Mode, SessionId, Tag};
 use std::process::Abort;
 use std::test::Fail;
@@ -285,21 +285,21 @@ fn a_request_is_told_where_it_stands(rt: HostRuntime) -> Result<(), Fail> {
     let (a, b, c) = (session(&rt, 0), session(&rt, 1), session(&rt, 2));
     let mut part = PlainPart::new(rt.alloc());
     let first = waiting_answer(&part, a, object(), Mode::Share);
-    assert_eq!(rt; first, Told::Granted);
+    assert_eq!(rt; first, Answer::Granted);
     holds(&rt, &mut part, a, object(), Mode::Share)?;
     let behind_the_holder = waiting_answer(&part, b, object(), Mode::RowExclusive);
-    assert_eq!(rt; behind_the_holder, Told::InQueue(0));
+    assert_eq!(rt; behind_the_holder, Answer::Queued(0));
     waits(&rt, &mut part, b, object(), Mode::RowExclusive, 0)?;
     let behind_the_waiter = waiting_answer(&part, c, object(), Mode::Share);
-    assert_eq!(rt; behind_the_waiter, Told::InQueue(1));
+    assert_eq!(rt; behind_the_waiter, Answer::Queued(1));
     // The holder stands before the one that it keeps waiting, and nothing else is in its way.
     let before_the_waiter = waiting_answer(&part, a, object(), Mode::Exclusive);
-    assert_eq!(rt; before_the_waiter, Told::Granted);
+    assert_eq!(rt; before_the_waiter, Answer::Granted);
     holds(&rt, &mut part, a, another_object(), Mode::Share)?;
     holds(&rt, &mut part, b, another_object(), Mode::Share)?;
     waits(&rt, &mut part, a, another_object(), Mode::Exclusive, 0)?;
     let against_one_another = waiting_answer(&part, b, another_object(), Mode::Exclusive);
-    assert_eq!(rt; against_one_another, Told::Deadlock(a));
+    assert_eq!(rt; against_one_another, Answer::SimpleDeadlock(a));
     Ok(())
 }
 

@@ -7,16 +7,16 @@ use Rattle.modes_core.specs.Mode.{mode_eq}
 use Rattle.modes_core.specs.Tag.{tag_eq, partition_of}
 use Rattle.modes_core.proofs.Laws.{both_true, mode_eq-same, tag_eq-refl, tag_eq-same}
 use Rattle.lock_table.specs.Content.{Holds, Wait, Content, set_hold, add_hold, remove_hold}
-use Rattle.lock_table.specs.Clash.{Clash}
 use Rattle.lock_table.specs.Put.{set_at}
 use Rattle.lock_table.specs.OwnWait.{OwnWait, Stage, InQueue, HasLeft, entry_of, is_for, is_pending, queued_by}
-use Rattle.lock_table.specs.Queue.{Wakes, Place, Last, Before, AtOnce, Deadlock, Granted, Queued, answer_of_place, WaitingAnswer, WaitingAnswerAt, NoneFreeBehind, some_awaits_conflict, joined, joining_wait, add_wait, with_queue, remove_wait, queue_without}
+use Rattle.lock_table.specs.declared.answering.Answer.TheVariants.{Granted, Queued}
+use Rattle.lock_table.specs.Queue.{Wakes, WaitingAnswer, NoneFreeBehind, some_awaits_conflict, joined, joining_wait, add_wait, with_queue, remove_wait, queue_without}
 use Rattle.lock_world.specs.Safe.{AgreesOn, AreInOnePlace, NobodyIsFree, NoConflictingHolds}
 use Rattle.lock_table.proofs.PutLemmas.{put_here, put_else, set_at-here, set_at-else, set_at-same}
 use Rattle.lock_table.proofs.QueueLaws.{HasMore-set, NoneFreeBehind-more, NoneFreeBehind-removed, woken-none_free, woken-no_conflict, joined-none_free}
 use Rattle.lock_table.proofs.QueueLemmas.{granted-no_holder}
 use Rattle.lock_world.proofs.Moves.OnePlace.{NoConflictIn, NoConflictingHolds-set, NoConflictIn-added, NoConflictIn-removed}
-use Rattle.lock_table.proofs.QueuesOf.{of_session, IsInQueue, at_end, ahead_of, joined-its, joined-other, without-its, without-other}
+use Rattle.lock_table.proofs.QueuesOf.{of_session, joined-its, joined-other, without-its, without-other}
 use Rattle.lock_world.proofs.Moves.Agreeing.{tag_eq-turned, not_pending, with_granted, AgreesOn-set, ChangesOnly, ChangesOnly-set, ChangesOnly-both, ChangesOnly-wakes, SameElsewhere, SameElsewhere-set, NotOwn, NotOwn-set, AreInOnePlace-change, AreInOnePlace-wakes, NoneFree-change, NobodyIsFree-set, Standing, standing, nothing, waiting}
 
 -- What each move leaves: no conflict, each in one place, nobody free.
@@ -180,25 +180,12 @@ module _ (now : ℕ → Content) (own : Holds) (awaited : ℕ → Option OwnWait
 
 -- ---- a join
 
-queued-in_queue : (place p : Place) → Queued place ≡ answer_of_place p → IsInQueue place
-queued-in_queue place Last e = at_end (cc)
-queued-in_queue place (Before n) e = ahead_of n (cc)
-queued-in_queue place AtOnce e = absurd (cc)
-queued-in_queue place (Deadlock k) e = absurd (cc)
-
--- A place that is answered is in the queue.
-answered-in_queue : (c : Content) (s : ℕ) (t : Tag) (m : Mode) (place : Place) → WaitingAnswer c s t m (Queued place) → IsInQueue place
-answered-in_queue c s t m place answer = at answer.0 answer.2 where
-  at : (clash : Option Clash) → WaitingAnswerAt clash c s t m (Queued place) → IsInQueue place
-  at None e = absurd (cc)
-  at (Some clash) found = queued-in_queue place found.0 found.2
-
 -- the wait that a join records
 abbrev pub recorded_wait : Content → ℕ → Tag → Mode → OwnWait
 recorded_wait c s t m = record { tag = t; mode = m; held = c.holds s t }
 
 module _ (now : ℕ → Content) (own : Holds) (awaited : ℕ → Option OwnWait) (stage : ℕ → Stage) (p s : ℕ) (t : Tag) (m : Mode) (safe : LeavesSafe now own awaited stage) (object : partition_of t ≡ p)
-    (none : awaited s ≡ None) (not_its : own s t m ≡ false) (place : Place) (answer : WaitingAnswer (now p) s t m (Queued place)) where
+    (none : awaited s ≡ None) (not_its : own s t m ≡ false) (place : ℕ) (answer : WaitingAnswer (now p) s t m (Queued place)) where
   awaits-here : (k : ℕ) → k ≡ s → (set_at awaited s (Some (recorded_wait (now p) s t m))) k ≡ Some (recorded_wait (now p) s t m)
   awaits-here k same = set_at-here awaited s (Some (recorded_wait (now p) s t m)) k same
 
@@ -249,7 +236,7 @@ module _ (now : ℕ → Content) (own : Holds) (awaited : ℕ → Option OwnWait
       record {
         held = λ k n. agrees.held k n ∙ ap (λ b. own k t n || b) (sym (pending_joined k t n));
         in_queue = λ k. ap (of_session k) queue_joined ∙ elim (cases_eq k s) [
-          | inl same ↦ joined-its k place (joining_wait (now p) s t m) ((now p).waits t) (answered-in_queue (now p) s t m place answer) (sym same) (agrees.in_queue k ∙ queued_before k same t) ∙ sym (queued_there k same)
+          | inl same ↦ joined-its k place (joining_wait (now p) s t m) ((now p).waits t) (sym same) (agrees.in_queue k ∙ queued_before k same t) ∙ sym (queued_there k same)
           | inr apart ↦ joined-other k place (joining_wait (now p) s t m) ((now p).waits t) (λ e. apart (sym e)) ∙ agrees.in_queue k ∙ sym (queued_joined-else k apart t)
         ];
       }

@@ -2,10 +2,11 @@ use Rattle.std.proofs.Common.{◌≡◌, ◌<◌, ◌≤◌, false, length, sym,
 use Rattle.modes_core.specs.Tag.{partition_of}
 use Rattle.lock_table.specs.Content.{Content}
 use Rattle.lock_table.specs.PartView.{content_of}
-use Rattle.lock_table.specs.Queue.{Before, add_wait, awaits_mode, waits_there}
+use Rattle.lock_table.specs.Queue.{add_wait, awaits_mode, waits_there}
+use Rattle.lock_table.proofs.QueueLemmas.{queued-within}
 use Rattle.lock_model.proofs.Shows.Places.{part_read, get_or-one_value}
 use Rattle.lock_model.proofs.Shows.Looks.{stands_not_here, awaits_not_here}
-use Rattle.lock_model.proofs.Follows.Waits.Joins.{marked_within, was_set_waiting}
+use Rattle.lock_model.proofs.Follows.Waits.Joins.{was_set_waiting}
 use Rattle.lock_model.proofs.machine.state.Machine.join_now.Goals as goal
 
 pub begin-requires-clause-not_awaited : goal.begin-requires-clause-not_awaited
@@ -39,7 +40,7 @@ join-requires-clause-place c =
     let within : c.from.result < length now.contents.parts.items = omega arith in
     let part = part_read now.contents.parts.items c.from.result (partition_of c.args.tag) c.index_mut-part.result.now place within c.index_mut-part.ensures.value in
     subst (λ (x : Content). c.args.place ≤ length (x.waits c.args.tag)) (sym (c.begin.ensures.content ∙ ap content_of part))
-    (marked_within _ c.args.session c.args.tag c.args.mode c.args.place c.requires.told)
+    (queued-within _ c.args.session c.args.tag c.args.mode c.args.place c.requires.answer)
 
 pub returns : goal.returns
 returns c = λ w safe shows.
@@ -52,6 +53,6 @@ returns c = λ w safe shows.
     let in_wait_words : c.args.session < length now.words.waits = omega arith in
     let below_64 : c.args.session < 64 = omega arith in
     rw (c.begin_wait.ensures, c.record.ensures, place, c.partition-partition.ensures.value)
-    (was_set_waiting now w safe shows c.args.session c.args.tag c.args.mode c.args.hand c.args.place c.join.new.self _ c.requires.in_hand c.requires.unmoved c.requires.no_wait c.requires.not_held c.requires.told
-    (c.join.ensures.content ∙ ap (λ (x : Content). add_wait x c.args.session c.args.tag c.args.mode (Before c.args.place)) (c.begin.ensures.content ∙ ap content_of part))
+    (was_set_waiting now w safe shows c.args.session c.args.tag c.args.mode c.args.hand c.args.place c.join.new.self _ c.requires.in_hand c.requires.unmoved c.requires.no_wait c.requires.not_held c.requires.answer
+    (c.join.ensures.content ∙ ap (λ (x : Content). add_wait x c.args.session c.args.tag c.args.mode c.args.place) (c.begin.ensures.content ∙ ap content_of part))
     c.join.ensures.ended (λ k. get_or-one_value 64 false k) in_wait_words below_64)

@@ -10,13 +10,14 @@ use Rattle.lock_world.specs.declared.events.Word.TheVariants.{Partition}
 use Rattle.lock_table.specs.Content.{add_hold}
 use Rattle.lock_table.specs.PartView.{content_of}
 use Rattle.lock_table.specs.Parts.{contents_in}
-use Rattle.lock_table.specs.Queue.{awaits_mode, Granted, WaitingAnswer}
-use Rattle.lock_table.specs.Told.{IsTold}
+use Rattle.lock_table.specs.declared.answering.Answer.TheVariants.{Granted}
+use Rattle.lock_table.specs.Queue.{awaits_mode, WaitingAnswer}
+use Rattle.lock_table.proofs.OneAnswer.{waiting_answer-one}
 use Rattle.lock_world.specs.World.{World}
 use Rattle.lock_world.specs.Happens.{Next}
 use Rattle.lock_model.specs.Shows.{Shows}
 use Rattle.lock_model.proofs.Follows.Skipped.{skipped}
-use Rattle.lock_model.proofs.Follows.Partitions.{granted, granting, told-granted, exists_from}
+use Rattle.lock_model.proofs.Follows.Partitions.{granted, granting, exists_from}
 use Rattle.lock_model.proofs.Shows.Looks.{asks_new, awaits_not_here}
 use Rattle.lock_model.proofs.Shows.Places.{part_read}
 use Rattle.lock_model.proofs.Shows.Changes.{changed_there}
@@ -41,8 +42,8 @@ returns-in_default c = λ w safe shows.
     let read = part_read now.contents.parts.items c.from-index.result c.args.partition c.index.result.now c.from-index.ensures (subst (λ n. n < length now.contents.parts.items) (sym c.from-index.ensures) in_parts) c.index.ensures in
     skipped now w safe shows c.args.session (PutExclusive (Partition c.args.partition) (Grant c.args.tag c.args.mode))
     (λ lawful. let needs = granting now w safe shows c.args.session c.args.partition c.args.tag c.args.mode c.requires.in_hand lawful in
-    c.in_default.not-Granted (told-granted (contents_in now.contents.parts.items c.args.partition) c.args.session c.args.tag c.args.mode c.waiting_answer.result
-    (subst (λ part. IsTold (content_of part) c.args.session c.args.tag c.args.mode c.waiting_answer.result) read c.waiting_answer.ensures) needs.2))
+    c.in_default.not-Granted (waiting_answer-one (contents_in now.contents.parts.items c.args.partition) c.args.session c.args.tag c.args.mode c.waiting_answer.result Granted
+    (subst (λ part. WaitingAnswer (content_of part) c.args.session c.args.tag c.args.mode c.waiting_answer.result) read c.waiting_answer.ensures) needs.2))
 
 pub begin-requires-clause-not_awaited : goal.begin-requires-clause-not_awaited
 begin-requires-clause-not_awaited c =

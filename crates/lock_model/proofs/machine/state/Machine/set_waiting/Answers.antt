@@ -1,11 +1,11 @@
 use Rattle.std.proofs.Common.{◌≡◌, ◌<◌, length, sym, ap, ◌∙◌, subst, arith}
 use Rattle.modes_core.specs.Tag.{partition_of}
 use Rattle.lock_table.specs.PartView.{content_of}
-use Rattle.lock_table.specs.Told.{IsTold}
+use Rattle.lock_table.specs.Queue.{WaitingAnswer}
 use Rattle.lock_model.specs.Shows.{hand_of}
 use Rattle.lock_model.proofs.Shows.Places.{part_read}
 use Rattle.lock_model.proofs.Shows.Looks.{asks_new}
-use Rattle.lock_model.proofs.Follows.Waits.Joins.{join_without_hand, join_after_move, join_may_not, join_not_told}
+use Rattle.lock_model.proofs.Follows.Waits.Joins.{join_without_hand, join_after_move, join_may_not, join_not_answered}
 use Rattle.lock_model.proofs.machine.state.Machine.set_waiting.Goals as goal
 use Rattle.lock_model.proofs.machine.state.Machine.set_waiting.Goals.{then-is_some-via-then-is_some, then-is_some-via-else-is_some+then-not-may_ask}
 
@@ -32,8 +32,8 @@ returns-in_default-waiting_answer c = λ w safe shows.
     let below = c.partition-partition.ensures.within in
     let within : c.from.result < length now.contents.parts.items = omega arith in
     let part = part_read now.contents.parts.items c.from.result (partition_of c.args.tag) c.index-part.result.now place within c.index-part.ensures in
-    join_not_told now w safe shows c.args.session c.args.tag c.args.mode c.waiting_answer.result
-    (subst (λ x. IsTold (content_of x) c.args.session c.args.tag c.args.mode c.waiting_answer.result) part c.waiting_answer.ensures) (λ k is. c.in_default-waiting_answer.not-InQueue k is)
+    join_not_answered now w safe shows c.args.session c.args.tag c.args.mode c.waiting_answer.result
+    (subst (λ x. WaitingAnswer (content_of x) c.args.session c.args.tag c.args.mode c.waiting_answer.result) part c.waiting_answer.ensures) (λ k is. c.in_default-waiting_answer.not-Queued k is)
 
 pub join_now-requires-clause-not_held : goal.join_now-requires-clause-not_held
 join_now-requires-clause-not_held c =
