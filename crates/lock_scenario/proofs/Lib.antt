@@ -1,5 +1,6 @@
 mod AcquireLemmas
 mod Agreement
+mod AloneLemmas
 mod AskLemmas
 mod CancelLemmas
 mod DeskLemmas

@@ -1,5 +1,5 @@
 -- Names that differ, and the open sessions in the order of their names.
-use Rattle.std.proofs.Common.{◌≡◌, ◌≢◌, ℕ, ◌+◌, ◌-◌, ◌<◌, ◌≤◌, ◌⊎◌, inl, inr, ◌∙◌, refl, ap, suc, zero, List, [], ◌∷◌, length, get_or, false, arith, sym, subst, true, replicate, below_more}
+use Rattle.std.proofs.Common.{◌≡◌, ◌≢◌, ℕ, ◌+◌, ◌-◌, ◌<◌, ◌≤◌, ◌⊎◌, inl, inr, ◌∙◌, ap, List, length, get_or, false, arith, sym, subst, true, replicate, below_more}
 use Rattle.std.specs.Prelude.{All, insert, remove}
 use Rattle.std.specs.Bool.{Decides}
 use Rattle.std.specs.Str.{bytes_eq}

@@ -1,5 +1,5 @@
 -- Who is said to wait, and whose wait is recorded.
-use Rattle.std.proofs.Common.{◌≡◌, ◌≢◌, ℕ, ◌<◌, ◌≤◌, inl, inr, ◌∙◌, refl, ap, Bool, true, false, List, [], ◌∷◌, length, arith, sym, subst}
+use Rattle.std.proofs.Common.{◌≡◌, ℕ, ◌<◌, inl, inr, ◌∙◌, refl, ap, Bool, true, false, List, [], ◌∷◌, length, sym, subst}
 use Rattle.std.specs.Prelude.{Option, None, Some, is_some, IfSome, Result, Ok, if◌then◌else◌}
 use Rattle.std.specs.Option.{option_map}
 use Rattle.std.proofs.lemmas.Bool.{cases_eq, cases_lt}

@@ -93,6 +93,12 @@ pub record IsUnchanged (old new : DeskView) : Type 0 where
   pub waits : wait_of new ≡ wait_of old
   pub contents : contents_of new ≡ contents_of old
 
+-- What a call leaves alone: which sessions there are, with their databases, and how many sessions and entries there may be.
+pub record LeavesAlone (old new : DeskView) : Type 0 where
+  pub databases : databases_of new ≡ databases_of old
+  pub limit : new.limit ≡ old.limit
+  pub max_local : new.max_local ≡ old.max_local
+
 -- There is room for the entry that the wait is for, and none is there yet.
 pub record IsReadyFor (locals : Owned) (wait : OwnWait) : Type 0 where
   pub reserved : IsReserved locals wait.tag wait.mode wait.owner

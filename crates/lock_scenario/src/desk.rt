@@ -101,7 +101,7 @@ impl Model for Desk {
 }
 
 impl Desk {
-    ghost use Rattle.lock_scenario.specs.Desk.{issued_of, databases_of, entries_of, wait_of, contents_of, shared_of, polled_as, cancelled_as, asked_as, after_asking, whole_of, is_in_range, IsNew, IsUnchanged};
+    ghost use Rattle.lock_scenario.specs.Desk.{issued_of, databases_of, entries_of, wait_of, contents_of, shared_of, polled_as, cancelled_as, asked_as, after_asking, whole_of, is_in_range, IsNew, IsUnchanged, LeavesAlone};
     ghost use Rattle.wait_queue.specs.Decide.{RefusedFor};
 
     /// Takes a mode on an object for an owner, or refuses at once where it clashes (`LockAcquire` in
@@ -131,9 +131,7 @@ impl Desk {
         ensures same_contents { result ≡ Ok Acquired.AlreadyHeld → contents_of self.new ≡ contents_of self.old }
         ensures waits { wait_of self.new ≡ wait_of self.old }
         ensures unchanged { OnErr result (IsUnchanged self.old self.new) }
-        ensures sessions { issued_of self.new ≡ issued_of self.old }
-        ensures limit { self.new.limit ≡ self.old.limit }
-        ensures max_local { self.new.max_local ≡ self.old.max_local }
+        ensures alone { LeavesAlone self.old self.new }
     {
         let part = &mut self.parts[usize::from(tag.partition())];
         let locals = &mut self.sessions[usize::from(session.number())].locals;
@@ -167,9 +165,7 @@ impl Desk {
         ensures entries { IfOk result (λ started. entries_of self.new ≡ set_at (entries_of self.old) session (entries_started started (entries_of self.old session) tag mode owner)) }
         ensures waits { IfOk result (λ started. wait_of self.new ≡ set_at (wait_of self.old) session (wait_started started tag mode owner)) }
         ensures unchanged { OnErr result (IsUnchanged self.old self.new) }
-        ensures sessions { issued_of self.new ≡ issued_of self.old }
-        ensures limit { self.new.limit ≡ self.old.limit }
-        ensures max_local { self.new.max_local ≡ self.old.max_local }
+        ensures alone { LeavesAlone self.old self.new }
     {
         let part = &mut self.parts[usize::from(tag.partition())];
         let own = &mut self.sessions[usize::from(session.number())];
@@ -191,9 +187,7 @@ impl Desk {
         ensures same_waits { result ≢ Polled.Granted → wait_of self.new ≡ wait_of self.old }
         ensures same_entries { result ≢ Polled.Granted → entries_of self.new ≡ entries_of self.old }
         ensures contents { contents_of self.new ≡ contents_of self.old }
-        ensures sessions { issued_of self.new ≡ issued_of self.old }
-        ensures limit { self.new.limit ≡ self.old.limit }
-        ensures max_local { self.new.max_local ≡ self.old.max_local }
+        ensures alone { LeavesAlone self.old self.new }
     {
         let own = &mut self.sessions[usize::from(session.number())];
         let wait = own.wait.unwrap();
@@ -223,9 +217,7 @@ impl Desk {
             entries_of self.new ≡ set_at (entries_of self.old) session (with_one_more (entries_of self.old session) wait.tag wait.mode wait.owner)) }
         ensures same_contents { result ≡ Cancelled.WasGranted → contents_of self.new ≡ contents_of self.old }
         ensures same_waits { result ≡ Cancelled.WasGranted → wait_of self.new ≡ set_at (wait_of self.old) session None }
-        ensures sessions { issued_of self.new ≡ issued_of self.old }
-        ensures limit { self.new.limit ≡ self.old.limit }
-        ensures max_local { self.new.max_local ≡ self.old.max_local }
+        ensures alone { LeavesAlone self.old self.new }
     {
         let own = &mut self.sessions[usize::from(session.number())];
         let wait = own.wait.unwrap();
@@ -259,9 +251,7 @@ impl Desk {
         ensures released { result ≡ Ok Unlocked.Released → Releases (shared_of self.old) session tag mode (shared_of self.new) }
         ensures same_shared { result ≡ Ok Unlocked.StillHeld → shared_of self.new ≡ shared_of self.old }
         ensures unchanged { OnErr result (IsUnchanged self.old self.new) }
-        ensures sessions { issued_of self.new ≡ issued_of self.old }
-        ensures limit { self.new.limit ≡ self.old.limit }
-        ensures max_local { self.new.max_local ≡ self.old.max_local }
+        ensures alone { LeavesAlone self.old self.new }
     {
         let locals = &mut self.sessions[usize::from(session.number())].locals;
         let answer = locals.drop_one(tag, mode, owner)?;
@@ -284,9 +274,7 @@ impl Desk {
         ensures waits { wait_of self.new ≡ set_at (wait_of self.old) other (after_asking (wait_of self.old other)) }
         ensures entries { entries_of self.new ≡ entries_of self.old }
         ensures contents { contents_of self.new ≡ contents_of self.old }
-        ensures sessions { issued_of self.new ≡ issued_of self.old }
-        ensures limit { self.new.limit ≡ self.old.limit }
-        ensures max_local { self.new.max_local ≡ self.old.max_local }
+        ensures alone { LeavesAlone self.old self.new }
     {
         let number = usize::from(other.number());
         if number >= self.sessions.len() {
@@ -346,9 +334,7 @@ impl Desk {
         requires not_waiting { wait_of self.old session ≡ None }
         ensures entries { entries_of self.new ≡ set_at (entries_of self.old) session (left_by End.Commit (entries_of self.old session)) }
         ensures released { ReleasesAll (shared_of self.old) session (ended_by End.Commit (entries_of self.old session)) (shared_of self.new) }
-        ensures sessions { issued_of self.new ≡ issued_of self.old }
-        ensures limit { self.new.limit ≡ self.old.limit }
-        ensures max_local { self.new.max_local ≡ self.old.max_local }
+        ensures alone { LeavesAlone self.old self.new }
     {
         self.end_all(session, End::Commit);
     }
@@ -360,9 +346,7 @@ impl Desk {
         requires not_waiting { wait_of self.old session ≡ None }
         ensures entries { entries_of self.new ≡ set_at (entries_of self.old) session (left_by End.Abort (entries_of self.old session)) }
         ensures released { ReleasesAll (shared_of self.old) session (ended_by End.Abort (entries_of self.old session)) (shared_of self.new) }
-        ensures sessions { issued_of self.new ≡ issued_of self.old }
-        ensures limit { self.new.limit ≡ self.old.limit }
-        ensures max_local { self.new.max_local ≡ self.old.max_local }
+        ensures alone { LeavesAlone self.old self.new }
     {
         self.end_all(session, End::Abort);
     }
@@ -374,9 +358,7 @@ impl Desk {
         requires not_waiting { wait_of self.old session ≡ None }
         ensures entries { entries_of self.new ≡ set_at (entries_of self.old) session (left_by End.Close (entries_of self.old session)) }
         ensures released { ReleasesAll (shared_of self.old) session (ended_by End.Close (entries_of self.old session)) (shared_of self.new) }
-        ensures sessions { issued_of self.new ≡ issued_of self.old }
-        ensures limit { self.new.limit ≡ self.old.limit }
-        ensures max_local { self.new.max_local ≡ self.old.max_local }
+        ensures alone { LeavesAlone self.old self.new }
     {
         self.end_all(session, End::Close);
     }
@@ -395,9 +377,7 @@ impl Desk {
         requires not_waiting { wait_of self.old session ≡ None }
         ensures entries { entries_of self.new ≡ set_at (entries_of self.old) session (left_by end (entries_of self.old session)) }
         ensures released { ReleasesAll (shared_of self.old) session (ended_by end (entries_of self.old session)) (shared_of self.new) }
-        ensures sessions { issued_of self.new ≡ issued_of self.old }
-        ensures limit { self.new.limit ≡ self.old.limit }
-        ensures max_local { self.new.max_local ≡ self.old.max_local }
+        ensures alone { LeavesAlone self.old self.new }
     {
         'entries: while let Some(_released) = self.end_one(session, end) {}
     }
@@ -413,9 +393,7 @@ impl Desk {
         ensures left { IfNone result (with_next_ended end (entries_of self.old session) ≡ left_by end (entries_of self.old session)) }
         ensures same_shared { IfNone result (shared_of self.new ≡ shared_of self.old) }
         ensures not_waiting { wait_of self.new session ≡ None }
-        ensures sessions { issued_of self.new ≡ issued_of self.old }
-        ensures limit { self.new.limit ≡ self.old.limit }
-        ensures max_local { self.new.max_local ≡ self.old.max_local }
+        ensures alone { LeavesAlone self.old self.new }
     {
         let locals = &mut self.sessions[usize::from(session.number())].locals;
         let (tag, mode) = locals.end_next(end)?;

@@ -75,8 +75,8 @@ fn opens_all_sessions_and_no_more(rt: HostRuntime) -> Result<(), Fail> {
     let alloc = rt.alloc();
     let mut script = String::new(alloc);
     let mut printed = String::new(alloc);
-    for number in 0..64 {
-        let name = format!(in alloc; "s{:02}", number * 37 % 64)?;
+    for number in 0..64u32 {
+        let name = format!(in alloc; "s{:02}", number.wrapping_mul(37) % 64)?;
         script.push_str(format!(in alloc; "session {name} {number}\n")?.as_str())?;
         let line = format!(in alloc; "{name}: session {number} database {number}\n")?;
         printed.push_str(line.as_str())?;

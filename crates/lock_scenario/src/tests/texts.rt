@@ -13,6 +13,19 @@ fn name(rt: &impl Abort, text: &str) -> Name {
     Name::from(text).expect(rt, "a name")
 }
 
+/// Checks what a fault prints and the status for it.
+fn expect_fault(
+    rt: &(impl Abort + AllocGlobal),
+    fault: Fault,
+    text: &str,
+    status: u8,
+) -> Result<(), Fail> {
+    let printed = format!(in rt.alloc(); "{fault}")?;
+    assert_eq!(rt; printed.as_str(), text);
+    assert_eq!(rt; fault.status(), status, "the status of {text:?}");
+    Ok(())
+}
+
 #[test]
 fn a_fault_has_its_text_and_status(rt: HostRuntime) -> Result<(), Fail> {
     let bad = |what| Fault::BadLine { line: 7, what };
@@ -39,9 +52,7 @@ fn a_fault_has_its_text_and_status(rt: HostRuntime) -> Result<(), Fail> {
         (Fault::NoMemory, "no memory", 1),
         (Fault::GateHeld, "gate held", 1),
     ] {
-        let printed = format!(in rt.alloc(); "{fault}")?;
-        assert_eq!(rt; printed.as_str(), text);
-        assert_eq!(rt; fault.status(), status, "the status of {text:?}");
+        expect_fault(&rt, fault, text, status)?;
     }
     Ok(())
 }

@@ -1,4 +1,4 @@
-use Rattle.std.proofs.Common.{◌≡◌, ◌∙◌, Option, Some, None, true, false, sym, ap, subst, length, arith, refl, rules}
+use Rattle.std.proofs.Common.{◌≡◌, ◌∙◌, Option, Some, None, true, false, sym, ap, subst, arith, refl, rules}
 use Rattle.local_locks.specs.Owned.{with_one_more}
 use Rattle.std.specs.Prelude.{IfSome}
 use Rattle.lock_table.specs.Put.{set_at}
@@ -7,12 +7,13 @@ use Rattle.lock_scenario.specs.declared.sessions.OwnWait.{OwnWait}
 use Rattle.lock_scenario.specs.declared.sessions.DeskSession.{DeskSession}
 use Rattle.lock_scenario.specs.Sessions.{entries_in, waits_in}
 use Rattle.lock_scenario.specs.Desk.{DeskView, wait_of, entries_of, shared_of}
-use Rattle.lock_scenario.proofs.DeskLemmas.{Finds_session, find_session, session_found, order_there, IsDesk-session, waits-set, none_told, number-changed, entries-changed}
+use Rattle.lock_scenario.proofs.DeskLemmas.{Finds_session, find_session, session_found, order_there, IsDesk-session, waits-set, none_told, entries-changed}
 use Rattle.modes_core.specs.Tag.{partition_of}
 use Rattle.lock_scenario.specs.Parts.{content_in}
 use Rattle.lock_scenario.specs.Waiting.{Leaves}
 use Rattle.lock_scenario.proofs.CancelLemmas.{stands_there, IsDesk-left, Leaves-after}
 use Rattle.lock_scenario.proofs.JoinLemmas.{Agrees-poll}
+use Rattle.lock_scenario.proofs.AloneLemmas.{databases-changed, databases-set, LeavesAlone-after}
 use Rattle.lock_scenario.proofs.desk.Desk.cancel.Goals as goal
 
 pub invariant_of-self : goal.invariant_of-self
@@ -85,8 +86,19 @@ returns-clause-same_entries c is =
     entries-changed _ _ _ _ _ _ c.index_mut-own.result.now after (partition_of c.unwrap-wait.result.tag) _ c.leave_queue.new.parts.items c.leave_queue.new.sessions.items found c.leave_queue.ensures.changed (λ es. es) refl ∙
     set_at-same (entries_in c.self.inside.sessions.items) c.args.session (entries_in c.self.inside.sessions.items c.args.session) refl ∙ ap (λ (desk : DeskView). entries_of desk) c.self.view_is
 
-pub returns-clause-sessions : goal.returns-clause-sessions
-returns-clause-sessions c =
+pub returns-clause-alone : goal.returns-clause-alone
+returns-clause-alone c =
+    let found : Finds_session c.self.inside.parts.items c.self.inside.sessions.items c.self.inside.limit c.self.inside.max_local c.from.result c.args.session c.index_mut-own.result.now =
+    find_session _ _ _ _ _ _ _ _ c.args.self.now c.self.invariant.0 c.self.view_is c.from.ensures c.number.ensures.value c.requires.issued c.index_mut-own.ensures.value in
     let after : DeskSession = record { database = c.index_mut-own.result.now.database; locals = c.index_mut-own.result.now.locals; wait = None } in
-    number-changed _ c.self.inside.sessions.items c.from.result after (partition_of c.unwrap-wait.result.tag) _ c.leave_queue.new.parts.items c.leave_queue.new.sessions.items c.leave_queue.ensures.changed ∙
-    ap (λ (desk : DeskView). length desk.sessions) c.self.view_is
+    LeavesAlone-after c.self.inside.parts.items _ c.self.inside.sessions.items _ c.self.inside.limit c.self.inside.max_local c.args.self.now c.self.view_is
+    (databases-changed _ c.self.inside.sessions.items c.from.result c.index_mut-own.result.now after (partition_of c.unwrap-wait.result.tag) _ c.leave_queue.new.parts.items c.leave_queue.new.sessions.items
+    found.opened c.index_mut-own.ensures.value refl c.leave_queue.ensures.changed)
+
+pub returns-then-wait-clause-alone : goal.returns-then-wait-clause-alone
+returns-then-wait-clause-alone c =
+    let found : Finds_session c.self.inside.parts.items c.self.inside.sessions.items c.self.inside.limit c.self.inside.max_local c.from.result c.args.session c.index_mut-own.result.now =
+    find_session _ _ _ _ _ _ _ _ c.args.self.now c.self.invariant.0 c.self.view_is c.from.ensures c.number.ensures.value c.requires.issued c.index_mut-own.ensures.value in
+    LeavesAlone-after c.self.inside.parts.items _ c.self.inside.sessions.items _ c.self.inside.limit c.self.inside.max_local c.args.self.now c.self.view_is
+    (databases-set c.self.inside.sessions.items c.from.result c.index_mut-own.result.now (record { database = c.index_mut-own.result.now.database; locals = c.add.new.self; wait = None })
+    found.opened c.index_mut-own.ensures.value refl)

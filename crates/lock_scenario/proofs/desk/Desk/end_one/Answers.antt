@@ -1,4 +1,4 @@
-use Rattle.std.proofs.Common.{◌≡◌, ◌∙◌, List, ap, subst, length, arith, refl, None}
+use Rattle.std.proofs.Common.{◌≡◌, ◌∙◌, List, ap, subst, length, arith, refl, None, ◌<◌}
 use Rattle.std.specs.List.{IsDistinct}
 use Rattle.modes_core.specs.Tag.{partition_of}
 use Rattle.local_locks.specs.declared.records.Entry.{Entry}
@@ -9,8 +9,9 @@ use Rattle.lock_scenario.specs.Parts.{content_in}
 use Rattle.lock_scenario.specs.Sessions.{waits_in}
 use Rattle.lock_scenario.specs.Waiting.{Releases}
 use Rattle.lock_scenario.specs.Desk.{DeskView, entries_of, wait_of, shared_of}
-use Rattle.lock_scenario.proofs.DeskLemmas.{Finds_session, find_session, order_there, order_after, held_as_owned, IsDesk-same_keys, IsDesk-released, Releases-after, entries-changed, number-changed, none_told}
+use Rattle.lock_scenario.proofs.DeskLemmas.{Finds_session, find_session, order_there, order_after, held_as_owned, IsDesk-same_keys, IsDesk-released, Releases-after, entries-changed, none_told}
 use Rattle.lock_scenario.proofs.EndLemmas.{has_entry-ended, has_entry-after, others-after, has_entry-last}
+use Rattle.lock_scenario.proofs.AloneLemmas.{databases-changed, databases-set, LeavesAlone-after}
 use Rattle.lock_scenario.proofs.desk.Desk.end_one.Goals as goal
 
 pub invariant_of-self : goal.invariant_of-self
@@ -71,7 +72,18 @@ returns-clause-not_waiting c =
     let released = Releases-after _ _ _ _ _ _ c.index_mut.result.now (after c) c.in_ok-tag.tag c.in_ok-tag.mode c.release_hold.new.parts.items c.release_hold.new.sessions.items (found c) refl c.release_hold.ensures.changed in
     ap (λ waits. waits c.args.session) released.waits ∙ none_told released.granted (waits_in c.self.inside.sessions.items) c.args.session (none c)
 
-pub returns-clause-sessions : goal.returns-clause-sessions
-returns-clause-sessions c =
-    number-changed _ c.self.inside.sessions.items c.from.result (after c) (partition_of c.in_ok-tag.tag) _ c.release_hold.new.parts.items c.release_hold.new.sessions.items c.release_hold.ensures.changed ∙
-    ap (λ (desk : DeskView). length desk.sessions) c.self.view_is
+pub returns-clause-alone : goal.returns-clause-alone
+returns-clause-alone c =
+    LeavesAlone-after c.self.inside.parts.items _ c.self.inside.sessions.items _ c.self.inside.limit c.self.inside.max_local c.args.self.now c.self.view_is
+    (databases-changed _ c.self.inside.sessions.items c.from.result c.index_mut.result.now (after c) (partition_of c.in_ok-tag.tag) _ c.release_hold.new.parts.items c.release_hold.new.sessions.items
+    (found c).opened c.index_mut.ensures.value refl c.release_hold.ensures.changed)
+
+pub returns-in_err-tag-clause-alone : goal.returns-in_err-tag-clause-alone
+returns-in_err-tag-clause-alone c =
+    let number : c.from.result ≡ c.args.session = c.from.ensures ∙ c.number.ensures.value in
+    let opened : c.args.session < length c.args.self.now.sessions = c.requires.issued in
+    let same : length c.self.inside.sessions.items ≡ length c.args.self.now.sessions = ap (λ (desk : DeskView). length desk.sessions) c.self.view_is in
+    let within : c.from.result < length c.self.inside.sessions.items = omega arith in
+    LeavesAlone-after c.self.inside.parts.items _ c.self.inside.sessions.items _ c.self.inside.limit c.self.inside.max_local c.args.self.now c.self.view_is
+    (databases-set c.self.inside.sessions.items c.from.result c.index_mut.result.now (record { database = c.index_mut.result.now.database; locals = c.end_next.new.self; wait = c.index_mut.result.now.wait })
+    within c.index_mut.ensures.value refl)

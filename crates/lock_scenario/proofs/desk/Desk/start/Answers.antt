@@ -12,6 +12,7 @@ use Rattle.lock_scenario.specs.Started.{IsStarted, wait_started}
 use Rattle.lock_scenario.specs.Desk.{DeskView, wait_of, contents_of, IsReadyFor}
 use Rattle.lock_scenario.proofs.DeskLemmas.{Finds, held_there, no_wait_there, wait_there, limit_there, none_ready, waits-set, set_hold-same, IsDesk-after, contents_after, in_parts}
 use Rattle.lock_scenario.proofs.StartLemmas.{IsDesk-started, started_ready}
+use Rattle.lock_scenario.proofs.AloneLemmas.{databases-set, LeavesAlone-after}
 use Rattle.lock_scenario.proofs.desk.Desk.start.Goals as goal
 
 asked :
@@ -132,3 +133,23 @@ returns-clause-decided c =
     ap content_of (in_parts _ _ _ _ _ _ _ _ _ _ (found c)) ∙ ap (content_in c.self.inside.parts.items) (found c).partition ∙ ap (λ (desk : DeskView). contents_of desk (partition_of c.args.tag)) c.self.view_is in
     subst (λ (content : Content). IsStarted (contents_of c.args.self.now (partition_of c.args.tag)) c.args.session c.args.tag c.args.mode content c.in_ok-started.started) (sym now)
     (subst (λ (content : Content). IsStarted content c.args.session c.args.tag c.args.mode (content_of c.request.new.part) c.in_ok-started.started) before c.in_ok-started.ensures.decided)
+
+pub returns-in_err-started-clause-alone : goal.returns-in_err-started-clause-alone
+returns-in_err-started-clause-alone c =
+    let number : c.from-2.result ≡ c.args.session = c.from-2.ensures ∙ c.number.ensures.value in
+    let opened : c.args.session < length c.args.self.now.sessions = c.requires.issued in
+    let same : length c.self.inside.sessions.items ≡ length c.args.self.now.sessions = ap (λ (desk : DeskView). length desk.sessions) c.self.view_is in
+    let within : c.from-2.result < length c.self.inside.sessions.items = omega arith in
+    LeavesAlone-after c.self.inside.parts.items _ c.self.inside.sessions.items _ c.self.inside.limit c.self.inside.max_local c.args.self.now c.self.view_is
+    (databases-set c.self.inside.sessions.items c.from-2.result c.index_mut-own.result.now (record { database = c.index_mut-own.result.now.database; locals = c.request.new.locals; wait = c.index_mut-own.result.now.wait })
+    within c.index_mut-own.ensures.value refl)
+
+pub returns-clause-alone : goal.returns-clause-alone
+returns-clause-alone c =
+    let number : c.from-2.result ≡ c.args.session = c.from-2.ensures ∙ c.number.ensures.value in
+    let opened : c.args.session < length c.args.self.now.sessions = c.requires.issued in
+    let same : length c.self.inside.sessions.items ≡ length c.args.self.now.sessions = ap (λ (desk : DeskView). length desk.sessions) c.self.view_is in
+    let within : c.from-2.result < length c.self.inside.sessions.items = omega arith in
+    LeavesAlone-after c.self.inside.parts.items _ c.self.inside.sessions.items _ c.self.inside.limit c.self.inside.max_local c.args.self.now c.self.view_is
+    (databases-set c.self.inside.sessions.items c.from-2.result c.index_mut-own.result.now (record { database = c.index_mut-own.result.now.database; locals = c.request.new.locals; wait = c.wait_for-own.result })
+    within c.index_mut-own.ensures.value refl)

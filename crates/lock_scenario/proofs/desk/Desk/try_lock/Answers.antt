@@ -8,6 +8,7 @@ use Rattle.lock_scenario.specs.Sessions.{waits_in}
 use Rattle.lock_scenario.specs.Desk.{DeskView, wait_of, contents_of, IsReadyFor}
 use Rattle.lock_scenario.proofs.DeskLemmas.{Finds, IsDesk-after, held_there, no_wait_there, wait_there, limit_there, none_ready, waits-kept, contents_after}
 use Rattle.lock_scenario.proofs.AcquireLemmas.{holds-acquire, others-acquire, queues-acquire}
+use Rattle.lock_scenario.proofs.AloneLemmas.{databases-set, LeavesAlone-after}
 use Rattle.lock_scenario.proofs.desk.Desk.try_lock.Goals as goal
 
 found :
@@ -85,3 +86,9 @@ pub returns-clause-hold : goal.returns-clause-hold
 returns-clause-hold c is =
     contents_after _ _ _ _ _ _ _ _ _ _ (found c) (λ content. add_hold content c.args.session c.args.tag c.args.mode) c.acquire.new.part (c.acquire.ensures.hold is) ∙
     ap (λ (desk : DeskView). set_at (contents_of desk) (partition_of c.args.tag) (add_hold (contents_of desk (partition_of c.args.tag)) c.args.session c.args.tag c.args.mode)) c.self.view_is
+
+pub returns-clause-alone : goal.returns-clause-alone
+returns-clause-alone c =
+    LeavesAlone-after c.self.inside.parts.items _ c.self.inside.sessions.items _ c.self.inside.limit c.self.inside.max_local c.args.self.now c.self.view_is
+    (databases-set c.self.inside.sessions.items c.from-2.result c.index_mut.result.now (record { database = c.index_mut.result.now.database; locals = c.acquire.new.locals; wait = c.index_mut.result.now.wait })
+    (found c).opened c.index_mut.ensures.value refl)

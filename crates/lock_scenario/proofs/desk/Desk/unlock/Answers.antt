@@ -8,8 +8,9 @@ use Rattle.lock_scenario.specs.Parts.{content_in}
 use Rattle.lock_scenario.specs.Sessions.{waits_in}
 use Rattle.lock_scenario.specs.Waiting.{Releases}
 use Rattle.lock_scenario.specs.Desk.{DeskView, entries_of, wait_of, shared_of}
-use Rattle.lock_scenario.proofs.DeskLemmas.{Finds_session, find_session, order_after, held_as_owned, IsDesk-same_keys, IsDesk-released, Releases-after, entries-changed, own-changed, number-changed}
+use Rattle.lock_scenario.proofs.DeskLemmas.{Finds_session, find_session, order_after, held_as_owned, IsDesk-same_keys, IsDesk-released, Releases-after, entries-changed, own-changed}
 use Rattle.lock_scenario.proofs.AcquireLemmas.{others-give_up, keys-still_held, owned-entry, gone-released, none-released, still_not_released, ok_not_refused}
+use Rattle.lock_scenario.proofs.AloneLemmas.{databases-changed, databases-set, LeavesAlone-after}
 use Rattle.lock_scenario.proofs.desk.Desk.unlock.Goals as goal
 
 pub invariant_of-self-in-StillHeld : goal.invariant_of-self-in-StillHeld
@@ -72,7 +73,18 @@ returns-in-Released-clause-released c is =
     subst (λ (desk : DeskView). Releases (shared_of desk) c.args.session c.args.tag c.args.mode (record { contents = content_in c.release_hold.new.parts.items; waits = waits_in c.release_hold.new.sessions.items })) c.self.view_is
     (Releases-after _ _ _ _ _ _ c.index_mut.result.now (after c) c.args.tag c.args.mode c.release_hold.new.parts.items c.release_hold.new.sessions.items (found c) refl c.release_hold.ensures.changed)
 
-pub returns-in-Released-clause-sessions : goal.returns-in-Released-clause-sessions
-returns-in-Released-clause-sessions c =
-    number-changed _ c.self.inside.sessions.items c.from.result (after c) (partition_of c.args.tag) _ c.release_hold.new.parts.items c.release_hold.new.sessions.items c.release_hold.ensures.changed ∙
-    ap (λ (desk : DeskView). length desk.sessions) c.self.view_is
+pub returns-in-Released-clause-alone : goal.returns-in-Released-clause-alone
+returns-in-Released-clause-alone c =
+    LeavesAlone-after c.self.inside.parts.items _ c.self.inside.sessions.items _ c.self.inside.limit c.self.inside.max_local c.args.self.now c.self.view_is
+    (databases-changed _ c.self.inside.sessions.items c.from.result c.index_mut.result.now (after c) (partition_of c.args.tag) _ c.release_hold.new.parts.items c.release_hold.new.sessions.items
+    (found c).opened c.index_mut.ensures.value refl c.release_hold.ensures.changed)
+
+pub returns-in-StillHeld-clause-alone : goal.returns-in-StillHeld-clause-alone
+returns-in-StillHeld-clause-alone c =
+    let number : c.from.result ≡ c.args.session = c.from.ensures ∙ c.number.ensures.value in
+    let opened : c.args.session < length c.args.self.now.sessions = c.requires.issued in
+    let same : length c.self.inside.sessions.items ≡ length c.args.self.now.sessions = ap (λ (desk : DeskView). length desk.sessions) c.self.view_is in
+    let within : c.from.result < length c.self.inside.sessions.items = omega arith in
+    LeavesAlone-after c.self.inside.parts.items _ c.self.inside.sessions.items _ c.self.inside.limit c.self.inside.max_local c.args.self.now c.self.view_is
+    (databases-set c.self.inside.sessions.items c.from.result c.index_mut.result.now (record { database = c.index_mut.result.now.database; locals = c.drop_one.new.self; wait = c.index_mut.result.now.wait })
+    within c.index_mut.ensures.value refl)

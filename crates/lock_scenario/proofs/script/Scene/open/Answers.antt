@@ -1,5 +1,5 @@
 use Rattle.std.proofs.Common.{◌∙◌, sym, arith}
-use Rattle.lock_scenario.specs.Desk.{shared_of, wait_of}
+use Rattle.lock_scenario.specs.Desk.{wait_of}
 use Rattle.lock_scenario.specs.Names.{waits_of}
 use Rattle.std.proofs.lemmas.Grind.{common_steps}
 use Rattle.lock_scenario.proofs.WhoWaits.{Tells-kept}
