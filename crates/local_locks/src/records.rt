@@ -62,51 +62,53 @@ impl Entry {
     pub(crate) fn is_of(&self, tag: &Tag, mode: Mode) -> bool
         ensures { result ≡ is_of tag.now mode self.now }
     {
-        self.tag.is_same(*tag) && self.mode.is_same(mode)
+        self.tag == *tag && self.mode == mode
     }
 
-    /// The entry with no count.
-    pub(crate) fn emptied(self) -> Self
-        ensures { result ≡ after_end Close self }
-    {
-        Entry {
-            transaction: 0,
-            session: 0,
-            ..self
-        }
-    }
-
-    /// The entry with one count more of this owner.
-    pub(crate) fn raised(self, owner: Owner) -> Self
-        requires { count_for owner self < max_count }
-        ensures { result ≡ raised owner self }
+    /// How often an owner has it, read in its place.
+    pub(crate) fn count_for(&self, owner: Owner) -> u16
+        ensures { result ≡ count_for owner self.now }
     {
         match owner {
-            Owner::Session => Entry {
-                session: self.session + 1,
-                ..self
-            },
-            Owner::Transaction => Entry {
-                transaction: self.transaction + 1,
-                ..self
-            },
+            Owner::Session => self.session,
+            Owner::Transaction => self.transaction,
         }
     }
 
-    /// The entry with one count less of this owner.
-    pub(crate) fn lowered(self, owner: Owner) -> Self
-        requires { 0 < count_for owner self }
-        ensures { result ≡ lowered owner self }
+    /// How often both owners together have it, read in its place.
+    pub(crate) fn sum(&self) -> u32
+        ensures { result ≡ count_in_all self.now }
+    {
+        u32::from(self.transaction) + u32::from(self.session)
+    }
+
+    /// Raises the count of this owner.
+    pub(crate) fn raise(&mut self, owner: Owner)
+        requires { count_for owner self.old < max_count }
+        ensures { self.new ≡ raised owner self.old }
     {
         match owner {
-            Owner::Session => Entry {
-                session: self.session - 1,
-                ..self
-            },
-            Owner::Transaction => Entry {
-                transaction: self.transaction - 1,
-                ..self
-            },
+            Owner::Session => self.session += 1,
+            Owner::Transaction => self.transaction += 1,
         }
+    }
+
+    /// Lowers the count of this owner.
+    pub(crate) fn lower(&mut self, owner: Owner)
+        requires { 0 < count_for owner self.old }
+        ensures { self.new ≡ lowered owner self.old }
+    {
+        match owner {
+            Owner::Session => self.session -= 1,
+            Owner::Transaction => self.transaction -= 1,
+        }
+    }
+
+    /// Takes both counts away.
+    pub(crate) fn clear(&mut self)
+        ensures { self.new ≡ after_end Close self.old }
+    {
+        self.transaction = 0;
+        self.session = 0;
     }
 }

@@ -2,7 +2,7 @@ ghost use Rattle.std.specs.Prelude.{◌≡◌, ◌≢◌, ◌+◌, ◌-◌, ◌<
 ghost use Rattle.std.specs.Option.{option_map};
 ghost use Rattle.place_index.specs.Notes.{no_place};
 ghost use Rattle.local_locks.specs.Owned.{count_for, raised, lowered, max_count, count_in_all, without, is_ended, after_end};
-ghost use Rattle.local_locks.specs.Slots.{opened, slot_at, present, key_at, key_hash, IsIndexed, IsPast};
+ghost use Rattle.local_locks.specs.Slots.{opened, entry_at, slot_at, present, key_at, key_hash, IsIndexed, IsPast};
 
 use crate::looks::key_hash;
 use crate::{End, Entry};
@@ -10,26 +10,26 @@ use modes_core::Owner;
 use place_index::PlaceIndex;
 
 /// Raises the count of an owner in the entry at a place.
-pub(crate) fn raise(slots: &mut Vec<Entry>, place: usize, owner: Owner, entry: Entry)
-    requires there { slot_at (opened slots.old.items) place ≡ Some entry }
-    requires below { count_for owner entry < max_count }
-    ensures slots { opened slots.new.items ≡ slice_set (opened slots.old.items) place (Some (raised owner entry)) }
+pub(crate) fn raise(slots: &mut Vec<Entry>, place: usize, owner: Owner)
+    requires within { place < length slots.old.items }
+    requires below { count_for owner (entry_at slots.old.items place) < max_count }
+    ensures slots { opened slots.new.items ≡ slice_set (opened slots.old.items) place (Some (raised owner (entry_at slots.old.items place))) }
     ensures room { vec_capacity slots.new - length slots.new.items ≡ vec_capacity slots.old - length slots.old.items }
     ensures number { length slots.new.items ≡ length slots.old.items }
 {
-    slots[place] = entry.raised(owner);
+    slots[place].raise(owner);
 }
 
 /// Lowers the count of an owner in the entry at a place, which keeps a count.
-pub(crate) fn lower(slots: &mut Vec<Entry>, place: usize, owner: Owner, entry: Entry)
-    requires there { slot_at (opened slots.old.items) place ≡ Some entry }
-    requires some { 0 < count_for owner entry }
-    requires more { count_in_all entry ≢ 1 }
-    ensures slots { opened slots.new.items ≡ slice_set (opened slots.old.items) place (Some (lowered owner entry)) }
+pub(crate) fn lower(slots: &mut Vec<Entry>, place: usize, owner: Owner)
+    requires within { place < length slots.old.items }
+    requires some { 0 < count_for owner (entry_at slots.old.items place) }
+    requires more { count_in_all (entry_at slots.old.items place) ≢ 1 }
+    ensures slots { opened slots.new.items ≡ slice_set (opened slots.old.items) place (Some (lowered owner (entry_at slots.old.items place))) }
     ensures room { vec_capacity slots.new - length slots.new.items ≡ vec_capacity slots.old - length slots.old.items }
     ensures number { length slots.new.items ≡ length slots.old.items }
 {
-    slots[place] = entry.lowered(owner);
+    slots[place].lower(owner);
 }
 
 /// Makes a last slot with this entry, for which there is room, and notes its place under the hash.
@@ -53,11 +53,11 @@ pub(crate) fn push_entry(slots: &mut Vec<Entry>, index: &mut PlaceIndex, hash: u
 }
 
 /// Takes the entry out of its slot, and the slot away if it is the last one.
-pub(crate) fn take_out(slots: &mut Vec<Entry>, index: &mut PlaceIndex, place: usize, entry: Entry)
+pub(crate) fn take_out(slots: &mut Vec<Entry>, index: &mut PlaceIndex, place: usize)
     requires indexed { IsIndexed (opened slots.old.items) index.old }
-    requires there { slot_at (opened slots.old.items) place ≡ Some entry }
+    requires there { slot_at (opened slots.old.items) place ≡ Some (entry_at slots.old.items place) }
     requires few { length slots.old.items ≤ no_place }
-    ensures entries { present (opened slots.new.items) ≡ without (present (opened slots.old.items)) entry.tag entry.mode }
+    ensures entries { present (opened slots.new.items) ≡ without (present (opened slots.old.items)) (entry_at slots.old.items place).tag (entry_at slots.old.items place).mode }
     ensures number { length (present (opened slots.old.items)) ≡ length (present (opened slots.new.items)) + 1 }
     ensures gone { slot_at (opened slots.new.items) place ≡ None }
     ensures others { (k : ℕ) → k ≢ place → slot_at (opened slots.new.items) k ≡ slot_at (opened slots.old.items) k }
@@ -67,8 +67,9 @@ pub(crate) fn take_out(slots: &mut Vec<Entry>, index: &mut PlaceIndex, place: us
     ensures capacity { vec_capacity slots.new ≡ vec_capacity slots.old }
     ensures index_room { index.new.room ≡ index.old.room + 1 }
 {
-    index.remove(key_hash(&entry.tag, entry.mode), place as u32);
-    slots[place] = entry.emptied();
+    let slot = &mut slots[place];
+    index.remove(key_hash(&slot.tag, slot.mode), place as u32);
+    slot.clear();
     let used = if place + 1 == slots.len() {
         place
     } else {
@@ -120,7 +121,7 @@ fn move_down(slots: &mut Vec<Entry>, index: &mut PlaceIndex, place: usize, to: u
     let hash = key_hash(&entry.tag, entry.mode);
     index.remove(hash, place as u32);
     index.insert(hash, to as u32);
-    slots[place] = entry.emptied();
+    slots[place].clear();
     slots[to] = entry;
 }
 

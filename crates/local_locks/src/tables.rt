@@ -76,7 +76,7 @@ impl LocalTable {
         ensures well_owned { IsWellOwned self.now }
     {
         match look(&self.slots, &self.index, self.last, &tag, mode) {
-            Spot::At(place) => self.slots[place].total(),
+            Spot::At(place) => self.slots[place].sum(),
             Spot::Free(_) => 0,
         }
     }
@@ -87,7 +87,7 @@ impl LocalTable {
         ensures well_owned { IsWellOwned self.now }
     {
         match look(&self.slots, &self.index, self.last, &tag, mode) {
-            Spot::At(place) => self.slots[place].count(owner),
+            Spot::At(place) => self.slots[place].count_for(owner),
             Spot::Free(_) => 0,
         }
     }
@@ -119,7 +119,7 @@ impl LocalTable {
         match look(&self.slots, &self.index, self.last, &tag, mode) {
             Spot::At(place) => {
                 self.last = place;
-                if self.slots[place].count(owner) == u16::MAX {
+                if self.slots[place].count_for(owner) == u16::MAX {
                     Err(Refusal::CountFull)
                 } else {
                     Ok(())
@@ -192,9 +192,9 @@ impl LocalTable {
             mode,
         ) {
             Spot::At(place) => {
-                let entry = self.slots[place];
                 self.missing = None;
-                raise(&mut self.slots, place, owner, entry);
+                self.last = place;
+                raise(&mut self.slots, place, owner);
                 self.progress = self.progress.back_to(place);
                 Acquired::AlreadyHeld
             }
@@ -226,17 +226,18 @@ impl LocalTable {
         let Spot::At(place) = look(&self.slots, &self.index, self.last, &tag, mode) else {
             return Err(Refusal::NotHeld);
         };
-        let entry = self.slots[place];
-        if entry.count(owner) == 0 {
+        let entry = &self.slots[place];
+        if entry.count_for(owner) == 0 {
             return Err(Refusal::NotHeld);
         }
+        let total = entry.sum();
         self.missing = None;
-        if entry.total() == 1 {
-            take_out(&mut self.slots, &mut self.index, place, entry);
+        if total == 1 {
+            take_out(&mut self.slots, &mut self.index, place);
             self.len -= 1;
             Ok(Unlocked::Released)
         } else {
-            lower(&mut self.slots, place, owner, entry);
+            lower(&mut self.slots, place, owner);
             Ok(Unlocked::StillHeld)
         }
     }
@@ -263,10 +264,11 @@ impl LocalTable {
         if place == self.slots.len() {
             return None;
         }
-        let entry = self.slots[place];
-        take_out(&mut self.slots, &mut self.index, place, entry);
+        let entry = &self.slots[place];
+        let key = (entry.tag, entry.mode);
+        take_out(&mut self.slots, &mut self.index, place);
         self.len -= 1;
-        Some((entry.tag, entry.mode))
+        Some(key)
     }
 }
 

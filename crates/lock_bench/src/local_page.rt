@@ -1,162 +1,168 @@
-ghost use Rattle.std.specs.Prelude.{◌<◌, ◌≤◌};
-
-use crate::rounds::{ROUNDS, Spread, Times, nanos_since};
+use crate::bed::{Bed, ROWS, Row};
+use crate::keys::{Key, Kind, keys};
+use crate::loops::{acquire_all, end_all};
+use crate::rounds::{ROUNDS, Spread, Times, cpu_nanos};
 use anyhow::Result;
-use local_locks::{Acquired, End, LocalTable};
-use modes_core::{Mode, Owner, Refusal, Tag};
-use std::rt::Clock;
-use std::time::Instant;
+use local_locks::{End, LocalTable};
+use modes_core::Owner;
+use std::alloc::Global;
+use std::time::CpuClock;
 
 /// How many entries are held.
 const SIZES: [u32; 4] = [10, 100, 1_000, 10_000];
 
-/// How many acquires with their release a round has.
+/// How many steps a round has, at least.
 const STEPS: u32 = 100_000;
 
-/// How many entries a round of commits takes away.
-const COMMITTED: u32 = 100_000;
+/// How many entries a round of commits takes away, at least.
+const COMMITTED: u32 = 10_000;
 
-fn relation(number: u32) -> Tag {
-    Tag::relation(5, 16384u32.wrapping_add(number))
-}
-
-fn acquire(table: &mut LocalTable, number: u32) -> Result<Acquired, Refusal> {
-    let tag = relation(number);
-    table.reserve(tag, Mode::AccessShare, Owner::Transaction)?;
-    Ok(table.add(tag, Mode::AccessShare, Owner::Transaction))
-}
-
-fn release(table: &mut LocalTable, number: u32) -> Result<(), Refusal> {
-    table.drop_one(relation(number), Mode::AccessShare, Owner::Transaction)?;
-    Ok(())
-}
-
-fn fill(table: &mut LocalTable, held: u32) -> Result<(), Refusal> {
-    for number in 0..held {
-        acquire(table, number)?;
+/// Times every row, each once in a round.
+fn time_rows<R: CpuClock + AllocGlobal>(rt: &R, bed: &mut Bed) -> Result<Vec<(Row, Spread)>> {
+    let mut taken = Vec::new(rt.alloc());
+    for row in ROWS {
+        taken.push((row, Times::new(rt.alloc())))?;
     }
-    Ok(())
-}
-
-/// Goes through a commit, and gives how many entries it took away.
-fn commit(table: &mut LocalTable, held: u32) -> u32 {
-    for taken in 0..held {
-        if table.end_next(End::Commit).is_none() {
-            return taken;
+    for _ in 0..ROUNDS {
+        for (row, times) in &mut taken {
+            let from = cpu_nanos(rt)?;
+            bed.run(*row)?;
+            times.add(from, cpu_nanos(rt)?, bed.steps(*row))?;
         }
     }
-    let _ = table.end_next(End::Commit);
-    held
-}
-
-/// Acquires with their release of modes that are held.
-fn held_again(table: &mut LocalTable, held: u32, steps: u32) -> Result<(), Refusal>
-    requires some { 0 < held }
-    requires few { steps ≤ 100000 }
-{
-    for step in 0..steps {
-        let number = step * 61 % held;
-        acquire(table, number)?;
-        release(table, number)?;
+    let mut spreads = Vec::new(rt.alloc());
+    for (row, times) in taken {
+        spreads.push((row, times.spread()))?;
     }
-    Ok(())
+    Ok(spreads)
 }
 
-/// Acquires with their release of modes that are not held.
-fn new_ones(table: &mut LocalTable, held: u32, steps: u32) -> Result<(), Refusal> {
-    for step in 0..steps {
-        let number = held.wrapping_add(step % 1000);
-        acquire(table, number)?;
-        release(table, number)?;
+/// Tables that hold the keys.
+fn filled(alloc: Global, keys: &[Key], owner: Owner, count: u32) -> Result<Vec<LocalTable>> {
+    let mut tables = Vec::new(alloc);
+    for _ in 0..count {
+        let mut table = LocalTable::new(alloc, 65536)?;
+        acquire_all(&mut table, keys, owner)?;
+        tables.push(table)?;
     }
-    Ok(())
+    Ok(tables)
 }
 
-fn time_held<R: Clock + AllocGlobal>(rt: &R, held: u32) -> Result<Spread>
-    requires { 0 < held }
-{
-    let mut table = LocalTable::new(rt.alloc(), 65536)?;
-    fill(&mut table, held)?;
+/// Times a commit, for each entry that it takes away.
+fn time_commit<R: CpuClock + AllocGlobal>(rt: &R, database: u32, held: u32) -> Result<Spread> {
+    let keys = keys(rt.alloc(), Kind::Relations, database, 0, held)?;
+    let count = COMMITTED.checked_div(held).unwrap_or(0).max(1);
     let mut times = Times::new(rt.alloc());
     for _ in 0..ROUNDS {
-        let start = Instant::now(rt)?;
-        held_again(&mut table, held, STEPS)?;
-        times.add(nanos_since(rt, start)?, STEPS)?;
-    }
-    Ok(times.spread())
-}
-
-fn time_new<R: Clock + AllocGlobal>(rt: &R, held: u32) -> Result<Spread> {
-    let mut table = LocalTable::new(rt.alloc(), 65536)?;
-    fill(&mut table, held)?;
-    let mut times = Times::new(rt.alloc());
-    for _ in 0..ROUNDS {
-        let start = Instant::now(rt)?;
-        new_ones(&mut table, held, STEPS)?;
-        times.add(nanos_since(rt, start)?, STEPS)?;
-    }
-    Ok(times.spread())
-}
-
-fn time_commit<R: Clock + AllocGlobal>(rt: &R, held: u32) -> Result<Spread>
-    requires { 0 < held }
-{
-    let mut table = LocalTable::new(rt.alloc(), 65536)?;
-    let mut times = Times::new(rt.alloc());
-    for _ in 0..ROUNDS {
-        let mut nanos = 0u64;
-        for _ in 0..COMMITTED / held {
-            fill(&mut table, held)?;
-            let start = Instant::now(rt)?;
-            commit(&mut table, held);
-            nanos = nanos.saturating_add(nanos_since(rt, start)?);
+        let mut tables = filled(rt.alloc(), keys.as_slice(), Owner::Transaction, count)?;
+        let mut ended = 0u64;
+        let from = cpu_nanos(rt)?;
+        for table in &mut tables {
+            ended = ended.wrapping_add(u64::from(end_all(table, End::Commit)));
         }
-        times.add(nanos, COMMITTED / held * held)?;
+        times.add(from, cpu_nanos(rt)?, ended)?;
     }
     Ok(times.spread())
 }
 
-fn print_size<R: Clock + AllocGlobal + Print>(rt: &R, held: u32) -> Result<()>
-    requires { 0 < held }
-{
-    let again = time_held(rt, held)?;
-    println!(rt; "{held:>6} held: acquire and release of a held mode   {again}")?;
-    let new = time_new(rt, held)?;
-    println!(rt; "{held:>6} held: acquire and release of a new mode    {new}")?;
-    let committed = time_commit(rt, held)?;
-    println!(rt; "{held:>6} held: commit, for each entry               {committed}")?;
+fn spread_of(spreads: &[(Row, Spread)], row: Row) -> Spread {
+    for (other, spread) in spreads {
+        if *other == row {
+            return *spread;
+        }
+    }
+    Spread::default()
+}
+
+/// The row's time with that of its empty loop taken off.
+fn above_empty(spreads: &[(Row, Spread)], row: Row) -> Spread {
+    spread_of(spreads, row).above(spread_of(spreads, row.empty()))
+}
+
+fn print_ratio<R: Print>(rt: &R, what: &str, part: Spread, whole: Spread) -> Result<()> {
+    let (median, least) = part.hundredths_of(whole);
+    println!(rt; "        {what:<44} 0.{median:02} (smallest: 0.{least:02})")?;
+    Ok(())
+}
+
+fn print_size<R: CpuClock + AllocGlobal + Print>(
+    rt: &R,
+    database: u32,
+    owner: Owner,
+    held: u32,
+) -> Result<()> {
+    let mut bed = Bed::new(rt.alloc(), database, owner, held, STEPS)?;
+    let spreads = time_rows(rt, &mut bed)?;
+    let spreads = spreads.as_slice();
+    println!(rt; "{held} held")?;
+    for row in ROWS {
+        let name = row.name();
+        let time = match row {
+            Row::OneEmptyCall | Row::TwoEmptyCalls => spread_of(spreads, row),
+            _ => above_empty(spreads, row),
+        };
+        println!(rt; "        {name:<40} {time}")?;
+    }
+    let commit = time_commit(rt, database, held)?;
+    println!(rt; "        {:<40} {commit}", "commit, for each entry")?;
+    let look_up = above_empty(spreads, Row::MapLookUp);
+    let map_pair = above_empty(spreads, Row::MapPair);
+    print_ratio(
+        rt,
+        "held pair to a look-up of the map",
+        above_empty(spreads, Row::HeldPair),
+        look_up,
+    )?;
+    print_ratio(
+        rt,
+        "new pair to an insert with its removal",
+        above_empty(spreads, Row::NewPair),
+        map_pair,
+    )?;
+    print_ratio(rt, "commit of an entry to that", commit, map_pair)?;
     Ok(())
 }
 
 /// Prints the table of times.
-pub fn print<R: Clock + AllocGlobal + Print>(rt: &R) -> Result<()> {
-    println!(rt; "local table: nanoseconds, median of {ROUNDS} rounds (smallest to largest)")?;
+#[inline(never)]
+pub fn print<R: CpuClock + AllocGlobal + Print>(rt: &R, database: u32, owner: Owner) -> Result<()> {
+    println!(rt;
+        "local table: nanoseconds of the thread's processor time with the empty loop taken off, median of {ROUNDS} rounds (smallest to largest)"
+    )?;
     for held in SIZES {
-        if held > 0 {
-            print_size(rt, held)?;
-        }
+        print_size(rt, database, owner, held)?;
     }
     Ok(())
 }
 
-fn check_size<R: AllocGlobal + Print>(rt: &R, held: u32) -> Result<()>
-    requires { 0 < held }
-{
-    let mut table = LocalTable::new(rt.alloc(), 65536)?;
-    fill(&mut table, held)?;
-    held_again(&mut table, held, 100)?;
-    new_ones(&mut table, held, 100)?;
-    let entries = table.entries().count();
-    let committed = commit(&mut table, held);
-    let left = table.entries().count();
-    println!(rt;
-        "local table: {held} held, {entries} after 200 acquires and releases, {committed} committed, {left} left"
-    )?;
+fn check_size<R: AllocGlobal + Print>(
+    rt: &R,
+    database: u32,
+    owner: Owner,
+    held: u32,
+) -> Result<()> {
+    let mut bed = Bed::new(rt.alloc(), database, owner, held, 1000)?;
+    let before = bed.entries();
+    for row in ROWS {
+        let name = row.name();
+        let steps = bed.steps(row);
+        let counted = bed.run(row)?;
+        let after = bed.entries();
+        println!(rt;
+            "{held} held, {name}: {steps} steps, counted {counted}, entries {before} and {after}"
+        )?;
+    }
+    let keys = keys(rt.alloc(), Kind::Relations, database, 0, held)?;
+    let mut ended = 0u32;
+    for table in &mut filled(rt.alloc(), keys.as_slice(), Owner::Transaction, 2)? {
+        ended = ended.wrapping_add(end_all(table, End::Commit));
+    }
+    println!(rt; "{held} held, two commits: {ended} ended")?;
     Ok(())
 }
 
 /// The same steps once, and what they leave.
-pub fn check<R: AllocGlobal + Print>(rt: &R) -> Result<()> {
-    check_size(rt, 10)?;
-    check_size(rt, 100)
+pub fn check<R: AllocGlobal + Print>(rt: &R, database: u32, owner: Owner) -> Result<()> {
+    check_size(rt, database, owner, 10)?;
+    check_size(rt, database, owner, 100)
 }

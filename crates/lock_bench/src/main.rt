@@ -2,12 +2,16 @@
 //! fixed run instead, whose output does not depend on time.
 #![tactic(auto)]
 
-mod index_page;
+mod bed;
+mod doors;
+mod keys;
 mod local_page;
+mod loops;
 mod rounds;
 
 use anyhow::Result;
 use clap::{Arg, ArgAction, Command};
+use modes_core::Owner;
 use std::alloc::Global;
 use std::env;
 
@@ -26,12 +30,17 @@ fn is_check(alloc: Global, words: &[String]) -> Result<bool> {
 
 fn main(rt: HostRuntime) -> Result<()> {
     let words: Vec<String> = env::args(&rt)?.collect(rt.alloc())?;
-    if is_check(rt.alloc(), words.as_slice())? {
-        local_page::check(&rt)?;
-        index_page::check(&rt)?;
+    // From outside, so that no call is specialised to them.
+    let database = if words.is_empty() { 1 } else { 5 };
+    let owner = if words.is_empty() {
+        Owner::Session
     } else {
-        local_page::print(&rt)?;
-        index_page::print(&rt)?;
+        Owner::Transaction
+    };
+    if is_check(rt.alloc(), words.as_slice())? {
+        local_page::check(&rt, database, owner)?;
+    } else {
+        local_page::print(&rt, database, owner)?;
     }
     Ok(())
 }

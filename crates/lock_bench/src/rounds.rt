@@ -1,20 +1,18 @@
 use anyhow::Result;
 use std::alloc::{AllocError, Global};
 use std::fmt;
-use std::rt::Clock;
-use std::time::Instant;
+use std::time::CpuClock;
 
 /// How often each time is taken.
-pub const ROUNDS: u32 = 9;
+pub const ROUNDS: u32 = 15;
 
-/// The nanoseconds since a moment.
-pub fn nanos_since(rt: &impl Clock, start: Instant) -> Result<u64> {
-    let passed = start.elapsed(rt)?;
+/// The processor time that this thread has used, in nanoseconds.
+pub fn cpu_nanos(rt: &impl CpuClock) -> Result<u64> {
+    let used = rt.thread_cpu_time()?;
     Ok(
-        passed
-            .as_secs()
+        used.as_secs()
             .saturating_mul(1_000_000_000)
-            .saturating_add(u64::from(passed.subsec_nanos())),
+            .saturating_add(u64::from(used.subsec_nanos())),
     )
 }
 
@@ -31,11 +29,12 @@ impl Times {
         }
     }
 
-    /// Adds a round that took so many nanoseconds for so many steps.
-    pub fn add(&mut self, nanos: u64, steps: u32) -> Result<(), AllocError> {
-        let tenths = nanos
+    /// Adds a round of so many steps, between two readings of the clock.
+    pub fn add(&mut self, from: u64, to: u64, steps: u64) -> Result<(), AllocError> {
+        let tenths = to
+            .saturating_sub(from)
             .saturating_mul(10)
-            .checked_div(u64::from(steps))
+            .checked_div(steps)
             .unwrap_or(0);
         self.tenths.push(tenths)?;
         Ok(())
@@ -54,11 +53,34 @@ impl Times {
 }
 
 /// The median of several rounds, with the smallest and the largest beside it.
-#[derive(Clone, Copy, Debug)]
+#[derive(Clone, Copy, Debug, Default)]
 pub struct Spread {
     pub median: u64,
     pub least: u64,
     pub most: u64,
+}
+
+impl Spread {
+    /// The times with those of the empty loop taken off.
+    pub fn above(self, empty: Spread) -> Spread {
+        Spread {
+            median: self.median.saturating_sub(empty.median),
+            least: self.least.saturating_sub(empty.least),
+            most: self.most.saturating_sub(empty.median),
+        }
+    }
+
+    /// How many hundredths of another time this one is, by the medians and by the smallest.
+    pub fn hundredths_of(self, other: Spread) -> (u64, u64) {
+        (
+            hundredths(self.median, other.median),
+            hundredths(self.least, other.least),
+        )
+    }
+}
+
+fn hundredths(part: u64, whole: u64) -> u64 {
+    part.saturating_mul(100).checked_div(whole).unwrap_or(0)
 }
 
 impl fmt::Display for Spread {

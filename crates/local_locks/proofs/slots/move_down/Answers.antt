@@ -11,12 +11,12 @@ pub remove-requires : goal.remove-requires
 remove-requires c = noted_some (opened c.args.slots.now.items) c.args.index.now c.requires.indexed c.args.place c.key_hash-hash.result c.args.entry c.requires.there c.key_hash-hash.ensures
 
 -- the slots after the move
-slots_are : (c : goal.After-slots-2-1) → opened (set (set c.args.slots.now.items c.args.place c.emptied.result) c.args.to c.args.entry) ≡ set (set (opened c.args.slots.now.items) c.args.place None) c.args.to (Some c.args.entry)
+slots_are : (c : goal.After-slots-2-1) → opened (set (set c.args.slots.now.items c.args.place c.clear.new.self) c.args.to c.args.entry) ≡ set (set (opened c.args.slots.now.items) c.args.place None) c.args.to (Some c.args.entry)
 slots_are c =
     let held = (opened_some c.args.slots.now.items c.args.place c.args.entry c.requires.there).2 in
-    opened-set (set c.args.slots.now.items c.args.place c.emptied.result) c.args.to c.args.entry
-    ∙ ((λ i. set (opened-set c.args.slots.now.items c.args.place c.emptied.result i) c.args.to (entry_in-held c.args.entry held i))
-    ∙ ap (λ o. set (set (opened c.args.slots.now.items) c.args.place o) c.args.to (Some c.args.entry)) (ap entry_in c.emptied.ensures))
+    opened-set (set c.args.slots.now.items c.args.place c.clear.new.self) c.args.to c.args.entry
+    ∙ ((λ i. set (opened-set c.args.slots.now.items c.args.place c.clear.new.self i) c.args.to (entry_in-held c.args.entry held i))
+    ∙ ap (λ o. set (set (opened c.args.slots.now.items) c.args.place o) c.args.to (Some c.args.entry)) (ap entry_in c.clear.ensures))
 
 within : (c : goal.After-slots-2-1) → c.args.to < length (set (opened c.args.slots.now.items) c.args.place None)
 within c = omega (arith, length-set (opened c.args.slots.now.items) c.args.place None, slot_at-within (opened c.args.slots.now.items) c.args.place c.args.entry c.requires.there, c.requires.down)

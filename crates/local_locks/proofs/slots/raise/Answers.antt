@@ -1,10 +1,14 @@
-use Rattle.std.proofs.Common.{set, ap, ◌∙◌}
+use Rattle.std.proofs.Common.{set, sym, ap, ◌∙◌}
+use Rattle.std.proofs.lemmas.List.{get_or_default}
 use Rattle.local_locks.specs.Owned.{raised}
-use Rattle.local_locks.specs.Slots.{opened, entry_in}
+use Rattle.local_locks.specs.Slots.{opened, entry_in, entry_at}
 use Rattle.local_locks.proofs.OpenLaws.{opened-set, entry_in-held, raised-held}
 use Rattle.local_locks.proofs.slots.raise.Goals as goal
 
 pub returns-clause-slots : goal.returns-clause-slots
 returns-clause-slots c =
-    opened-set c.args.slots.now.items c.args.place c.raised.result
-    ∙ ap (set (opened c.args.slots.now.items) c.args.place) (ap entry_in c.raised.ensures ∙ entry_in-held (raised c.args.owner c.args.entry) (raised-held c.args.owner c.args.entry))
+    let es = c.args.slots.now.items in
+    let read = c.index_mut.ensures.value ∙ get_or_default es c.args.place c.index_mut.result.now _ c.requires.within in
+    opened-set es c.args.place c.raise.new.self
+    ∙ ap (set (opened es) c.args.place)
+    (ap entry_in (c.raise.ensures ∙ ap (raised c.args.owner) read) ∙ entry_in-held (raised c.args.owner (entry_at es c.args.place)) (raised-held c.args.owner (entry_at es c.args.place)))

@@ -1,14 +1,20 @@
 use Rattle.std.proofs.Common.{◌≡◌, None, take, set, sym, ap, ◌∙◌, length, inl, inr, arith}
 use Rattle.std.specs.Option.{option_map}
-use Rattle.local_locks.specs.Slots.{opened, slot_at, present, entry_in, key_at}
+use Rattle.std.proofs.lemmas.List.{get_or_default}
+use Rattle.local_locks.specs.declared.records.Entry.{Entry}
+use Rattle.local_locks.specs.Slots.{opened, slot_at, present, entry_in, entry_at, key_at, key_hash}
 use Rattle.local_locks.proofs.IndexLaws.{noted_some, indexed-cleared}
-use Rattle.local_locks.proofs.OpenLaws.{length-opened, opened-set, opened-take}
+use Rattle.local_locks.proofs.OpenLaws.{length-opened, opened-set, opened-take, opened_some}
 use Rattle.local_locks.proofs.SlotSteps.{IsCut, left-entries, left-number, left-gone, left-others}
 use Rattle.local_locks.proofs.slots.take_out.Goals as goal
 use Rattle.local_locks.proofs.slots.take_out.Goals.{then-place-len, else-place-len}
 
 pub remove-requires : goal.remove-requires
-remove-requires c = noted_some (opened c.args.slots.now.items) c.args.index.now c.requires.indexed c.args.place c.key_hash.result c.args.entry c.requires.there c.key_hash.ensures
+remove-requires c =
+    let es = c.args.slots.now.items in
+    let within = (opened_some es c.args.place (entry_at es c.args.place) c.requires.there).0 in
+    let read = c.index_mut-slot.ensures.value ∙ get_or_default es c.args.place c.index_mut-slot.result.now _ within in
+    noted_some (opened c.args.slots.now.items) c.args.index.now c.requires.indexed c.args.place c.key_hash.result (entry_at c.args.slots.now.items c.args.place) c.requires.there (c.key_hash.ensures ∙ ap (λ (x : Entry). key_hash x.tag x.mode) read)
 
 -- the slots are cut at their end, or before the last one if that is the one left
 cut : (c : goal.After-truncate) → IsCut (opened c.args.slots.now.items) c.args.place c.if-place-len.used
@@ -21,32 +27,35 @@ cut c = elim c.if-place-len.branch [
 slots_are : (c : goal.After-truncate) → opened c.truncate.new.self.items ≡ take c.if-place-len.used (set (opened c.args.slots.now.items) c.args.place None)
 slots_are c =
     ap opened c.truncate.ensures.items
-    ∙ (opened-take c.if-place-len.used (set c.args.slots.now.items c.args.place c.emptied.result)
+    ∙ (opened-take c.if-place-len.used (set c.args.slots.now.items c.args.place c.clear.new.self)
     ∙ ap (take c.if-place-len.used)
-    (opened-set c.args.slots.now.items c.args.place c.emptied.result ∙ ap (λ o. set (opened c.args.slots.now.items) c.args.place o) (ap entry_in c.emptied.ensures)))
+    (opened-set c.args.slots.now.items c.args.place c.clear.new.self ∙ ap (λ o. set (opened c.args.slots.now.items) c.args.place o) (ap entry_in c.clear.ensures)))
 
 pub returns-clause-entries : goal.returns-clause-entries
 returns-clause-entries c =
-    left-entries (opened c.args.slots.now.items) (opened c.truncate.new.self.items) c.args.index.now c.args.place c.if-place-len.used c.args.entry
+    left-entries (opened c.args.slots.now.items) (opened c.truncate.new.self.items) c.args.index.now c.args.place c.if-place-len.used (entry_at c.args.slots.now.items c.args.place)
     c.requires.indexed c.requires.there (cut c) (slots_are c)
 
 pub returns-clause-number : goal.returns-clause-number
 returns-clause-number c =
-    left-number (opened c.args.slots.now.items) (opened c.truncate.new.self.items) c.args.index.now c.args.place c.if-place-len.used c.args.entry
+    left-number (opened c.args.slots.now.items) (opened c.truncate.new.self.items) c.args.index.now c.args.place c.if-place-len.used (entry_at c.args.slots.now.items c.args.place)
     c.requires.indexed c.requires.there (cut c) (slots_are c)
 
 pub returns-clause-gone : goal.returns-clause-gone
 returns-clause-gone c =
-    left-gone (opened c.args.slots.now.items) (opened c.truncate.new.self.items) c.args.index.now c.args.place c.if-place-len.used c.args.entry
+    left-gone (opened c.args.slots.now.items) (opened c.truncate.new.self.items) c.args.index.now c.args.place c.if-place-len.used (entry_at c.args.slots.now.items c.args.place)
     c.requires.indexed c.requires.there (cut c) (slots_are c)
 
 pub returns-clause-others : goal.returns-clause-others
 returns-clause-others c =
-    left-others (opened c.args.slots.now.items) (opened c.truncate.new.self.items) c.args.index.now c.args.place c.if-place-len.used c.args.entry
+    left-others (opened c.args.slots.now.items) (opened c.truncate.new.self.items) c.args.index.now c.args.place c.if-place-len.used (entry_at c.args.slots.now.items c.args.place)
     c.requires.indexed c.requires.there (cut c) (slots_are c)
 
 pub returns-clause-indexed : goal.returns-clause-indexed
 returns-clause-indexed c =
-    indexed-cleared (opened c.args.slots.now.items) (opened c.truncate.new.self.items) c.args.index.now c.remove.new.self c.args.place c.key_hash.result (c.args.entry.tag, c.args.entry.mode)
+    let es = c.args.slots.now.items in
+    let within = (opened_some es c.args.place (entry_at es c.args.place) c.requires.there).0 in
+    let read = c.index_mut-slot.ensures.value ∙ get_or_default es c.args.place c.index_mut-slot.result.now _ within in
+    indexed-cleared (opened c.args.slots.now.items) (opened c.truncate.new.self.items) c.args.index.now c.remove.new.self c.args.place c.key_hash.result ((entry_at c.args.slots.now.items c.args.place).tag, (entry_at c.args.slots.now.items c.args.place).mode)
     c.requires.indexed (ap (option_map (λ y. (y.tag, y.mode))) c.requires.there) (ap (option_map (λ y. (y.tag, y.mode))) (returns-clause-gone c))
-    (λ k apart. ap (option_map (λ y. (y.tag, y.mode))) (returns-clause-others c k apart)) c.key_hash.ensures c.remove.ensures.notes
+    (λ k apart. ap (option_map (λ y. (y.tag, y.mode))) (returns-clause-others c k apart)) (c.key_hash.ensures ∙ ap (λ (x : Entry). key_hash x.tag x.mode) read) c.remove.ensures.notes

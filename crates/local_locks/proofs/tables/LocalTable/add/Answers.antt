@@ -18,16 +18,14 @@ pub invariant_of-self : goal.invariant_of-self
 invariant_of-self c =
     let es = c.self.inside.slots.items in
     let at = subst (λ (l : List Entry). IsPlaceOf l c.args.tag c.args.mode c.in-At.place) c.deref.ensures.value (c.in-At.ensures {u = tt}) in
-    let read : entry_at es c.in-At.place ≡ c.index-entry.result.now = sym (c.index-entry.ensures ∙ get_or_default es c.in-At.place c.index-entry.result.now _ at.within) in
     let count = owner_count-at (present (opened es)) c.args.tag c.args.mode c.args.owner (entry_at es c.in-At.place) at.found in
-    let same = ap (count_for c.args.owner) read in
     let seen = ap (λ v. owner_count_of v.entries c.args.tag c.args.mode c.args.owner) c.self.view_is in
-    let below : count_for c.args.owner c.index-entry.result.now < max_count = omega (arith, count, same, seen, c.requires.countable) in
+    let below : count_for c.args.owner (entry_at es c.in-At.place) < max_count = omega (arith, count, seen, c.requires.countable) in
     record {
       kept = subst (λ (p : Progress). IsKept (opened c.raise.new.slots.items) c.self.inside.index c.self.inside.len c.self.inside.max_local p) (sym c.back_to-self-inside.ensures)
           (subst (λ (s : Slots). IsKept s c.self.inside.index c.self.inside.len c.self.inside.max_local (back_to c.in-At.place c.self.inside.progress)) (sym c.raise.ensures.slots)
-          (kept-raised (opened es) c.self.inside.index c.self.inside.len c.self.inside.max_local c.self.inside.progress c.in-At.place c.args.owner c.index-entry.result.now
-          c.self.invariant.kept (at.there ∙ ap (λ (x : Entry). Some x) read) below));
+          (kept-raised (opened es) c.self.inside.index c.self.inside.len c.self.inside.max_local c.self.inside.progress c.in-At.place c.args.owner (entry_at es c.in-At.place)
+          c.self.invariant.kept at.there below));
       few = omega (arith, c.raise.ensures.number, c.self.invariant.few);
       remembered = tt;
     }
@@ -39,11 +37,9 @@ pub returns-in-At-clause-entries : goal.returns-in-At-clause-entries
 returns-in-At-clause-entries c =
     let es = c.self.inside.slots.items in
     let at = subst (λ (l : List Entry). IsPlaceOf l c.args.tag c.args.mode c.in-At.place) c.deref.ensures.value (c.in-At.ensures {u = tt}) in
-    let read : entry_at es c.in-At.place ≡ c.index-entry.result.now = sym (c.index-entry.ensures ∙ get_or_default es c.in-At.place c.index-entry.result.now _ at.within) in
     ap present c.raise.ensures.slots
-    ∙ (ap (λ (x : Entry). present (set (opened es) c.in-At.place (Some (raised c.args.owner x)))) (sym read)
     ∙ (entries-raised (opened es) c.self.inside.index c.args.tag c.args.mode c.args.owner c.in-At.place (entry_at es c.in-At.place) c.self.invariant.kept.indexed at.there at.own
-    ∙ ap (λ v. with_one_more v.entries c.args.tag c.args.mode c.args.owner) c.self.view_is))
+    ∙ ap (λ v. with_one_more v.entries c.args.tag c.args.mode c.args.owner) c.self.view_is)
 
 -- ---- there is none
 

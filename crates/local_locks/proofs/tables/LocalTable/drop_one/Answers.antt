@@ -13,8 +13,8 @@ use Rattle.local_locks.proofs.tables.LocalTable.drop_one.Goals as goal
 pub returns-in_default-clause-well_owned : goal.returns-in_default-clause-well_owned
 returns-in_default-clause-well_owned c = subst IsWellOwned c.self.view_is (well_owned _ _ _ _ _ _ c.self.invariant.kept)
 
-pub returns-then-count-eq0-clause-well_owned : goal.returns-then-count-eq0-clause-well_owned
-returns-then-count-eq0-clause-well_owned c = subst IsWellOwned c.self.view_is (well_owned _ _ _ _ _ _ c.self.invariant.kept)
+pub returns-then-count_for-eq0-clause-well_owned : goal.returns-then-count_for-eq0-clause-well_owned
+returns-then-count_for-eq0-clause-well_owned c = subst IsWellOwned c.self.view_is (well_owned _ _ _ _ _ _ c.self.invariant.kept)
 
 -- ---- the last count goes
 
@@ -27,11 +27,13 @@ returns-then-total-eq1-clause-well_owned c =
 
 pub returns-then-total-eq1-clause-answer : goal.returns-then-total-eq1-clause-answer
 returns-then-total-eq1-clause-answer c =
-    let at = entry_of_place c.self.inside.slots.items c.deref.result.now c.args.tag c.args.mode c.in-At.place c.index-entry.result.now c.deref.ensures.value (c.in-At.ensures {u = tt}) c.index-entry.ensures in
-    let both = is_of-same c.args.tag c.args.mode c.index-entry.result.now at.own in
-    let es = c.take_out.ensures.entries ∙ (λ i. without (present (opened c.self.inside.slots.items)) (both.0 i) (both.1 i)) in
+    let es = c.self.inside.slots.items in
+    let at = subst (λ (l : List Entry). IsPlaceOf l c.args.tag c.args.mode c.in-At.place) c.deref.ensures.value (c.in-At.ensures {u = tt}) in
+    let read : entry_at es c.in-At.place ≡ c.index-entry.result.now = sym (c.index-entry.ensures ∙ get_or_default es c.in-At.place c.index-entry.result.now _ at.within) in
+    let both = is_of-same c.args.tag c.args.mode (entry_at es c.in-At.place) at.own in
+    let others = c.take_out.ensures.entries ∙ (λ i. without (present (opened c.self.inside.slots.items)) (both.0 i) (both.1 i)) in
     let none : total_of (present (opened c.take_out.new.slots.items)) c.args.tag c.args.mode ≡ 0 =
-    ap (λ (l : List Entry). total_of l c.args.tag c.args.mode) es
+    ap (λ (l : List Entry). total_of l c.args.tag c.args.mode) others
     ∙ total-none (without (present (opened c.self.inside.slots.items)) c.args.tag c.args.mode) c.args.tag c.args.mode (entry_of-without (present (opened c.self.inside.slots.items)) c.args.tag c.args.mode) in
     (λ same. absurd (let bad : Released ≡ StillHeld = same in cc), λ some. absurd (omega (arith, none, some)))
 
@@ -39,12 +41,14 @@ returns-then-total-eq1-clause-answer c =
 
 pub invariant_of-self-else-total-eq1 : goal.invariant_of-self-else-total-eq1
 invariant_of-self-else-total-eq1 c =
-    let at = entry_of_place c.self.inside.slots.items c.deref.result.now c.args.tag c.args.mode c.in-At.place c.index-entry.result.now c.deref.ensures.value (c.in-At.ensures {u = tt}) c.index-entry.ensures in
-    let some : 0 < count_for c.args.owner c.index-entry.result.now = omega (arith, c.count.ensures, c.if-count-eq0.false) in
-    let more : count_in_all c.index-entry.result.now ≢ 1 = λ one. c.if-total-eq1.false (c.total.ensures ∙ one) in
+    let es = c.self.inside.slots.items in
+    let at = subst (λ (l : List Entry). IsPlaceOf l c.args.tag c.args.mode c.in-At.place) c.deref.ensures.value (c.in-At.ensures {u = tt}) in
+    let read : entry_at es c.in-At.place ≡ c.index-entry.result.now = sym (c.index-entry.ensures ∙ get_or_default es c.in-At.place c.index-entry.result.now _ at.within) in
+    let some : 0 < count_for c.args.owner (entry_at es c.in-At.place) = omega (arith, c.count_for.ensures, c.if-count_for-eq0.false, ap (count_for c.args.owner) read) in
+    let more : count_in_all (entry_at es c.in-At.place) ≢ 1 = λ one. c.if-total-eq1.false (c.sum-total.ensures ∙ (sym (ap count_in_all read) ∙ one)) in
     record {
       kept = subst (λ (s : Slots). IsKept s c.self.inside.index c.self.inside.len c.self.inside.max_local c.self.inside.progress) (sym c.lower.ensures.slots)
-          (kept-lowered (opened c.self.inside.slots.items) c.self.inside.index c.self.inside.len c.self.inside.max_local c.self.inside.progress c.in-At.place c.args.owner c.index-entry.result.now
+          (kept-lowered (opened c.self.inside.slots.items) c.self.inside.index c.self.inside.len c.self.inside.max_local c.self.inside.progress c.in-At.place c.args.owner (entry_at es c.in-At.place)
           c.self.invariant.kept at.there some more);
       few = omega (arith, c.lower.ensures.number, c.self.invariant.few);
       remembered = tt;
@@ -55,19 +59,22 @@ returns-else-total-eq1-clause-well_owned c = well_owned _ _ _ _ _ _ (invariant_o
 
 pub returns-else-total-eq1-clause-entries : goal.returns-else-total-eq1-clause-entries
 returns-else-total-eq1-clause-entries c =
-    let at = entry_of_place c.self.inside.slots.items c.deref.result.now c.args.tag c.args.mode c.in-At.place c.index-entry.result.now c.deref.ensures.value (c.in-At.ensures {u = tt}) c.index-entry.ensures in
-    let more : count_in_all c.index-entry.result.now ≢ 1 = λ one. c.if-total-eq1.false (c.total.ensures ∙ one) in
+    let es = c.self.inside.slots.items in
+    let at = subst (λ (l : List Entry). IsPlaceOf l c.args.tag c.args.mode c.in-At.place) c.deref.ensures.value (c.in-At.ensures {u = tt}) in
+    let read : entry_at es c.in-At.place ≡ c.index-entry.result.now = sym (c.index-entry.ensures ∙ get_or_default es c.in-At.place c.index-entry.result.now _ at.within) in
+    let more : count_in_all (entry_at es c.in-At.place) ≢ 1 = λ one. c.if-total-eq1.false (c.sum-total.ensures ∙ (sym (ap count_in_all read) ∙ one)) in
     ap present c.lower.ensures.slots
-    ∙ (entries-lowered (opened c.self.inside.slots.items) c.self.inside.index c.args.tag c.args.mode c.args.owner c.in-At.place c.index-entry.result.now c.self.invariant.kept.indexed at.there at.own more
+    ∙ (entries-lowered (opened c.self.inside.slots.items) c.self.inside.index c.args.tag c.args.mode c.args.owner c.in-At.place (entry_at es c.in-At.place) c.self.invariant.kept.indexed at.there at.own more
     ∙ ap (λ v. with_one_less v.entries c.args.tag c.args.mode c.args.owner) c.self.view_is)
 
 pub returns-else-total-eq1-clause-answer : goal.returns-else-total-eq1-clause-answer
 returns-else-total-eq1-clause-answer c =
     let es = c.self.inside.slots.items in
-    let at = entry_of_place es c.deref.result.now c.args.tag c.args.mode c.in-At.place c.index-entry.result.now c.deref.ensures.value (c.in-At.ensures {u = tt}) c.index-entry.ensures in
-    let some : 0 < count_for c.args.owner c.index-entry.result.now = omega (arith, c.count.ensures, c.if-count-eq0.false) in
-    let more : count_in_all c.index-entry.result.now ≢ 1 = λ one. c.if-total-eq1.false (c.total.ensures ∙ one) in
-    let counted = IsCounted-lowered c.args.owner c.index-entry.result.now some more (c.self.invariant.kept.counted c.in-At.place c.index-entry.result.now at.there) in
+    let at = subst (λ (l : List Entry). IsPlaceOf l c.args.tag c.args.mode c.in-At.place) c.deref.ensures.value (c.in-At.ensures {u = tt}) in
+    let read : entry_at es c.in-At.place ≡ c.index-entry.result.now = sym (c.index-entry.ensures ∙ get_or_default es c.in-At.place c.index-entry.result.now _ at.within) in
+    let some : 0 < count_for c.args.owner (entry_at es c.in-At.place) = omega (arith, c.count_for.ensures, c.if-count_for-eq0.false, ap (count_for c.args.owner) read) in
+    let more : count_in_all (entry_at es c.in-At.place) ≢ 1 = λ one. c.if-total-eq1.false (c.sum-total.ensures ∙ (sym (ap count_in_all read) ∙ one)) in
+    let counted = IsCounted-lowered c.args.owner (entry_at es c.in-At.place) some more (c.self.invariant.kept.counted c.in-At.place (entry_at es c.in-At.place) at.there) in
     let still = subst (λ (s : Slots). 0 < total_of (present s) c.args.tag c.args.mode) (sym c.lower.ensures.slots)
-    (total-lowered (opened es) c.self.inside.index c.args.tag c.args.mode c.args.owner c.in-At.place c.index-entry.result.now c.self.invariant.kept.indexed at.there at.own counted) in
+    (total-lowered (opened es) c.self.inside.index c.args.tag c.args.mode c.args.owner c.in-At.place (entry_at es c.in-At.place) c.self.invariant.kept.indexed at.there at.own counted) in
     (λ same. still, λ some. refl)

@@ -1,0 +1,57 @@
+//! Functions that are not inlined, so that no call of them is specialised to what the benchmark passes.
+use local_locks::{Acquired, End, LocalTable, Unlocked};
+use modes_core::{Mode, Owner, Refusal, Tag};
+use std::alloc::AllocError;
+use std::collections::HashMap;
+
+/// What a local table was indexed by before: the library's hash map with the derived key.
+pub type KeyMap = HashMap<(Tag, Mode), u32>;
+
+/// A call that does nothing with what it gets.
+#[inline(never)]
+pub fn pass(tag: Tag, mode: Mode, owner: Owner) -> bool {
+    let _ = (tag, mode, owner);
+    true
+}
+
+#[inline(never)]
+pub fn acquire(
+    table: &mut LocalTable,
+    tag: Tag,
+    mode: Mode,
+    owner: Owner,
+) -> Result<Acquired, Refusal> {
+    table.reserve(tag, mode, owner)?;
+    Ok(table.add(tag, mode, owner))
+}
+
+#[inline(never)]
+pub fn release(
+    table: &mut LocalTable,
+    tag: Tag,
+    mode: Mode,
+    owner: Owner,
+) -> Result<Unlocked, Refusal> {
+    table.drop_one(tag, mode, owner)
+}
+
+#[inline(never)]
+pub fn end_next(table: &mut LocalTable, end: End) -> Option<(Tag, Mode)> {
+    table.end_next(end)
+}
+
+#[inline(never)]
+pub fn look_up(map: &KeyMap, tag: Tag, mode: Mode) -> bool {
+    map.contains_key(&(tag, mode))
+}
+
+#[inline(never)]
+pub fn insert(map: &mut KeyMap, tag: Tag, mode: Mode, place: u32) -> Result<(), AllocError> {
+    map.insert((tag, mode), place)?;
+    Ok(())
+}
+
+#[inline(never)]
+pub fn remove(map: &mut KeyMap, tag: Tag, mode: Mode) -> bool {
+    map.remove(&(tag, mode)).is_some()
+}

@@ -1,0 +1,123 @@
+//! The loops that are timed: each goes through a list of keys so many times, and calls nothing but doors.
+use crate::doors::{KeyMap, acquire, end_next, insert, look_up, pass, release, remove};
+use crate::keys::Key;
+use anyhow::Result;
+use local_locks::{End, LocalTable};
+use modes_core::{Owner, Refusal};
+
+/// A call that does nothing for each key.
+pub fn passes(keys: &[Key], owner: Owner, laps: u32) -> u64 {
+    let mut passed = 0u64;
+    for _ in 0..laps {
+        for (tag, mode) in keys {
+            passed = passed.wrapping_add(u64::from(pass(*tag, *mode, owner)));
+        }
+    }
+    passed
+}
+
+/// Two such calls for each key.
+pub fn double_passes(keys: &[Key], owner: Owner, laps: u32) -> u64 {
+    let mut passed = 0u64;
+    for _ in 0..laps {
+        for (tag, mode) in keys {
+            passed = passed.wrapping_add(u64::from(pass(*tag, *mode, owner)));
+            passed = passed.wrapping_add(u64::from(pass(*tag, *mode, owner)));
+        }
+    }
+    passed
+}
+
+/// Acquires each and releases it at once.
+pub fn pairs(table: &mut LocalTable, keys: &[Key], owner: Owner, laps: u32) -> Result<(), Refusal> {
+    for _ in 0..laps {
+        for (tag, mode) in keys {
+            acquire(table, *tag, *mode, owner)?;
+            release(table, *tag, *mode, owner)?;
+        }
+    }
+    Ok(())
+}
+
+/// Acquires each.
+pub fn acquire_all(table: &mut LocalTable, keys: &[Key], owner: Owner) -> Result<(), Refusal> {
+    for (tag, mode) in keys {
+        acquire(table, *tag, *mode, owner)?;
+    }
+    Ok(())
+}
+
+/// Acquires all and then releases them in the order of making.
+pub fn in_order(
+    table: &mut LocalTable,
+    keys: &[Key],
+    owner: Owner,
+    laps: u32,
+) -> Result<(), Refusal> {
+    for _ in 0..laps {
+        acquire_all(table, keys, owner)?;
+        for (tag, mode) in keys {
+            release(table, *tag, *mode, owner)?;
+        }
+    }
+    Ok(())
+}
+
+/// Acquires all and then releases the last one first.
+pub fn in_opposite_order(
+    table: &mut LocalTable,
+    keys: &[Key],
+    owner: Owner,
+    laps: u32,
+) -> Result<(), Refusal> {
+    for _ in 0..laps {
+        acquire_all(table, keys, owner)?;
+        for (tag, mode) in keys.iter().rev() {
+            release(table, *tag, *mode, owner)?;
+        }
+    }
+    Ok(())
+}
+
+/// Releases what is not held.
+pub fn refusals(table: &mut LocalTable, keys: &[Key], owner: Owner, laps: u32) -> u64 {
+    let mut refused = 0u64;
+    for _ in 0..laps {
+        for (tag, mode) in keys {
+            refused = refused.wrapping_add(u64::from(release(table, *tag, *mode, owner).is_err()));
+        }
+    }
+    refused
+}
+
+/// Goes through an end, and gives how many entries it took away.
+pub fn end_all(table: &mut LocalTable, end: End) -> u32 {
+    for taken in 0..u32::MAX {
+        if end_next(table, end).is_none() {
+            return taken;
+        }
+    }
+    u32::MAX
+}
+
+/// Looks each up in the map.
+pub fn look_up_all(map: &KeyMap, keys: &[Key], laps: u32) -> u64 {
+    let mut found = 0u64;
+    for _ in 0..laps {
+        for (tag, mode) in keys {
+            found = found.wrapping_add(u64::from(look_up(map, *tag, *mode)));
+        }
+    }
+    found
+}
+
+/// Inserts each into the map and removes it at once.
+pub fn map_pairs(map: &mut KeyMap, keys: &[Key], laps: u32) -> Result<()> {
+    for _ in 0..laps {
+        for (tag, mode) in keys {
+            insert(map, *tag, *mode, 0)?;
+            remove(map, *tag, *mode);
+        }
+    }
+    Ok(())
+}
