@@ -1,7 +1,5 @@
-use Rattle.std.proofs.Common.{◌≡◌, ℕ, ◌<◌, List, length, get_or, refl, sym, ap, ◌∙◌, inl, inr}
+use Rattle.std.proofs.Common.{◌≡◌, ℕ, ◌<◌, List, length, get_or, refl, inr}
 use Rattle.std.proofs.Math.ListN.{set}
-use Rattle.std.proofs.lemmas.Bool.{cases_eq}
-use Rattle.std.proofs.lemmas.List.{get_or-set_same, get_or-set_other}
 use Rattle.lock_world.specs.declared.events.Step.{Step}
 use Rattle.lock_model.specs.declared.machine.state.Machine.{Machine}
 use Rattle.lock_world.specs.World.{World}
@@ -9,15 +7,11 @@ use Rattle.lock_table.specs.Put.{set_at}
 use Rattle.lock_world.specs.Happens.{Lawful, Next}
 use Rattle.lock_world.specs.Safe.{Safe}
 use Rattle.lock_model.specs.Shows.{Shows}
-use Rattle.lock_table.proofs.PutLemmas.{set_at-here, set_at-else}
+use Rattle.lock_table.proofs.PutLemmas.{written-at}
 
 -- A list with one place written reads as the function changed there.
 pub get_or-set_at : {A : Type 0} (xs : List A) (k : ℕ) (a d : A) (f : ℕ → A) → k < length xs → ((j : ℕ) → get_or xs j d ≡ f j) → (j : ℕ) → get_or (set xs k a) j d ≡ set_at f k a j
-get_or-set_at xs k a d f within reads j =
-    elim (cases_eq j k) [
-      | inl same ↦ ap (λ i. get_or (set xs k a) i d) same ∙ get_or-set_same xs k a d within ∙ sym (set_at-here f k a j same)
-      | inr other ↦ get_or-set_other xs k j a d other ∙ reads j ∙ sym (set_at-else f k a j other)
-    ]
+get_or-set_at xs k a d f within reads j = written-at (λ x y. x ≡ y) xs k a d f a within refl j (reads j)
 
 module _ (m : Machine) (w : World) (safe : Safe w) (shows : Shows m w) where
   -- An event that isn't lawful leaves the machine as it was.

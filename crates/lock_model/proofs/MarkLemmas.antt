@@ -17,7 +17,7 @@ use Rattle.lock_model.specs.Shows.{ShowsHandIfAny, is_unmarked_in, names_in, awa
 use Rattle.lock_table.specs.Waiter.{whose_and_mode}
 use Rattle.lock_world.specs.World.{Hand}
 use Rattle.lock_table.specs.Put.{set_at}
-use Rattle.lock_table.proofs.PutLemmas.{set_at-here, set_at-else}
+use Rattle.lock_table.proofs.PutLemmas.{written-at}
 
 -- One of those woken marked, with those before it.
 pub marks-one_more : (marks : List Bool) (woken : List (ℕ × Mode)) (n : ℕ) (whose : ℕ × Mode) (i : ℕ) → i < length marks → i ≡ whose.0 → n < length woken → whose ≡ get_or woken n whose
@@ -76,20 +76,12 @@ recording-shown h hand holder done marks unmarked is whose same =
 -- A list of waits with one place written.
 pub awaited-set_at : (xs : List (Option Awaited)) (k : ℕ) (a : Option Awaited) (o : Option OwnWait) (f : ℕ → Option OwnWait) → k < length xs → a ≡ option_map awaited_of o → ((j : ℕ) → get_or xs j None ≡ option_map awaited_of (f j))
     → (j : ℕ) → get_or (set xs k a) j None ≡ option_map awaited_of (set_at f k o j)
-awaited-set_at xs k a o f within is reads j =
-    elim (cases_eq j k) [
-      | inl same ↦ ap (λ i. get_or (set xs k a) i None) same ∙ get_or-set_same xs k a None within ∙ is ∙ sym (ap (option_map awaited_of) (set_at-here f k o j same))
-      | inr other ↦ get_or-set_other xs k j a None other ∙ reads j ∙ sym (ap (option_map awaited_of) (set_at-else f k o j other))
-    ]
+awaited-set_at xs k a o f within is reads j = written-at (λ x y. x ≡ option_map awaited_of y) xs k a None f o within is j (reads j)
 
 -- A list of parts with one replaced has the contents with that one changed, and no request begun.
 pub contents-set_at : (xs : List PartView) (p : ℕ) (part : PartView) (c : Content) (f : ℕ → Content) → p < length xs → content_of part ≡ c → ((q : ℕ) → q < 16 → contents_in xs q ≡ f q)
     → (q : ℕ) → q < 16 → contents_in (set xs p part) q ≡ set_at f p c q
-contents-set_at xs p part c f within is reads q below =
-    elim (cases_eq q p) [
-      | inl same ↦ ap (contents_in (set xs p part)) same ∙ ap content_of (get_or-set_same xs p part no_part within) ∙ is ∙ sym (set_at-here f p c q same)
-      | inr other ↦ ap content_of (get_or-set_other xs p q part no_part other) ∙ reads q below ∙ sym (set_at-else f p c q other)
-    ]
+contents-set_at xs p part c f within is reads q below = written-at (λ x y. content_of x ≡ y) xs p part no_part f c within is q (reads q below)
 
 pub begun-set_at : (xs : List PartView) (p : ℕ) (part : PartView) → p < length xs → part.begun ≡ None → ((q : ℕ) → (part_at xs q).begun ≡ None) → (q : ℕ) → (part_at (set xs p part) q).begun ≡ None
 begun-set_at xs p part within none reads q =

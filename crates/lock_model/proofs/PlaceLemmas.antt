@@ -2,7 +2,7 @@ use Rattle.std.proofs.Common.{◌≡◌, ◌≢◌, ℕ, ◌<◌, Bool, true, fa
 use Rattle.std.specs.Prelude.{replicate}
 use Rattle.std.specs.List.{list_any}
 use Rattle.std.proofs.Math.ListN.{set, length-set}
-use Rattle.std.proofs.lemmas.Bool.{cases_eq, cases_lt, both_ways, not-true, not_from_false, or_from, false_from_ne_true}
+use Rattle.std.proofs.lemmas.Bool.{cases_lt, both_ways, not-true, not_from_false, or_from, false_from_ne_true}
 use Rattle.std.proofs.lemmas.List.{get_or-set_same, get_or-set_other, get_or-replicate, length-replicate, get_or_past, get_or_default}
 use Rattle.lock_model.specs.declared.machine.hands.InHand.{InHand}
 use Rattle.lock_world.specs.World.{Hand}
@@ -12,19 +12,11 @@ use Rattle.lock_table.specs.PartView.{PartView, content_of}
 use Rattle.lock_table.specs.Parts.{no_part, part_at}
 use Rattle.lock_model.specs.Shows.{ShowsHandIfAny, is_unmarked_in, none_unmarked}
 use Rattle.lock_table.proofs.ListLemmas.{found_within}
-use Rattle.lock_table.proofs.PutLemmas.{set_at-here, set_at-else}
+use Rattle.lock_table.proofs.PutLemmas.{written-at}
 
 -- A list of hands with one place written shows the function changed there.
 pub hand-set_at : (xs : List (Option InHand)) (k : ℕ) (shown : Option InHand) (hand : Option Hand) (f : ℕ → Option Hand) → k < length xs → ShowsHandIfAny shown hand → ((j : ℕ) → ShowsHandIfAny (get_or xs j None) (f j)) → (j : ℕ) → ShowsHandIfAny (get_or (set xs k shown) j None) (set_at f k hand j)
-hand-set_at xs k shown hand f within is reads j =
-    elim (cases_eq j k) [
-      | inl same ↦
-          subst (λ h. ShowsHandIfAny (get_or (set xs k shown) j None) h) (sym (set_at-here f k hand j same))
-          (subst (λ x. ShowsHandIfAny x hand) (sym (ap (λ i. get_or (set xs k shown) i None) same ∙ get_or-set_same xs k shown None within)) is)
-      | inr other ↦
-          subst (λ h. ShowsHandIfAny (get_or (set xs k shown) j None) h) (sym (set_at-else f k hand j other))
-          (subst (λ x. ShowsHandIfAny x (f j)) (sym (get_or-set_other xs k j shown None other)) (reads j))
-    ]
+hand-set_at xs k shown hand f within is reads j = written-at ShowsHandIfAny xs k shown None f hand within is j (reads j)
 
 -- A list of one value reads as that value everywhere, also past its end.
 pub get_or-one_value : {A : Type 0} (n : ℕ) (a : A) (k : ℕ) → get_or (replicate n a) k a ≡ a

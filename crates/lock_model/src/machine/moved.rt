@@ -35,7 +35,7 @@ pub fn after_release(
     if !part.held(session, tag).has(mode) {
         return Ok(None);
     }
-    let mut after = part.copy()?;
+    let mut after = part.clone()?;
     after.ungrant(session, tag, mode);
     let woken = if first_against(&after, tag, mode).is_some() {
         after.wake(tag)
@@ -55,7 +55,7 @@ pub fn after_leaving(
     ensures moved { IfOk result (λ found. IfSome found (IsMoved part.now session (Leave tag))) }
     ensures no_wait { IfOk result (λ found. found ≡ None → waits_there ((content_of part.now).waits tag) session ≡ false) }
 {
-    let mut after = part.copy()?;
+    let mut after = part.clone()?;
     if after.leave(session, tag).is_none() {
         return Ok(None);
     }

@@ -1,11 +1,7 @@
-ghost use Rattle.std.specs.Prelude.{◌≡◌, ℕ, length, IfOk, None};
-ghost use Rattle.lock_table.specs.Content.{empty_content};
-ghost use Rattle.lock_table.specs.Parts.{part_at, contents_in};
-
 use super::gathered::{gather_holds, gather_waits};
 use super::hands::{Awaited, InHand};
 use super::plain::{Hold, Plain};
-use lock_table::{NoMemory, PartTable, PlainPart};
+use lock_table::{NoMemory, PartTable, PlainPart, empty_parts};
 use lock_world::{Event, Step};
 use modes_core::{Mode, SessionId, Tag};
 use std::alloc::Global;
@@ -151,16 +147,4 @@ impl Machine {
             wait_words,
         })
     }
-}
-
-/// Sixteen partitions with nothing in them.
-fn empty_parts(alloc: Global) -> Result<Vec<PlainPart>, NoMemory>
-    ensures sixteen { IfOk result (λ parts. length parts.items ≡ 16) }
-    ensures empty { IfOk result (λ parts. (p : ℕ) → (contents_in parts.items p ≡ empty_content) × ((part_at parts.items p).begun ≡ None)) }
-{
-    let mut parts = Vec::with_capacity(alloc, 16)?;
-    for _ in 0..16u8 {
-        parts.push_reserved(PlainPart::new(alloc));
-    }
-    Ok(parts)
 }

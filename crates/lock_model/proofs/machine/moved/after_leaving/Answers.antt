@@ -7,14 +7,14 @@ use Rattle.lock_model.proofs.machine.moved.after_leaving.Goals as goal
 
 pub returns-then-is_none-clause-no_wait : goal.returns-then-is_none-clause-no_wait
 returns-then-is_none-clause-no_wait c = λ _.
-    sym (ap (λ part. waits_there ((content_of part).waits c.args.tag) c.args.session) c.in_ok-after.ensures.same)
+    sym (ap (λ part. waits_there ((content_of part).waits c.args.tag) c.args.session) c.in_ok-after.ensures.cases)
     ∙ sym (waits_there-mode ((content_of c.in_ok-after.after).waits c.args.tag) c.args.session _ c.leave.ensures.mode)
     ∙ c.is_none.ensures ∙ not_from_true _ c.if-is_none.true
 
 pub returns-clause-moved : goal.returns-clause-moved
 returns-clause-moved c =
     let woken = c.wake-woken.ensures.woken in
-    let same = c.in_ok-after.ensures.same in
+    let same = c.in_ok-after.ensures.cases in
     let there = sym (ap (λ part. waits_there ((content_of part).waits c.args.tag) c.args.session) same)
     ∙ sym (waits_there-mode ((content_of c.in_ok-after.after).waits c.args.tag) c.args.session _ c.leave.ensures.mode)
     ∙ c.if-is_none.ensures in

@@ -13,11 +13,11 @@ returns-then-not-has-clause-no_hold c = λ _.
     sym (ap (λ has. has c.args.mode) c.held.ensures) ∙ sym c.if-not-has.ensures
 
 pub ungrant-requires : goal.ungrant-requires
-ungrant-requires c = record { held = ap (λ part. (content_of part).holds c.args.session c.args.tag c.args.mode) c.in_ok-after.ensures.same ∙ sym (ap (λ has. has c.args.mode) c.held.ensures) ∙ sym c.has.ensures ∙ c.if-not-has.false }
+ungrant-requires c = record { held = ap (λ part. (content_of part).holds c.args.session c.args.tag c.args.mode) c.in_ok-after.ensures.cases ∙ sym (ap (λ has. has c.args.mode) c.held.ensures) ∙ sym c.has.ensures ∙ c.if-not-has.false }
 
 pub returns-clause-moved : goal.returns-clause-moved
 returns-clause-moved c =
-    let same = c.in_ok-after.ensures.same in
+    let same = c.in_ok-after.ensures.cases in
     let there = sym (ap (λ has. has c.args.mode) c.held.ensures) ∙ sym c.has.ensures ∙ c.if-not-has.false in
     let after = content_of c.ungrant.new.self in
     let left = c.ungrant.ensures.content ∙ ap (λ part. remove_hold (content_of part) c.args.session c.args.tag c.args.mode) same in
