@@ -26,7 +26,7 @@ use Rattle.lock_model.specs.declared.machine.plain.Hold.{Hold}
 use Rattle.lock_model.specs.declared.machine.plain.QueuedWait.{QueuedWait}
 use Rattle.lock_table.specs.Request.{is_request_of}
 use Rattle.lock_table.specs.PartView.{PartView}
-use Rattle.lock_table.specs.PartWaits.{EachOnce, waits_in}
+use Rattle.lock_table.specs.PartWaits.{EachOnce, queues_in}
 use Rattle.lock_table.specs.Parts.{no_part, part_at, contents_in, AreAtHome}
 use Rattle.lock_model.specs.PlainLists.{table_hold_of, queued_of}
 use Rattle.lock_model.specs.Shows.{is_hold, ListsHolds, AreInTable}
@@ -160,7 +160,7 @@ tag_eq_comm x y =
     ]
 
 -- The waits of the plain list on an object are its queue.
-queue-queued : (ws : List PartWait) (o : Tag) → map wait_of (filter (λ queued. tag_eq queued.tag o) (map queued_of ws)) ≡ waits_in ws o
+queue-queued : (ws : List PartWait) (o : Tag) → map wait_of (filter (λ queued. tag_eq queued.tag o) (map queued_of ws)) ≡ queues_in ws o
 queue-queued [] o = refl
 queue-queued (w ∷ ws) o =
     elim (cases_Bool (tag_eq o w.tag)) [

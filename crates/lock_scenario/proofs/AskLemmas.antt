@@ -2,7 +2,7 @@ use Rattle.std.proofs.Common.{◌≡◌, ℕ, ◌∙◌, List, slice_set, Option
 use Rattle.std.specs.Prelude.{IfSome}
 use Rattle.local_locks.specs.declared.records.Entry.{Entry}
 use Rattle.lock_table.specs.PartView.{PartView}
-use Rattle.lock_scenario.specs.Parts.{content_in}
+use Rattle.lock_table.specs.Parts.{contents_in}
 use Rattle.lock_scenario.specs.declared.sessions.OwnWait.{OwnWait}
 use Rattle.lock_scenario.specs.declared.sessions.DeskSession.{DeskSession}
 use Rattle.lock_scenario.specs.Sessions.{entries_in, waits_in, as_asked}
@@ -25,6 +25,6 @@ IsDesk-asked parts sessions limit max_local s it own found waits =
     let same : set_at (entries_in sessions) s it.locals.entries ≡ entries_in sessions = set_at-same (entries_in sessions) s it.locals.entries (ap (λ (one : DeskSession). one.locals.entries) at) in
     IsDesk-session parts sessions limit max_local s (record { database = it.database; locals = it.locals; wait = Some (as_asked own) }) found.desk found.opened
     (record { well_owned = order.well_owned; same_limit = order.same_limit; ready = record { reserved = ready.reserved; new = ready.new } })
-    (subst (λ (entries : ℕ → List Entry). Agrees (content_in parts) entries (set_at (waits_in sessions) s (Some (as_asked own)))) (sym same)
-    (Agrees-asked (content_in parts) (entries_in sessions) (waits_in sessions) s own (as_asked own) found.desk.agrees
+    (subst (λ (entries : ℕ → List Entry). Agrees (contents_in parts) entries (set_at (waits_in sessions) s (Some (as_asked own)))) (sym same)
+    (Agrees-asked (contents_in parts) (entries_in sessions) (waits_in sessions) s own (as_asked own) found.desk.agrees
     (sym (ap (λ (one : DeskSession). one.wait) at) ∙ waits) refl refl refl))

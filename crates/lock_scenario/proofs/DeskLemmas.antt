@@ -2,7 +2,7 @@ use Rattle.std.proofs.Common.{◌≡◌, ℕ, ◌+◌, ◌<◌, ◌≤◌, Bool,
 use Rattle.std.specs.Prelude.{if◌then◌else◌, map, IfSome, count_by}
 use Rattle.std.specs.Option.{option_map}
 use Rattle.std.specs.List.{list_any}
-use Rattle.std.proofs.lemmas.Bool.{cases_Bool, cases_eq, eq-eqb, ne_eqb, false≢true}
+use Rattle.std.proofs.lemmas.Bool.{cases_Bool, cases_eq, false≢true}
 use Rattle.std.proofs.lemmas.List.{get_or-set_same, get_or-set_other, get_or_default, length-set, length-append}
 use Rattle.modes_core.specs.declared.modes.Mode.{Mode}
 use Rattle.modes_core.specs.declared.tags.Tag.{Tag}
@@ -10,17 +10,17 @@ use Rattle.modes_core.specs.Tag.{partition_of}
 use Rattle.local_locks.specs.declared.records.Entry.{Entry}
 use Rattle.local_locks.specs.Owned.{has_entry, IsWellOwned}
 use Rattle.lock_table.specs.declared.moves.Move.TheVariants.{Release}
-use Rattle.lock_table.specs.Content.{Holds, Wait, Content, empty_content, set_hold}
+use Rattle.lock_table.specs.Content.{Holds, Wait, Content, set_hold}
 use Rattle.lock_table.specs.Moves.{Moves}
 use Rattle.lock_table.specs.PartView.{PartView, content_of}
 use Rattle.lock_table.specs.Queue.{waits_there}
 use Rattle.lock_table.specs.Waiter.{whose_and_mode}
 use Rattle.lock_table.specs.Put.{set_at}
-use Rattle.lock_table.proofs.PutLemmas.{set_at-same, set_at-here, set_at-else}
+use Rattle.lock_table.proofs.PutLemmas.{set_at-same, set_at-here, set_at-else, written-at}
 use Rattle.lock_table.proofs.Same.{same_triple, SameTriple-from, set_hold-here, set_hold-else}
 use Rattle.lock_scenario.specs.declared.sessions.OwnWait.{OwnWait}
 use Rattle.lock_scenario.specs.declared.sessions.DeskSession.{DeskSession}
-use Rattle.lock_scenario.specs.Parts.{no_part, content_in, AreEmpty}
+use Rattle.lock_table.specs.Parts.{no_part, contents_in, AreEmpty}
 use Rattle.lock_scenario.specs.Sessions.{no_session, session_at, entries_in, waits_in, as_granted, with_granted, marked_all, marked, is_pending, is_awaiting}
 use Rattle.lock_scenario.specs.Waiting.{is_wait_of, Agrees, Releases, ChangesPart}
 use Rattle.lock_scenario.specs.Desk.{DeskView, IsReadyFor, IsInOrder, IsDesk}
@@ -33,13 +33,7 @@ use Rattle.lock_scenario.proofs.Marking.{length-marked_all, session-marked_all, 
 pub changed_at :
     {X Y : Type 0} (f : X → Y) (xs : List X) (i : ℕ) (x d : X) → i < length xs →
     (λ k. f (slice_index_or (slice_set xs i x) k d)) ≡ set_at (λ k. f (slice_index_or xs k d)) i (f x)
-changed_at f xs i x d within = λ t k. at_place k t where
-  at_place : (k : ℕ) → f (slice_index_or (slice_set xs i x) k d) ≡ set_at (λ j. f (slice_index_or xs j d)) i (f x) k
-  at_place k =
-      elim (cases_eq k i) [
-        | inl same ↦ rw (same, get_or-set_same xs i x d within, eq-eqb i i refl) refl
-        | inr other ↦ rw (get_or-set_other xs i k x d other, ne_eqb k i other) refl
-      ]
+changed_at f xs i x d within = λ t k. written-at (λ a b. f a ≡ b) xs i x d (λ j. f (slice_index_or xs j d)) (f x) within refl k refl t
 
 -- ---- a desk after a change
 
@@ -83,7 +77,7 @@ waits-kept sessions s it opened same = waits-set sessions s it opened ∙ set_at
 pub IsDesk-session :
     (parts : List PartView) (sessions : List DeskSession) (limit max_local s : ℕ) (it : DeskSession) →
     IsDesk parts sessions limit max_local → s < length sessions → IsInOrder max_local it →
-    Agrees (content_in parts) (set_at (entries_in sessions) s it.locals.entries) (set_at (waits_in sessions) s it.wait) →
+    Agrees (contents_in parts) (set_at (entries_in sessions) s it.locals.entries) (set_at (waits_in sessions) s it.wait) →
     IsDesk parts (slice_set sessions s it) limit max_local
 IsDesk-session parts sessions limit max_local s it is opened in_order agrees = record {
   sixteen = is.sixteen;
@@ -94,15 +88,15 @@ IsDesk-session parts sessions limit max_local s it is opened in_order agrees = r
   most_local = is.most_local;
   in_order = in_order-set sessions max_local s it opened is.in_order in_order;
   agrees =
-      subst (λ (entries : ℕ → List Entry). Agrees (content_in parts) entries (waits_in (slice_set sessions s it))) (sym (entries-set sessions s it opened))
-      (subst (λ (waits : ℕ → Option OwnWait). Agrees (content_in parts) (set_at (entries_in sessions) s it.locals.entries) waits) (sym (waits-set sessions s it opened)) agrees);
+      subst (λ (entries : ℕ → List Entry). Agrees (contents_in parts) entries (waits_in (slice_set sessions s it))) (sym (entries-set sessions s it opened))
+      (subst (λ (waits : ℕ → Option OwnWait). Agrees (contents_in parts) (set_at (entries_in sessions) s it.locals.entries) waits) (sym (waits-set sessions s it opened)) agrees);
 }
 
 -- A desk stays one after a partition changed, and with it a session, and those whose waits were granted were told.
 pub IsDesk-told :
     (parts : List PartView) (sessions : List DeskSession) (limit max_local p s : ℕ) (part : PartView) (it : DeskSession) (granted : List Wait) →
     IsDesk parts sessions limit max_local → p < 16 → s < length sessions → part.begun ≡ None → IsInOrder max_local it →
-    Agrees (set_at (content_in parts) p (content_of part)) (set_at (entries_in sessions) s it.locals.entries) (marked granted (set_at (waits_in sessions) s it.wait)) →
+    Agrees (set_at (contents_in parts) p (content_of part)) (set_at (entries_in sessions) s it.locals.entries) (marked granted (set_at (waits_in sessions) s it.wait)) →
     IsDesk (slice_set parts p part) (marked_all (map whose_and_mode granted) (slice_set sessions s it)) limit max_local
 IsDesk-told parts sessions limit max_local p s part it granted is partition opened begun in_order agrees = record {
   sixteen = length-set parts p part ∙ is.sixteen;
@@ -118,8 +112,8 @@ IsDesk-told parts sessions limit max_local p s part it granted is partition open
   in_order = in_order-told (slice_set sessions s it) max_local (map whose_and_mode granted) (in_order-set sessions max_local s it opened is.in_order in_order);
   agrees =
       subst (λ (contents : ℕ → Content). Agrees contents (entries_in (marked_all (map whose_and_mode granted) (slice_set sessions s it))) (waits_in (marked_all (map whose_and_mode granted) (slice_set sessions s it)))) (sym (changed_at content_of parts p part no_part in_range))
-      (subst (λ (entries : ℕ → List Entry). Agrees (set_at (content_in parts) p (content_of part)) entries (waits_in (marked_all (map whose_and_mode granted) (slice_set sessions s it)))) (sym (entries-marked_all (map whose_and_mode granted) (slice_set sessions s it) ∙ entries-set sessions s it opened))
-      (subst (λ (waits : ℕ → Option OwnWait). Agrees (set_at (content_in parts) p (content_of part)) (set_at (entries_in sessions) s it.locals.entries) waits)
+      (subst (λ (entries : ℕ → List Entry). Agrees (set_at (contents_in parts) p (content_of part)) entries (waits_in (marked_all (map whose_and_mode granted) (slice_set sessions s it)))) (sym (entries-marked_all (map whose_and_mode granted) (slice_set sessions s it) ∙ entries-set sessions s it opened))
+      (subst (λ (waits : ℕ → Option OwnWait). Agrees (set_at (contents_in parts) p (content_of part)) (set_at (entries_in sessions) s it.locals.entries) waits)
       (sym (waits-marked_all granted (slice_set sessions s it) ∙ ap (marked granted) (waits-set sessions s it opened))) agrees));
 } where
   in_range : p < length parts
@@ -193,7 +187,7 @@ pub held_there :
     (content_of part).holds session tag mode ≡ has_entry it.locals.entries tag mode
 held_there parts sessions limit max_local p s session tag part it found none mode =
     ap (λ (view : PartView). (content_of view).holds session tag mode) (in_parts parts sessions limit max_local p s session tag part it found) ∙
-    ap (λ (q : ℕ). (content_in parts q).holds session tag mode) found.partition ∙ (found.desk.agrees.on_object tag).held session mode ∙
+    ap (λ (q : ℕ). (contents_in parts q).holds session tag mode) found.partition ∙ (found.desk.agrees.on_object tag).held session mode ∙
     ap (λ (own : Option OwnWait). has_entry (entries_in sessions session) tag mode || is_pending own tag mode) none ∙ or-false (has_entry (entries_in sessions session) tag mode) ∙
     ap (λ (k : ℕ). has_entry (entries_in sessions k) tag mode) (sym found.number) ∙
     ap (λ (one : DeskSession). has_entry one.locals.entries tag mode) (sym (in_sessions parts sessions limit max_local p s session tag part it found))
@@ -204,7 +198,7 @@ pub no_wait_there :
 no_wait_there parts sessions limit max_local p s session tag part it found none =
     waits_there-none ((content_of part).waits tag) session (λ mode.
     ap (λ (view : PartView). count_by (is_wait_of session mode) ((content_of view).waits tag)) (in_parts parts sessions limit max_local p s session tag part it found) ∙
-    ap (λ (q : ℕ). count_by (is_wait_of session mode) ((content_in parts q).waits tag)) found.partition ∙ (found.desk.agrees.on_object tag).awaited session mode ∙
+    ap (λ (q : ℕ). count_by (is_wait_of session mode) ((contents_in parts q).waits tag)) found.partition ∙ (found.desk.agrees.on_object tag).awaited session mode ∙
     ap (λ (own : Option OwnWait). if is_awaiting own tag mode then 1 else 0) none)
 
 -- The session's wait and limit are those found.
@@ -233,10 +227,10 @@ IsDesk-after parts sessions limit max_local p s session tag part it found none m
     let it_is = in_sessions parts sessions limit max_local p s session tag part it found in
     let same : waits_in sessions ≡ set_at (waits_in sessions) s after.wait = sym (set_at-same (waits_in sessions) s after.wait (same_wait ∙ ap (λ (one : DeskSession). one.wait) it_is)) in
     IsDesk-told parts sessions limit max_local p s part_after after [] found.desk (rw found.partition (omega arith)) found.opened none_begun in_order
-    (subst (λ (waits : ℕ → Option OwnWait). Agrees (set_at (content_in parts) p (content_of part_after)) (set_at (entries_in sessions) s after.locals.entries) waits) same
-    (Agrees-set (content_in parts) (entries_in sessions) (waits_in sessions) p s tag mode there after.locals.entries (content_of part_after) found.desk.agrees found.partition
+    (subst (λ (waits : ℕ → Option OwnWait). Agrees (set_at (contents_in parts) p (content_of part_after)) (set_at (entries_in sessions) s after.locals.entries) waits) same
+    (Agrees-set (contents_in parts) (entries_in sessions) (waits_in sessions) p s tag mode there after.locals.entries (content_of part_after) found.desk.agrees found.partition
     (holds ∙ ap (λ (view : PartView). set_hold (content_of view).holds session tag mode there) part_is ∙
-    ap (λ (k : ℕ). set_hold (content_in parts p).holds k tag mode there) (sym found.number))
+    ap (λ (k : ℕ). set_hold (contents_in parts p).holds k tag mode there) (sym found.number))
     (queues ∙ ap (λ (view : PartView). (content_of view).waits) part_is)
     (subst (λ (one : DeskSession). GoneAt one.locals.entries after.locals.entries tag mode there) it_is gone)
     (ap (λ (own : Option OwnWait). is_pending own tag mode) (ap (waits_in sessions) found.number ∙ none))))
@@ -289,7 +283,7 @@ order_after parts sessions limit max_local s session it after found none well_ow
 pub held_as_owned :
     (parts : List PartView) (sessions : List DeskSession) (limit max_local s session : ℕ) (it : DeskSession) →
     Finds_session parts sessions limit max_local s session it → waits_in sessions session ≡ None → (tag : Tag) (mode : Mode) →
-    (content_in parts (partition_of tag)).holds session tag mode ≡ has_entry it.locals.entries tag mode
+    (contents_in parts (partition_of tag)).holds session tag mode ≡ has_entry it.locals.entries tag mode
 held_as_owned parts sessions limit max_local s session it found none tag mode =
     (found.desk.agrees.on_object tag).held session mode ∙
     ap (λ (own : Option OwnWait). has_entry (entries_in sessions session) tag mode || is_pending own tag mode) none ∙ or-false (has_entry (entries_in sessions session) tag mode) ∙
@@ -306,8 +300,8 @@ IsDesk-same_keys parts sessions limit max_local s session it after found in_orde
     let it_is = session_found parts sessions limit max_local s session it found in
     let same : waits_in sessions ≡ set_at (waits_in sessions) s after.wait = sym (set_at-same (waits_in sessions) s after.wait (same_wait ∙ ap (λ (one : DeskSession). one.wait) it_is)) in
     IsDesk-session parts sessions limit max_local s after found.desk found.opened in_order
-    (subst (λ (waits : ℕ → Option OwnWait). Agrees (content_in parts) (set_at (entries_in sessions) s after.locals.entries) waits) same
-    (Agrees-same (content_in parts) (entries_in sessions) (set_at (entries_in sessions) s after.locals.entries) (waits_in sessions) (waits_in sessions) found.desk.agrees
+    (subst (λ (waits : ℕ → Option OwnWait). Agrees (contents_in parts) (set_at (entries_in sessions) s after.locals.entries) waits) same
+    (Agrees-same (contents_in parts) (entries_in sessions) (set_at (entries_in sessions) s after.locals.entries) (waits_in sessions) (waits_in sessions) found.desk.agrees
     (λ k o m. ap (λ b. b || is_pending (waits_in sessions k) o m) (elim (cases_eq k s) [
       | inl same_one ↦ ap (λ (es : List Entry). has_entry es o m) (set_at-here (entries_in sessions) s after.locals.entries k same_one) ∙ keys o m ∙
           ap (λ (one : DeskSession). has_entry one.locals.entries o m) it_is ∙ ap (λ j. has_entry (entries_in sessions j) o m) (sym same_one)
@@ -320,16 +314,16 @@ pub IsDesk-released :
     (parts : List PartView) (sessions : List DeskSession) (limit max_local s session : ℕ) (it after : DeskSession) (tag : Tag) (mode : Mode) (parts_after : List PartView) (sessions_after : List DeskSession) →
     Finds_session parts sessions limit max_local s session it → waits_in sessions session ≡ None → IsInOrder max_local after → after.wait ≡ it.wait →
     GoneAt it.locals.entries after.locals.entries tag mode false →
-    ChangesPart parts (slice_set sessions s after) (partition_of tag) (λ granted now. Moves (content_in parts (partition_of tag)) session (Release tag mode) granted now) parts_after sessions_after →
+    ChangesPart parts (slice_set sessions s after) (partition_of tag) (λ granted now. Moves (contents_in parts (partition_of tag)) session (Release tag mode) granted now) parts_after sessions_after →
     IsDesk parts_after sessions_after limit max_local
 IsDesk-released parts sessions limit max_local s session it after tag mode parts_after sessions_after found none in_order same_wait gone change =
     let it_is = session_found parts sessions limit max_local s session it found in
     let same : waits_in sessions ≡ set_at (waits_in sessions) s after.wait = sym (set_at-same (waits_in sessions) s after.wait (same_wait ∙ ap (λ (one : DeskSession). one.wait) it_is)) in
     rw (change.in_place, change.told)
     (IsDesk-told parts sessions limit max_local (partition_of tag) s change.part after change.granted found.desk (omega arith) found.opened (change.begun ∙ found.desk.none_begun (partition_of tag)) in_order
-    (subst (λ (waits : ℕ → Option OwnWait). Agrees (set_at (content_in parts) (partition_of tag) (content_of change.part)) (set_at (entries_in sessions) s after.locals.entries) (marked change.granted waits)) same
-    (Agrees-released (content_in parts) (entries_in sessions) (waits_in sessions) (partition_of tag) s tag mode after.locals.entries change.granted (content_of change.part) found.desk.agrees refl
-    (subst (λ (k : ℕ). Moves (content_in parts (partition_of tag)) k (Release tag mode) change.granted (content_of change.part)) (sym found.number) change.changed)
+    (subst (λ (waits : ℕ → Option OwnWait). Agrees (set_at (contents_in parts) (partition_of tag) (content_of change.part)) (set_at (entries_in sessions) s after.locals.entries) (marked change.granted waits)) same
+    (Agrees-released (contents_in parts) (entries_in sessions) (waits_in sessions) (partition_of tag) s tag mode after.locals.entries change.granted (content_of change.part) found.desk.agrees refl
+    (subst (λ (k : ℕ). Moves (contents_in parts (partition_of tag)) k (Release tag mode) change.granted (content_of change.part)) (sym found.number) change.changed)
     (subst (λ (one : DeskSession). GoneAt one.locals.entries after.locals.entries tag mode false) it_is gone)
     (ap (λ (own : Option OwnWait). is_pending own tag mode) (ap (waits_in sessions) found.number ∙ none)))))
 
@@ -337,18 +331,18 @@ IsDesk-released parts sessions limit max_local s session it after tag mode parts
 pub Releases-after :
     (parts : List PartView) (sessions : List DeskSession) (limit max_local s session : ℕ) (it after : DeskSession) (tag : Tag) (mode : Mode) (parts_after : List PartView) (sessions_after : List DeskSession) →
     Finds_session parts sessions limit max_local s session it → after.wait ≡ it.wait →
-    ChangesPart parts (slice_set sessions s after) (partition_of tag) (λ granted now. Moves (content_in parts (partition_of tag)) session (Release tag mode) granted now) parts_after sessions_after →
-    Releases (record { contents = content_in parts; waits = waits_in sessions }) session tag mode (record { contents = content_in parts_after; waits = waits_in sessions_after })
+    ChangesPart parts (slice_set sessions s after) (partition_of tag) (λ granted now. Moves (contents_in parts (partition_of tag)) session (Release tag mode) granted now) parts_after sessions_after →
+    Releases (record { contents = contents_in parts; waits = waits_in sessions }) session tag mode (record { contents = contents_in parts_after; waits = waits_in sessions_after })
 Releases-after parts sessions limit max_local s session it after tag mode parts_after sessions_after found same_wait change =
     let it_is = session_found parts sessions limit max_local s session it found in
     let in_range : partition_of tag < length parts = (let sixteen : length parts ≡ 16 = found.desk.sixteen in omega arith) in
-    let contents : content_in parts_after ≡ set_at (content_in parts) (partition_of tag) (content_of change.part) =
-    ap content_in change.in_place ∙ changed_at content_of parts (partition_of tag) change.part no_part in_range in
+    let contents : contents_in parts_after ≡ set_at (contents_in parts) (partition_of tag) (content_of change.part) =
+    ap contents_in change.in_place ∙ changed_at content_of parts (partition_of tag) change.part no_part in_range in
     record {
       granted = change.granted;
-      moved = subst (λ (now : Content). Moves (content_in parts (partition_of tag)) session (Release tag mode) change.granted now)
-          (sym (ap (λ (all : ℕ → Content). all (partition_of tag)) contents ∙ set_at-here (content_in parts) (partition_of tag) (content_of change.part) (partition_of tag) refl)) change.changed;
-      others = λ p other. ap (λ (all : ℕ → Content). all p) contents ∙ set_at-else (content_in parts) (partition_of tag) (content_of change.part) p other;
+      moved = subst (λ (now : Content). Moves (contents_in parts (partition_of tag)) session (Release tag mode) change.granted now)
+          (sym (ap (λ (all : ℕ → Content). all (partition_of tag)) contents ∙ set_at-here (contents_in parts) (partition_of tag) (content_of change.part) (partition_of tag) refl)) change.changed;
+      others = λ p other. ap (λ (all : ℕ → Content). all p) contents ∙ set_at-else (contents_in parts) (partition_of tag) (content_of change.part) p other;
       waits =
           ap waits_in change.told ∙ waits-marked_all change.granted (slice_set sessions s after) ∙
           ap (marked change.granted) (waits-kept sessions s after found.opened (same_wait ∙ ap (λ (one : DeskSession). one.wait) it_is));
@@ -392,33 +386,14 @@ pub contents_after :
     (parts : List PartView) (sessions : List DeskSession) (limit max_local : ℕ) (p s session : ℕ) (tag : Tag) (part : PartView) (it : DeskSession) →
     Finds parts sessions limit max_local p s session tag part it →
     (change : Content → Content) (part_after : PartView) → content_of part_after ≡ change (content_of part) →
-    content_in (slice_set parts p part_after) ≡ set_at (content_in parts) (partition_of tag) (change (content_in parts (partition_of tag)))
+    contents_in (slice_set parts p part_after) ≡ set_at (contents_in parts) (partition_of tag) (change (contents_in parts (partition_of tag)))
 contents_after parts sessions limit max_local p s session tag part it found change part_after is =
     let sixteen : length parts ≡ 16 = found.desk.sixteen in
     let within : p < length parts = rw found.partition (omega arith) in
     changed_at content_of parts p part_after no_part within ∙
-    ap (λ (content : Content). set_at (content_in parts) p content)
+    ap (λ (content : Content). set_at (contents_in parts) p content)
     (is ∙ ap (λ (view : PartView). change (content_of view)) (in_parts parts sessions limit max_local p s session tag part it found)) ∙
-    ap (λ (q : ℕ). set_at (content_in parts) q (change (content_in parts q))) found.partition
-
--- ---- a new desk
-
-all_places-push :
-    {X : Type 0} (P : X → Type 0) (xs : List X) (y d : X) → P y → P d → ((k : ℕ) → P (get_or xs k d)) → (k : ℕ) → P (get_or (xs ++ y ∷ []) k d)
-all_places-push P [] y d last past all zero = last
-all_places-push P [] y d last past all (suc k) = past
-all_places-push P (x ∷ xs) y d last past all zero = all zero
-all_places-push P (x ∷ xs) y d last past all (suc k) = all_places-push P xs y d last past (λ j. all (suc j)) k
-
-pub AreEmpty-nil : AreEmpty []
-AreEmpty-nil = record { content = λ p. refl; begun = λ p. refl }
-
-pub AreEmpty-push : (parts : List PartView) (part : PartView) → content_of part ≡ empty_content → part.begun ≡ None → AreEmpty parts → AreEmpty (parts ++ part ∷ [])
-AreEmpty-push parts part content begun are =
-    record {
-      content = all_places-push (λ (view : PartView). content_of view ≡ empty_content) parts part no_part content refl are.content;
-      begun = all_places-push (λ (view : PartView). view.begun ≡ None) parts part no_part begun refl are.begun;
-    }
+    ap (λ (q : ℕ). set_at (contents_in parts) q (change (contents_in parts q))) found.partition
 
 pub IsDesk-new :
     (parts : List PartView) (limit max_local : ℕ) → length parts ≡ 16 → AreEmpty parts → limit ≤ 64 → 1 ≤ max_local → max_local ≤ 65536 → IsDesk parts [] limit max_local
@@ -480,6 +455,6 @@ IsDesk-open parts sessions limit max_local it is room empty none in_order =
       some_local = is.some_local;
       most_local = is.most_local;
       in_order = within-push (IsInOrder max_local) sessions it no_session in_order is.in_order;
-      agrees = subst (λ (entries : ℕ → List Entry). Agrees (content_in parts) entries (waits_in (sessions ++ it ∷ []))) (sym (entries_in-push sessions it empty))
-          (subst (λ (waits : ℕ → Option OwnWait). Agrees (content_in parts) (entries_in sessions) waits) (sym (waits_in-push sessions it none)) is.agrees);
+      agrees = subst (λ (entries : ℕ → List Entry). Agrees (contents_in parts) entries (waits_in (sessions ++ it ∷ []))) (sym (entries_in-push sessions it empty))
+          (subst (λ (waits : ℕ → Option OwnWait). Agrees (contents_in parts) (entries_in sessions) waits) (sym (waits_in-push sessions it none)) is.agrees);
     }

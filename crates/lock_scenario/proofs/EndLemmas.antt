@@ -13,7 +13,7 @@ use Rattle.local_locks.specs.Owned.{is_of, has_entry, are_of_same, is_ended, aft
 use Rattle.local_locks.proofs.EndLaws.{left_by-next}
 use Rattle.lock_table.specs.PartView.{PartView, content_of}
 use Rattle.lock_scenario.specs.declared.sessions.DeskSession.{DeskSession}
-use Rattle.lock_scenario.specs.Parts.{no_part, content_in}
+use Rattle.lock_table.specs.Parts.{no_part, contents_in}
 use Rattle.lock_table.specs.Put.{set_at}
 use Rattle.lock_table.proofs.PutLemmas.{set_at-here}
 use Rattle.lock_scenario.specs.Sessions.{entries_in, waits_in, is_pending}
@@ -164,4 +164,4 @@ held_modes parts sessions limit max_local p session tag part is partition part_i
     let sixteen : length parts ≡ 16 = is.sixteen in
     let within : p < length parts = rw partition (omega arith) in
     ap (λ (view : PartView). (content_of view).holds session tag) (part_is ∙ get_or_default parts p part no_part within) ∙
-    ap (λ (q : ℕ). (content_in parts q).holds session tag) partition ∙ (λ i mode. (is.agrees.on_object tag).held session mode i)
+    ap (λ (q : ℕ). (contents_in parts q).holds session tag) partition ∙ (λ i mode. (is.agrees.on_object tag).held session mode i)

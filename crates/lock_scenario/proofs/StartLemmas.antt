@@ -14,7 +14,7 @@ use Rattle.lock_scenario.specs.declared.acquire.Started.{Started}
 use Rattle.lock_scenario.specs.declared.acquire.Started.TheVariants.{Granted, AlreadyHeld, Queued}
 use Rattle.lock_scenario.specs.declared.sessions.OwnWait.{OwnWait}
 use Rattle.lock_scenario.specs.declared.sessions.DeskSession.{DeskSession}
-use Rattle.lock_scenario.specs.Parts.{content_in}
+use Rattle.lock_table.specs.Parts.{contents_in}
 use Rattle.lock_scenario.specs.Sessions.{entries_in, waits_in}
 use Rattle.lock_scenario.specs.Started.{IsStarted, entries_started, wait_started}
 use Rattle.lock_scenario.specs.Waiting.{Agrees}
@@ -57,15 +57,15 @@ IsDesk-started AlreadyHeld parts sessions limit max_local p s session tag part i
 IsDesk-started Queued parts sessions limit max_local p s session tag part it found none mode owner part_after after begun in_order is entries wait had =
     let part_is = in_parts parts sessions limit max_local p s session tag part it found in
     let it_is = in_sessions parts sessions limit max_local p s session tag part it found in
-    let here : (content_of part_after) ≡ add_wait (content_in parts p) s tag mode is.0 =
-    is.2 ∙ ap (λ (view : PartView). add_wait (content_of view) session tag mode is.0) part_is ∙ ap (λ (k : ℕ). add_wait (content_in parts p) k tag mode is.0) (sym found.number) in
+    let here : (content_of part_after) ≡ add_wait (contents_in parts p) s tag mode is.0 =
+    is.2 ∙ ap (λ (view : PartView). add_wait (content_of view) session tag mode is.0) part_is ∙ ap (λ (k : ℕ). add_wait (contents_in parts p) k tag mode is.0) (sym found.number) in
     let same : entries_in sessions ≡ set_at (entries_in sessions) s after.locals.entries =
     sym (set_at-same (entries_in sessions) s after.locals.entries (entries ∙ ap (λ (one : DeskSession). one.locals.entries) it_is)) in
     IsDesk-told parts sessions limit max_local p s part_after after [] found.desk (rw found.partition (omega arith)) found.opened begun in_order
-    (subst (λ (content : Content). Agrees (set_at (content_in parts) p content) (set_at (entries_in sessions) s after.locals.entries) (set_at (waits_in sessions) s after.wait)) (sym here)
-    (subst (λ (all : ℕ → List Entry). Agrees (set_at (content_in parts) p (add_wait (content_in parts p) s tag mode is.0)) all (set_at (waits_in sessions) s after.wait)) same
-    (subst (λ (own : Option OwnWait). Agrees (set_at (content_in parts) p (add_wait (content_in parts p) s tag mode is.0)) (entries_in sessions) (set_at (waits_in sessions) s own)) (sym wait)
-    (Agrees-join (content_in parts) (entries_in sessions) (waits_in sessions) p s tag mode is.0 (record { tag = tag; mode = mode; owner = owner; is_granted = false; cancel_asked = false }) found.desk.agrees found.partition (ap (waits_in sessions) found.number ∙ none) (record { tag = refl; mode = refl; is_not_granted = refl })))))
+    (subst (λ (content : Content). Agrees (set_at (contents_in parts) p content) (set_at (entries_in sessions) s after.locals.entries) (set_at (waits_in sessions) s after.wait)) (sym here)
+    (subst (λ (all : ℕ → List Entry). Agrees (set_at (contents_in parts) p (add_wait (contents_in parts p) s tag mode is.0)) all (set_at (waits_in sessions) s after.wait)) same
+    (subst (λ (own : Option OwnWait). Agrees (set_at (contents_in parts) p (add_wait (contents_in parts p) s tag mode is.0)) (entries_in sessions) (set_at (waits_in sessions) s own)) (sym wait)
+    (Agrees-join (contents_in parts) (entries_in sessions) (waits_in sessions) p s tag mode is.0 (record { tag = tag; mode = mode; owner = owner; is_granted = false; cancel_asked = false }) found.desk.agrees found.partition (ap (waits_in sessions) found.number ∙ none) (record { tag = refl; mode = refl; is_not_granted = refl })))))
 
 -- The session is ready for what it awaits.
 pub started_ready : (started : Started) (tag : Tag) (mode : Mode) (owner : Owner) (own : Option OwnWait) (P : OwnWait → Type 0) → own ≡ wait_started started tag mode owner →

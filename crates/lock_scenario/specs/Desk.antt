@@ -4,7 +4,7 @@ use Rattle.local_locks.specs.declared.records.Entry.{Entry}
 use Rattle.local_locks.specs.Owned.{Owned, has_entry, IsWellOwned, IsReserved}
 use Rattle.lock_table.specs.Content.{Content, empty_content}
 use Rattle.lock_table.specs.PartView.{PartView}
-use Rattle.lock_scenario.specs.Parts.{no_part, content_in}
+use Rattle.lock_table.specs.Parts.{no_part, contents_in}
 use Rattle.lock_scenario.specs.Sessions.{session_at, entries_in, waits_in, as_asked}
 use Rattle.lock_scenario.specs.Waiting.{Agrees, Shared}
 use Rattle.lock_scenario.specs.declared.sessions.OwnWait.{OwnWait}
@@ -35,7 +35,7 @@ databases_of desk = map (λ session. session.database) desk.sessions
 
 -- the content of each partition
 abbrev pub contents_of : DeskView → ℕ → Content
-contents_of desk = content_in desk.parts
+contents_of desk = contents_in desk.parts
 
 -- the entries of each session
 abbrev pub entries_of : DeskView → ℕ → List Entry
@@ -120,4 +120,4 @@ pub record IsDesk (parts : List PartView) (sessions : List DeskSession) (limit m
   pub some_local : 1 ≤ max_local
   pub most_local : max_local ≤ 65536
   pub in_order : (session : ℕ) → session < length sessions → IsInOrder max_local (session_at sessions session)
-  pub agrees : Agrees (content_in parts) (entries_in sessions) (waits_in sessions)
+  pub agrees : Agrees (contents_in parts) (entries_in sessions) (waits_in sessions)

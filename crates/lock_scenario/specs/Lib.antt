@@ -4,7 +4,6 @@ pub mod Desk
 pub mod Fault
 pub mod Lines
 pub mod Names
-pub mod Parts
 pub mod Scene
 pub mod Sessions
 pub mod Started

@@ -12,7 +12,7 @@ use Rattle.lock_table.specs.Queue.{Wakes, remove_wait}
 use Rattle.lock_table.specs.Put.{set_at}
 use Rattle.lock_table.specs.PartView.{PartView, content_of}
 use Rattle.lock_table.specs.Waiter.{whose_and_mode}
-use Rattle.lock_scenario.specs.Parts.{no_part}
+use Rattle.lock_table.specs.Parts.{no_part}
 use Rattle.lock_scenario.specs.declared.sessions.OwnWait.{OwnWait}
 use Rattle.lock_scenario.specs.declared.sessions.DeskSession.{DeskSession}
 use Rattle.lock_scenario.specs.Sessions.{is_pending, is_awaiting, marked, marked_all}

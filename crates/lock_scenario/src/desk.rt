@@ -7,7 +7,6 @@ ghost use Rattle.lock_table.specs.Clash.{ClashIs};
 ghost use Rattle.lock_table.specs.Listing.{IsListing};
 ghost use Rattle.lock_table.specs.Queue.{some_awaits_conflict};
 ghost use Rattle.lock_table.specs.Put.{set_at};
-ghost use Rattle.lock_scenario.specs.Parts.{AreEmpty};
 ghost use Rattle.lock_scenario.specs.Sessions.{is_pending};
 ghost use Rattle.lock_scenario.specs.Started.{IsStarted, entries_started, wait_started};
 ghost use Rattle.lock_scenario.specs.Waiting.{Releases, ReleasesAll, Leaves};
@@ -18,8 +17,7 @@ use crate::give_up::{leave_queue, release_hold};
 pub use crate::sessions::{DeskSession, OwnWait};
 use local_locks::{Acquired, End, LocalTable, Unlocked};
 use lock_table::rows::sort_rows;
-use lock_table::{PartTable, PlainPart, TableRow};
-use modes_core::tags::PARTITIONS;
+use lock_table::{PartTable, PlainPart, SlotRow, TableRow, empty_parts};
 use modes_core::{Mode, ModeSet, Owner, Refusal, SessionId, Tag};
 use std::alloc::Global;
 use std::marker::Model;
@@ -61,15 +59,6 @@ pub enum Asked {
     Waiting,
     /// It doesn't wait, or was granted what it waits for. Nothing has changed.
     NotWaiting,
-}
-
-/// A hold in a fast-path slot.
-#[derive(Clone, Copy, Debug, PartialEq, Eq)]
-pub struct SlotRow {
-    pub session: SessionId,
-    pub slot: u8,
-    pub tag: Tag,
-    pub mode: Mode,
 }
 
 /// What is held and awaited: the fast-path slots, which this desk has none of, and the lock table.
@@ -414,7 +403,9 @@ impl Desk {
         {
             return Err(Refusal::BadConfig);
         }
-        let parts = empty_parts(alloc)?;
+        let Ok(parts) = empty_parts(alloc) else {
+            return Err(Refusal::NoMemory);
+        };
         let Ok(sessions) = Vec::with_capacity(alloc, config.sessions as usize) else {
             return Err(Refusal::NoMemory);
         };
@@ -473,19 +464,4 @@ impl Desk {
             table,
         })
     }
-}
-
-/// Sixteen partitions with nothing in them.
-fn empty_parts(alloc: Global) -> Result<Vec<PlainPart>, Refusal>
-    ensures sixteen { IfOk result (λ parts. length parts.items ≡ 16) }
-    ensures empty { IfOk result (λ parts. AreEmpty parts.items) }
-    ensures no_memory { IsOkUnless result Refusal.NoMemory }
-{
-    let Ok(mut parts) = Vec::with_capacity(alloc, PARTITIONS as usize) else {
-        return Err(Refusal::NoMemory);
-    };
-    for _part in 0..PARTITIONS as usize {
-        parts.push_reserved(PlainPart::new(alloc));
-    }
-    Ok(parts)
 }

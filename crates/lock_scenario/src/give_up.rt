@@ -3,7 +3,7 @@ ghost use Rattle.modes_core.specs.Tag.{partition_of};
 ghost use Rattle.lock_table.specs.declared.moves.Move.TheVariants.{Release};
 ghost use Rattle.lock_table.specs.Moves.{Moves};
 ghost use Rattle.lock_table.specs.Queue.{Wakes, remove_wait, waits_there};
-ghost use Rattle.lock_scenario.specs.Parts.{content_in};
+ghost use Rattle.lock_table.specs.Parts.{contents_in};
 ghost use Rattle.lock_scenario.specs.Waiting.{ChangesPart};
 
 use crate::sessions::{DeskSession, mark_all};
@@ -21,9 +21,9 @@ pub fn release_hold(
     mode: Mode,
 )
     requires sixteen { length parts.old.items ≡ 16 }
-    requires held { (content_in parts.old.items (partition_of tag)).holds session tag mode ≡ true }
+    requires held { (contents_in parts.old.items (partition_of tag)).holds session tag mode ≡ true }
     ensures changed { ChangesPart parts.old.items sessions.old.items (partition_of tag)
-        (λ granted after. Moves (content_in parts.old.items (partition_of tag)) session (Release tag mode) granted after)
+        (λ granted after. Moves (contents_in parts.old.items (partition_of tag)) session (Release tag mode) granted after)
         parts.new.items sessions.new.items }
     ensures capacity { vec_capacity sessions.new ≡ vec_capacity sessions.old }
 {
@@ -41,9 +41,9 @@ pub fn leave_queue(
     tag: Tag,
 )
     requires sixteen { length parts.old.items ≡ 16 }
-    requires waits { waits_there ((content_in parts.old.items (partition_of tag)).waits tag) session ≡ true }
+    requires waits { waits_there ((contents_in parts.old.items (partition_of tag)).waits tag) session ≡ true }
     ensures changed { ChangesPart parts.old.items sessions.old.items (partition_of tag)
-        (λ granted after. Wakes (remove_wait (content_in parts.old.items (partition_of tag)) session tag) tag granted after)
+        (λ granted after. Wakes (remove_wait (contents_in parts.old.items (partition_of tag)) session tag) tag granted after)
         parts.new.items sessions.new.items }
     ensures capacity { vec_capacity sessions.new ≡ vec_capacity sessions.old }
 {

@@ -1,9 +1,9 @@
 //! What the lines of a script print.
-use crate::desk::{Asked, Cancelled, Listing, SlotRow, Started};
+use crate::desk::{Asked, Cancelled, Listing, Started};
 use crate::faults::Fault;
 use crate::names::{Name, Names};
 use local_locks::{Acquired, End, Unlocked};
-use lock_table::TableRow;
+use lock_table::{SlotRow, TableRow};
 use modes_core::{How, Mode, Refusal, SessionId, Tag};
 use std::io::{self, Write};
 

@@ -1,5 +1,7 @@
-use Rattle.std.proofs.Common.{◌≡◌, ◌≢◌, ℕ, Bool, true, false, sym, ap, ◌∙◌, subst, inl, inr}
+use Rattle.std.proofs.Common.{◌≡◌, ◌≢◌, ℕ, ◌<◌, Bool, true, false, List, length, get_or, sym, ap, ◌∙◌, subst, inl, inr}
 use Rattle.std.specs.Prelude.{◌==◌}
+use Rattle.std.proofs.Math.ListN.{set}
+use Rattle.std.proofs.lemmas.List.{get_or-set_same, get_or-set_other}
 use Rattle.std.proofs.lemmas.Bool.{cases_eq, eq-eqb, ne_eqb, cond-true, cond-false}
 use Rattle.lock_table.specs.Put.{put, set_at}
 
@@ -63,3 +65,16 @@ column-else f s p a q n k =
 -- Another row is as it was.
 pub row-else : {A : Type 0} (f : ℕ → ℕ → A) (s p : ℕ) (a : A) (k q : ℕ) → k ≢ s → set_at f s (set_at (f s) p a) k q ≡ f k q
 row-else f s p a k q n = ap (λ row. row q) (set_at-else f s (set_at (f s) p a) k n)
+
+-- A list written at one place, read as a function, is the function changed there, wherever what stands in the list is of what
+-- the function gives.
+pub written-at : {X Y : Type 0} (Of : X → Y → Type 0) (xs : List X) (k : ℕ) (x d : X) (f : ℕ → Y) (y : Y) → k < length xs → Of x y
+    → (j : ℕ) → Of (get_or xs j d) (f j) → Of (get_or (set xs k x) j d) (set_at f k y j)
+written-at Of xs k x d f y within now j before =
+    elim (cases_eq j k) [
+      | inl same ↦
+          subst (λ a. Of a (set_at f k y j)) (sym (ap (λ i. get_or (set xs k x) i d) same ∙ get_or-set_same xs k x d within))
+          (subst (Of x) (sym (set_at-here f k y j same)) now)
+      | inr other ↦
+          subst (λ a. Of a (set_at f k y j)) (sym (get_or-set_other xs k j x d other)) (subst (Of (get_or xs j d)) (sym (set_at-else f k y j other)) before)
+    ]

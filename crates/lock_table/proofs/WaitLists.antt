@@ -14,9 +14,9 @@ use Rattle.lock_table.specs.declared.request.Request.{Request}
 use Rattle.lock_table.specs.declared.part_waits.PartWait.{PartWait}
 use Rattle.lock_table.specs.Request.{is_request_of, is_request_on}
 use Rattle.lock_table.specs.Content.{Wait}
-use Rattle.lock_table.specs.Waiter.{wait_of}
+use Rattle.lock_table.specs.Waiter.{shown_wait}
 use Rattle.lock_table.specs.PartView.{holds_in}
-use Rattle.lock_table.specs.PartWaits.{request_of, waits_in, times_in, EachOnce, OneWaitEach}
+use Rattle.lock_table.specs.PartWaits.{request_of, queues_in, times_in, EachOnce, OneWaitEach}
 use Rattle.lock_table.specs.Queue.{waits_there, awaits_mode, wait_in, queue_without}
 use Rattle.lock_table.specs.Put.{put}
 use Rattle.lock_table.proofs.PutLemmas.{put_here, put_else}
@@ -56,15 +56,15 @@ is_its s o wait = swap (tag_eq o wait.tag) (wait.waiter.session == s) ∙ ap (λ
   swap false false = refl
 
 -- A session waits in an object's queue exactly where the list has its wait.
-pub there-in : (ws : List PartWait) (s : ℕ) (o : Tag) → waits_there (waits_in ws o) s ≡ list_any (λ wait. is_request_on (request_of wait) s o) ws
+pub there-in : (ws : List PartWait) (s : ℕ) (o : Tag) → waits_there (queues_in ws o) s ≡ list_any (λ wait. is_request_on (request_of wait) s o) ws
 there-in ws s o =
-    any-kept (λ wait. wait.session == s) (λ (wait : PartWait). wait_of wait.waiter) (λ wait. tag_eq o wait.tag) ws
+    any-kept (λ wait. wait.session == s) (λ (wait : PartWait). shown_wait wait.waiter) (λ wait. tag_eq o wait.tag) ws
     ∙ any-same (λ (wait : PartWait). tag_eq o wait.tag && (wait.waiter.session == s)) (λ wait. is_request_on (request_of wait) s o) ws (is_its s o)
 
 -- An object's queue has the awaited modes that the list has.
-pub awaits-in : (ws : List PartWait) (s : ℕ) (o : Tag) (m : Mode) → awaits_mode (waits_in ws o) s m ≡ list_any (λ wait. is_request_of (request_of wait) s o m) ws
+pub awaits-in : (ws : List PartWait) (s : ℕ) (o : Tag) (m : Mode) → awaits_mode (queues_in ws o) s m ≡ list_any (λ wait. is_request_of (request_of wait) s o m) ws
 awaits-in ws s o m =
-    any-kept (λ wait. (wait.session == s) && mode_eq wait.mode m) (λ (wait : PartWait). wait_of wait.waiter) (λ wait. tag_eq o wait.tag) ws
+    any-kept (λ wait. (wait.session == s) && mode_eq wait.mode m) (λ (wait : PartWait). shown_wait wait.waiter) (λ wait. tag_eq o wait.tag) ws
     ∙ any-same (λ (wait : PartWait). tag_eq o wait.tag && ((wait.waiter.session == s) && mode_eq wait.waiter.mode m)) (λ wait. is_request_of (request_of wait) s o m) ws
     (λ wait. turn (tag_eq o wait.tag) (wait.waiter.session == s) (mode_eq wait.waiter.mode m)
     ∙ rw (eqb_comm wait.waiter.session s, eqb_comm (number_of wait.waiter.mode) (number_of m)) refl) where
@@ -134,7 +134,7 @@ times_in-fewer_waits p hs ws s o m =
 -- A request that is neither held nor awaited is there no time.
 pub times_in-none :
     (hs : List Request) (ws : List PartWait) (s : ℕ) (o : Tag) (m : Mode) →
-    holds_in hs s o m ≡ false → awaits_mode (waits_in ws o) s m ≡ false → times_in hs ws s o m ≡ 0
+    holds_in hs s o m ≡ false → awaits_mode (queues_in ws o) s m ≡ false → times_in hs ws s o m ≡ 0
 times_in-none hs ws s o m not_held not_awaited =
     let held : count_by (λ hold. is_request_of hold s o m) hs ≡ 0 = count_by-none (λ hold. is_request_of hold s o m) hs not_held in
     let awaited : count_by (λ wait. is_request_of (request_of wait) s o m) ws ≡ 0 =
@@ -142,24 +142,24 @@ times_in-none hs ws s o m not_held not_awaited =
     omega arith
 
 -- The queue of an object, as the list grows.
-pub waits_in-append : (xs ys : List PartWait) (o : Tag) → waits_in (xs ++ ys) o ≡ waits_in xs o ++ waits_in ys o
+pub waits_in-append : (xs ys : List PartWait) (o : Tag) → queues_in (xs ++ ys) o ≡ queues_in xs o ++ queues_in ys o
 waits_in-append xs ys o =
-    ap (map (λ (wait : PartWait). wait_of wait.waiter)) (filter-append (λ (wait : PartWait). tag_eq o wait.tag) xs ys)
-    ∙ map-append (λ (wait : PartWait). wait_of wait.waiter) (filter (λ (wait : PartWait). tag_eq o wait.tag) xs) (filter (λ (wait : PartWait). tag_eq o wait.tag) ys)
+    ap (map (λ (wait : PartWait). shown_wait wait.waiter)) (filter-append (λ (wait : PartWait). tag_eq o wait.tag) xs ys)
+    ∙ map-append (λ (wait : PartWait). shown_wait wait.waiter) (filter (λ (wait : PartWait). tag_eq o wait.tag) xs) (filter (λ (wait : PartWait). tag_eq o wait.tag) ys)
 
-pub waits_in-on : (w : PartWait) (ys : List PartWait) (o : Tag) → tag_eq o w.tag ≡ true → waits_in (w ∷ ys) o ≡ wait_of w.waiter ∷ waits_in ys o
+pub waits_in-on : (w : PartWait) (ys : List PartWait) (o : Tag) → tag_eq o w.tag ≡ true → queues_in (w ∷ ys) o ≡ shown_wait w.waiter ∷ queues_in ys o
 waits_in-on w ys o is = rw is refl
 
-pub waits_in-off : (w : PartWait) (ys : List PartWait) (o : Tag) → tag_eq o w.tag ≡ false → waits_in (w ∷ ys) o ≡ waits_in ys o
+pub waits_in-off : (w : PartWait) (ys : List PartWait) (o : Tag) → tag_eq o w.tag ≡ false → queues_in (w ∷ ys) o ≡ queues_in ys o
 waits_in-off w ys o is_not = rw is_not refl
 
-pub waits_in-push_on : (xs : List PartWait) (w : PartWait) (o : Tag) → tag_eq o w.tag ≡ true → waits_in (xs ++ w ∷ []) o ≡ waits_in xs o ++ wait_of w.waiter ∷ []
-waits_in-push_on xs w o is = waits_in-append xs (w ∷ []) o ∙ ap (λ ys. waits_in xs o ++ ys) (waits_in-on w [] o is)
+pub waits_in-push_on : (xs : List PartWait) (w : PartWait) (o : Tag) → tag_eq o w.tag ≡ true → queues_in (xs ++ w ∷ []) o ≡ queues_in xs o ++ shown_wait w.waiter ∷ []
+waits_in-push_on xs w o is = waits_in-append xs (w ∷ []) o ∙ ap (λ ys. queues_in xs o ++ ys) (waits_in-on w [] o is)
 
 -- A wait on another object makes no difference.
-pub waits_in-without : (xs : List PartWait) (w : PartWait) (ys : List PartWait) (o : Tag) → tag_eq o w.tag ≡ false → waits_in (xs ++ w ∷ ys) o ≡ waits_in (xs ++ ys) o
+pub waits_in-without : (xs : List PartWait) (w : PartWait) (ys : List PartWait) (o : Tag) → tag_eq o w.tag ≡ false → queues_in (xs ++ w ∷ ys) o ≡ queues_in (xs ++ ys) o
 waits_in-without xs w ys o is_not =
-    waits_in-append xs (w ∷ ys) o ∙ ap (λ zs. waits_in xs o ++ zs) (waits_in-off w ys o is_not) ∙ sym (waits_in-append xs ys o)
+    waits_in-append xs (w ∷ ys) o ∙ ap (λ zs. queues_in xs o ++ zs) (waits_in-off w ys o is_not) ∙ sym (waits_in-append xs ys o)
 
 -- A list with one of its elements apart.
 pub parts_at : {X : Type 0} (xs : List X) (i : ℕ) (x : X) → i < length xs → x ≡ get_or xs i x → xs ≡ take i xs ++ x ∷ drop (i + 1) xs
@@ -174,11 +174,11 @@ slice_get_at xs y ys n e =
 -- The wait of an object's queue behind so many.
 pub waiter-there :
     (ws : List PartWait) (i : ℕ) (w : PartWait) (o : Tag) (place : ℕ) → i < length ws → w ≡ get_or ws i w → tag_eq o w.tag ≡ true →
-    length (waits_in (take i ws) o) ≡ place → slice_get (waits_in ws o) place ≡ Some (wait_of w.waiter)
+    length (queues_in (take i ws) o) ≡ place → slice_get (queues_in ws o) place ≡ Some (shown_wait w.waiter)
 waiter-there ws i w o place within is on behind =
-    ap (λ xs. slice_get (waits_in xs o) place) (parts_at ws i w within is)
-    ∙ ap (λ q. slice_get q place) (waits_in-append (take i ws) (w ∷ drop (i + 1) ws) o ∙ ap (λ q. waits_in (take i ws) o ++ q) (waits_in-on w (drop (i + 1) ws) o on))
-    ∙ slice_get_at (waits_in (take i ws) o) (wait_of w.waiter) (waits_in (drop (i + 1) ws) o) place behind
+    ap (λ xs. slice_get (queues_in xs o) place) (parts_at ws i w within is)
+    ∙ ap (λ q. slice_get q place) (waits_in-append (take i ws) (w ∷ drop (i + 1) ws) o ∙ ap (λ q. queues_in (take i ws) o ++ q) (waits_in-on w (drop (i + 1) ws) o on))
+    ∙ slice_get_at (queues_in (take i ws) o) (shown_wait w.waiter) (queues_in (drop (i + 1) ws) o) place behind
 
 -- Which of an object's waits is the session's, first in the list.
 find-kept : {X Y : Type 0} (p : Y → Bool) (f : X → Y) (q : X → Bool) (xs : List X) → find p (map f (filter q xs)) ≡ option_map f (find (λ x. q x && p (f x)) xs)
@@ -195,16 +195,16 @@ find-kept p f q (x ∷ xs) =
 find-same : {X : Type 0} (p q : X → Bool) (xs : List X) → ((x : X) → p x ≡ q x) → find p xs ≡ find q xs
 find-same p q xs same = λ i. find (λ x. same x i) xs
 
-pub wait_in-list : (ws : List PartWait) (s : ℕ) (o : Tag) → wait_in (waits_in ws o) s ≡ option_map (λ wait. wait_of wait.waiter) (find (λ wait. is_request_on (request_of wait) s o) ws)
+pub wait_in-list : (ws : List PartWait) (s : ℕ) (o : Tag) → wait_in (queues_in ws o) s ≡ option_map (λ wait. shown_wait wait.waiter) (find (λ wait. is_request_on (request_of wait) s o) ws)
 wait_in-list ws s o =
-    find-kept (λ wait. wait.session == s) (λ (wait : PartWait). wait_of wait.waiter) (λ wait. tag_eq o wait.tag) ws
-    ∙ ap (option_map (λ (wait : PartWait). wait_of wait.waiter))
+    find-kept (λ wait. wait.session == s) (λ (wait : PartWait). shown_wait wait.waiter) (λ wait. tag_eq o wait.tag) ws
+    ∙ ap (option_map (λ (wait : PartWait). shown_wait wait.waiter))
     (find-same (λ (wait : PartWait). tag_eq o wait.tag && (wait.waiter.session == s)) (λ wait. is_request_on (request_of wait) s o) ws (is_its s o))
 
 pub awaited-mode : (ws : List PartWait) (s : ℕ) (o : Tag) →
-    option_map (λ (wait : PartWait). wait.waiter.mode) (find (λ wait. is_request_on (request_of wait) s o) ws) ≡ option_map (λ wait. wait.mode) (wait_in (waits_in ws o) s)
+    option_map (λ (wait : PartWait). wait.waiter.mode) (find (λ wait. is_request_on (request_of wait) s o) ws) ≡ option_map (λ wait. wait.mode) (wait_in (queues_in ws o) s)
 awaited-mode ws s o = at (find (λ wait. is_request_on (request_of wait) s o) ws) ∙ ap (option_map (λ (wait : Wait). wait.mode)) (sym (wait_in-list ws s o)) where
-  at : (found : Option PartWait) → option_map (λ (wait : PartWait). wait.waiter.mode) found ≡ option_map (λ (wait : Wait). wait.mode) (option_map (λ (wait : PartWait). wait_of wait.waiter) found)
+  at : (found : Option PartWait) → option_map (λ (wait : PartWait). wait.waiter.mode) found ≡ option_map (λ (wait : Wait). wait.mode) (option_map (λ (wait : PartWait). shown_wait wait.waiter) found)
   at None = refl
   at (Some w) = refl
 
@@ -229,7 +229,7 @@ filter_all (x ∷ xs) = ap (λ ys. x ∷ ys) (filter_all xs)
 
 -- The queues after a session's wait on an object is gone.
 pub waits-left : (ws : List PartWait) (s : ℕ) (t : Tag) →
-    waits_in (filter (λ wait. not (is_request_on (request_of wait) s t)) ws) ≡ put tag_eq (waits_in ws) t (queue_without (waits_in ws t) s)
+    queues_in (filter (λ wait. not (is_request_on (request_of wait) s t)) ws) ≡ put tag_eq (queues_in ws) t (queue_without (queues_in ws t) s)
 waits-left ws s t = λ i o. at o i where
   stays : PartWait → Bool
   stays wait = not (is_request_on (request_of wait) s t)
@@ -244,40 +244,40 @@ waits-left ws s t = λ i o. at o i where
       false≢true (sym other ∙ ap (λ x. tag_eq x t) same ∙ ap (λ x. tag_eq x t) (sym (tag_eq-same t wait.tag it)) ∙ tag_eq-refl t)) in
       ap not (sym (is_its s t wait) ∙ ap (λ b. b && (wait.waiter.session == s)) off)
 
-  at : (o : Tag) → waits_in (filter stays ws) o ≡ put tag_eq (waits_in ws) t (queue_without (waits_in ws t) s) o
+  at : (o : Tag) → queues_in (filter stays ws) o ≡ put tag_eq (queues_in ws) t (queue_without (queues_in ws t) s) o
   at o =
       elim (cases_Bool (tag_eq o t)) [
         | inl same ↦
-            ap (waits_in (filter stays ws)) (tag_eq-same o t same)
-            ∙ kept_of_kept (λ wait. not (wait.session == s)) (λ (wait : PartWait). wait_of wait.waiter) (λ wait. tag_eq t wait.tag) stays here ws
-            ∙ sym (put_here tag_eq (waits_in ws) t (queue_without (waits_in ws t) s) o same)
+            ap (queues_in (filter stays ws)) (tag_eq-same o t same)
+            ∙ kept_of_kept (λ wait. not (wait.session == s)) (λ (wait : PartWait). shown_wait wait.waiter) (λ wait. tag_eq t wait.tag) stays here ws
+            ∙ sym (put_here tag_eq (queues_in ws) t (queue_without (queues_in ws t) s) o same)
         | inr other ↦
-            kept_of_kept (λ (wait : Wait). true) (λ (wait : PartWait). wait_of wait.waiter) (λ wait. tag_eq o wait.tag) stays (there o other) ws
-            ∙ filter_all (waits_in ws o) ∙ sym (put_else tag_eq (waits_in ws) t (queue_without (waits_in ws t) s) o other)
+            kept_of_kept (λ (wait : Wait). true) (λ (wait : PartWait). shown_wait wait.waiter) (λ wait. tag_eq o wait.tag) stays (there o other) ws
+            ∙ filter_all (queues_in ws o) ∙ sym (put_else tag_eq (queues_in ws) t (queue_without (queues_in ws t) s) o other)
       ]
 
 -- The queues after a wait joined at its place: that many waits of its object are before it in the list.
-pub waits-joined : (xs : List PartWait) (w : PartWait) (ys : List PartWait) (place : ℕ) → length (waits_in xs w.tag) ≡ place →
-    waits_in (xs ++ w ∷ ys)
-    ≡ put tag_eq (waits_in (xs ++ ys)) w.tag (take place (waits_in (xs ++ ys) w.tag) ++ wait_of w.waiter ∷ drop place (waits_in (xs ++ ys) w.tag))
+pub waits-joined : (xs : List PartWait) (w : PartWait) (ys : List PartWait) (place : ℕ) → length (queues_in xs w.tag) ≡ place →
+    queues_in (xs ++ w ∷ ys)
+    ≡ put tag_eq (queues_in (xs ++ ys)) w.tag (take place (queues_in (xs ++ ys) w.tag) ++ shown_wait w.waiter ∷ drop place (queues_in (xs ++ ys) w.tag))
 waits-joined xs w ys place before = λ i o. at o i where
   queue : List Wait
-  queue = take place (waits_in (xs ++ ys) w.tag) ++ wait_of w.waiter ∷ drop place (waits_in (xs ++ ys) w.tag)
+  queue = take place (queues_in (xs ++ ys) w.tag) ++ shown_wait w.waiter ∷ drop place (queues_in (xs ++ ys) w.tag)
 
-  here : waits_in (xs ++ w ∷ ys) w.tag ≡ queue
+  here : queues_in (xs ++ w ∷ ys) w.tag ≡ queue
   here =
-      waits_in-append xs (w ∷ ys) w.tag ∙ ap (λ q. waits_in xs w.tag ++ q) (waits_in-on w ys w.tag (tag_eq-refl w.tag))
-      ∙ rw (waits_in-append xs ys w.tag, take_at (waits_in xs w.tag) (waits_in ys w.tag) place before, drop_at (waits_in xs w.tag) (waits_in ys w.tag) place before) refl
+      waits_in-append xs (w ∷ ys) w.tag ∙ ap (λ q. queues_in xs w.tag ++ q) (waits_in-on w ys w.tag (tag_eq-refl w.tag))
+      ∙ rw (waits_in-append xs ys w.tag, take_at (queues_in xs w.tag) (queues_in ys w.tag) place before, drop_at (queues_in xs w.tag) (queues_in ys w.tag) place before) refl
 
-  at : (o : Tag) → waits_in (xs ++ w ∷ ys) o ≡ put tag_eq (waits_in (xs ++ ys)) w.tag queue o
+  at : (o : Tag) → queues_in (xs ++ w ∷ ys) o ≡ put tag_eq (queues_in (xs ++ ys)) w.tag queue o
   at o =
       elim (cases_Bool (tag_eq o w.tag)) [
-        | inl same ↦ ap (waits_in (xs ++ w ∷ ys)) (tag_eq-same o w.tag same) ∙ here ∙ sym (put_here tag_eq (waits_in (xs ++ ys)) w.tag queue o same)
-        | inr other ↦ waits_in-without xs w ys o other ∙ sym (put_else tag_eq (waits_in (xs ++ ys)) w.tag queue o other)
+        | inl same ↦ ap (queues_in (xs ++ w ∷ ys)) (tag_eq-same o w.tag same) ∙ here ∙ sym (put_here tag_eq (queues_in (xs ++ ys)) w.tag queue o same)
+        | inr other ↦ waits_in-without xs w ys o other ∙ sym (put_else tag_eq (queues_in (xs ++ ys)) w.tag queue o other)
       ]
 
 -- A session that doesn't wait on the object may join its queue.
-pub OneWaitEach-join : (xs : List PartWait) (w : PartWait) (ys : List PartWait) → waits_there (waits_in (xs ++ ys) w.tag) w.waiter.session ≡ false → OneWaitEach (xs ++ ys) → OneWaitEach (xs ++ w ∷ ys)
+pub OneWaitEach-join : (xs : List PartWait) (w : PartWait) (ys : List PartWait) → waits_there (queues_in (xs ++ ys) w.tag) w.waiter.session ≡ false → OneWaitEach (xs ++ ys) → OneWaitEach (xs ++ w ∷ ys)
 OneWaitEach-join xs w ys absent each s o =
     let more : count_by (λ wait. is_request_on (request_of wait) s o) (xs ++ w ∷ ys) ≡ count_by (λ wait. is_request_on (request_of wait) s o) (xs ++ ys) + (if is_request_on (request_of w) s o then 1 else 0) =
     count_by-insert (λ wait. is_request_on (request_of wait) s o) w xs ys in
@@ -302,13 +302,13 @@ times_in-join hs ws i w new once =
     one_more_once (times_in hs ws) (times_in hs (insert ws i w)) (request_of w) new
     (λ s o m. times_in-wait hs (take i ws) (drop i ws) w s o m ∙ ap (λ xs. times_in hs xs s o m + (if is_request_of (request_of w) s o m then 1 else 0)) (take-append-drop i ws)) once
 
-pub OneWaitEach-insert : (ws : List PartWait) (i : ℕ) (w : PartWait) → waits_there (waits_in ws w.tag) w.waiter.session ≡ false → OneWaitEach ws → OneWaitEach (insert ws i w)
+pub OneWaitEach-insert : (ws : List PartWait) (i : ℕ) (w : PartWait) → waits_there (queues_in ws w.tag) w.waiter.session ≡ false → OneWaitEach ws → OneWaitEach (insert ws i w)
 OneWaitEach-insert ws i w absent each =
     OneWaitEach-join (take i ws) w (drop i ws)
-    (ap (λ xs. waits_there (waits_in xs w.tag) w.waiter.session) (take-append-drop i ws) ∙ absent) (subst OneWaitEach (sym (take-append-drop i ws)) each)
+    (ap (λ xs. waits_there (queues_in xs w.tag) w.waiter.session) (take-append-drop i ws) ∙ absent) (subst OneWaitEach (sym (take-append-drop i ws)) each)
 
-pub waits-inserted : (ws : List PartWait) (i : ℕ) (w : PartWait) (place : ℕ) → length (waits_in (take i ws) w.tag) ≡ place →
-    waits_in (insert ws i w) ≡ put tag_eq (waits_in ws) w.tag (take place (waits_in ws w.tag) ++ wait_of w.waiter ∷ drop place (waits_in ws w.tag))
+pub waits-inserted : (ws : List PartWait) (i : ℕ) (w : PartWait) (place : ℕ) → length (queues_in (take i ws) w.tag) ≡ place →
+    queues_in (insert ws i w) ≡ put tag_eq (queues_in ws) w.tag (take place (queues_in ws w.tag) ++ shown_wait w.waiter ∷ drop place (queues_in ws w.tag))
 waits-inserted ws i w place before =
     waits-joined (take i ws) w (drop i ws) place before
-    ∙ ap (λ xs. put tag_eq (waits_in xs) w.tag (take place (waits_in xs w.tag) ++ wait_of w.waiter ∷ drop place (waits_in xs w.tag))) (take-append-drop i ws)
+    ∙ ap (λ xs. put tag_eq (queues_in xs) w.tag (take place (queues_in xs w.tag) ++ shown_wait w.waiter ∷ drop place (queues_in xs w.tag))) (take-append-drop i ws)

@@ -16,9 +16,9 @@ use Rattle.lock_table.specs.Request.{is_request_of, is_request_on, is_in_the_way
 use Rattle.lock_table.specs.Content.{Holds, Wait, set_hold}
 use Rattle.lock_table.specs.Clash.{NoConflictingHolder}
 use Rattle.lock_table.specs.Put.{put}
-use Rattle.lock_table.specs.Waiter.{wait_of, whose_and_mode}
+use Rattle.lock_table.specs.Waiter.{shown_wait, whose_and_mode}
 use Rattle.lock_table.specs.PartView.{holds_in, content_in}
-use Rattle.lock_table.specs.PartWaits.{request_of, waits_in, times_in, OneWaitEach, goes_now}
+use Rattle.lock_table.specs.PartWaits.{request_of, queues_in, times_in, OneWaitEach, goes_now}
 use Rattle.lock_table.specs.Queue.{IsFree, SplitsBehind, hold_all, Wakes}
 use Rattle.lock_table.proofs.PutLemmas.{put_here, put_else}
 use Rattle.lock_table.proofs.Same.{SameTriple-from, same_triple-refl}
@@ -59,22 +59,22 @@ not_false false e = refl
 goes_now-on : (hs : List Request) (done : List PartWait) (w : PartWait) (t : Tag) → goes_now hs done w t ≡ true → t ≡ w.tag
 goes_now-on hs done w t goes = tag_eq-same t w.tag (both_true _ _ goes).0
 
-goes_now-free : (hs : List Request) (done : List PartWait) (w : PartWait) (t : Tag) → goes_now hs done w t ≡ true → IsFree (holds_in hs) w.waiter.session t w.waiter.mode (waits_in done t)
+goes_now-free : (hs : List Request) (done : List PartWait) (w : PartWait) (t : Tag) → goes_now hs done w t ≡ true → IsFree (holds_in hs) w.waiter.session t w.waiter.mode (queues_in done t)
 goes_now-free hs done w t goes =
     let parts = both_true _ _ (both_true _ _ goes).1 in
     record {
       beside_holders = no_holder-from hs w.waiter.session t w.waiter.mode (not_false _ parts.0);
       behind_waiters =
-          any-kept (λ wait. conflict w.waiter.mode wait.mode) (λ (wait : PartWait). wait_of wait.waiter) (λ (wait : PartWait). tag_eq t wait.tag) done
+          any-kept (λ wait. conflict w.waiter.mode wait.mode) (λ (wait : PartWait). shown_wait wait.waiter) (λ (wait : PartWait). tag_eq t wait.tag) done
           ∙ not_false _ parts.1;
     }
 
-stays-not_free : (hs : List Request) (done : List PartWait) (w : PartWait) (t : Tag) → tag_eq t w.tag ≡ true → goes_now hs done w t ≡ false → IsFree (holds_in hs) w.waiter.session t w.waiter.mode (waits_in done t) → ⊥
+stays-not_free : (hs : List Request) (done : List PartWait) (w : PartWait) (t : Tag) → tag_eq t w.tag ≡ true → goes_now hs done w t ≡ false → IsFree (holds_in hs) w.waiter.session t w.waiter.mode (queues_in done t) → ⊥
 stays-not_free hs done w t on stays free =
     let holders : list_any (λ hold. is_in_the_way_of hold w.waiter.session t (conflict w.waiter.mode)) hs ≡ false =
     none_in_the_way-from hs w.waiter.session t w.waiter.mode free.beside_holders in
     let ahead : list_any (λ (other : PartWait). tag_eq t other.tag && conflict w.waiter.mode other.waiter.mode) done ≡ false =
-    sym (any-kept (λ wait. conflict w.waiter.mode wait.mode) (λ (wait : PartWait). wait_of wait.waiter) (λ (wait : PartWait). tag_eq t wait.tag) done) ∙ free.behind_waiters in
+    sym (any-kept (λ wait. conflict w.waiter.mode wait.mode) (λ (wait : PartWait). shown_wait wait.waiter) (λ (wait : PartWait). tag_eq t wait.tag) done) ∙ free.behind_waiters in
     false≢true (sym stays ∙ rw (on, holders, ahead) refl)
 
 -- The holds with one wait more among those that became holds.
@@ -88,9 +88,9 @@ pub record Waking (hs0 : List Request) (ws0 : List PartWait) (t : Tag) (hs : Lis
   pub granted : List Wait
   pub told : woken ≡ map whose_and_mode granted
   pub holds : holds_in hs ≡ hold_all (holds_in hs0) t granted
-  pub others : (o : Tag) → tag_eq o t ≡ false → waits_in (done ++ todo) o ≡ waits_in ws0 o
-  pub queue : (more left : List Wait) → SplitsBehind (waits_in done t) (holds_in hs) t (waits_in todo t) more left
-      → SplitsBehind [] (holds_in hs0) t (waits_in ws0 t) (granted ++ more) (waits_in done t ++ left)
+  pub others : (o : Tag) → tag_eq o t ≡ false → queues_in (done ++ todo) o ≡ queues_in ws0 o
+  pub queue : (more left : List Wait) → SplitsBehind (queues_in done t) (holds_in hs) t (queues_in todo t) more left
+      → SplitsBehind [] (holds_in hs0) t (queues_in ws0 t) (granted ++ more) (queues_in done t ++ left)
   pub same_requests : (s : ℕ) (o : Tag) (m : Mode) → times_in hs (done ++ todo) s o m ≡ times_in hs0 ws0 s o m
   pub no_more_waits : (s : ℕ) (o : Tag) → count_by (λ wait. is_request_on (request_of wait) s o) (done ++ todo) ≤ count_by (λ wait. is_request_on (request_of wait) s o) ws0
   pub each_session : (s : ℕ) → count_by (λ one. s == one.0) woken + count_by (λ wait. is_request_on (request_of wait) s t) (done ++ todo) ≤ 1
@@ -119,36 +119,36 @@ Waking-stay hs0 ws0 t hs done w todo woken stays so_far =
       granted = so_far.granted;
       told = so_far.told;
       holds = so_far.holds;
-      others = λ o other. ap (λ ws. waits_in ws o) all ∙ so_far.others o other;
+      others = λ o other. ap (λ ws. queues_in ws o) all ∙ so_far.others o other;
       queue = passed;
       same_requests = λ s o m. ap (λ ws. times_in hs ws s o m) all ∙ so_far.same_requests s o m;
       no_more_waits = rw all so_far.no_more_waits;
       each_session = rw all so_far.each_session;
       below = so_far.below;
     } where
-      on_it : tag_eq t w.tag ≡ true → (more left : List Wait) → SplitsBehind (waits_in (done ++ w ∷ []) t) (holds_in hs) t (waits_in todo t) more left
-          → SplitsBehind [] (holds_in hs0) t (waits_in ws0 t) (so_far.granted ++ more) (waits_in (done ++ w ∷ []) t ++ left)
+      on_it : tag_eq t w.tag ≡ true → (more left : List Wait) → SplitsBehind (queues_in (done ++ w ∷ []) t) (holds_in hs) t (queues_in todo t) more left
+          → SplitsBehind [] (holds_in hs0) t (queues_in ws0 t) (so_far.granted ++ more) (queues_in (done ++ w ∷ []) t ++ left)
       on_it on more left split =
-          let front : waits_in (done ++ w ∷ []) t ≡ waits_in done t ++ wait_of w.waiter ∷ [] = waits_in-push_on done w t on in
-          let rest = subst (λ ahead. SplitsBehind ahead (holds_in hs) t (waits_in todo t) more left) front split in
-          let whole : SplitsBehind (waits_in done t) (holds_in hs) t (waits_in (w ∷ todo) t) more (wait_of w.waiter ∷ left) =
-          subst (λ queue. SplitsBehind (waits_in done t) (holds_in hs) t queue more (wait_of w.waiter ∷ left)) (sym (waits_in-on w todo t on))
+          let front : queues_in (done ++ w ∷ []) t ≡ queues_in done t ++ shown_wait w.waiter ∷ [] = waits_in-push_on done w t on in
+          let rest = subst (λ ahead. SplitsBehind ahead (holds_in hs) t (queues_in todo t) more left) front split in
+          let whole : SplitsBehind (queues_in done t) (holds_in hs) t (queues_in (w ∷ todo) t) more (shown_wait w.waiter ∷ left) =
+          subst (λ queue. SplitsBehind (queues_in done t) (holds_in hs) t queue more (shown_wait w.waiter ∷ left)) (sym (waits_in-on w todo t on))
           (inr (stays-not_free hs done w t on stays, (left, refl, rest))) in
-          subst (λ stay. SplitsBehind [] (holds_in hs0) t (waits_in ws0 t) (so_far.granted ++ more) stay)
-          (sym (ap (λ ws. ws ++ left) front ∙ append_assoc (waits_in done t) (wait_of w.waiter ∷ []) left))
-          (so_far.queue more (wait_of w.waiter ∷ left) whole)
+          subst (λ stay. SplitsBehind [] (holds_in hs0) t (queues_in ws0 t) (so_far.granted ++ more) stay)
+          (sym (ap (λ ws. ws ++ left) front ∙ append_assoc (queues_in done t) (shown_wait w.waiter ∷ []) left))
+          (so_far.queue more (shown_wait w.waiter ∷ left) whole)
 
-      off_it : tag_eq t w.tag ≡ false → (more left : List Wait) → SplitsBehind (waits_in (done ++ w ∷ []) t) (holds_in hs) t (waits_in todo t) more left
-          → SplitsBehind [] (holds_in hs0) t (waits_in ws0 t) (so_far.granted ++ more) (waits_in (done ++ w ∷ []) t ++ left)
+      off_it : tag_eq t w.tag ≡ false → (more left : List Wait) → SplitsBehind (queues_in (done ++ w ∷ []) t) (holds_in hs) t (queues_in todo t) more left
+          → SplitsBehind [] (holds_in hs0) t (queues_in ws0 t) (so_far.granted ++ more) (queues_in (done ++ w ∷ []) t ++ left)
       off_it off more left split =
-          let front : waits_in (done ++ w ∷ []) t ≡ waits_in done t = waits_in-without done w [] t off ∙ ap (λ ws. waits_in ws t) (append-nil done) in
-          let whole : SplitsBehind (waits_in done t) (holds_in hs) t (waits_in (w ∷ todo) t) more left =
-          subst (λ queue. SplitsBehind (waits_in done t) (holds_in hs) t queue more left) (sym (waits_in-off w todo t off))
-          (subst (λ ahead. SplitsBehind ahead (holds_in hs) t (waits_in todo t) more left) front split) in
-          subst (λ ahead. SplitsBehind [] (holds_in hs0) t (waits_in ws0 t) (so_far.granted ++ more) (ahead ++ left)) (sym front) (so_far.queue more left whole)
+          let front : queues_in (done ++ w ∷ []) t ≡ queues_in done t = waits_in-without done w [] t off ∙ ap (λ ws. queues_in ws t) (append-nil done) in
+          let whole : SplitsBehind (queues_in done t) (holds_in hs) t (queues_in (w ∷ todo) t) more left =
+          subst (λ queue. SplitsBehind (queues_in done t) (holds_in hs) t queue more left) (sym (waits_in-off w todo t off))
+          (subst (λ ahead. SplitsBehind ahead (holds_in hs) t (queues_in todo t) more left) front split) in
+          subst (λ ahead. SplitsBehind [] (holds_in hs0) t (queues_in ws0 t) (so_far.granted ++ more) (ahead ++ left)) (sym front) (so_far.queue more left whole)
 
-      passed : (more left : List Wait) → SplitsBehind (waits_in (done ++ w ∷ []) t) (holds_in hs) t (waits_in todo t) more left
-          → SplitsBehind [] (holds_in hs0) t (waits_in ws0 t) (so_far.granted ++ more) (waits_in (done ++ w ∷ []) t ++ left)
+      passed : (more left : List Wait) → SplitsBehind (queues_in (done ++ w ∷ []) t) (holds_in hs) t (queues_in todo t) more left
+          → SplitsBehind [] (holds_in hs0) t (queues_in ws0 t) (so_far.granted ++ more) (queues_in (done ++ w ∷ []) t ++ left)
       passed more left split = elim (cases_Bool (tag_eq t w.tag)) [ inl on ↦ on_it on more left split | inr off ↦ off_it off more left split ]
 
 -- A wait that goes becomes a hold.
@@ -157,9 +157,9 @@ pub Waking-go :
     goes_now hs done w t ≡ true → w.waiter.session < 64 → Waking hs0 ws0 t hs done (w ∷ todo) woken →
     Waking hs0 ws0 t (hs ++ request_of w ∷ []) done todo (woken ++ (w.waiter.session, w.waiter.mode) ∷ [])
 Waking-go hs0 ws0 t hs done w todo woken goes small so_far = record {
-  granted = so_far.granted ++ wait_of w.waiter ∷ [];
-  told = ap (λ ones. ones ++ (w.waiter.session, w.waiter.mode) ∷ []) so_far.told ∙ sym (map-append whose_and_mode so_far.granted (wait_of w.waiter ∷ []));
-  holds = held ∙ ap (λ holds. set_hold holds w.waiter.session t w.waiter.mode true) so_far.holds ∙ sym (hold_all-push so_far.granted (holds_in hs0) t (wait_of w.waiter));
+  granted = so_far.granted ++ shown_wait w.waiter ∷ [];
+  told = ap (λ ones. ones ++ (w.waiter.session, w.waiter.mode) ∷ []) so_far.told ∙ sym (map-append whose_and_mode so_far.granted (shown_wait w.waiter ∷ []));
+  holds = held ∙ ap (λ holds. set_hold holds w.waiter.session t w.waiter.mode true) so_far.holds ∙ sym (hold_all-push so_far.granted (holds_in hs0) t (shown_wait w.waiter));
   others = λ o other. sym (waits_in-without done w todo o (ap (tag_eq o) (sym on) ∙ other)) ∙ so_far.others o other;
   queue = queue;
   same_requests = λ s o m. times_in-hold hs (done ++ todo) (request_of w) s o m ∙ sym (times_in-wait hs done todo w s o m) ∙ so_far.same_requests s o m;
@@ -179,15 +179,15 @@ Waking-go hs0 ws0 t hs done w todo woken goes small so_far = record {
   held : holds_in (hs ++ request_of w ∷ []) ≡ set_hold (holds_in hs) w.waiter.session t w.waiter.mode true
   held = add_hold-push hs w.waiter.session w.tag w.waiter.mode ∙ ap (λ o. set_hold (holds_in hs) w.waiter.session o w.waiter.mode true) (sym on)
 
-  queue : (more left : List Wait) → SplitsBehind (waits_in done t) (holds_in (hs ++ request_of w ∷ [])) t (waits_in todo t) more left
-      → SplitsBehind [] (holds_in hs0) t (waits_in ws0 t) ((so_far.granted ++ wait_of w.waiter ∷ []) ++ more) (waits_in done t ++ left)
+  queue : (more left : List Wait) → SplitsBehind (queues_in done t) (holds_in (hs ++ request_of w ∷ [])) t (queues_in todo t) more left
+      → SplitsBehind [] (holds_in hs0) t (queues_in ws0 t) ((so_far.granted ++ shown_wait w.waiter ∷ []) ++ more) (queues_in done t ++ left)
   queue more left split =
-      let rest = subst (λ holds. SplitsBehind (waits_in done t) holds t (waits_in todo t) more left) held split in
-      let whole : SplitsBehind (waits_in done t) (holds_in hs) t (waits_in (w ∷ todo) t) (wait_of w.waiter ∷ more) left =
-      subst (λ queue. SplitsBehind (waits_in done t) (holds_in hs) t queue (wait_of w.waiter ∷ more) left) (sym (waits_in-on w todo t on_it))
+      let rest = subst (λ holds. SplitsBehind (queues_in done t) holds t (queues_in todo t) more left) held split in
+      let whole : SplitsBehind (queues_in done t) (holds_in hs) t (queues_in (w ∷ todo) t) (shown_wait w.waiter ∷ more) left =
+      subst (λ queue. SplitsBehind (queues_in done t) (holds_in hs) t queue (shown_wait w.waiter ∷ more) left) (sym (waits_in-on w todo t on_it))
       (inl (goes_now-free hs done w t goes, (more, refl, rest))) in
-      subst (λ granted. SplitsBehind [] (holds_in hs0) t (waits_in ws0 t) granted (waits_in done t ++ left))
-      (sym (append_assoc so_far.granted (wait_of w.waiter ∷ []) more)) (so_far.queue (wait_of w.waiter ∷ more) left whole)
+      subst (λ granted. SplitsBehind [] (holds_in hs0) t (queues_in ws0 t) granted (queues_in done t ++ left))
+      (sym (append_assoc so_far.granted (shown_wait w.waiter ∷ []) more)) (so_far.queue (shown_wait w.waiter ∷ more) left whole)
 
   is_its : (s : ℕ) → is_request_on (request_of w) s t ≡ (s == w.waiter.session)
   is_its s = rw on_it and_true where
@@ -225,20 +225,20 @@ pub Waking-end :
 Waking-end hs0 ws0 t hs ws woken all = (
   all.granted,
   record {
-    left = waits_in ws t;
+    left = queues_in ws t;
     split =
-        subst (λ granted. SplitsBehind [] (holds_in hs0) t (waits_in ws0 t) granted (waits_in ws t)) (append-nil all.granted)
-        (subst (λ left. SplitsBehind [] (holds_in hs0) t (waits_in ws0 t) (all.granted ++ []) left) (append-nil (waits_in ws t)) (all.queue [] [] (refl, refl)));
+        subst (λ granted. SplitsBehind [] (holds_in hs0) t (queues_in ws0 t) granted (queues_in ws t)) (append-nil all.granted)
+        (subst (λ left. SplitsBehind [] (holds_in hs0) t (queues_in ws0 t) (all.granted ++ []) left) (append-nil (queues_in ws t)) (all.queue [] [] (refl, refl)));
     holds = all.holds;
     waits = λ i o. at o i;
   },
   all.told,
 ) where
-  at : (o : Tag) → waits_in ws o ≡ put tag_eq (waits_in ws0) t (waits_in ws t) o
+  at : (o : Tag) → queues_in ws o ≡ put tag_eq (queues_in ws0) t (queues_in ws t) o
   at o =
       elim (cases_Bool (tag_eq o t)) [
-        | inl same ↦ ap (waits_in ws) (tag_eq-same o t same) ∙ sym (put_here tag_eq (waits_in ws0) t (waits_in ws t) o same)
-        | inr other ↦ ap (λ xs. waits_in xs o) (sym (append-nil ws)) ∙ all.others o other ∙ sym (put_else tag_eq (waits_in ws0) t (waits_in ws t) o other)
+        | inl same ↦ ap (queues_in ws) (tag_eq-same o t same) ∙ sym (put_here tag_eq (queues_in ws0) t (queues_in ws t) o same)
+        | inr other ↦ ap (λ xs. queues_in xs o) (sym (append-nil ws)) ∙ all.others o other ∙ sym (put_else tag_eq (queues_in ws0) t (queues_in ws t) o other)
       ]
 
 -- Numbers of which each is there once at most are distinct.

@@ -12,7 +12,7 @@ use Rattle.modes_core.proofs.Laws.{conflict_comm}
 use Rattle.lock_table.specs.Content.{Wait}
 use Rattle.lock_table.proofs.FindLemmas.{or-false, or-comm, same_any, either_of, find-at, find-none, all-before, is_some-find, is_some-option_map}
 use Rattle.lock_table.specs.declared.waits.Waiter.{Waiter}
-use Rattle.lock_table.specs.Waiter.{wait_of}
+use Rattle.lock_table.specs.Waiter.{shown_wait}
 use Rattle.lock_table.specs.Clash.{first_waiter}
 use Rattle.lock_table.specs.Queue.{conflicts_with_some, some_awaits_conflict}
 use Rattle.lock_table.specs.Walk.{StandFor, NoneAgainst, WalksUntil}
@@ -55,17 +55,17 @@ pub NoneAgainst-one : (mode : Mode) (set : Mode → Bool) (waits : List Wait) �
 NoneAgainst-one mode set waits is none = same_any (λ w. conflict mode w.mode) (λ w. conflicts_with_some w.mode set) waits (λ w. sym (conflicts-one mode w.mode set is)) ∙ none
 
 -- The waiter that a walk met is the first in conflict with the mode that it was against.
-pub first-met : (mode : Mode) (set : Mode → Bool) (queue : List Wait) (walk : Walk) → set ≡ (λ o. mode_eq o mode || false) → WalksUntil set queue walk → option_map wait_of walk.met ≡ first_waiter queue mode
+pub first-met : (mode : Mode) (set : Mode → Bool) (queue : List Wait) (walk : Walk) → set ≡ (λ o. mode_eq o mode || false) → WalksUntil set queue walk → option_map shown_wait walk.met ≡ first_waiter queue mode
 first-met mode set queue walk is walks = at walk.met walks.met walks.against where
-  at : (met : Option Waiter) → option_map wait_of met ≡ slice_get queue walk.place → IfSome met (λ waiter. conflicts_with_some waiter.mode set ≡ true)
-      → option_map wait_of met ≡ first_waiter queue mode
+  at : (met : Option Waiter) → option_map shown_wait met ≡ slice_get queue walk.place → IfSome met (λ waiter. conflicts_with_some waiter.mode set ≡ true)
+      → option_map shown_wait met ≡ first_waiter queue mode
   at None met against =
       let all : take walk.place queue ≡ queue = take_all walk.place queue (all-before queue walk.place (sym met)) in
       sym (find-none (λ w. conflict mode w.mode) queue (NoneAgainst-one mode set queue is (subst (λ (waits : List Wait). NoneAgainst set waits) all walks.passed)))
   at (Some waiter) met against =
-      sym (find-at (λ w. conflict mode w.mode) queue walk.place (wait_of waiter) (NoneAgainst-one mode set (take walk.place queue) is walks.passed)
+      sym (find-at (λ w. conflict mode w.mode) queue walk.place (shown_wait waiter) (NoneAgainst-one mode set (take walk.place queue) is walks.passed)
       (sym met) (sym (conflicts-one mode waiter.mode set is) ∙ against))
 
 -- Somebody awaits a mode in conflict exactly where there is a first one who does.
-pub awaited-first : (mode : Mode) (queue : List Wait) (found : Option Waiter) → option_map wait_of found ≡ first_waiter queue mode → is_some found ≡ some_awaits_conflict queue mode
-awaited-first mode queue found is = sym (is_some-option_map wait_of found) ∙ ap is_some is ∙ is_some-find (λ w. conflict mode w.mode) queue
+pub awaited-first : (mode : Mode) (queue : List Wait) (found : Option Waiter) → option_map shown_wait found ≡ first_waiter queue mode → is_some found ≡ some_awaits_conflict queue mode
+awaited-first mode queue found is = sym (is_some-option_map shown_wait found) ∙ ap is_some is ∙ is_some-find (λ w. conflict mode w.mode) queue

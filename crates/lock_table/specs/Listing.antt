@@ -7,11 +7,16 @@ use Rattle.modes_core.specs.declared.tags.Tag.{Tag}
 use Rattle.modes_core.specs.Mode.{number_of, mode_eq}
 use Rattle.modes_core.specs.Tag.{numbers_of, tag_eq}
 use Rattle.lock_table.specs.declared.rows.TableRow.{TableRow}
+use Rattle.lock_table.specs.declared.rows.SlotRow.{SlotRow}
 use Rattle.lock_table.specs.Content.{Content}
 
 -- what the order of a listing goes by: the tag, the session, granted before awaited, the mode
 abbrev pub row_key : TableRow → Tag × ℕ × Bool × ℕ
 row_key row = (row.tag, row.session, not row.granted, number_of row.mode)
+
+-- what the order of the rows of fast-path slots goes by: the session, the slot, the mode
+abbrev pub slot_row_key : SlotRow → ℕ × ℕ × ℕ
+slot_row_key row = (row.session, row.slot, number_of row.mode)
 
 -- whether two rows are the same one
 abbrev pub row_eq : TableRow → TableRow → Bool

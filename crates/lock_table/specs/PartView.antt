@@ -5,7 +5,7 @@ use Rattle.lock_table.specs.declared.rows.TableRow.{TableRow}
 use Rattle.lock_table.specs.declared.part_waits.PartWait.{PartWait}
 use Rattle.lock_table.specs.Request.{is_request_of}
 use Rattle.lock_table.specs.Content.{Holds, Content}
-use Rattle.lock_table.specs.PartWaits.{waits_in}
+use Rattle.lock_table.specs.PartWaits.{queues_in}
 
 -- what contracts see of a `PlainPart`: its list of holds, its list of waits, and the request that is begun
 pub record PartView : Type 0 where
@@ -19,7 +19,7 @@ holds_in holds session tag mode = list_any (λ hold. is_request_of hold session 
 
 -- the content that these holds and these waits stand for
 abbrev pub content_in : List Request → List PartWait → Content
-content_in holds waits = record { holds = holds_in holds; waits = waits_in waits }
+content_in holds waits = record { holds = holds_in holds; waits = queues_in waits }
 
 -- the content that the part stands for
 abbrev pub content_of : PartView → Content

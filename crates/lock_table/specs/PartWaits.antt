@@ -9,7 +9,7 @@ use Rattle.lock_table.specs.declared.rows.TableRow.{TableRow}
 use Rattle.lock_table.specs.declared.part_waits.PartWait.{PartWait}
 use Rattle.lock_table.specs.Request.{is_request_of, is_request_on, is_in_the_way_of}
 use Rattle.lock_table.specs.Content.{Wait}
-use Rattle.lock_table.specs.Waiter.{wait_of}
+use Rattle.lock_table.specs.Waiter.{shown_wait}
 
 -- One list has the waits of all objects. The queue of an object is the sub-list of its own.
 
@@ -22,8 +22,8 @@ abbrev pub awaited_row_of : PartWait → TableRow
 awaited_row_of wait = record { session = wait.waiter.session; tag = wait.tag; mode = wait.waiter.mode; granted = false }
 
 -- the queue of an object
-abbrev pub waits_in : List PartWait → Tag → List Wait
-waits_in waits tag = map (λ wait. wait_of wait.waiter) (filter (λ wait. tag_eq tag wait.tag) waits)
+abbrev pub queues_in : List PartWait → Tag → List Wait
+queues_in waits tag = map (λ wait. shown_wait wait.waiter) (filter (λ wait. tag_eq tag wait.tag) waits)
 
 -- how often a request is among these holds and these waits
 abbrev pub times_in : List Request → List PartWait → ℕ → Tag → Mode → ℕ

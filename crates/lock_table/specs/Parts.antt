@@ -2,7 +2,7 @@ use Rattle.std.specs.Prelude.{◌≡◌, ◌≢◌, ℕ, true, List, [], None, s
 use Rattle.modes_core.specs.declared.modes.Mode.{Mode}
 use Rattle.modes_core.specs.declared.tags.Tag.{Tag}
 use Rattle.modes_core.specs.Tag.{partition_of}
-use Rattle.lock_table.specs.Content.{Content}
+use Rattle.lock_table.specs.Content.{Content, empty_content}
 use Rattle.lock_table.specs.PartView.{PartView, content_of}
 
 -- The partitions of a lock table, as a list of parts, the partition with number 0 first.
@@ -23,3 +23,8 @@ contents_in parts p = content_of (part_at parts p)
 pub record AreAtHome (parts : List PartView) : Type 0 where
   pub holds : (p session : ℕ) (tag : Tag) (mode : Mode) → (contents_in parts p).holds session tag mode ≡ true → partition_of tag ≡ p
   pub waits : (p : ℕ) (tag : Tag) → partition_of tag ≢ p → (contents_in parts p).waits tag ≡ []
+
+-- The parts have nothing in them, and no request is begun.
+pub record AreEmpty (parts : List PartView) : Type 0 where
+  pub content : (p : ℕ) → contents_in parts p ≡ empty_content
+  pub begun : (p : ℕ) → (part_at parts p).begun ≡ None

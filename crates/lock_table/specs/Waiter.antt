@@ -5,8 +5,8 @@ use Rattle.lock_table.specs.declared.waits.Waiter.{Waiter}
 use Rattle.lock_table.specs.Content.{Wait}
 
 -- the wait that a waiter shows
-abbrev pub wait_of : Waiter → Wait
-wait_of waiter = record { session = waiter.session; mode = waiter.mode; held = set_has waiter.held }
+abbrev pub shown_wait : Waiter → Wait
+shown_wait waiter = record { session = waiter.session; mode = waiter.mode; held = set_has waiter.held }
 
 -- what a wakeup tells of a wait that it granted: whose it was, and for which mode
 abbrev pub whose_and_mode : Wait → ℕ × Mode

@@ -4,7 +4,7 @@ use Rattle.modes_core.specs.declared.modes.Mode.{Mode}
 use Rattle.modes_core.specs.ModeSet.{set_has}
 use Rattle.lock_table.specs.Content.{Wait}
 use Rattle.lock_table.specs.Queue.{conflicts_with_some, some_awaits_conflict}
-use Rattle.lock_table.specs.Waiter.{wait_of}
+use Rattle.lock_table.specs.Waiter.{shown_wait}
 use Rattle.lock_table.specs.declared.answering.walk.Walk.{Walk}
 
 -- None of these waits is for a mode that conflicts with one of the set.
@@ -22,5 +22,5 @@ pub record WalksUntil (set : Mode → Bool) (queue : List Wait) (walk : Walk) : 
   pub within : walk.place ≤ length queue
   pub passed : NoneAgainst set (take walk.place queue)
   pub ahead : StandFor (set_has walk.ahead) (take walk.place queue)
-  pub met : option_map wait_of walk.met ≡ slice_get queue walk.place
+  pub met : option_map shown_wait walk.met ≡ slice_get queue walk.place
   pub against : IfSome walk.met (λ waiter. conflicts_with_some waiter.mode set ≡ true)

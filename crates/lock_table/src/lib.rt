@@ -7,6 +7,7 @@ pub mod moves;
 pub mod no_memory;
 pub mod part_table;
 pub mod part_waits;
+pub mod parts;
 pub mod plain_part;
 pub mod queue_laws;
 pub mod request;
@@ -17,7 +18,8 @@ pub use answering::{Answer, Clash, answer_by_place, clash_with, first_against, w
 pub use moves::Move;
 pub use no_memory::NoMemory;
 pub use part_table::PartTable;
+pub use parts::empty_parts;
 pub use plain_part::PlainPart;
 pub use request::Request;
-pub use rows::TableRow;
+pub use rows::{SlotRow, TableRow};
 pub use waits::{Waiter, Woken};

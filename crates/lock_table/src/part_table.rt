@@ -4,7 +4,7 @@ ghost use Rattle.lock_table.specs.Content.{Wait, Content, add_hold, remove_hold}
 ghost use Rattle.lock_table.specs.Clash.{HolderInTheWay};
 ghost use Rattle.lock_table.specs.Listing.{AppendsListing};
 ghost use Rattle.lock_table.specs.Queue.{Wakes, awaits_mode, waits_there, wait_in, add_wait, remove_wait};
-ghost use Rattle.lock_table.specs.Waiter.{wait_of, whose_and_mode};
+ghost use Rattle.lock_table.specs.Waiter.{shown_wait, whose_and_mode};
 ghost use Rattle.lock_table.specs.declared.request.Request.{Request};
 
 use crate::no_memory::NoMemory;
@@ -62,7 +62,7 @@ pub trait PartTable {
 
     /// The wait at this place of the object's queue, counted from the front.
     fn waiter(&self, tag: Tag, place: usize) -> Option<Waiter>
-        ensures wait { option_map wait_of result ≡ slice_get ((content self.now).waits tag) place }
+        ensures wait { option_map shown_wait result ≡ slice_get ((content self.now).waits tag) place }
         ensures countable { length ((content self.now).waits tag) ≤ usize.MAX };
 
     /// Makes the begun request a wait before the one at this place, with the modes that the session holds

@@ -7,10 +7,10 @@ ghost use Rattle.modes_core.specs.declared.tags.Tag.{Tag};
 ghost use Rattle.modes_core.specs.ModeSet.{set_has};
 ghost use Rattle.lock_table.specs.Content.{Wait};
 ghost use Rattle.lock_table.specs.Queue.{Wakes};
-ghost use Rattle.lock_table.specs.Waiter.{wait_of, whose_and_mode};
+ghost use Rattle.lock_table.specs.Waiter.{shown_wait, whose_and_mode};
 ghost use Rattle.lock_table.specs.Request.{is_request_on, is_in_the_way_of};
 ghost use Rattle.lock_table.specs.PartView.{content_in};
-ghost use Rattle.lock_table.specs.PartWaits.{request_of, awaited_row_of, waits_in, times_in, OneWaitEach, awaits_one_of, goes_now};
+ghost use Rattle.lock_table.specs.PartWaits.{request_of, awaited_row_of, queues_in, times_in, OneWaitEach, awaits_one_of, goes_now};
 
 use crate::request::Request;
 use crate::rows::TableRow;
@@ -38,7 +38,7 @@ impl PartWait {
 
     /// What a wakeup tells of it. There are at most 64 sessions.
     pub fn whose(&self) -> (SessionId, Mode)
-        ensures value { result ≡ whose_and_mode (wait_of self.now.waiter) }
+        ensures value { result ≡ whose_and_mode (shown_wait self.now.waiter) }
         ensures within { self.now.waiter.session < 64 }
     {
         // A session's number is known to be below 64 where it was asked for.
@@ -82,7 +82,7 @@ impl PartWait {
 
 /// The wait at this place of the object's queue, counted from the front.
 pub fn waiter_at(waits: &[PartWait], tag: Tag, place: usize) -> Option<Waiter>
-    ensures { option_map wait_of result ≡ slice_get (waits_in waits.now tag) place }
+    ensures { option_map shown_wait result ≡ slice_get (queues_in waits.now tag) place }
 {
     let mut before = place;
     for wait in waits {
@@ -107,7 +107,7 @@ pub fn awaited_mode(waits: &[PartWait], session: SessionId, tag: Tag) -> Option<
 }
 
 /// Takes the session's wait on the object out.
-pub fn take_out(waits: &mut Vec<PartWait>, session: SessionId, tag: Tag)
+pub fn take_wait_out(waits: &mut Vec<PartWait>, session: SessionId, tag: Tag)
     ensures items { waits.new.items ≡ filter (λ wait. not (is_request_on (request_of wait) session tag)) waits.old.items }
     ensures len { vec_len waits.new ≤ vec_len waits.old }
     ensures capacity { vec_capacity waits.new ≡ vec_capacity waits.old }
@@ -117,9 +117,9 @@ pub fn take_out(waits: &mut Vec<PartWait>, session: SessionId, tag: Tag)
 
 /// The index in the list before which a new wait stands at this place of the object's queue.
 pub fn index_of_place(waits: &[PartWait], tag: Tag, place: usize) -> usize
-    requires { place ≤ length (waits_in waits.now tag) }
+    requires { place ≤ length (queues_in waits.now tag) }
     ensures within { result ≤ length waits.now }
-    ensures before { length (waits_in (take result waits.now) tag) ≡ place }
+    ensures before { length (queues_in (take result waits.now) tag) ≡ place }
 {
     let mut before = place;
     for (index, wait) in waits.iter().enumerate() {
@@ -165,7 +165,7 @@ fn goes(holds: &[Request], ahead: &[PartWait], wait: PartWait, tag: Tag) -> bool
 
 /// Makes holds of the object's waits that are free to go, from the front, each beside those granted before
 /// it and behind those left before it. The two lists together keep their length.
-pub fn wake_in(holds: &mut Vec<Request>, waits: &mut Vec<PartWait>, tag: Tag) -> Woken
+pub fn wake_queue(holds: &mut Vec<Request>, waits: &mut Vec<PartWait>, tag: Tag) -> Woken
     requires one_wait_each { OneWaitEach waits.old.items }
     requires room { vec_len holds.old + vec_len waits.old ≤ vec_capacity holds.old }
     ensures woken { (granted : List Wait) × Wakes (content_in holds.old.items waits.old.items) tag granted (content_in holds.new.items waits.new.items) × (result.items ≡ map whose_and_mode granted) }

@@ -4,12 +4,14 @@ ghost use Rattle.lock_table.specs.Clash.{lower_holder_of};
 
 use crate::no_memory::NoMemory;
 use crate::part_table::PartTable;
-use crate::part_waits::{PartWait, awaited_mode, index_of_place, take_out, waiter_at, wake_in};
+use crate::part_waits::{
+    PartWait, awaited_mode, index_of_place, take_wait_out, waiter_at, wake_queue,
+};
 use crate::request::Request;
 use crate::rows::{TableRow, sort_rows};
 use crate::waits::{Waiter, Woken};
 use modes_core::{Mode, ModeSet, SessionId, Tag, conflicts};
-use std::alloc::Global;
+use std::alloc::{AllocError, Global};
 use std::marker::Model;
 
 #[cfg(test)]
@@ -56,22 +58,6 @@ impl PlainPart {
         }
     }
 
-    /// The same part once more, in memory of its own.
-    pub fn copy(&self) -> Result<Self, NoMemory>
-        ensures same { IfOk result (λ part. part ≡ self.now) }
-    {
-        let alloc = *self.holds.allocator();
-        let mut holds = Vec::from_slice(alloc, self.holds.as_slice())?;
-        let mut waits = Vec::from_slice(alloc, self.waits.as_slice())?;
-        holds.reserve(self.waits.len() + 1)?;
-        waits.reserve(1)?;
-        Ok(PlainPart {
-            holds,
-            waits,
-            begun: self.begun,
-        })
-    }
-
     /// Whether the session holds anything.
     pub fn has_hold_of(&self, session: SessionId) -> bool
         ensures { result ≡ list_any (λ hold. hold.session == session) self.now.holds }
@@ -99,6 +85,24 @@ impl PlainPart {
         ensures { result.now ≡ self.now.waits }
     {
         self.waits.as_slice()
+    }
+}
+
+/// The same part once more, in memory of its own, with room for what the part has room for.
+impl Clone for PlainPart {
+    ghost is_clone = { λ part its. its ≡ part };
+
+    fn clone(&self) -> Result<Self, AllocError> {
+        let alloc = *self.holds.allocator();
+        let mut holds = Vec::from_slice(alloc, self.holds.as_slice())?;
+        let mut waits = Vec::from_slice(alloc, self.waits.as_slice())?;
+        holds.reserve(self.waits.len() + 1)?;
+        waits.reserve(1)?;
+        Ok(PlainPart {
+            holds,
+            waits,
+            begun: self.begun,
+        })
     }
 }
 
@@ -173,12 +177,12 @@ impl PartTable for PlainPart {
 
     fn leave(&mut self, session: SessionId, tag: Tag) -> Option<Mode> {
         let mode = awaited_mode(self.waits.as_slice(), session, tag);
-        take_out(&mut self.waits, session, tag);
+        take_wait_out(&mut self.waits, session, tag);
         mode
     }
 
     fn wake(&mut self, tag: Tag) -> Woken {
-        wake_in(&mut self.holds, &mut self.waits, tag)
+        wake_queue(&mut self.holds, &mut self.waits, tag)
     }
 
     fn rows(&self, rows: &mut Vec<TableRow>) -> Result<(), NoMemory> {

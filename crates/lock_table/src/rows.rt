@@ -1,5 +1,5 @@
 ghost use Rattle.std.specs.Prelude.{◌≡◌, IsSorted, IsPermutation};
-ghost use Rattle.lock_table.specs.Listing.{row_key, row_cmp};
+ghost use Rattle.lock_table.specs.Listing.{row_key, row_cmp, slot_row_key};
 
 use modes_core::{Mode, SessionId, Tag};
 
@@ -18,6 +18,25 @@ impl TableRow {
         ensures { result ≡ row_key self.now }
     {
         (self.tag, self.session, !self.granted, self.mode.number())
+    }
+}
+
+/// One row of a listing that stands before the rows of the table: a session holds a relation in a fast-path
+/// slot (`pg_locks` with `fastpath`), numbered from 0.
+#[derive(Clone, Copy, Debug, PartialEq, Eq)]
+pub struct SlotRow {
+    pub session: SessionId,
+    pub slot: u8,
+    pub tag: Tag,
+    pub mode: Mode,
+}
+
+impl SlotRow {
+    /// The listing's order: by session, then by slot, then by mode.
+    pub fn order(&self) -> (SessionId, u8, u8)
+        ensures { result ≡ slot_row_key self.now }
+    {
+        (self.session, self.slot, self.mode.number())
     }
 }
 

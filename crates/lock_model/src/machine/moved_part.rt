@@ -37,7 +37,7 @@ pub fn after_release(
     if !part.held(session, tag).has(mode) {
         return Ok(None);
     }
-    let mut after = part.copy()?;
+    let mut after = part.clone()?;
     let woken = release(&mut after, session, tag, mode);
     Ok(Some(MovedPart { part: after, woken }))
 }
@@ -52,7 +52,7 @@ pub fn after_leaving(
     ensures moved { IfOk result (λ found. IfSome found (IsMoved part.now session (Leave tag))) }
     ensures no_wait { IfOk result (λ found. found ≡ None → waits_there ((content_of part.now).waits tag) session ≡ false) }
 {
-    let mut after = part.copy()?;
+    let mut after = part.clone()?;
     let removed = remove_waiter(&mut after, session, tag);
     if removed.was_granted {
         return Ok(None);

@@ -6,7 +6,7 @@ use super::hands::InHand;
 use super::own_waits::Awaited;
 use super::plain::{Hold, Plain};
 use super::plain_lists::{gather_holds, gather_waits};
-use lock_table::{NoMemory, PartTable, PlainPart};
+use lock_table::{NoMemory, PlainPart, empty_parts};
 use lock_world::{Event, Step};
 use modes_core::SessionId;
 use std::alloc::Global;
@@ -132,16 +132,4 @@ impl Machine {
             words: self.words,
         })
     }
-}
-
-/// Sixteen partitions with nothing in them.
-fn empty_parts(alloc: Global) -> Result<Vec<PlainPart>, NoMemory>
-    ensures sixteen { IfOk result (λ parts. length parts.items ≡ 16) }
-    ensures empty { IfOk result (λ parts. (p : ℕ) → (contents_in parts.items p ≡ empty_content) × ((part_at parts.items p).begun ≡ None)) }
-{
-    let mut parts = Vec::with_capacity(alloc, 16)?;
-    for _ in 0..16u8 {
-        parts.push_reserved(PlainPart::new(alloc));
-    }
-    Ok(parts)
 }

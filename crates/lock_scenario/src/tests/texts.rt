@@ -1,5 +1,5 @@
 //! Every text that a script can print or end with, by variant.
-use crate::desk::{Asked, Cancelled, Listing, SlotRow, Started};
+use crate::desk::{Asked, Cancelled, Listing, Started};
 use crate::faults::{Defect, Fault};
 use crate::names::{Name, Names};
 use crate::output::Output;

@@ -2,7 +2,7 @@ ghost use Rattle.std.specs.Prelude.{◌≡◌, option_map};
 ghost use Rattle.modes_core.specs.ModeSet.{set_has};
 ghost use Rattle.lock_table.specs.Clash.{first_waiter};
 ghost use Rattle.lock_table.specs.Queue.{conflicts_with_some};
-ghost use Rattle.lock_table.specs.Waiter.{wait_of};
+ghost use Rattle.lock_table.specs.Waiter.{shown_wait};
 ghost use Rattle.lock_table.specs.Walk.{WalksUntil};
 
 use crate::part_table::PartTable;
@@ -54,7 +54,7 @@ pub fn walk_until<P: PartTable>(part: &P, tag: Tag, modes: ModeSet) -> Walk
 
 /// The first waiter of the object's queue that awaits a mode in conflict with this one.
 pub fn first_against<P: PartTable>(part: &P, tag: Tag, mode: Mode) -> Option<Waiter>
-    ensures { option_map wait_of result ≡ first_waiter ((P.content part.now).waits tag) mode }
+    ensures { option_map shown_wait result ≡ first_waiter ((P.content part.now).waits tag) mode }
 {
     walk_until(part, tag, ModeSet::empty().with(mode)).met
 }

@@ -309,7 +309,7 @@ fn a_copy_is_a_part_of_its_own(rt: HostRuntime) -> Result<(), Fail> {
     let mut part = PlainPart::new(rt.alloc());
     holds(&rt, &mut part, a, object(), Mode::Share)?;
     waits(&rt, &mut part, b, object(), Mode::Exclusive, 0)?;
-    let mut copy = part.copy()?;
+    let mut copy = part.clone()?;
     assert_eq!(rt; copy.holds(), part.holds());
     assert_eq!(rt; copy.waits(), part.waits());
     releases(&rt, &mut copy, a, object(), Mode::Share);

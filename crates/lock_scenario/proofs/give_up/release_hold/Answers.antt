@@ -5,7 +5,7 @@ use Rattle.lock_table.specs.declared.moves.Move.TheVariants.{Release}
 use Rattle.lock_table.specs.Content.{Content}
 use Rattle.lock_table.specs.Moves.{Moves}
 use Rattle.lock_table.specs.PartView.{PartView, content_of}
-use Rattle.lock_scenario.specs.Parts.{no_part}
+use Rattle.lock_table.specs.Parts.{no_part}
 use Rattle.lock_scenario.specs.Sessions.{marked_all}
 use Rattle.lock_scenario.proofs.DeskLemmas.{part_here}
 use Rattle.lock_scenario.proofs.give_up.release_hold.Goals as goal

@@ -2,7 +2,7 @@ use Rattle.std.proofs.Common.{◌≡◌, ◌∙◌, sym, ap, length, take, List,
 use Rattle.std.proofs.lemmas.List.{take_all}
 use Rattle.std.proofs.lemmas.Option.{slice_get_past}
 use Rattle.lock_table.specs.declared.part_waits.PartWait.{PartWait}
-use Rattle.lock_table.specs.PartWaits.{waits_in}
+use Rattle.lock_table.specs.PartWaits.{queues_in}
 use Rattle.lock_table.proofs.WaitLists.{waiter-there}
 use Rattle.lock_table.proofs.part_waits.waiter_at.Goals as goal
 
@@ -13,6 +13,6 @@ returns-then-before-eq0 c =
 
 pub returns : goal.returns
 returns c =
-    let all : length (waits_in (take c.loop-wait.wait-index c.args.waits.now) c.args.tag) ≡ length (waits_in c.args.waits.now c.args.tag) =
-    ap (λ (xs : List PartWait). length (waits_in xs c.args.tag)) (take_all c.loop-wait.wait-index c.args.waits.now c.loop-wait-test.false) in
-    sym (slice_get_past (waits_in c.args.waits.now c.args.tag) c.args.place (omega (arith, c.loop-wait.invariant)))
+    let all : length (queues_in (take c.loop-wait.wait-index c.args.waits.now) c.args.tag) ≡ length (queues_in c.args.waits.now c.args.tag) =
+    ap (λ (xs : List PartWait). length (queues_in xs c.args.tag)) (take_all c.loop-wait.wait-index c.args.waits.now c.loop-wait-test.false) in
+    sym (slice_get_past (queues_in c.args.waits.now c.args.tag) c.args.place (omega (arith, c.loop-wait.invariant)))

@@ -8,4 +8,4 @@ returns-then-not-has-clause-no_hold c = λ _.
 
 pub release-woken-requires : goal.release-woken-requires
 release-woken-requires c =
-    ap (λ part. (content_of part).holds c.args.session c.args.tag c.args.mode) c.in_ok-after.ensures.same ∙ sym (ap (λ has. has c.args.mode) c.held.ensures) ∙ sym c.has.ensures ∙ c.if-not-has.false
+    ap (λ part. (content_of part).holds c.args.session c.args.tag c.args.mode) c.in_ok-after.ensures.cases ∙ sym (ap (λ has. has c.args.mode) c.held.ensures) ∙ sym c.has.ensures ∙ c.if-not-has.false

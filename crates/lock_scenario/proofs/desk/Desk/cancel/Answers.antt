@@ -9,7 +9,7 @@ use Rattle.lock_scenario.specs.Sessions.{entries_in, waits_in}
 use Rattle.lock_scenario.specs.Desk.{DeskView, wait_of, entries_of, shared_of}
 use Rattle.lock_scenario.proofs.DeskLemmas.{Finds_session, find_session, session_found, order_there, IsDesk-session, waits-set, none_told, entries-changed}
 use Rattle.modes_core.specs.Tag.{partition_of}
-use Rattle.lock_scenario.specs.Parts.{content_in}
+use Rattle.lock_table.specs.Parts.{contents_in}
 use Rattle.lock_scenario.specs.Waiting.{Leaves}
 use Rattle.lock_scenario.proofs.CancelLemmas.{stands_there, IsDesk-left, Leaves-after}
 use Rattle.lock_scenario.proofs.JoinLemmas.{Agrees-poll}
@@ -74,8 +74,8 @@ returns-clause-removed c is =
     let after : DeskSession = record { database = c.index_mut-own.result.now.database; locals = c.index_mut-own.result.now.locals; wait = None } in
     let at : wait_of c.args.self.now c.args.session ≡ Some c.unwrap-wait.result =
     sym (ap (λ (desk : DeskView). wait_of desk c.args.session) c.self.view_is) ∙ ap (waits_in c.self.inside.sessions.items) (sym found.number) ∙ sym (ap (λ (one : DeskSession). one.wait) (session_found _ _ _ _ _ _ _ found)) ∙ own in
-    subst (λ (w : Option OwnWait). IfSome w (λ wait. Leaves (shared_of c.args.self.now) c.args.session wait.tag (record { contents = content_in c.leave_queue.new.parts.items; waits = waits_in c.leave_queue.new.sessions.items }))) (sym at)
-    (subst (λ (desk : DeskView). Leaves (shared_of desk) c.args.session c.unwrap-wait.result.tag (record { contents = content_in c.leave_queue.new.parts.items; waits = waits_in c.leave_queue.new.sessions.items })) c.self.view_is
+    subst (λ (w : Option OwnWait). IfSome w (λ wait. Leaves (shared_of c.args.self.now) c.args.session wait.tag (record { contents = contents_in c.leave_queue.new.parts.items; waits = waits_in c.leave_queue.new.sessions.items }))) (sym at)
+    (subst (λ (desk : DeskView). Leaves (shared_of desk) c.args.session c.unwrap-wait.result.tag (record { contents = contents_in c.leave_queue.new.parts.items; waits = waits_in c.leave_queue.new.sessions.items })) c.self.view_is
     (Leaves-after _ _ _ _ _ _ c.index_mut-own.result.now after c.unwrap-wait.result.tag c.leave_queue.new.parts.items c.leave_queue.new.sessions.items found refl c.leave_queue.ensures.changed))
 
 pub returns-clause-same_entries : goal.returns-clause-same_entries

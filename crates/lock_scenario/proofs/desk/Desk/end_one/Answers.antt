@@ -5,7 +5,7 @@ use Rattle.local_locks.specs.declared.records.Entry.{Entry}
 use Rattle.local_locks.specs.Owned.{has_entry, ended_by, with_next_ended, are_of_same}
 use Rattle.lock_table.specs.Put.{set_at}
 use Rattle.lock_scenario.specs.declared.sessions.DeskSession.{DeskSession}
-use Rattle.lock_scenario.specs.Parts.{content_in}
+use Rattle.lock_table.specs.Parts.{contents_in}
 use Rattle.lock_scenario.specs.Sessions.{waits_in}
 use Rattle.lock_scenario.specs.Waiting.{Releases}
 use Rattle.lock_scenario.specs.Desk.{DeskView, entries_of, wait_of, shared_of}
@@ -64,7 +64,7 @@ returns-clause-entries c =
 
 pub returns-clause-released : goal.returns-clause-released
 returns-clause-released c =
-    subst (λ (desk : DeskView). Releases (shared_of desk) c.args.session c.in_ok-tag.tag c.in_ok-tag.mode (record { contents = content_in c.release_hold.new.parts.items; waits = waits_in c.release_hold.new.sessions.items })) c.self.view_is
+    subst (λ (desk : DeskView). Releases (shared_of desk) c.args.session c.in_ok-tag.tag c.in_ok-tag.mode (record { contents = contents_in c.release_hold.new.parts.items; waits = waits_in c.release_hold.new.sessions.items })) c.self.view_is
     (Releases-after _ _ _ _ _ _ c.index_mut.result.now (after c) c.in_ok-tag.tag c.in_ok-tag.mode c.release_hold.new.parts.items c.release_hold.new.sessions.items (found c) refl c.release_hold.ensures.changed)
 
 pub returns-clause-not_waiting : goal.returns-clause-not_waiting

@@ -6,7 +6,7 @@ use Rattle.lock_table.specs.Content.{Content}
 use Rattle.lock_table.specs.PartView.{content_of}
 use Rattle.lock_table.specs.Put.{set_at}
 use Rattle.lock_table.proofs.PutLemmas.{set_at-here}
-use Rattle.lock_scenario.specs.Parts.{content_in}
+use Rattle.lock_table.specs.Parts.{contents_in}
 use Rattle.lock_scenario.specs.Sessions.{waits_in}
 use Rattle.lock_scenario.specs.Started.{IsStarted, wait_started}
 use Rattle.lock_scenario.specs.Desk.{DeskView, wait_of, contents_of, IsReadyFor}
@@ -126,11 +126,11 @@ returns-clause-waits c =
 
 pub returns-clause-decided : goal.returns-clause-decided
 returns-clause-decided c =
-    let now : content_in (slice_set c.self.inside.parts.items c.from.result c.request.new.part) (partition_of c.args.tag) ≡ content_of c.request.new.part =
+    let now : contents_in (slice_set c.self.inside.parts.items c.from.result c.request.new.part) (partition_of c.args.tag) ≡ content_of c.request.new.part =
     ap (λ (all : ℕ → Content). all (partition_of c.args.tag)) (contents_after _ _ _ _ _ _ _ _ _ _ (found c) (λ _. content_of c.request.new.part) c.request.new.part refl) ∙
-    set_at-here (content_in c.self.inside.parts.items) (partition_of c.args.tag) (content_of c.request.new.part) (partition_of c.args.tag) refl in
+    set_at-here (contents_in c.self.inside.parts.items) (partition_of c.args.tag) (content_of c.request.new.part) (partition_of c.args.tag) refl in
     let before : content_of c.index_mut-part.result.now ≡ contents_of c.args.self.now (partition_of c.args.tag) =
-    ap content_of (in_parts _ _ _ _ _ _ _ _ _ _ (found c)) ∙ ap (content_in c.self.inside.parts.items) (found c).partition ∙ ap (λ (desk : DeskView). contents_of desk (partition_of c.args.tag)) c.self.view_is in
+    ap content_of (in_parts _ _ _ _ _ _ _ _ _ _ (found c)) ∙ ap (contents_in c.self.inside.parts.items) (found c).partition ∙ ap (λ (desk : DeskView). contents_of desk (partition_of c.args.tag)) c.self.view_is in
     subst (λ (content : Content). IsStarted (contents_of c.args.self.now (partition_of c.args.tag)) c.args.session c.args.tag c.args.mode content c.in_ok-started.started) (sym now)
     (subst (λ (content : Content). IsStarted content c.args.session c.args.tag c.args.mode (content_of c.request.new.part) c.in_ok-started.started) before c.in_ok-started.ensures.decided)
 

@@ -4,7 +4,7 @@ use Rattle.local_locks.specs.declared.records.Entry.{Entry}
 use Rattle.local_locks.specs.Owned.{total_of, with_one_less}
 use Rattle.lock_table.specs.Put.{set_at}
 use Rattle.lock_scenario.specs.declared.sessions.DeskSession.{DeskSession}
-use Rattle.lock_scenario.specs.Parts.{content_in}
+use Rattle.lock_table.specs.Parts.{contents_in}
 use Rattle.lock_scenario.specs.Sessions.{waits_in}
 use Rattle.lock_scenario.specs.Waiting.{Releases}
 use Rattle.lock_scenario.specs.Desk.{DeskView, entries_of, wait_of, shared_of}
@@ -70,7 +70,7 @@ returns-in-Released-clause-entries c =
 
 pub returns-in-Released-clause-released : goal.returns-in-Released-clause-released
 returns-in-Released-clause-released c is =
-    subst (λ (desk : DeskView). Releases (shared_of desk) c.args.session c.args.tag c.args.mode (record { contents = content_in c.release_hold.new.parts.items; waits = waits_in c.release_hold.new.sessions.items })) c.self.view_is
+    subst (λ (desk : DeskView). Releases (shared_of desk) c.args.session c.args.tag c.args.mode (record { contents = contents_in c.release_hold.new.parts.items; waits = waits_in c.release_hold.new.sessions.items })) c.self.view_is
     (Releases-after _ _ _ _ _ _ c.index_mut.result.now (after c) c.args.tag c.args.mode c.release_hold.new.parts.items c.release_hold.new.sessions.items (found c) refl c.release_hold.ensures.changed)
 
 pub returns-in-Released-clause-alone : goal.returns-in-Released-clause-alone

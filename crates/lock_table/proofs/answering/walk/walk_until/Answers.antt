@@ -1,7 +1,7 @@
 use Rattle.std.proofs.Common.{◌<◌, length, take, refl, sym, ◌∙◌, arith}
 use Rattle.std.proofs.lemmas.Option.{slice_get_within}
 use Rattle.modes_core.specs.ModeSet.{set_has}
-use Rattle.lock_table.specs.Waiter.{wait_of}
+use Rattle.lock_table.specs.Waiter.{shown_wait}
 use Rattle.lock_table.specs.Queue.{conflicts_with_some}
 use Rattle.lock_table.proofs.FindLemmas.{take-at, none-at}
 use Rattle.lock_table.proofs.WalkLemmas.{StandFor-none, StandFor-more}
@@ -17,20 +17,20 @@ loop-waiter-init g c = record {
 pub overflow_add-place : goal.overflow_add-place
 overflow_add-place g c =
     let queue = (g.P.PartTable.content c.args.part.now).waits c.args.tag in
-    let within : c.loop-waiter.place < length queue = slice_get_within queue c.loop-waiter.place (wait_of c.in-Some.waiter) (sym c.in-Some.ensures.wait) in
+    let within : c.loop-waiter.place < length queue = slice_get_within queue c.loop-waiter.place (shown_wait c.in-Some.waiter) (sym c.in-Some.ensures.wait) in
     omega (arith, c.in-Some.ensures.countable)
 
 pub loop-waiter-smaller : goal.loop-waiter-smaller
 loop-waiter-smaller g c =
     let queue = (g.P.PartTable.content c.args.part.now).waits c.args.tag in
-    let within : c.loop-waiter.place < length queue = slice_get_within queue c.loop-waiter.place (wait_of c.in-Some.waiter) (sym c.in-Some.ensures.wait) in
+    let within : c.loop-waiter.place < length queue = slice_get_within queue c.loop-waiter.place (shown_wait c.in-Some.waiter) (sym c.in-Some.ensures.wait) in
     omega arith
 
 pub loop-waiter-preserved : goal.loop-waiter-preserved
 loop-waiter-preserved g c =
     let queue = (g.P.PartTable.content c.args.part.now).waits c.args.tag in
     let place = c.loop-waiter.place in
-    let wait = wait_of c.in-Some.waiter in
+    let wait = shown_wait c.in-Some.waiter in
     let within : place < length queue = slice_get_within queue place wait (sym c.in-Some.ensures.wait) in
     let more = take-at queue place wait (sym c.in-Some.ensures.wait) in
     record {

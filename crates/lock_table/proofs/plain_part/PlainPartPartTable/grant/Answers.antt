@@ -1,6 +1,6 @@
 use Rattle.std.proofs.Common.{◌≡◌, ◌<◌, ◌+◌, ap, ◌∙◌, vec_len, vec_capacity, arith}
 use Rattle.lock_table.specs.declared.request.Request.{Request}
-use Rattle.lock_table.specs.PartWaits.{times_in, waits_in}
+use Rattle.lock_table.specs.PartWaits.{times_in, queues_in}
 use Rattle.lock_table.proofs.HoldLists.{add_hold-push}
 use Rattle.lock_table.proofs.WaitLists.{one_more_once, times_in-hold}
 use Rattle.lock_table.proofs.Options.{ForSome-none}
@@ -26,4 +26,4 @@ invariant_of-self c =
 pub returns-clause-content : goal.returns-clause-content
 returns-clause-content c =
     rw (c.push_reserved.ensures.items, ← c.self.view_is)
-    (λ i. record { holds = add_hold-push c.self.inside.holds.items c.args.session c.args.tag c.args.mode i; waits = waits_in c.self.inside.waits.items })
+    (λ i. record { holds = add_hold-push c.self.inside.holds.items c.args.session c.args.tag c.args.mode i; waits = queues_in c.self.inside.waits.items })

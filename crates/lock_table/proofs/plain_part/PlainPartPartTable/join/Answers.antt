@@ -5,7 +5,7 @@ use Rattle.lock_table.specs.Put.{put}
 use Rattle.modes_core.specs.declared.modes.Mode.{Mode}
 use Rattle.modes_core.specs.ModeSet.{set_has}
 use Rattle.modes_core.specs.Tag.{tag_eq}
-use Rattle.lock_table.specs.PartWaits.{waits_in, times_in}
+use Rattle.lock_table.specs.PartWaits.{queues_in, times_in}
 use Rattle.lock_table.proofs.WaitLists.{times_in-join, OneWaitEach-insert, waits-inserted}
 use Rattle.lock_table.proofs.Options.{ForSome-none}
 use Rattle.lock_table.proofs.plain_part.PlainPartPartTable.join.Goals as goal
@@ -32,10 +32,10 @@ pub returns-clause-content : goal.returns-clause-content
 returns-clause-content c =
     let wait : PartWait = record { tag = c.args.tag; waiter = record { session = c.args.session; mode = c.args.mode; held = c.held-held.result } } in
     let ws = c.self.inside.waits.items in
-    let place : length (waits_in (take c.index_of_place-index.result ws) c.args.tag) ≡ c.args.place =
-    ap (λ (xs : List PartWait). length (waits_in (take c.index_of_place-index.result xs) c.args.tag)) (sym c.as_slice.ensures.value) ∙ c.index_of_place-index.ensures.before in
+    let place : length (queues_in (take c.index_of_place-index.result ws) c.args.tag) ≡ c.args.place =
+    ap (λ (xs : List PartWait). length (queues_in (take c.index_of_place-index.result xs) c.args.tag)) (sym c.as_slice.ensures.value) ∙ c.index_of_place-index.ensures.before in
     let held : set_has c.held-held.result ≡ holds_in c.self.inside.holds.items c.args.session c.args.tag =
     c.held-held.ensures ∙ ap (λ (part : PartView). holds_in part.holds c.args.session c.args.tag) (sym c.self.view_is) in
     let waits = waits-inserted ws c.index_of_place-index.result wait c.args.place place ∙
-    ap (λ (its : Mode → Bool). put tag_eq (waits_in ws) c.args.tag (take c.args.place (waits_in ws c.args.tag) ++ record { session = c.args.session; mode = c.args.mode; held = its } ∷ drop c.args.place (waits_in ws c.args.tag))) held in
+    ap (λ (its : Mode → Bool). put tag_eq (queues_in ws) c.args.tag (take c.args.place (queues_in ws c.args.tag) ++ record { session = c.args.session; mode = c.args.mode; held = its } ∷ drop c.args.place (queues_in ws c.args.tag))) held in
     rw (c.in-Ok.ensures.items, ← c.self.view_is) (λ i. record { holds = holds_in c.self.inside.holds.items; waits = waits i })

@@ -12,14 +12,14 @@ invariant_of-self c =
     let stays : PartWait → Bool = λ wait. not (is_request_on (request_of wait) c.args.session c.args.tag) in
     let fewer = times_in-fewer_waits stays c.self.inside.holds.items c.self.inside.waits.items in
     record {
-      each_once = rw c.take_out.ensures.items (λ s o m. omega (arith, fewer s o m, c.self.invariant.each_once s o m));
+      each_once = rw c.take_wait_out.ensures.items (λ s o m. omega (arith, fewer s o m, c.self.invariant.each_once s o m));
       one_wait_each =
-          rw c.take_out.ensures.items
+          rw c.take_wait_out.ensures.items
           (λ s o. omega (arith, count_by-filter (λ wait. is_request_on (request_of wait) s o) stays c.self.inside.waits.items, c.self.invariant.one_wait_each s o));
-      begun_is_new = λ x is. rw c.take_out.ensures.items (omega (arith, fewer x.session x.tag x.mode, c.self.invariant.begun_is_new x is));
-      room = omega (arith, c.self.invariant.room, c.take_out.ensures.len);
-      begun_has_room = λ x is. omega (arith, c.self.invariant.begun_has_room x is, c.take_out.ensures.len);
-      begun_may_wait = λ x is. omega (arith, c.self.invariant.begun_may_wait x is, c.take_out.ensures.len, c.take_out.ensures.capacity);
+      begun_is_new = λ x is. rw c.take_wait_out.ensures.items (omega (arith, fewer x.session x.tag x.mode, c.self.invariant.begun_is_new x is));
+      room = omega (arith, c.self.invariant.room, c.take_wait_out.ensures.len);
+      begun_has_room = λ x is. omega (arith, c.self.invariant.begun_has_room x is, c.take_wait_out.ensures.len);
+      begun_may_wait = λ x is. omega (arith, c.self.invariant.begun_may_wait x is, c.take_wait_out.ensures.len, c.take_wait_out.ensures.capacity);
     }
 
 pub returns-clause-mode : goal.returns-clause-mode
@@ -29,5 +29,5 @@ returns-clause-mode c =
 
 pub returns-clause-content : goal.returns-clause-content
 returns-clause-content c =
-    rw (c.take_out.ensures.items, ← c.self.view_is)
+    rw (c.take_wait_out.ensures.items, ← c.self.view_is)
     (λ i. record { holds = holds_in c.self.inside.holds.items; waits = waits-left c.self.inside.waits.items c.args.session c.args.tag i })

@@ -2,7 +2,7 @@ use Rattle.std.proofs.Common.{◌≡◌, Bool, not, arith, rules}
 use Rattle.std.specs.Prelude.{filter}
 use Rattle.lock_table.specs.Request.{is_request_of}
 use Rattle.lock_table.specs.declared.request.Request.{Request}
-use Rattle.lock_table.specs.PartWaits.{waits_in}
+use Rattle.lock_table.specs.PartWaits.{queues_in}
 use Rattle.lock_table.proofs.HoldLists.{remove_hold-filter}
 use Rattle.lock_table.proofs.WaitLists.{times_in-fewer_holds}
 use Rattle.std.proofs.lemmas.Fn.{filter_same}
@@ -29,4 +29,4 @@ returns-clause-content c =
     let kept : c.retain.new.self.items ≡ filter stays c.self.inside.holds.items =
     filter_same _ stays _ (λ x b q called. (search rules, search rules)) _ _ c.retain.ensures.filtered in
     rw (kept, ← c.self.view_is)
-    (λ i. record { holds = remove_hold-filter c.self.inside.holds.items c.args.session c.args.tag c.args.mode i; waits = waits_in c.self.inside.waits.items })
+    (λ i. record { holds = remove_hold-filter c.self.inside.holds.items c.args.session c.args.tag c.args.mode i; waits = queues_in c.self.inside.waits.items })

@@ -1,6 +1,6 @@
 use Rattle.std.proofs.Common.{◌≡◌, vec_len, vec_capacity}
-use Rattle.lock_scenario.specs.Parts.{AreEmpty}
-use Rattle.lock_scenario.proofs.desk.empty_parts.Given as goal
+use Rattle.lock_table.specs.Parts.{AreEmpty}
+use Rattle.lock_table.proofs.parts.empty_parts.Given as goal
 
 abbrev pub invariant-loop-part : goal.invariant-loop-part
 invariant-loop-part l = record { empty : AreEmpty l.parts.items; number : vec_len l.parts ≡ l._part; room : vec_capacity l.parts ≡ 16 }

@@ -3,7 +3,7 @@ use Rattle.std.proofs.lemmas.Fn.{filter_same}
 use Rattle.lock_table.specs.Request.{is_request_on}
 use Rattle.lock_table.specs.declared.part_waits.PartWait.{PartWait}
 use Rattle.lock_table.specs.PartWaits.{request_of}
-use Rattle.lock_table.proofs.part_waits.take_out.Goals as goal
+use Rattle.lock_table.proofs.part_waits.take_wait_out.Goals as goal
 
 pub returns-clause-items : goal.returns-clause-items
 returns-clause-items c =

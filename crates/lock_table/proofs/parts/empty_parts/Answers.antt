@@ -1,6 +1,6 @@
 use Rattle.std.proofs.Common.{arith}
-use Rattle.lock_scenario.proofs.DeskLemmas.{AreEmpty-push}
-use Rattle.lock_scenario.proofs.desk.empty_parts.Goals as goal
+use Rattle.lock_table.proofs.PartLemmas.{AreEmpty-push}
+use Rattle.lock_table.proofs.parts.empty_parts.Goals as goal
 
 pub loop-part-preserved : goal.loop-part-preserved
 loop-part-preserved c =

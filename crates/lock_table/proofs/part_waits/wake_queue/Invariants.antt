@@ -1,6 +1,6 @@
 use Rattle.std.proofs.Common.{◌≡◌, ◌+◌, ◌-◌, ◌≤◌, take, drop, length, vec_len, vec_capacity}
 use Rattle.lock_table.proofs.Waking.{Waking}
-use Rattle.lock_table.proofs.part_waits.wake_in.Given as goal
+use Rattle.lock_table.proofs.part_waits.wake_queue.Given as goal
 
 abbrev pub invariant-loop-place : goal.invariant-loop-place
 invariant-loop-place l =

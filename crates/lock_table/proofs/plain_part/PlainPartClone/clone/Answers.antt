@@ -1,5 +1,5 @@
 use Rattle.std.proofs.Common.{◌≡◌, ◌+◌, ◌<◌, ◌∙◌, vec_len, vec_capacity, arith}
-use Rattle.lock_table.proofs.plain_part.PlainPart.copy.Goals as goal
+use Rattle.lock_table.proofs.plain_part.PlainPartClone.clone.Goals as goal
 
 pub invariant_of-result : goal.invariant_of-result
 invariant_of-result c =
@@ -21,4 +21,4 @@ pub returns : goal.returns
 returns c =
     let holds : c.reserve.new.self.items ≡ c.self.inside.holds.items = c.reserve.ensures.items ∙ c.in_ok-holds.ensures.items ∙ c.as_slice.ensures.value in
     let waits : c.reserve-2.new.self.items ≡ c.self.inside.waits.items = c.reserve-2.ensures.items ∙ c.in_ok-waits.ensures.items ∙ c.as_slice-2.ensures.value in
-    record { same = (λ i. record { holds = holds i; waits = waits i; begun = c.self.inside.begun }) ∙ c.self.view_is }
+    record { cases = (λ i. record { holds = holds i; waits = waits i; begun = c.self.inside.begun }) ∙ c.self.view_is }

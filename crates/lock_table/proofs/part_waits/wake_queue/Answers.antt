@@ -1,7 +1,7 @@
 use Rattle.std.proofs.Common.{◌<◌, ◌≤◌, length, ap, sym, ◌∙◌, arith, rules}
 use Rattle.std.proofs.lemmas.List.{length_push}
 use Rattle.lock_table.proofs.Waking.{Waking-start, Waking-stay_at, Waking-go_at, Waking-end_at, Waking-end, woken_fit, same_requests-end, one_wait_each-end}
-use Rattle.lock_table.proofs.part_waits.wake_in.Goals as goal
+use Rattle.lock_table.proofs.part_waits.wake_queue.Goals as goal
 
 pub loop-place-init : goal.loop-place-init
 loop-place-init c =
