@@ -1,15 +1,19 @@
 //! The words of the command line.
 ghost use Rattle.std.specs.Prelude.{◌≤◌, IfOk};
 
-use crate::desk::Config;
+use crate::desk::{Config, MOST_LOCAL, MOST_SESSIONS};
 use clap::{Arg, ArgMatches, Command, Error, value_parser};
 use std::alloc::{AllocError, Global};
 
-/// How many sessions a script may open, where the command line doesn't say.
-const SESSIONS: &str = "8";
+/// How many sessions a script may open, where the command line doesn't say, and as `--help` shows it.
+const SESSIONS: u32 = 8;
 
-/// How many local entries a session may have, where the command line doesn't say.
-const MAX_LOCAL: &str = "1024";
+const SESSIONS_SHOWN: &str = "8";
+
+/// How many local entries a session may have, where the command line doesn't say, and as `--help` shows it.
+const MAX_LOCAL: u32 = 1024;
+
+const MAX_LOCAL_SHOWN: &str = "1024";
 
 /// The version that `--version` shows.
 const VERSION: &str = "0.1.0";
@@ -24,14 +28,14 @@ fn command<'a>(alloc: Global) -> Result<Command<'a>, AllocError> {
         .long("sessions")
         .value_name("N")
         .help("How many sessions the script may open")
-        .value_parser(value_parser!(u32).range(1..=64))
-        .default_value(SESSIONS);
+        .value_parser(value_parser!(u32).range(1..=i64::from(MOST_SESSIONS)))
+        .default_value(SESSIONS_SHOWN);
     let max_local = Arg::new(alloc, "max-local")
         .long("max-local")
         .value_name("M")
         .help("How many different locks a session may have")
-        .value_parser(value_parser!(u32).range(1..=65536))
-        .default_value(MAX_LOCAL);
+        .value_parser(value_parser!(u32).range(1..=i64::from(MOST_LOCAL)))
+        .default_value(MAX_LOCAL_SHOWN);
     let run = Command::new(alloc, "run")
         .about("Run the script on standard input")
         .arg(sessions)?
@@ -52,13 +56,13 @@ pub fn parse_arguments<'a>(alloc: Global, words: &'a [String]) -> Result<Config,
     let matches = command(alloc)?.try_get_matches_from(words)?;
     let (sessions, max_local) = match matches.subcommand() {
         Some((_, run)) => (
-            run.get_one::<u32>("sessions").unwrap_or(8),
-            run.get_one::<u32>("max-local").unwrap_or(1024),
+            run.get_one::<u32>("sessions").unwrap_or(SESSIONS),
+            run.get_one::<u32>("max-local").unwrap_or(MAX_LOCAL),
         ),
-        None => (8, 1024),
+        None => (SESSIONS, MAX_LOCAL),
     };
     Ok(Config {
-        sessions: sessions.clamp(1, 64),
-        max_local: max_local.clamp(1, 65_536),
+        sessions: sessions.clamp(1, MOST_SESSIONS),
+        max_local: max_local.clamp(1, MOST_LOCAL),
     })
 }

@@ -18,10 +18,17 @@ pub use crate::sessions::{DeskSession, OwnWait};
 use local_locks::{Acquired, End, LocalTable, Unlocked};
 use lock_table::rows::sort_rows;
 use lock_table::{PartTable, PlainPart, SlotRow, TableRow, empty_parts};
+use modes_core::sessions::SESSIONS;
 use modes_core::{Mode, ModeSet, Owner, Refusal, SessionId, Tag};
 use std::alloc::Global;
 use std::marker::Model;
 use wait_queue::{Kind, awaited_in_conflict};
+
+/// How many sessions a desk may open at most.
+pub const MOST_SESSIONS: u32 = SESSIONS as u32;
+
+/// How many local entries a session may have at most.
+pub const MOST_LOCAL: u32 = 65_536;
 
 /// How many sessions a desk may open, and how many local entries each may have.
 #[derive(Clone, Copy, Debug, PartialEq, Eq)]
@@ -397,9 +404,9 @@ impl Desk {
         ensures no_other { is_in_range config ≡ true → IsOkUnless result Refusal.NoMemory }
     {
         if config.sessions < 1
-            || config.sessions > 64
+            || config.sessions > MOST_SESSIONS
             || config.max_local < 1
-            || config.max_local > 65_536
+            || config.max_local > MOST_LOCAL
         {
             return Err(Refusal::BadConfig);
         }

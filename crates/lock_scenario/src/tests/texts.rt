@@ -4,7 +4,7 @@ use crate::faults::{Defect, Fault};
 use crate::names::{Name, Names};
 use crate::output::Output;
 use local_locks::{Acquired, End, Unlocked};
-use lock_table::TableRow;
+use lock_table::{SlotRow, TableRow};
 use modes_core::{How, Mode, Refusal, SessionId, Tag};
 use std::process::Abort;
 use std::test::Fail;
