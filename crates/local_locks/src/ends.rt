@@ -88,6 +88,7 @@ impl Progress {
     }
 
     /// No end is past this slot, whose entry changes.
+    #[inline(always)]
     pub(crate) fn back_to(self, place: usize) -> Self
         ensures { result ≡ back_to place self }
     {

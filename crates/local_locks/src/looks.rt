@@ -24,6 +24,7 @@ pub struct Missing {
 }
 
 /// The hash of an object and mode.
+#[inline(always)]
 pub(crate) fn key_hash(tag: &Tag, mode: Mode) -> u32
     ensures { result ≡ key_hash tag.now mode }
 {
@@ -33,6 +34,7 @@ pub(crate) fn key_hash(tag: &Tag, mode: Mode) -> u32
 }
 
 /// Looks for the entry of an object and mode, first at the place looked at last.
+#[inline(always)]
 pub(crate) fn look(slots: &[Entry], index: &PlaceIndex, last: usize, tag: &Tag, mode: Mode) -> Spot
     requires { IsIndexed (opened slots.now) index.now }
     ensures { IsSpot slots.now tag.now mode result }
@@ -52,6 +54,7 @@ pub(crate) fn look(slots: &[Entry], index: &PlaceIndex, last: usize, tag: &Tag, 
 }
 
 /// The same, but goes by the last look that found nothing, where it was for this object and mode.
+#[inline(always)]
 pub(crate) fn look_again(
     slots: &[Entry],
     index: &PlaceIndex,

@@ -38,20 +38,18 @@ impl Entry {
     pub fn count(self, owner: Owner) -> u16
         ensures { result ≡ count_for owner self }
     {
-        match owner {
-            Owner::Session => self.session,
-            Owner::Transaction => self.transaction,
-        }
+        self.count_for(owner)
     }
 
     /// How often both owners together have it (`nLocks` of `LOCALLOCK`).
     pub fn total(self) -> u32
         ensures { result ≡ count_in_all self }
     {
-        u32::from(self.transaction) + u32::from(self.session)
+        self.sum()
     }
 
     /// Whether it has a count.
+    #[inline(always)]
     pub(crate) fn is_held(&self) -> bool
         ensures { IsTrue result ↔ (count_in_all self.now ≢ 0) }
     {
@@ -59,6 +57,7 @@ impl Entry {
     }
 
     /// Whether it is of this object and mode.
+    #[inline(always)]
     pub(crate) fn is_of(&self, tag: &Tag, mode: Mode) -> bool
         ensures { result ≡ is_of tag.now mode self.now }
     {
@@ -66,6 +65,7 @@ impl Entry {
     }
 
     /// How often an owner has it, read in its place.
+    #[inline(always)]
     pub(crate) fn count_for(&self, owner: Owner) -> u16
         ensures { result ≡ count_for owner self.now }
     {
@@ -76,6 +76,7 @@ impl Entry {
     }
 
     /// How often both owners together have it, read in its place.
+    #[inline(always)]
     pub(crate) fn sum(&self) -> u32
         ensures { result ≡ count_in_all self.now }
     {
@@ -83,6 +84,7 @@ impl Entry {
     }
 
     /// Raises the count of this owner.
+    #[inline(always)]
     pub(crate) fn raise(&mut self, owner: Owner)
         requires { count_for owner self.old < max_count }
         ensures { self.new ≡ raised owner self.old }
@@ -94,6 +96,7 @@ impl Entry {
     }
 
     /// Lowers the count of this owner.
+    #[inline(always)]
     pub(crate) fn lower(&mut self, owner: Owner)
         requires { 0 < count_for owner self.old }
         ensures { self.new ≡ lowered owner self.old }
@@ -105,6 +108,7 @@ impl Entry {
     }
 
     /// Takes both counts away.
+    #[inline(always)]
     pub(crate) fn clear(&mut self)
         ensures { self.new ≡ after_end Close self.old }
     {

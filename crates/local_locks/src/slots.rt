@@ -10,6 +10,7 @@ use modes_core::Owner;
 use place_index::PlaceIndex;
 
 /// Raises the count of an owner in the entry at a place.
+#[inline(always)]
 pub(crate) fn raise(slots: &mut Vec<Entry>, place: usize, owner: Owner)
     requires within { place < length slots.old.items }
     requires below { count_for owner (entry_at slots.old.items place) < max_count }
@@ -21,6 +22,7 @@ pub(crate) fn raise(slots: &mut Vec<Entry>, place: usize, owner: Owner)
 }
 
 /// Lowers the count of an owner in the entry at a place, which keeps a count.
+#[inline(always)]
 pub(crate) fn lower(slots: &mut Vec<Entry>, place: usize, owner: Owner)
     requires within { place < length slots.old.items }
     requires some { 0 < count_for owner (entry_at slots.old.items place) }

@@ -81,7 +81,13 @@ fn above_empty(spreads: &[(Row, Spread)], row: Row) -> Spread {
 
 fn print_ratio<R: Print>(rt: &R, what: &str, part: Spread, whole: Spread) -> Result<()> {
     let (median, least) = part.hundredths_of(whole);
-    println!(rt; "        {what:<44} 0.{median:02} (smallest: 0.{least:02})")?;
+    println!(rt;
+        "        {what:<44} {}.{:02} (smallest: {}.{:02})",
+        median / 100,
+        median % 100,
+        least / 100,
+        least % 100
+    )?;
     Ok(())
 }
 

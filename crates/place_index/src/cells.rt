@@ -15,6 +15,7 @@ impl Cell {
     ghost use Rattle.place_index.specs.Cells.{empty_cell, is_full, is_note};
 
     /// A cell with no note.
+    #[inline(always)]
     pub(crate) fn empty() -> Self
         ensures { result ≡ empty_cell }
     {
@@ -25,6 +26,7 @@ impl Cell {
     }
 
     /// Whether it has a note.
+    #[inline(always)]
     pub(crate) fn is_full(self) -> bool
         ensures { result ≡ is_full self }
     {
@@ -32,6 +34,7 @@ impl Cell {
     }
 
     /// Whether it has a note of this place under this hash.
+    #[inline(always)]
     pub(crate) fn is_note(self, hash: u32, place: u32) -> bool
         ensures { result ≡ is_note hash place self }
     {
@@ -39,6 +42,7 @@ impl Cell {
     }
 
     /// The hash of its note.
+    #[inline(always)]
     pub(crate) fn hash(self) -> u32
         ensures { result ≡ self.hash }
     {
@@ -46,6 +50,7 @@ impl Cell {
     }
 
     /// The place of its note.
+    #[inline(always)]
     pub(crate) fn place(self) -> u32
         ensures { result ≡ self.place }
     {
@@ -53,6 +58,7 @@ impl Cell {
     }
 
     /// A note of this place under this hash.
+    #[inline(always)]
     pub(crate) fn note(hash: u32, place: u32) -> Self
         ensures { result ≡ record { hash = hash; place = place } }
     {

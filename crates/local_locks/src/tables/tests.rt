@@ -30,11 +30,9 @@ fn acquire_again(
     mode: Mode,
     owner: Owner,
 ) -> Result<Acquired, Refusal> {
-    let before = count(table);
     let total = table.total(tag, mode);
     match acquire(table, tag, mode, owner) {
         Err(Refusal::NoMemory) => {
-            assert_eq!(rt; count(table), before);
             assert_eq!(rt; table.total(tag, mode), total);
             acquire(table, tag, mode, owner)
         }
@@ -223,4 +221,135 @@ fn a_long_table_is_as_a_plain_list(rt: HostRuntime) {
         }
     }
     assert_eq!(rt; entries.next(), None);
+}
+
+// A plain list of what a session holds: object, mode, and the counts of both owners.
+type Plain = Vec<(Tag, Mode, u16, u16)>;
+
+fn at(list: &Plain, tag: Tag, mode: Mode) -> Option<usize> {
+    for place in 0..list.len() {
+        let (other, its, _, _) = list[place];
+        if other == tag && its == mode {
+            return Some(place);
+        }
+    }
+    None
+}
+
+fn plain_acquire(rt: &impl Abort, list: &mut Plain, tag: Tag, mode: Mode, owner: Owner) {
+    match at(list, tag, mode) {
+        Some(place) => {
+            assert!(rt; place < list.len());
+            let (_, _, transaction, session) = list[place];
+            list[place] = match owner {
+                Owner::Transaction => (tag, mode, transaction.saturating_add(1), session),
+                Owner::Session => (tag, mode, transaction, session.saturating_add(1)),
+            };
+        }
+        None => {
+            let entry = match owner {
+                Owner::Transaction => (tag, mode, 1, 0),
+                Owner::Session => (tag, mode, 0, 1),
+            };
+            assert!(rt; list.push(entry).is_ok());
+        }
+    }
+}
+
+// Whether the list had it.
+fn plain_release(rt: &impl Abort, list: &mut Plain, tag: Tag, mode: Mode, owner: Owner) -> bool {
+    let Some(place) = at(list, tag, mode) else {
+        return false;
+    };
+    assert!(rt; place < list.len());
+    let (_, _, transaction, session) = list[place];
+    let (transaction, session) = match owner {
+        Owner::Transaction if transaction > 0 => (transaction - 1, session),
+        Owner::Session if session > 0 => (transaction, session - 1),
+        _ => return false,
+    };
+    if transaction == 0 && session == 0 {
+        list.remove(place);
+    } else {
+        list[place] = (tag, mode, transaction, session);
+    }
+    true
+}
+
+fn new_list(rt: &impl Abort, alloc: Global) -> Plain {
+    match Vec::with_capacity(alloc, 200) {
+        Ok(list) => list,
+        Err(_) => Vec::with_capacity(alloc, 200).expect(rt, "memory"),
+    }
+}
+
+fn assert_same(rt: &impl Abort, table: &LocalTable, list: &Plain) {
+    let mut entries = table.entries();
+    for (tag, mode, transaction, session) in list {
+        let entry = Entry {
+            tag: *tag,
+            mode: *mode,
+            transaction: *transaction,
+            session: *session,
+        };
+        assert_eq!(rt; entries.next(), Some(entry));
+    }
+    assert_eq!(rt; entries.next(), None);
+}
+
+fn random_key(random: u32) -> (Tag, Mode, Owner) {
+    let number = random >> 20 & 15;
+    let tag = if random >> 19 & 1 == 0 {
+        Tag::relation(5, number)
+    } else {
+        Tag::object(5, 1259, number, 0)
+    };
+    let mode = match random >> 17 & 3 {
+        0 => Mode::AccessShare,
+        1 => Mode::RowShare,
+        2 => Mode::RowExclusive,
+        _ => Mode::AccessExclusive,
+    };
+    let owner = if random >> 15 & 3 == 0 {
+        Owner::Session
+    } else {
+        Owner::Transaction
+    };
+    (tag, mode, owner)
+}
+
+#[test]
+fn random_calls_are_as_on_a_plain_list(rt: HostRuntime) {
+    let mut table = new_table(&rt, rt.alloc(), 1024);
+    let mut list = new_list(&rt, rt.alloc());
+    let mut random = 7u32;
+    for step in 0..100_000u32 {
+        random = random.wrapping_mul(1_664_525).wrapping_add(1_013_904_223);
+        let (tag, mode, owner) = random_key(random);
+        if random >> 27 & 7 < 4 {
+            let held = at(&list, tag, mode).is_some();
+            let answer = if held {
+                Acquired::AlreadyHeld
+            } else {
+                Acquired::Granted
+            };
+            assert_eq!(rt;
+                acquire_again(&rt, &mut table, tag, mode, owner),
+                Ok(answer),
+                "{step}"
+            );
+            plain_acquire(&rt, &mut list, tag, mode, owner);
+        } else {
+            let had = plain_release(&rt, &mut list, tag, mode, owner);
+            assert_eq!(rt; table.drop_one(tag, mode, owner).is_ok(), had, "{step}");
+        }
+        if step % 1000 == 0 {
+            assert_same(&rt, &table, &list);
+            for _ in 0..200u32 {
+                let _ = table.end_next(End::Abort);
+            }
+            list.clear();
+        }
+    }
+    assert_same(&rt, &table, &list);
 }
