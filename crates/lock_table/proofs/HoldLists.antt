@@ -1,7 +1,7 @@
 use Rattle.std.proofs.Common.{◌≡◌, ℕ, ◌+◌, ◌<◌, ◌≤◌, Bool, true, false, not, ◌&&◌, ◌||◌, List, [], ◌∷◌, ◌++◌, take, length, get_or, ◌==◌, arith, refl, sym, ap, ◌∙◌, inl, inr}
 use Rattle.std.specs.Prelude.{filter, count_by, if◌then◌else◌}
 use Rattle.std.specs.List.{list_any}
-use Rattle.std.proofs.lemmas.Bool.{cases_Bool, false≢true, false_from_ne_true, eqb-true, eq-eqb}
+use Rattle.std.proofs.lemmas.Bool.{cases_Bool, false≢true, eqb-true}
 use Rattle.std.proofs.lemmas.List.Folds.{list_any-append}
 use Rattle.std.proofs.lemmas.List.Sums.{sum_by-cons, sum_by-append}
 use Rattle.std.proofs.Math.Bool.{or-true, or-false, or_comm}
@@ -17,7 +17,6 @@ use Rattle.modes_core.specs.Tag.{tag_eq}
 use Rattle.modes_core.proofs.Laws.{both_true}
 use Rattle.std.proofs.lemmas.List.{take_more}
 use Rattle.lock_table.proofs.Same.{same_triple, SameTriple-from, same_triple-comm, same_triple-refl, set_hold-here, set_hold-else}
-use Rattle.lock_table.proofs.ListLemmas.{any_weaker}
 
 -- A list with one hold more at its end has one hold more.
 push_at :
@@ -118,14 +117,7 @@ held-skip xs r s o is_not = λ i m. at_mode m i where
   at_mode m =
       rw (list_any-append (λ hold. is_request_of hold s o m) xs (r ∷ []), not_it (s == r.session) (tag_eq o r.tag) (mode_eq m r.mode) is_not) (sym (or-false (holds_in xs s o m)))
 
--- A session with no hold in the list holds no object in any mode, and one with a hold holds some object in some mode.
-pub session_has-none :
-    (hs : List Request) (s : ℕ) → list_any (λ hold. hold.session == s) hs ≡ false → (o : Tag) (m : Mode) → holds_in hs s o m ≡ false
-session_has-none hs s none o m =
-    false_from_ne_true (holds_in hs s o m) (λ any. false≢true (sym none ∙ any_weaker (λ hold. is_request_of hold s o m) (λ hold. hold.session == s) hs its any)) where
-      its : (hold : Request) → is_request_of hold s o m ≡ true → (hold.session == s) ≡ true
-      its hold is = eq-eqb hold.session s (sym (SameTriple-from s o m hold.session hold.tag hold.mode is).session)
-
+-- A session with a hold in the list holds some object in some mode.
 pub session_has-some :
     (hs : List Request) (s : ℕ) → list_any (λ hold. hold.session == s) hs ≡ true → (o : Tag) × (m : Mode) × (holds_in hs s o m ≡ true)
 session_has-some [] s some = absurd (false≢true some)

@@ -78,22 +78,6 @@ one_split ahead holds t (w ∷ queue) granted left granted' left' (inr one) (inr
 one_split ahead holds t (w ∷ queue) granted left granted' left' (inl one) (inr two) = absurd (two.0 one.0)
 one_split ahead holds t (w ∷ queue) granted left granted' left' (inr one) (inl two) = absurd (one.0 two.0)
 
--- A hold of a session, with those that waits have become.
-pub data HeldAfter (holds : Holds) (t : Tag) (granted : List Wait) (k : ℕ) (o : Tag) (m : Mode) : Type 0 where
-  held_before : holds k o m ≡ true → HeldAfter holds t granted k o m
-  just_granted : (before : List Wait) → (wait : Wait) → (behind : List Wait) → granted ≡ before ++ wait ∷ behind → o ≡ t → k ≡ wait.session → m ≡ wait.mode → HeldAfter holds t granted k o m
-
-pub hold_all-held : (granted : List Wait) (holds : Holds) (t : Tag) (k : ℕ) (o : Tag) (m : Mode) → hold_all holds t granted k o m ≡ true → HeldAfter holds t granted k o m
-hold_all-held [] holds t k o m has = held_before has
-hold_all-held (w ∷ granted) holds t k o m has = later (hold_all-held granted (set_hold holds w.session t w.mode true) t k o m has) where
-  first : SetHoldAt holds w.session t w.mode true k o m → set_hold holds w.session t w.mode true k o m ≡ true → HeldAfter holds t (w ∷ granted) k o m
-  first (here it is) now = just_granted [] w granted refl it.tag it.session it.mode
-  first (elsewhere not_it is) now = held_before (sym is ∙ now)
-
-  later : HeldAfter (set_hold holds w.session t w.mode true) t granted k o m → HeldAfter holds t (w ∷ granted) k o m
-  later (held_before before) = first (set_hold-at holds w.session t w.mode true k o m) before
-  later (just_granted before wait behind parts tag session mode) = just_granted (w ∷ before) wait behind (ap (λ ws. w ∷ ws) parts) tag session mode
-
 -- A hold that conflicts with no other holder makes no conflict.
 pub NoConflictAmong-set : (holds : Holds) (s : ℕ) (t : Tag) (m : Mode) → NoConflictingHolder holds s t m → NoConflictAmong holds → NoConflictAmong (set_hold holds s t m true)
 NoConflictAmong-set holds s t m free old k l o x y apart has its = at (set_hold-at holds s t m true k o x) (set_hold-at holds s t m true l o y) where
@@ -218,7 +202,7 @@ woken-no_conflict before t granted after wakes apart =
     subst NoConflictAmong (sym wakes.holds) (wakes-no_conflict [] before.holds t (before.waits t) granted wakes.left wakes.split apart)
 
 -- A table put back to what it is at a tag is unchanged.
-put_tag-same : {A : Type 0} (f : Tag → A) (t : Tag) (a : A) → a ≡ f t → put tag_eq f t a ≡ f
+pub put_tag-same : {A : Type 0} (f : Tag → A) (t : Tag) (a : A) → a ≡ f t → put tag_eq f t a ≡ f
 put_tag-same f t a e = λ i o. at o i where
   at : (o : Tag) → put tag_eq f t a o ≡ f o
   at o =

@@ -1,5 +1,5 @@
 ghost use Rattle.std.specs.Prelude.{◌≡◌, ◌≢◌, false, IfOk, IfErr, OnErr};
-ghost use Rattle.lock_table.specs.Queue.{waits_there};
+ghost use Rattle.lock_table.specs.Queue.{WaitingAnswer, waits_there};
 ghost use Rattle.lock_table.specs.Clash.{Clashes};
 ghost use Rattle.wait_queue.specs.Decide.{IsDecided, RefusedFor};
 
@@ -85,26 +85,29 @@ fn decide_begun<P: PartTable>(
                 how: clash.how,
             })
         }
-        Kind::Waiting => settle(part, session, tag, mode),
+        Kind::Waiting => match end_by_place(part, session, tag, mode) {
+            Ok(decision) => Ok(decision),
+            Err(other) => Err(Refusal::SimpleDeadlock { session: other }),
+        },
     }
 }
 
-/// Answers a begun request that something stands in the way of, by its place in the queue. No memory is
-/// taken.
-fn settle<P: PartTable>(
+/// Ends a begun request that something stands in the way of, by its place in the queue: it is granted,
+/// queued, or withdrawn, since it and the session that the error names would wait for one another. It
+/// takes no memory.
+fn end_by_place<P: PartTable>(
     part: &mut P,
     session: SessionId,
     tag: Tag,
     mode: Mode,
-) -> Result<Decision, Refusal>
+) -> Result<Decision, SessionId>
     requires clashes { Clashes (P.content part.old) session tag mode }
     requires no_wait { waits_there ((P.content part.old).waits tag) session ≡ false }
     requires begun { P.begun part.old ≡ Some (record { session = session; tag = tag; mode = mode }) }
 
     ensures decided { IfOk result (λ decision.
         IsDecided Kind.Waiting (P.content part.old) session tag mode decision (P.content part.new)) }
-    ensures refused { IfErr result (RefusedFor Kind.Waiting (P.content part.old) session tag mode) }
-    ensures no_memory_taken { result ≢ Err Refusal.NoMemory }
+    ensures refused { IfErr result (λ other. WaitingAnswer (P.content part.old) session tag mode (Answer.SimpleDeadlock other)) }
     ensures unchanged { OnErr result (P.content part.new ≡ P.content part.old) }
     ensures ended { P.begun part.new ≡ None }
 {
@@ -119,7 +122,7 @@ fn settle<P: PartTable>(
         }
         Answer::SimpleDeadlock(other) => {
             part.withdraw(session, tag, mode);
-            Err(Refusal::SimpleDeadlock { session: other })
+            Err(other)
         }
     }
 }

@@ -156,6 +156,29 @@ fn a_conditional_request_does_not_pass_a_waiter(rt: HostRuntime) -> Result<(), F
 }
 
 #[test]
+fn a_conditional_request_is_refused_with_the_lowest_holder(rt: HostRuntime) -> Result<(), Fail> {
+    let mut part = PlainPart::new(rt.alloc());
+    expect_asked(
+        &rt,
+        &mut part,
+        &[
+            (3, Mode::Share, Decision::Granted),
+            (1, Mode::Share, Decision::Granted),
+        ],
+    );
+    let refused = asked(&rt, &mut part, 2, Mode::RowExclusive, Kind::Conditional);
+    let held = Refusal::Conflict {
+        session: session(&rt, 1),
+        mode: Mode::Share,
+        how: How::Held,
+    };
+    assert!(rt; refused == Err(held));
+    let beside = asked(&rt, &mut part, 2, Mode::RowShare, Kind::Conditional);
+    assert!(rt; beside == Ok(Decision::Granted));
+    Ok(())
+}
+
+#[test]
 fn a_holder_stands_before_whom_it_keeps_waiting(rt: HostRuntime) -> Result<(), Fail> {
     let mut part = PlainPart::new(rt.alloc());
     expect_asked(
