@@ -48,6 +48,7 @@ pub LeavesAlone-after :
     (let view : DeskView = record { parts = parts; sessions = sessions; limit = limit; max_local = max_local } in view) ≡ now → databases_in sessions' ≡ databases_in sessions →
     LeavesAlone now (record { parts = parts'; sessions = sessions'; limit = limit; max_local = max_local })
 LeavesAlone-after parts parts' sessions sessions' limit max_local now view same = record {
+  sessions = sym (length-databases sessions') ∙ ap length same ∙ length-databases sessions ∙ ap issued_of view;
   databases = same ∙ ap databases_of view;
   limit = ap (λ (desk : DeskView). desk.limit) view;
   max_local = ap (λ (desk : DeskView). desk.max_local) view;
@@ -55,11 +56,8 @@ LeavesAlone-after parts parts' sessions sessions' limit max_local now view same 
 
 pub LeavesAlone-trans : (old between new : DeskView) → LeavesAlone old between → LeavesAlone between new → LeavesAlone old new
 LeavesAlone-trans old between new first second = record {
+  sessions = second.sessions ∙ first.sessions;
   databases = second.databases ∙ first.databases;
   limit = second.limit ∙ first.limit;
   max_local = second.max_local ∙ first.max_local;
 }
-
--- As many sessions were opened before as are after.
-pub LeavesAlone-issued : (old new : DeskView) → LeavesAlone old new → issued_of new ≡ issued_of old
-LeavesAlone-issued old new alone = sym (length-databases new.sessions) ∙ ap length alone.databases ∙ length-databases old.sessions

@@ -95,6 +95,7 @@ pub record IsUnchanged (old new : DeskView) : Type 0 where
 
 -- What a call leaves alone: which sessions there are, with their databases, and how many sessions and entries there may be.
 pub record LeavesAlone (old new : DeskView) : Type 0 where
+  pub sessions : issued_of new ≡ issued_of old
   pub databases : databases_of new ≡ databases_of old
   pub limit : new.limit ≡ old.limit
   pub max_local : new.max_local ≡ old.max_local
