@@ -1,4 +1,4 @@
-use Rattle.std.proofs.Common.{◌≡◌, ℕ, Bool, true, false, sym, arith}
+use Rattle.std.proofs.Common.{◌≡◌, ℕ, true, false, sym, arith}
 use Rattle.std.proofs.lemmas.Bool.{false≢true}
 use Rattle.lock_table.specs.Put.{set_at}
 use Rattle.lock_table.proofs.PutLemmas.{set_at-each}

@@ -1,4 +1,4 @@
-use Rattle.std.proofs.Common.{◌≡◌, ℕ, Bool, true, false}
+use Rattle.std.proofs.Common.{ℕ, true, false}
 use Rattle.lw_word.specs.LightweightWord.{taken_word, put_word}
 use Rattle.lock_world.specs.World.{World}
 use Rattle.lock_world.specs.Happens.Slots.{MayTakeFast, after_taking_fast, MayPutFast, after_putting_fast}

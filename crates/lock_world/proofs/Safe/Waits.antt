@@ -1,4 +1,4 @@
-use Rattle.std.proofs.Common.{◌≡◌, ℕ, ◌<◌, Bool, true, false, List, [], Some, refl, subst}
+use Rattle.std.proofs.Common.{ℕ, Bool, false, List, [], refl, subst}
 use Rattle.modes_core.specs.declared.modes.Mode.{Mode}
 use Rattle.modes_core.specs.declared.tags.Tag.{Tag}
 use Rattle.modes_core.specs.Tag.{partition_of}
@@ -9,7 +9,7 @@ use Rattle.lock_table.specs.OwnWait.{OwnWait}
 use Rattle.lock_table.specs.Put.{set_at}
 use Rattle.lock_world.specs.World.{World, MakesSteps, AskedToCancel, LoadedWait, is_unmarked}
 use Rattle.lock_world.specs.Happens.Partitions.{MayMove}
-use Rattle.lock_world.specs.Happens.Waits.{after_asking, MayLoadWait, after_loading_wait, recording, without, after_setting_waiting, MayMarkFirst, after_marking_first, MayMarkNext, after_marking_next, MayClearSeen, MayClearInHand, after_clearing, MayLeave, after_leaving}
+use Rattle.lock_world.specs.Happens.Waits.{after_asking, after_loading_wait, recording, without, after_setting_waiting, MayMarkFirst, after_marking_first, MayMarkNext, after_marking_next, MayClearSeen, MayClearInHand, after_clearing, MayLeave, after_leaving}
 use Rattle.lock_table.specs.Queue.{waits_there}
 use Rattle.lock_world.specs.Safe.{Safe, TracesTell}
 use Rattle.lock_world.proofs.Safe.Partitions.{live-given, holding-hand}

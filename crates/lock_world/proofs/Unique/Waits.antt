@@ -4,7 +4,6 @@ use Rattle.modes_core.specs.declared.tags.Tag.{Tag}
 use Rattle.modes_core.specs.Tag.{partition_of}
 use Rattle.lock_table.specs.declared.moves.Move.{Move}
 use Rattle.lock_table.specs.declared.moves.Move.TheVariants.{Keep, Grant, Join, Release, Leave}
-use Rattle.lock_world.specs.declared.events.Word.TheVariants.{Wait}
 use Rattle.lock_table.specs.Content.{Content}
 use Rattle.lock_table.specs.Content as content
 use Rattle.lock_table.specs.OwnWait.{OwnWait}

@@ -1,4 +1,4 @@
-use Rattle.std.specs.Prelude.{◌≡◌, ◌≢◌, ℕ, true, false, List, Option, Some, None, ◌⊎◌, ◌+◌, ◌<◌, [], ◌∷◌, ◌++◌}
+use Rattle.std.specs.Prelude.{◌≡◌, ◌≢◌, ℕ, true, false, List, Option, Some, None, ◌⊎◌, ◌<◌, [], ◌∷◌, ◌++◌}
 use Rattle.modes_core.specs.Tag.{partition_of}
 use Rattle.lock_table.specs.declared.moves.Move.{Move}
 use Rattle.lock_table.specs.declared.moves.Move.TheVariants.{Keep, Grant, Join, Release, Leave}
@@ -8,7 +8,6 @@ use Rattle.lock_table.specs.Moves.{Moves, IsInPartition, FitsOwn}
 use Rattle.lock_table.specs.OwnWait.{OwnWait}
 use Rattle.lock_world.specs.World.{World, Hand, MakesSteps, recorded_in, is_unmarked, Took, Episode}
 use Rattle.lock_table.specs.Put.{set_at}
-use Rattle.lock_world.specs.declared.events.Word.TheVariants.{Wait}
 use Rattle.lw_word.specs.LightweightWord.{IsHeldByNobody, taken_word, put_word}
 
 -- Partitions: a session takes a content in hand, and puts it back after one move of its own on it, at most.

@@ -1,5 +1,5 @@
-use Rattle.std.proofs.Common.{◌≡◌, ℕ, List, [], ◌∷◌, ◌++◌, None, subst, inl, inr}
-use Rattle.lock_world.specs.World.{TraceEntry, Episode}
+use Rattle.std.proofs.Common.{None, subst, inl, inr}
+use Rattle.lock_world.specs.World.{Episode}
 use Rattle.lock_world.specs.Safe.{EpisodesAreMoves}
 use Rattle.lock_world.proofs.Traces.{episode-sound, was_taken}
 use Rattle.lock_world.proofs.laws.each_episode_is_one_move.Goals as goal
