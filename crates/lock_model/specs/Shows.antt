@@ -81,6 +81,13 @@ pub record ShowsWords (shown : Words) (words : world.Words) : Type 0 where
   pub fast : (session : ℕ) → words.fast session ≡ free_word
   pub wait : (session : ℕ) → slice_index_or shown.waits session 0 ≡ words.wait session
 
+-- The words that no event so far changes show what they opened with.
+pub record NotYetUsed (database : ℕ → ℕ) (slot : ℕ → ℕ → ℕ) (strong sleep : ℕ → ℕ) : Type 0 where
+  pub databases : (session : ℕ) → database session ≡ 0
+  pub slots : (session place : ℕ) → slot session place ≡ 0
+  pub counters : (index : ℕ) → strong index ≡ 0
+  pub sleeps : (session : ℕ) → sleep session ≡ 0
+
 -- No event so far takes the lock of fast-path slots or shares a lock, so nobody has one, and the machine keeps none.
 pub record NobodyHas (holds_fast shares_fast shares_partition : ℕ → ℕ → Bool) : Type 0 where
   pub fast : (session owner : ℕ) → holds_fast session owner ≡ false
@@ -107,6 +114,7 @@ pub record ShowsWaits (shown : OwnWaits) (wait : ℕ → Option OwnWait) (has_se
 pub record Shows (machine : Machine) (w : World) : Type 0 where
   pub numbers : ShowsNumbers machine.numbers w.numbers
   pub words : ShowsWords machine.words w.words
+  pub unused : NotYetUsed w.words.database w.words.slot w.words.strong w.words.sleep
   pub locks : NobodyHas w.sessions.holds_fast w.sessions.shares_fast w.sessions.shares_partition
   pub contents : ShowsContents machine.contents w.contents
   pub waits : ShowsWaits machine.waits w.sessions.awaited w.sessions.seen

@@ -11,3 +11,4 @@ pub mod Safe
 pub mod Unique
 pub mod Others
 pub mod FromSafe
+pub mod SafeWorld

@@ -5,7 +5,7 @@ use Rattle.lock_table.specs.declared.moves.Move.{Move}
 use Rattle.lock_table.specs.Content.{Wait, Content}
 use Rattle.lock_table.specs.Moves.{Moves}
 use Rattle.lock_table.specs.Put.{set_at}
-use Rattle.lock_world.specs.World.{Hand, Contents, TraceEntry, Took, Episode, AskedToCancel, LoadedWait, recorded_in}
+use Rattle.lock_world.specs.World.{Hand, Contents, TraceEntry, Took, Episode, AskedToCancel, Loaded, recorded_in}
 use Rattle.lock_world.specs.Happens.Partitions.{content_taken}
 use Rattle.lock_world.specs.Happens.Waits.{recording}
 use Rattle.lock_world.specs.Safe.{taken_after, taken_by, IsOneMove, EntryIsSound, EpisodesAreMoves, taken_in, IsMadeBy, HandIsOneMove, TracesTell, is_hand_of}
@@ -273,7 +273,7 @@ was_taken taken (entry ∷ trace) p content is = at (was_taken (taken_after take
         | inr other ↦ inl (sym (set_at-else taken q None p other) ∙ e)
       ]
   here (AskedToCancel other before) e = inl e
-  here (LoadedWait shown) e = inl e
+  here (Loaded word shown) e = inl e
 
   at : (taken_after taken entry p ≡ Some content) ⊎ ((first : List TraceEntry) × (since : List TraceEntry) × (trace ≡ first ++ Took p content ∷ since))
       → (taken p ≡ Some content) ⊎ ((first : List TraceEntry) × (since : List TraceEntry) × (entry ∷ trace ≡ first ++ Took p content ∷ since))

@@ -3,6 +3,7 @@ pub mod Partitions
 pub mod Waits
 pub mod Sharing
 pub mod Slots
+pub mod Counters
 use Rattle.std.specs.Prelude.{◌≡◌, ℕ, List, ◌⊎◌, [], ◌∷◌}
 use Rattle.lock_world.specs.World.{World, MakesSteps}
 use Rattle.lock_world.specs.declared.events.Event.{Event}

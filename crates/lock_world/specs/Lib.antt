@@ -6,3 +6,4 @@ pub mod Counted
 pub mod Account
 pub mod Happens
 pub mod Safe
+pub mod SafeWorld

@@ -13,7 +13,7 @@ use Rattle.lock_world.specs.Total.{how_many}
 use Rattle.lock_world.specs.WaitWord.{wait_state}
 use Rattle.lock_table.specs.Moves.{Moves}
 use Rattle.lock_table.specs.Put.{set_at}
-use Rattle.lock_world.specs.World.{World, Words, Hand, Contents, Numbers, TraceEntry, Took, Episode, AskedToCancel, LoadedWait, recorded_in, is_unmarked}
+use Rattle.lock_world.specs.World.{World, Hand, Contents, Numbers, TraceEntry, Took, Episode, AskedToCancel, Loaded, recorded_in, is_unmarked}
 
 -- What holds between any two atomic steps: the promise, and the facts that carry it from one step to the next.
 
@@ -132,18 +132,10 @@ pub record NumbersAreInOrder (numbers : Numbers) : Type 0 where
 abbrev pub UnmarkedByItsMove : (ℕ → Option Hand) → Type 0
 UnmarkedByItsMove hand = (p : ℕ) → recorded_in (hand p) ≡ None → (session : ℕ) → is_unmarked (hand p) session ≡ false
 
--- The words that no event so far changes show what they opened with.
-pub record NotYetUsed (words : Words) : Type 0 where
-  pub database : (session : ℕ) → words.database session ≡ 0
-  pub slot : (session place : ℕ) → words.slot session place ≡ 0
-  pub strong : (index : ℕ) → words.strong index ≡ 0
-  pub sleep : (session : ℕ) → words.sleep session ≡ 0
-
 pub record Carriers (w : World) : Type 0 where
   pub hands : HandsAreHolders w.contents.hand w.sessions.holds_partition
   pub numbers : NumbersAreInOrder w.numbers
   pub unmarked_by_move : UnmarkedByItsMove w.contents.hand
-  pub not_yet : NotYetUsed w.words
 
 -- What is safe of partitions, waits and numbers.
 pub record TableIsSafe (w : World) : Type 0 where
@@ -157,7 +149,7 @@ abbrev pub taken_after : (ℕ → Option Content) → TraceEntry → ℕ → Opt
 taken_after taken (Took partition content) = set_at taken partition (Some content)
 taken_after taken (Episode partition content put_back) = set_at taken partition None
 taken_after taken (AskedToCancel other before) = taken
-taken_after taken (LoadedWait shown) = taken
+taken_after taken (Loaded word shown) = taken
 
 -- what it has in hand after these steps
 abbrev pub taken_by : (ℕ → Option Content) → List TraceEntry → ℕ → Option Content
@@ -173,7 +165,7 @@ abbrev pub EntryIsSound : ℕ → (ℕ → Option Content) → TraceEntry → Ty
 EntryIsSound session taken (Took partition content) = Unit {0}
 EntryIsSound session taken (Episode partition content put_back) = (taken partition ≡ Some content) × IsOneMove content session put_back
 EntryIsSound session taken (AskedToCancel other before) = Unit {0}
-EntryIsSound session taken (LoadedWait shown) = Unit {0}
+EntryIsSound session taken (Loaded word shown) = Unit {0}
 
 abbrev pub EpisodesAreMoves : ℕ → (ℕ → Option Content) → List TraceEntry → Type 0
 EpisodesAreMoves session taken [] = Unit {0}

@@ -5,6 +5,7 @@ use Rattle.lock_world.specs.declared.events.Word.TheVariants.{Partition, Fast, D
 use Rattle.lock_table.specs.Content.{Holds, Content, empty_content}
 use Rattle.lw_word.specs.LightweightWord.{free_word}
 use Rattle.lock_table.specs.OwnWait.{OwnWait}
+use Rattle.lock_world.specs.Counted.{Counted}
 
 -- The World is all that there is between two atomic steps: what each word shows, each content wherever it is, what each
 -- session has by its own account, and which session numbers are in use.
@@ -51,8 +52,8 @@ pub data TraceEntry : Type 0 where
   Episode : (partition : ℕ) → (taken : Content) → (put_back : Content) → TraceEntry
   -- it asked the session to cancel, whose wait word showed this before
   AskedToCancel : (other : ℕ) → (before : ℕ) → TraceEntry
-  -- its own wait word showed this
-  LoadedWait : (shown : ℕ) → TraceEntry
+  -- it loaded the word, which showed this
+  Loaded : (word : Word) → (shown : ℕ) → TraceEntry
 
 -- What each session has by its own account.
 pub record Sessions : Type 0 where
@@ -68,6 +69,10 @@ pub record Sessions : Type 0 where
   pub awaited : ℕ → Option OwnWait
   -- it has seen its wait word show that this wait was granted
   pub seen : ℕ → Bool
+  -- the strong locks that it has counted
+  pub counted : ℕ → List Counted
+  -- the index of the strong lock counter that it has read as 0, for as long as that lets it set a slot
+  pub zero : ℕ → Option ℕ
   pub trace : ℕ → List TraceEntry
 
 -- The session numbers.
@@ -115,7 +120,7 @@ opening limit = record {
     sleep = λ _. 0;
   };
   contents = record { now = λ _. empty_content; hand = λ _. None };
-  sessions = record { own = λ _ _ _. false; holds_partition = λ _ _. false; shares_partition = λ _ _. false; holds_fast = λ _ _. false; shares_fast = λ _ _. false; awaited = λ _. None; seen = λ _. false; trace = λ _. [] };
+  sessions = record { own = λ _ _ _. false; holds_partition = λ _ _. false; shares_partition = λ _ _. false; holds_fast = λ _ _. false; shares_fast = λ _ _. false; awaited = λ _. None; seen = λ _. false; counted = λ _. []; zero = λ _. None; trace = λ _. [] };
   numbers = record { limit = limit; issued = 0; live = λ _. false; kept_by = λ _. None };
 }
 

@@ -78,6 +78,7 @@ module _ (m : Machine) (w : World) (safe : Safe w) (shows : Shows m w) where
     record {
       numbers = shows.numbers;
       words = partition_word-set m.words w.words p _ _ shows.words in_words (ap taken_word (shows.words.partition p));
+      unused = shows.unused;
       locks = shows.locks;
       contents = hand-set m.contents w.contents p _ _ shows.contents exists (record { holder = refl; recorded = refl; unmarked = none });
       waits = shows.waits;
@@ -90,6 +91,7 @@ module _ (m : Machine) (w : World) (safe : Safe w) (shows : Shows m w) where
   shown_put s p done content changed exists in_words at = record {
     numbers = shows.numbers;
     words = partition_word-set m.words w.words p _ _ shows.words in_words (ap put_word (shows.words.partition p));
+    unused = shows.unused;
     locks = shows.locks;
     contents = hand-set _ _ p None None (parts-changed m.contents changed w.contents p content shows.contents at) exists tt;
     waits = shows.waits;

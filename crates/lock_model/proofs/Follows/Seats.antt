@@ -70,6 +70,7 @@ module _ (m : Machine) (w : World) (safe : Safe w) (shows : Shows m w) where
             kept_by = shows.numbers.kept_by;
           };
           words = shows.words;
+          unused = shows.unused;
           locks = shows.locks;
           contents = shows.contents;
           waits = shows.waits;
@@ -89,6 +90,7 @@ module _ (m : Machine) (w : World) (safe : Safe w) (shows : Shows m w) where
         kept_by = get_or-set_at m.numbers.kept_by s None None w.numbers.kept_by in_kept_by shows.numbers.kept_by;
       };
       words = shows.words;
+      unused = shows.unused;
       locks = shows.locks;
       contents = shows.contents;
       waits = shows.waits;
@@ -157,6 +159,7 @@ module _ (m : Machine) (w : World) (safe : Safe w) (shows : Shows m w) where
             kept_by = get_or-set_at m.numbers.kept_by s (Some joiner) None w.numbers.kept_by in_kept_by shows.numbers.kept_by;
           };
           words = shows.words;
+          unused = shows.unused;
           locks = shows.locks;
           contents = shows.contents;
           waits = shows.waits;
@@ -186,6 +189,7 @@ module _ (m : Machine) (w : World) (safe : Safe w) (shows : Shows m w) where
             kept_by = shows.numbers.kept_by;
           };
           words = shows.words;
+          unused = shows.unused;
           locks = shows.locks;
           contents = shows.contents;
           waits = shows.waits;

@@ -43,6 +43,7 @@ opening-shown m issued live kept_by words wait_words hands awaited seen sixteen 
     fast = λ k. refl;
     wait = λ k. ap (λ list. get_or list k 0) wait_words ∙ get_or-one_value 64 0 k;
   };
+  unused = record { databases = λ s. refl; slots = λ s i. refl; counters = λ i. refl; sleeps = λ s. refl };
   locks = record { fast = λ s o. refl; shared_fast = λ s o. refl; shared_partition = λ s p. refl };
   contents = record {
     sixteen_hands = ap length hands ∙ length-replicate {A = Option InHand} 16 None;
@@ -111,8 +112,8 @@ plain-shown m w safe shows plain parts parts_2 these those gathered in_table gat
   word_shown : (word : Word) → WordExists word → word_of plain word ≡ word_in w.words word
   word_shown (Partition p) exists = ap (λ words. get_or words.partitions p free_word) same ∙ shows.words.partition p
   word_shown (Fast k) exists = sym (shows.words.fast k)
-  word_shown (Database k) exists = sym (safe.table.carriers.not_yet.database k)
-  word_shown (Slot k i) exists = sym (safe.table.carriers.not_yet.slot k i)
+  word_shown (Database k) exists = sym (shows.unused.databases k)
+  word_shown (Slot k i) exists = sym (shows.unused.slots k i)
   word_shown (Wait k) exists = ap (λ words. get_or words.waits k 0) same ∙ shows.words.wait k
-  word_shown (Strong i) exists = sym (safe.table.carriers.not_yet.strong i)
-  word_shown (Sleep k) exists = sym (safe.table.carriers.not_yet.sleep k)
+  word_shown (Strong i) exists = sym (shows.unused.counters i)
+  word_shown (Sleep k) exists = sym (shows.unused.sleeps k)

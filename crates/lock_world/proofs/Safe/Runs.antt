@@ -65,12 +65,6 @@ opening-safe limit few = record {
         joiner_is_live = λ k j kept. absurd (cc);
       };
       unmarked_by_move = λ p none k. refl;
-      not_yet = record {
-        database = λ k. refl;
-        slot = λ k i. refl;
-        strong = λ i. refl;
-        sleep = λ k. refl;
-      };
     };
   };
   locks = record {

@@ -7,7 +7,8 @@ use Rattle.lock_table.specs.declared.moves.Move.TheVariants.{Join, Leave}
 use Rattle.lock_table.specs.Content.{Wait, Content}
 use Rattle.lock_table.specs.OwnWait.{OwnWait}
 use Rattle.lock_table.specs.Put.{set_at}
-use Rattle.lock_world.specs.World.{World, MakesSteps, AskedToCancel, LoadedWait, is_unmarked}
+use Rattle.lock_world.specs.World.{World, MakesSteps, AskedToCancel, Loaded, is_unmarked}
+use Rattle.lock_world.specs.declared.events.Word.TheVariants as word
 use Rattle.lock_world.specs.Happens.Partitions.{MayMove}
 use Rattle.lock_world.specs.Happens.Waits.{after_asking, after_loading_wait, recording, without, after_setting_waiting, MayMarkFirst, after_marking_first, MayMarkNext, after_marking_next, MayClearSeen, MayClearInHand, after_clearing, MayLeave, after_leaving}
 use Rattle.lock_table.specs.Queue.{waits_there}
@@ -39,7 +40,7 @@ pub loading_wait-safe : (w : World) (s n : ℕ) → Safe w → MakesSteps w.numb
 loading_wait-safe w s n safe steps = record {
   table = loading_wait-table w s n safe.table;
   locks = safe.locks;
-  traces = TracesTell-entry w.contents w.sessions.trace w.numbers.issued safe.traces s (live-given w s safe steps.live) (LoadedWait n) tt (λ q. refl);
+  traces = TracesTell-entry w.contents w.sessions.trace w.numbers.issued safe.traces s (live-given w s safe steps.live) (Loaded (word.Wait s) n) tt (λ q. refl);
 }
 
 -- Setting the own wait word to waiting is safe.

@@ -52,12 +52,6 @@ taking_partition-table w s p safe may = record {
     hands = HandsAreHolders-set w.contents.hand holds s p true taken hand safe.carriers.hands;
     numbers = safe.carriers.numbers;
     unmarked_by_move = waits.by_move;
-    not_yet = record {
-      database = safe.carriers.not_yet.database;
-      slot = safe.carriers.not_yet.slot;
-      strong = safe.carriers.not_yet.strong;
-      sleep = safe.carriers.not_yet.sleep;
-    };
   };
 } where
   holds : ℕ → ℕ → Bool
@@ -136,12 +130,6 @@ with_put-table w s p now own trace safe live holding same_own waits = record {
     hands = HandsAreHolders-set w.contents.hand holds s p false None nobody safe.carriers.hands;
     numbers = safe.carriers.numbers;
     unmarked_by_move = waits.by_move;
-    not_yet = record {
-      database = safe.carriers.not_yet.database;
-      slot = safe.carriers.not_yet.slot;
-      strong = safe.carriers.not_yet.strong;
-      sleep = safe.carriers.not_yet.sleep;
-    };
   };
 } where
   holds : ℕ → ℕ → Bool

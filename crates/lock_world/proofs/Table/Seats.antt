@@ -21,7 +21,7 @@ with_numbers-table w numbers safe words spent order = record {
     words = words;
     spent = spent;
   };
-  carriers = record { hands = safe.carriers.hands; numbers = order; unmarked_by_move = safe.carriers.unmarked_by_move; not_yet = safe.carriers.not_yet };
+  carriers = record { hands = safe.carriers.hands; numbers = order; unmarked_by_move = safe.carriers.unmarked_by_move };
 }
 
 -- Issuing a number is safe.

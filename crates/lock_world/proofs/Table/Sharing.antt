@@ -1,4 +1,4 @@
-use Rattle.std.proofs.Common.{ℕ, Bool}
+use Rattle.std.proofs.Common.{ℕ, Bool, Option}
 use Rattle.lock_world.specs.World.{World}
 use Rattle.lock_world.specs.Safe.{TableIsSafe, WordsShowHolders}
 
@@ -26,26 +26,20 @@ with_partition_words-table w word shares safe words = record {
     hands = safe.carriers.hands;
     numbers = safe.carriers.numbers;
     unmarked_by_move = safe.carriers.unmarked_by_move;
-    not_yet = record {
-      database = safe.carriers.not_yet.database;
-      slot = safe.carriers.not_yet.slot;
-      strong = safe.carriers.not_yet.strong;
-      sleep = safe.carriers.not_yet.sleep;
-    };
   };
 }
 
--- The same of the words of sessions' fast-path locks: no fact of partitions, waits and numbers speaks of them.
-abbrev pub with_fast_words : World → (ℕ → ℕ) → (ℕ → ℕ → Bool) → (ℕ → ℕ → Bool) → World
-with_fast_words w word holds shares = record {
+-- The same of the words of sessions' fast-path locks and of counters read as 0: no fact of partitions, waits and numbers speaks of them.
+abbrev pub with_fast_words : World → (ℕ → ℕ) → (ℕ → ℕ → Bool) → (ℕ → ℕ → Bool) → (ℕ → Option ℕ) → World
+with_fast_words w word holds shares zero = record {
   words = record (w.words) { fast = word };
   contents = w.contents;
-  sessions = record (w.sessions) { holds_fast = holds; shares_fast = shares };
+  sessions = record (w.sessions) { holds_fast = holds; shares_fast = shares; zero = zero };
   numbers = w.numbers;
 }
 
-pub with_fast_words-table : (w : World) (word : ℕ → ℕ) (holds shares : ℕ → ℕ → Bool) → TableIsSafe w → TableIsSafe (with_fast_words w word holds shares)
-with_fast_words-table w word holds shares safe = record {
+pub with_fast_words-table : (w : World) (word : ℕ → ℕ) (holds shares : ℕ → ℕ → Bool) (zero : ℕ → Option ℕ) → TableIsSafe w → TableIsSafe (with_fast_words w word holds shares zero)
+with_fast_words-table w word holds shares zero safe = record {
   promise = record {
     no_conflict = safe.promise.no_conflict;
     one_place = safe.promise.one_place;
@@ -58,11 +52,5 @@ with_fast_words-table w word holds shares safe = record {
     hands = safe.carriers.hands;
     numbers = safe.carriers.numbers;
     unmarked_by_move = safe.carriers.unmarked_by_move;
-    not_yet = record {
-      database = safe.carriers.not_yet.database;
-      slot = safe.carriers.not_yet.slot;
-      strong = safe.carriers.not_yet.strong;
-      sleep = safe.carriers.not_yet.sleep;
-    };
   };
 }

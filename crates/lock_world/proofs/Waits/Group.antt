@@ -53,11 +53,5 @@ with_waits-table w now own awaited seen word hand trace safe waits spent same = 
     hands = λ p k. safe.carriers.hands p k ∙ sym (same p k);
     numbers = safe.carriers.numbers;
     unmarked_by_move = waits.by_move;
-    not_yet = record {
-      database = safe.carriers.not_yet.database;
-      slot = safe.carriers.not_yet.slot;
-      strong = safe.carriers.not_yet.strong;
-      sleep = safe.carriers.not_yet.sleep;
-    };
   };
 }

@@ -1,9 +1,18 @@
-use Rattle.std.specs.Prelude.{◌≡◌, ℕ, ◌<◌, true, false}
+use Rattle.std.specs.Prelude.{◌≡◌, ℕ, ◌^◌, ◌<◌, ◌==◌, ◌&&◌, Bool, true, false, Option, Some, None, ◌∷◌, [], ◌++◌, if◌then◌else◌}
+use Rattle.modes_core.specs.declared.modes.Mode.{Mode}
+use Rattle.modes_core.specs.declared.tags.Tag.{Tag}
+use Rattle.modes_core.specs.Tag.{index_of, is_eligible_for}
 use Rattle.lw_word.specs.LightweightWord.{IsHeldByNobody, taken_word, put_word}
+use Rattle.lw_word.specs.SlotWord.{word_with, word_without}
+use Rattle.lock_table.specs.Content.{Holds, set_hold}
 use Rattle.lock_table.specs.Put.{set_at}
-use Rattle.lock_world.specs.World.{World, MakesSteps}
+use Rattle.lock_world.specs.declared.events.Word.{Word}
+use Rattle.lock_world.specs.declared.events.Word.TheVariants.{Strong}
+use Rattle.lock_world.specs.SlotHolds.{slot_holds, relation_of, IsHeldIn, NoSlotInUse, IsSlotToGrant}
+use Rattle.lock_world.specs.World.{World, MakesSteps, Loaded, word_in, WordExists}
 
--- Slots: a session takes the lock of its own fast-path slots, or of another's, and puts it back (fpInfoLock in proc.h).
+-- Slots: a session takes the lock of its own fast-path slots, or of another's, and puts it back (fpInfoLock in proc.h); with
+-- its own lock held it reads strong lock counters, and sets and clears modes in its slots.
 
 -- Taking the lock of a session's slots, issued or not: its word shows that nobody holds it.
 pub record MayTakeFast (w : World) (session owner : ℕ) : Type 0 where
@@ -22,18 +31,109 @@ after_taking_fast w session owner = record {
 abbrev pub HappensTakingFast : World → ℕ → ℕ → World → Type 0
 HappensTakingFast w session owner v = MayTakeFast w session owner × (v ≡ after_taking_fast w session owner)
 
--- Putting it.
+-- Putting it. A counter read as 0 before permits no more slot to be set once the own lock is put.
 pub record MayPutFast (w : World) (session owner : ℕ) : Type 0 where
   pub steps : MakesSteps w.numbers session
   pub holding : w.sessions.holds_fast session owner ≡ true
+
+abbrev pub zero_after_putting : (ℕ → Option ℕ) → ℕ → ℕ → ℕ → Option ℕ
+zero_after_putting zero session owner = if owner == session then set_at zero session None else zero
 
 abbrev pub after_putting_fast : World → ℕ → ℕ → World
 after_putting_fast w session owner = record {
   words = record (w.words) { fast = set_at w.words.fast owner (put_word (w.words.fast owner)) };
   contents = w.contents;
-  sessions = record (w.sessions) { holds_fast = set_at w.sessions.holds_fast session (set_at (w.sessions.holds_fast session) owner false) };
+  sessions = record (w.sessions) {
+    holds_fast = set_at w.sessions.holds_fast session (set_at (w.sessions.holds_fast session) owner false);
+    zero = zero_after_putting w.sessions.zero session owner;
+  };
   numbers = w.numbers;
 }
 
 abbrev pub HappensPuttingFast : World → ℕ → ℕ → World → Type 0
 HappensPuttingFast w session owner v = MayPutFast w session owner × (v ≡ after_putting_fast w session owner)
+
+-- Loading a word, which shows this: it joins the trace.
+pub record MayLoad (w : World) (session : ℕ) (word : Word) (shown : ℕ) : Type 0 where
+  pub steps : MakesSteps w.numbers session
+  pub exists : WordExists word
+  pub is_shown : shown ≡ word_in w.words word
+
+abbrev pub after_loading : World → ℕ → Word → ℕ → World
+after_loading w session word shown = record {
+  words = w.words;
+  contents = w.contents;
+  sessions = record (w.sessions) { trace = set_at w.sessions.trace session (w.sessions.trace session ++ Loaded word shown ∷ []) };
+  numbers = w.numbers;
+}
+
+-- Reading a strong lock counter: where it is 0, and the session holds the lock of its own slots, it may set slots for objects
+-- of that index until it puts that lock (FastPathStrongRelationLocks->count in LockAcquireExtended of lock.c).
+abbrev pub zero_after_reading : (ℕ → Option ℕ) → (ℕ → ℕ → Bool) → ℕ → ℕ → ℕ → ℕ → Option ℕ
+zero_after_reading zero holds_fast session index shown =
+    if (shown == 0) && holds_fast session session then set_at zero session (Some index) else zero
+
+abbrev pub after_reading_counter : World → ℕ → ℕ → ℕ → World
+after_reading_counter w session index shown = record {
+  words = w.words;
+  contents = w.contents;
+  sessions = record (w.sessions) {
+    zero = zero_after_reading w.sessions.zero w.sessions.holds_fast session index shown;
+    trace = set_at w.sessions.trace session (w.sessions.trace session ++ Loaded (Strong index) shown ∷ []);
+  };
+  numbers = w.numbers;
+}
+
+-- Setting a mode in an own slot (FastPathGrantRelationLock in lock.c): the mode on the object is eligible for the own database,
+-- its counter was read as 0, and the slot is the one that such a grant takes.
+pub record MaySetSlot (w : World) (session place : ℕ) (tag : Tag) (mode : Mode) : Type 0 where
+  pub steps : MakesSteps w.numbers session
+  pub holding : w.sessions.holds_fast session session ≡ true
+  pub eligible : is_eligible_for (w.words.database session) tag mode ≡ true
+  pub fits : relation_of tag < 2 ^ 32
+  pub read_as_zero : w.sessions.zero session ≡ Some (index_of tag)
+  pub no_wait : w.sessions.awaited session ≡ None
+  pub new : w.sessions.own session tag mode ≡ false
+  pub takes : IsSlotToGrant (w.words.slot session) (relation_of tag) place
+
+abbrev pub after_setting_slot : World → ℕ → ℕ → Tag → Mode → World
+after_setting_slot w session place tag mode = record {
+  words = record (w.words) {
+    slot = set_at w.words.slot session
+        (set_at (w.words.slot session) place (word_with (w.words.slot session place) (relation_of tag) mode));
+  };
+  contents = w.contents;
+  sessions = record (w.sessions) { own = set_hold w.sessions.own session tag mode true };
+  numbers = w.numbers;
+}
+
+-- Clearing a mode in the own slot that has it (FastPathUnGrantRelationLock in lock.c).
+pub record MayClearSlot (w : World) (session place : ℕ) (tag : Tag) (mode : Mode) : Type 0 where
+  pub steps : MakesSteps w.numbers session
+  pub holding : w.sessions.holds_fast session session ≡ true
+  pub held_in : IsHeldIn (w.words.database session) (w.words.slot session) tag mode place
+
+abbrev pub after_clearing_slot : World → ℕ → ℕ → Tag → Mode → World
+after_clearing_slot w session place tag mode = record {
+  words = record (w.words) {
+    slot = set_at w.words.slot session
+        (set_at (w.words.slot session) place (word_without (w.words.slot session place) mode));
+  };
+  contents = w.contents;
+  sessions = record (w.sessions) { own = set_hold w.sessions.own session tag mode false };
+  numbers = w.numbers;
+}
+
+-- Storing the own database, once, with no slot in use (InitPostgres in postinit.c).
+pub record MayStoreDatabase (w : World) (session : ℕ) : Type 0 where
+  pub steps : MakesSteps w.numbers session
+  pub unset : w.words.database session ≡ 0
+  pub unused : NoSlotInUse (w.words.slot session)
+
+abbrev pub after_storing_database : World → ℕ → ℕ → World
+after_storing_database w session database = record {
+  words = record (w.words) { database = set_at w.words.database session database };
+  contents = w.contents;
+  sessions = w.sessions;
+  numbers = w.numbers;
+}

@@ -7,8 +7,9 @@ use Rattle.lock_table.specs.declared.moves.Move.TheVariants.{Keep, Grant, Join, 
 use Rattle.lock_table.specs.Content.{Holds, Wait, Content, set_hold}
 use Rattle.lock_table.specs.Queue.{waits_there}
 use Rattle.lock_table.specs.OwnWait.{OwnWait}
+use Rattle.lock_world.specs.declared.events.Word.TheVariants as word
 use Rattle.lock_world.specs.WaitWord.{wait_state, granted_word, asked_word}
-use Rattle.lock_world.specs.World.{World, Hand, MakesSteps, recorded_in, is_unmarked, AskedToCancel, LoadedWait}
+use Rattle.lock_world.specs.World.{World, Hand, MakesSteps, recorded_in, is_unmarked, AskedToCancel, Loaded}
 use Rattle.lock_table.specs.Put.{set_at}
 use Rattle.lock_world.specs.Happens.Partitions.{MayMove, own_after}
 
@@ -37,7 +38,7 @@ after_loading_wait w session shown = record {
   contents = w.contents;
   sessions = record (w.sessions) {
     seen = set_at w.sessions.seen session (w.sessions.seen session || (wait_state (w.words.wait session) == 2));
-    trace = set_at w.sessions.trace session (w.sessions.trace session ++ LoadedWait shown ∷ []);
+    trace = set_at w.sessions.trace session (w.sessions.trace session ++ Loaded (word.Wait session) shown ∷ []);
   };
   numbers = w.numbers;
 }

@@ -28,6 +28,7 @@ module _ (m : Machine) (w : World) (safe : Safe w) (shows : Shows m w) where
     record {
       numbers = shows.numbers;
       words = wait_word-set m.words w.words k _ _ shows.words in_wait_words (ap asked_word (shows.words.wait k));
+      unused = shows.unused;
       locks = shows.locks;
       contents = shows.contents;
       waits = shows.waits;
@@ -46,6 +47,7 @@ module _ (m : Machine) (w : World) (safe : Safe w) (shows : Shows m w) where
     record {
       numbers = shows.numbers;
       words = shows.words;
+      unused = shows.unused;
       locks = shows.locks;
       contents = shows.contents;
       waits = record {
@@ -67,6 +69,7 @@ module _ (m : Machine) (w : World) (safe : Safe w) (shows : Shows m w) where
     record {
       numbers = shows.numbers;
       words = shows.words;
+      unused = shows.unused;
       locks = shows.locks;
       contents = shows.contents;
       waits = record {

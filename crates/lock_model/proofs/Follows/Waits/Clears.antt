@@ -94,6 +94,7 @@ module _ (m : Machine) (w : World) (safe : Safe w) (shows : Shows m w) where
   ended s wait in_wait_words below = record {
     numbers = shows.numbers;
     words = wait_word-set m.words w.words s 0 0 shows.words in_wait_words refl;
+    unused = shows.unused;
     locks = shows.locks;
     contents = shows.contents;
     waits = own_wait-set m.waits w.sessions.awaited w.sessions.seen s None None shows.waits below refl;
@@ -195,6 +196,7 @@ module _ (m : Machine) (w : World) (safe : Safe w) (shows : Shows m w) where
               record {
                 numbers = shows.numbers;
                 words = wait_word-set m.words w.words s 0 0 shows.words in_wait_words refl;
+                unused = shows.unused;
                 locks = shows.locks;
                 contents = hand-set _ _ p _ _ (part-set m.contents w.contents p part (content_of part) shows.contents has.exists refl begun) has.exists
                     (recording-shown (w.contents.hand p) has.hand shown.holder (Leave wait.tag) marks (waits_there granted) has.is_hand has.shows.holder marked);

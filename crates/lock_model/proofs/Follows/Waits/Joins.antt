@@ -59,6 +59,7 @@ module _ (m : Machine) (w : World) (safe : Safe w) (shows : Shows m w) where
     record {
       numbers = shows.numbers;
       words = wait_word-set m.words w.words s 1 1 shows.words in_wait_words refl;
+      unused = shows.unused;
       locks = shows.locks;
       contents = hand-set _ _ p _ _
           (part-set m.contents w.contents p part content shows.contents has.exists (is ∙ ap (λ (c : Content). add_wait c s t n place) same) begun) has.exists

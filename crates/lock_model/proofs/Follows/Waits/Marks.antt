@@ -112,6 +112,7 @@ module _ (m : Machine) (w : World) (safe : Safe w) (shows : Shows m w) where
     record {
       numbers = shows.numbers;
       words = wait_word-set m.words w.words k _ _ shows.words (word_within m.words.waits k waiting) (ap granted_word (shows.words.wait k));
+      unused = shows.unused;
       locks = shows.locks;
       contents = hand-set m.contents w.contents p _ _ shows.contents has.exists
           (recording-shown (w.contents.hand p) has.hand hand.holder done (set hand.unmarked k false) (without (is_unmarked (w.contents.hand p)) k) has.is_hand has.shows.holder
@@ -145,6 +146,7 @@ module _ (m : Machine) (w : World) (safe : Safe w) (shows : Shows m w) where
     record {
       numbers = shows.numbers;
       words = wait_word-set m.words w.words k _ _ shows.words (word_within m.words.waits k waiting) (ap granted_word (shows.words.wait k));
+      unused = shows.unused;
       locks = shows.locks;
       contents = hand-set _ _ p _ _
           (part-set m.contents w.contents p after.part (content_of after.part) shows.contents has.exists refl (moved.begun ∙ shows.contents.none_begun p)) has.exists

@@ -1,0 +1,4 @@
+pub mod Tabled
+pub mod OneSession
+pub mod Seats
+pub mod Partitions

@@ -1,0 +1,82 @@
+use Rattle.std.proofs.Common.{◌≡◌, ℕ, true, false, List, [], sym}
+use Rattle.std.proofs.lemmas.Bool.{false≢true}
+use Rattle.lock_table.specs.Put.{set_at}
+use Rattle.lock_table.proofs.PutLemmas.{set_at-each}
+use Rattle.lock_world.specs.World.{World}
+use Rattle.lock_world.specs.Happens.Seats.{MayBeIssued, after_issuing, MayGoOn, after_going_on, MayBeKeptApart, after_keeping_apart, MayClose, after_closing}
+use Rattle.lock_world.specs.SafeWorld.{SafeWorld, tabled, slots_of, own_but}
+use Rattle.lock_world.proofs.Safe.Seats.{issuing-safe, going_on-safe, keeping_apart-safe, closing-safe}
+use Rattle.lock_world.proofs.SafeWorld.Tabled.{own_but-false}
+
+-- Issuing a number is safe.
+pub issuing-safe_world : (w : World) (s : ℕ) → SafeWorld w → MayBeIssued w s → SafeWorld (after_issuing w s)
+issuing-safe_world w s safe may = record {
+  but_slots = issuing-safe (tabled w) s safe.but_slots (record { next = may.next; within = may.within });
+  slots = safe.slots;
+  order = record {
+    awaited_is_not_own = safe.order.awaited_is_not_own;
+    no_hold = λ k o n dead. safe.order.no_hold k o n (was_dead k dead);
+    no_count = λ k dead. safe.order.no_count k (was_dead k dead);
+  };
+  counters = safe.counters;
+  past = safe.past;
+  done = safe.done;
+  zero = safe.zero;
+} where
+  was_dead : (k : ℕ) → set_at w.numbers.live s true k ≡ false → w.numbers.live k ≡ false
+  was_dead = set_at-each (λ k b. b ≡ false → w.numbers.live k ≡ false) w.numbers.live s true (λ e. absurd (false≢true (sym e))) (λ _ _ e. e)
+
+-- Going on by itself is safe.
+pub going_on-safe_world : (w : World) (s : ℕ) → SafeWorld w → MayGoOn w s → SafeWorld (after_going_on w s)
+going_on-safe_world w s safe may = record {
+  but_slots = going_on-safe (tabled w) s safe.but_slots may;
+  slots = safe.slots;
+  order = safe.order;
+  counters = safe.counters;
+  past = safe.past;
+  done = safe.done;
+  zero = safe.zero;
+}
+
+-- Being kept apart is safe.
+pub keeping_apart-safe_world : (w : World) (s joiner : ℕ) → SafeWorld w → MayBeKeptApart w s joiner → SafeWorld (after_keeping_apart w s joiner)
+keeping_apart-safe_world w s joiner safe may = record {
+  but_slots = keeping_apart-safe (tabled w) s joiner safe.but_slots (record {
+    steps = may.steps;
+    another = may.another;
+    joiner_steps = may.joiner_steps;
+    no_word = may.no_word;
+    no_fast_word = may.no_fast_word;
+  });
+  slots = safe.slots;
+  order = safe.order;
+  counters = safe.counters;
+  past = safe.past;
+  done = safe.done;
+  zero = safe.zero;
+}
+
+-- Closing is safe, with nothing counted.
+pub closing-safe_world : (w : World) (s : ℕ) → SafeWorld w → MayClose w s → w.sessions.counted s ≡ [] → SafeWorld (after_closing w s)
+closing-safe_world w s safe may nothing_counted = record {
+  but_slots = closing-safe (tabled w) s safe.but_slots (record {
+    steps = may.steps;
+    no_word = may.no_word;
+    no_fast_word = may.no_fast_word;
+    no_shared_word = may.no_shared_word;
+    no_shared_fast_word = may.no_shared_fast_word;
+    no_hold = λ o n. own_but-false w.sessions.own (slots_of w.words.database w.words.slot) s o n (may.no_hold o n);
+    no_wait = may.no_wait;
+    keeps_nobody = may.keeps_nobody;
+  });
+  slots = safe.slots;
+  order = record {
+    awaited_is_not_own = safe.order.awaited_is_not_own;
+    no_hold = λ k o n. set_at-each (λ k b. b ≡ false → w.sessions.own k o n ≡ false) w.numbers.live s false (λ _. may.no_hold o n) (λ k _ dead. safe.order.no_hold k o n dead) k;
+    no_count = set_at-each (λ k b. b ≡ false → w.sessions.counted k ≡ []) w.numbers.live s false (λ _. nothing_counted) (λ k _ dead. safe.order.no_count k dead);
+  };
+  counters = safe.counters;
+  past = safe.past;
+  done = safe.done;
+  zero = safe.zero;
+}
