@@ -2,3 +2,5 @@ pub mod Tabled
 pub mod OneSession
 pub mod Seats
 pub mod Partitions
+pub mod Waits
+pub mod Locks

@@ -1,10 +1,10 @@
 use Rattle.std.proofs.Common.{◌≡◌, ◌≢◌, ◌⊎◌, ℕ, Bool, true, false, List, Option, Some, refl, sym, ap, ◌∙◌, inl, inr}
-use Rattle.std.proofs.lemmas.Bool.{cases_eq, both_ways, and_parts}
+use Rattle.std.proofs.lemmas.Bool.{cases_eq, both_ways, and_parts, and_from}
 use Rattle.modes_core.specs.declared.modes.Mode.{Mode}
 use Rattle.modes_core.specs.declared.tags.Tag.{Tag}
 use Rattle.modes_core.specs.Mode.{mode_eq}
 use Rattle.modes_core.specs.Tag.{tag_eq, is_strong_on}
-use Rattle.modes_core.proofs.Laws.{mode_eq-same, tag_eq-same}
+use Rattle.modes_core.proofs.Laws.{mode_eq-refl, mode_eq-same, tag_eq-refl, tag_eq-same}
 use Rattle.lock_table.specs.declared.moves.Move.{Move}
 use Rattle.lock_table.specs.declared.moves.Move.TheVariants.{Keep, Grant, Join, Release, Leave}
 use Rattle.lock_table.specs.Content.{Holds, set_hold}
@@ -67,6 +67,9 @@ pub is_for-same : (wait : OwnWait) (o : Tag) (n : Mode) → is_for (Some wait) o
 is_for-same wait o n awaits =
     let both = and_parts (tag_eq wait.tag o) (mode_eq wait.mode n) awaits in
     (tag_eq-same wait.tag o both.0, mode_eq-same wait.mode n both.1)
+
+pub is_for-itself : (wait : OwnWait) → is_for (Some wait) wait.tag wait.mode ≡ true
+is_for-itself wait = and_from (tag_eq wait.tag wait.tag) (mode_eq wait.mode wait.mode) (tag_eq-refl wait.tag) (mode_eq-refl wait.mode)
 
 -- A hold that is not this very one is own where it was; so is each that was, where one is added.
 pub set_hold-was : (own : Holds) (s : ℕ) (t : Tag) (m : Mode) (o : Tag) (n : Mode) → set_hold own s t m false s o n ≡ true → own s o n ≡ true

@@ -1,0 +1,122 @@
+use Rattle.std.proofs.Common.{◌≡◌, ◌≢◌, ℕ, Bool, true, false, Option, Some, None, sym, ap, ◌∙◌, inl, inr, cond}
+use Rattle.std.specs.Prelude.{◌==◌}
+use Rattle.std.proofs.lemmas.Bool.{cases_eq, cases_Bool, cond-true, cond-false, eqb-true, eq-eqb, ne_eqb}
+use Rattle.modes_core.specs.declared.tags.Tag.{Tag}
+use Rattle.lock_table.specs.Put.{set_at}
+use Rattle.lock_table.proofs.PutLemmas.{set_at-here, set_at-else, row-else}
+use Rattle.lock_world.specs.World.{World}
+use Rattle.lock_world.specs.Happens.Slots.{MayTakeFast, after_taking_fast, MayPutFast, zero_after_putting, after_putting_fast}
+use Rattle.lock_world.specs.Happens.Sharing.{MayShare, MayUnshare, after_sharing_partition, after_unsharing_partition, after_sharing_fast, after_unsharing_fast}
+use Rattle.lock_world.specs.SafeWorld.{SafeWorld, ZeroIsAPermission, tabled}
+use Rattle.lock_world.proofs.Safe.Sharing.{sharing_partition-safe, unsharing_partition-safe, sharing_fast-safe, unsharing_fast-safe}
+use Rattle.lock_world.proofs.Safe.Slots.{taking_fast-safe, putting_fast-safe}
+
+-- Sharing a word is safe, and so is giving it back.
+pub sharing_partition-safe_world :
+    (w : World) (s p : ℕ) → SafeWorld w → MayShare w.numbers (w.words.partition p) w.sessions.shares_partition s p → SafeWorld (after_sharing_partition w s p)
+sharing_partition-safe_world w s p safe may = record {
+  but_slots = sharing_partition-safe (tabled w) s p safe.but_slots may;
+  slots = safe.slots;
+  order = safe.order;
+  counters = safe.counters;
+  past = safe.past;
+  done = safe.done;
+  zero = safe.zero;
+}
+
+pub unsharing_partition-safe_world : (w : World) (s p : ℕ) → SafeWorld w → MayUnshare w.numbers w.sessions.shares_partition s p → SafeWorld (after_unsharing_partition w s p)
+unsharing_partition-safe_world w s p safe may = record {
+  but_slots = unsharing_partition-safe (tabled w) s p safe.but_slots may;
+  slots = safe.slots;
+  order = safe.order;
+  counters = safe.counters;
+  past = safe.past;
+  done = safe.done;
+  zero = safe.zero;
+}
+
+pub sharing_fast-safe_world : (w : World) (s o : ℕ) → SafeWorld w → MayShare w.numbers (w.words.fast o) w.sessions.shares_fast s o → SafeWorld (after_sharing_fast w s o)
+sharing_fast-safe_world w s o safe may = record {
+  but_slots = sharing_fast-safe (tabled w) s o safe.but_slots may;
+  slots = safe.slots;
+  order = safe.order;
+  counters = safe.counters;
+  past = safe.past;
+  done = safe.done;
+  zero = safe.zero;
+}
+
+pub unsharing_fast-safe_world : (w : World) (s o : ℕ) → SafeWorld w → MayUnshare w.numbers w.sessions.shares_fast s o → SafeWorld (after_unsharing_fast w s o)
+unsharing_fast-safe_world w s o safe may = record {
+  but_slots = unsharing_fast-safe (tabled w) s o safe.but_slots may;
+  slots = safe.slots;
+  order = safe.order;
+  counters = safe.counters;
+  past = safe.past;
+  done = safe.done;
+  zero = safe.zero;
+}
+
+-- A session that takes one lock more has those it had.
+holds-taken : (holds : ℕ → ℕ → Bool) (s o k : ℕ) → holds k k ≡ true → set_at holds s (set_at (holds s) o true) k k ≡ true
+holds-taken holds s o k has =
+    elim (cases_eq k s) [
+      | inl same ↦ ap (λ row. row k) (set_at-here holds s (set_at (holds s) o true) k same) ∙ elim (cases_eq k o) [
+        | inl here ↦ set_at-here (holds s) o true k here
+        | inr other ↦ set_at-else (holds s) o true k other ∙ ap (λ j. holds j k) (sym same) ∙ has
+      ]
+      | inr other ↦ row-else holds s o true k k other ∙ has
+    ]
+
+-- Taking the lock of a session's fast-path slots is safe.
+pub taking_fast-safe_world : (w : World) (s o : ℕ) → SafeWorld w → MayTakeFast w s o → SafeWorld (after_taking_fast w s o)
+taking_fast-safe_world w s o safe may = record {
+  but_slots = taking_fast-safe (tabled w) s o safe.but_slots (record { steps = may.steps; exists = may.exists; free = may.free });
+  slots = safe.slots;
+  order = safe.order;
+  counters = safe.counters;
+  past = safe.past;
+  done = safe.done;
+  zero = record {
+    holds = λ k index read. holds-taken w.sessions.holds_fast s o k (safe.zero.holds k index read);
+    nobody_is_past = safe.zero.nobody_is_past;
+  };
+}
+
+-- A counter read as 0 is what was read before the lock was put, and it was not the reader's own lock.
+pub zero-after : (zero : ℕ → Option ℕ) (s o k index : ℕ) → zero_after_putting zero s o k ≡ Some index → (zero k ≡ Some index) × ((k ≡ s) → k ≢ o)
+zero-after zero s o k index read =
+    elim (cases_eq o s) [
+      | inl own ↦
+          let set : zero_after_putting zero s o ≡ set_at zero s None = cond-true (o == s) (set_at zero s None) zero (eq-eqb o s own) in
+          elim (cases_eq k s) [
+            | inl same ↦ absurd (none (sym (ap (λ z. z k) set ∙ set_at-here zero s None k same) ∙ read))
+            | inr other ↦ (sym (set_at-else zero s None k other) ∙ sym (ap (λ z. z k) set) ∙ read, λ same. absurd (other same))
+          ]
+      | inr other ↦
+          (sym (ap (λ z. z k) (cond-false (o == s) (set_at zero s None) zero (ne_eqb o s other))) ∙ read, λ same here. other (sym here ∙ same))
+    ] where
+      none : None ≡ Some index → ⊥
+      none e = absurd (cc)
+
+-- Putting it is safe.
+pub holds-put : (holds : ℕ → ℕ → Bool) (s o k : ℕ) → ((k ≡ s) → k ≢ o) → holds k k ≡ true → set_at holds s (set_at (holds s) o false) k k ≡ true
+holds-put holds s o k another has =
+    elim (cases_eq k s) [
+      | inl same ↦ ap (λ row. row k) (set_at-here holds s (set_at (holds s) o false) k same) ∙ set_at-else (holds s) o false k (another same) ∙ ap (λ j. holds j k) (sym same) ∙ has
+      | inr other ↦ row-else holds s o false k k other ∙ has
+    ]
+
+pub putting_fast-safe_world : (w : World) (s o : ℕ) → SafeWorld w → MayPutFast w s o → SafeWorld (after_putting_fast w s o)
+putting_fast-safe_world w s o safe may = record {
+  but_slots = putting_fast-safe (tabled w) s o safe.but_slots (record { steps = may.steps; holding = may.holding });
+  slots = safe.slots;
+  order = safe.order;
+  counters = safe.counters;
+  past = safe.past;
+  done = safe.done;
+  zero = record {
+    holds = λ k index read. let before = zero-after w.sessions.zero s o k index read in holds-put w.sessions.holds_fast s o k before.1 (safe.zero.holds k index before.0);
+    nobody_is_past = λ k j t read. safe.zero.nobody_is_past k j t (zero-after w.sessions.zero s o k _ read).0;
+  };
+}
