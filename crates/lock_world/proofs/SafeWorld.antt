@@ -4,3 +4,9 @@ pub mod Seats
 pub mod Partitions
 pub mod Waits
 pub mod Locks
+pub mod Changes
+pub mod Setting
+pub mod Clearing
+pub mod Databases
+pub mod Reading
+pub mod Counters

@@ -1,0 +1,89 @@
+use Rattle.std.proofs.Common.{◌≡◌, ◌≢◌, ℕ, ◌<◌, ◌≤◌, Bool, true, false, not, ◌&&◌, nat_eq, nat_le, List, [], Option, Some, None, refl, sym, ap, ◌∙◌, inl, inr, subst, arith}
+use Rattle.std.proofs.lemmas.Bool.{cases_eq, cases_Bool, both_ways, false_from_ne_true, and_parts, and_right, leb-true, eqb-true, cond-true, cond-false, not-true, false≢true}
+use Rattle.modes_core.specs.declared.modes.Mode.{Mode}
+use Rattle.modes_core.specs.declared.tags.Tag.{Tag}
+use Rattle.modes_core.specs.declared.tags.Tag.TheVariants.{Relation, Object}
+use Rattle.modes_core.specs.Mode.{number_of}
+use Rattle.modes_core.specs.Tag.{index_of, is_eligible_for, is_strong_on}
+use Rattle.lw_word.specs.SlotWord.{word_with, word_without}
+use Rattle.lock_table.specs.Content.{Holds, set_hold}
+use Rattle.lock_table.specs.OwnWait.{is_for}
+use Rattle.lock_table.specs.Put.{set_at}
+use Rattle.lock_table.proofs.PutLemmas.{set_at-here, set_at-else, set_at-each}
+use Rattle.lock_table.proofs.HoldLemmas.{SetHoldAt, here, elsewhere, set_hold-at, set_hold-other_session}
+use Rattle.lock_world.specs.SlotHolds.{slot_holds, relation_of, OneSlotEach, InUseHasDatabase}
+use Rattle.lock_world.specs.Counted.{Counted, is_past, is_done, PastHasNoSlot, StrongIsDone, counter, count_at}
+use Rattle.lock_world.specs.World.{World}
+use Rattle.lock_world.specs.Happens.Slots.{MayLoad, after_loading, zero_after_reading, after_reading_counter, MaySetSlot, after_setting_slot, MayClearSlot, after_clearing_slot, MayStoreDatabase, after_storing_database}
+use Rattle.lock_world.specs.declared.events.Word.{Word}
+use Rattle.lock_world.specs.declared.events.Word.TheVariants.{Strong}
+use Rattle.lock_world.specs.Safe.{Safe}
+use Rattle.lock_world.specs.SafeWorld.{SafeWorld, SlotsAreOwn, slots_of, own_but, tabled}
+use Rattle.lock_world.proofs.Slots.Eligible.{eligible-is, is_in-held}
+use Rattle.lock_world.proofs.Slots.Setting.{slot_holds-set, OneSlotEach-set}
+use Rattle.lock_world.proofs.Slots.Clearing.{slot_holds-clear, OneSlotEach-clear}
+use Rattle.lock_world.proofs.Slots.Databases.{InUseHasDatabase-eligible, InUseHasDatabase-unused, slot_holds-stored}
+use Rattle.lock_world.proofs.SafeWorld.Tabled.{with_own-safe, own_but-false}
+use Rattle.lock_world.proofs.SafeWorld.OneSession.{OwnIsInOrder-one, StrongIsDone-one, set_hold-was, set_hold-new}
+use Rattle.lock_world.proofs.SafeWorld.Changes.{with_fast_path-safe, slots_of-set, own_but-both, are_own-both}
+
+-- An eligible mode is not strong.
+eligible-not_strong : (database : ℕ) (t : Tag) (m : Mode) → is_eligible_for database t m ≡ true → is_strong_on t m ≡ true → ⊥
+eligible-not_strong database (Relation d r) m eligible strong =
+    let weak : number_of m ≤ 3 = (eligible-is database (Relation d r) m eligible).2 in
+    let least : 5 ≤ number_of m = leb-true 5 (number_of m) (and_parts (not (nat_eq d 0)) (nat_le 5 (number_of m)) strong).1 in
+    omega (arith, weak, least)
+eligible-not_strong database (Object d c o s) m eligible strong = false≢true strong
+
+-- Setting a mode in an own slot is safe: nobody who has counted an object of its index is past the session.
+module _ (w : World) (s i : ℕ) (t : Tag) (m : Mode) (safe : SafeWorld w) (may : MaySetSlot w s i t m) where
+  abbrev own : Holds
+  own = w.sessions.own
+
+  abbrev own' : Holds
+  own' = set_hold own s t m true
+
+  abbrev slots : Holds
+  slots = slots_of w.words.database w.words.slot
+
+  abbrev words' : ℕ → ℕ
+  words' = set_at (w.words.slot s) i (word_with (w.words.slot s i) (relation_of t) m)
+
+  changed : slots_of w.words.database (set_at w.words.slot s words') ≡ set_hold slots s t m true
+  changed = slots_of-set w.words.database w.words.slot s words' t m true
+      (slot_holds-set (w.words.database s) (w.words.slot s) t m i may.eligible may.fits may.takes)
+
+  own_else : (k : ℕ) (o : Tag) (n : Mode) → k ≢ s → own' k o n ≡ own k o n
+  own_else = set_hold-other_session own s t m true
+
+  past : (j k : ℕ) (o : Tag) (n : Mode) → is_past (w.sessions.counted j) o k ≡ true → SetHoldAt slots s t m true k o n → set_hold slots s t m true k o n ≡ false
+  past j k o n gone (here it e) = absurd (both_ways (is_past (w.sessions.counted j) t s) (safe.zero.nobody_is_past s j t may.read_as_zero)
+      ((λ x. is_past (w.sessions.counted j) (sym it.tag x) (sym it.session x)) ∙ gone))
+  past j k o n gone (elsewhere _ e) = e ∙ safe.past j k o n gone
+
+  pub setting_slot-safe_world : SafeWorld (after_setting_slot w s i t m)
+  setting_slot-safe_world = record {
+    but_slots = with_own-safe (after_setting_slot w s i t m) _ _
+        (sym (own_but-both own slots s t m true (own_but-false own slots s t m may.new)) ∙ ap (own_but own') (sym changed))
+        (with_fast_path-safe (tabled w) w.words.database (set_at w.words.slot s words') w.words.strong w.sessions.counted w.sessions.zero w.sessions.trace safe.but_slots safe.but_slots.traces);
+    slots = record {
+      are_own = subst (λ shown. (k : ℕ) (o : Tag) (n : Mode) → shown k o n ≡ true → own' k o n ≡ true) (sym changed) (are_own-both own slots s t m true safe.slots.are_own);
+      one_each = set_at-each (λ k words. OneSlotEach words) w.words.slot s words'
+          (OneSlotEach-set (w.words.slot s) (relation_of t) m i may.fits (eligible-is (w.words.database s) t m may.eligible).2 may.takes (safe.slots.one_each s))
+          (λ k _. safe.slots.one_each k);
+      has_database = set_at-each (λ k words. InUseHasDatabase (w.words.database k) words) w.words.slot s words'
+          (InUseHasDatabase-eligible (w.words.database s) words' t m may.eligible) (λ k _. safe.slots.has_database k);
+    };
+    order = OwnIsInOrder-one own own' w.sessions.awaited w.sessions.awaited s own_else (λ _ _. refl) w.numbers.live w.sessions.counted may.steps.live safe.order
+        (λ o n awaits. absurd (false≢true (ap (λ a. is_for a o n) (sym may.no_wait) ∙ awaits)));
+    counters = safe.counters;
+    past = subst (PastHasNoSlot w.sessions.counted) (sym changed) (λ j k o n gone. past j k o n gone (set_hold-at slots s t m true k o n));
+    done = StrongIsDone-one own own' w.sessions.awaited w.sessions.awaited s own_else (λ _ _. refl) w.numbers.limit w.sessions.counted safe.done
+        (λ o n strong has. elim (set_hold-new own s t m o n has) [
+          | inl was ↦ safe.done.held s o n strong was
+          | inr it ↦ absurd (eligible-not_strong (w.words.database s) t m may.eligible ((λ x. is_strong_on (sym it.0 x) (sym it.1 x)) ∙ strong))
+        ])
+        (safe.done.awaits s);
+    zero = safe.zero;
+  }
+
