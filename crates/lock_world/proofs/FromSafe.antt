@@ -14,7 +14,7 @@ use Rattle.lock_table.specs.OwnWait.{OwnWait, Stage, InQueue, WasGranted, HasLef
 use Rattle.lock_table.specs.Queue.{waits_there}
 use Rattle.lock_world.specs.WaitWord.{wait_state}
 use Rattle.lock_world.specs.World.{World, Hand, is_unmarked, recorded_in}
-use Rattle.lock_world.specs.Safe.{Safe, stage_of, stage_by_hand, stages, is_hand_of, is_leave_of}
+use Rattle.lock_world.specs.Safe.{SafeButSlots, stage_of, stage_by_hand, stages, is_hand_of, is_leave_of}
 use Rattle.lock_table.proofs.Options.{one_some}
 
 -- What a safe World says, law by law.
@@ -165,7 +165,7 @@ abbrev pub IsOwnOrPending : World → ℕ → ℕ → Tag → Mode → Type 0
 IsOwnOrPending w p s t m =
     (w.sessions.own s t m ≡ true) ⊎ ((is_for (w.sessions.awaited s) t m ≡ true) × IsGranted (w.words.wait s) (w.contents.hand p) s)
 
-module _ (w : World) (safe : Safe w) where
+module _ (w : World) (safe : SafeButSlots w) where
   -- An own hold is in the content of its object's partition.
   pub own-held : (s : ℕ) (t : Tag) (m : Mode) → w.sessions.own s t m ≡ true → (w.contents.now (partition_of t)).holds s t m ≡ true
   own-held s t m own =

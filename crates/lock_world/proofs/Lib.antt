@@ -12,3 +12,4 @@ pub mod Unique
 pub mod Others
 pub mod FromSafe
 pub mod SafeWorld
+pub mod FromSafeWorld

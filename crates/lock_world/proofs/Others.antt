@@ -5,5 +5,6 @@ pub mod Partitions
 pub mod Waits
 pub mod Sharing
 pub mod Slots
+pub mod Counters
 pub mod Events
 pub mod WaitWords

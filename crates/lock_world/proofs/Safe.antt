@@ -4,4 +4,3 @@ pub mod Partitions
 pub mod Waits
 pub mod Sharing
 pub mod Slots
-pub mod Runs

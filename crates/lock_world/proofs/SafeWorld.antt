@@ -10,3 +10,5 @@ pub mod Clearing
 pub mod Databases
 pub mod Reading
 pub mod Counters
+pub mod Opening
+pub mod Runs

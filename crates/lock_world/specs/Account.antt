@@ -4,7 +4,9 @@ use Rattle.modes_core.specs.declared.tags.Tag.{Tag}
 use Rattle.lock_table.specs.declared.moves.Move.{Move}
 use Rattle.lock_table.specs.Content.{Content}
 use Rattle.lock_table.specs.OwnWait.{OwnWait}
-use Rattle.lock_world.specs.World.{World, Hand, TraceEntry}
+use Rattle.lock_world.specs.SlotHolds.{slot_holds}
+use Rattle.lock_world.specs.Counted.{Counted}
+use Rattle.lock_world.specs.World.{World, Words, Hand, TraceEntry}
 
 -- An account: all that one session knows of the World, with no other session's steps in it.
 
@@ -19,6 +21,23 @@ pub record InHand : Type 0 where
   -- those whom that move granted and whose wait words are not yet marked so
   pub unmarked : ℕ → Bool
 
+-- the slots of a session, where their lock is held: what the words show, and which holds that is
+pub record SlotsInHand : Type 0 where
+  pub word : ℕ → ℕ
+  pub holds : Tag → Mode → Bool
+
+-- What a session knows of slots and counters.
+pub record FastAccount : Type 0 where
+  -- the slots of each session whose lock it holds exclusively, and of each whose lock it shares
+  pub slots : ℕ → Option SlotsInHand
+  pub shared_slots : ℕ → Option SlotsInHand
+  -- its own database
+  pub database : ℕ
+  -- the index of the strong lock counter that it has read as 0, for as long as that lets it set a slot
+  pub zero : Option ℕ
+  -- the strong locks that it has counted
+  pub counted : List Counted
+
 pub record Account : Type 0 where
   -- its own holds
   pub own : Tag → Mode → Bool
@@ -28,6 +47,9 @@ pub record Account : Type 0 where
   pub seen : Bool
   -- the partitions that it has in hand
   pub hand : ℕ → Option InHand
+  -- the partitions whose words it shares
+  pub shares : ℕ → Bool
+  pub fast : FastAccount
   pub trace : List TraceEntry
 
 -- the hand as its session knows it; nothing of the hand of another
@@ -40,6 +62,23 @@ own_hand (Some hand) now session =
 abbrev pub own_hands : (ℕ → Option Hand) → (ℕ → Content) → ℕ → ℕ → Option InHand
 own_hands hand now session p = own_hand (hand p) (now p) session
 
+-- the slots of a session as whoever has their lock knows them
+abbrev pub known_slots : Bool → ℕ → (ℕ → ℕ) → Option SlotsInHand
+known_slots has database slot = if has then Some (record { word = slot; holds = slot_holds database slot }) else None
+
+-- of each session
+abbrev pub slots_in_hand : (ℕ → Bool) → (ℕ → ℕ) → (ℕ → ℕ → ℕ) → ℕ → Option SlotsInHand
+slots_in_hand has database slot owner = known_slots (has owner) (database owner) (slot owner)
+
+abbrev pub fast_account : World → ℕ → FastAccount
+fast_account w session = record {
+  slots = slots_in_hand (w.sessions.holds_fast session) w.words.database w.words.slot;
+  shared_slots = slots_in_hand (w.sessions.shares_fast session) w.words.database w.words.slot;
+  database = w.words.database session;
+  zero = w.sessions.zero session;
+  counted = w.sessions.counted session;
+}
+
 -- the session's account in the World
 abbrev pub account : World → ℕ → Account
 account w session = record {
@@ -47,20 +86,14 @@ account w session = record {
   awaited = w.sessions.awaited session;
   seen = w.sessions.seen session;
   hand = own_hands w.contents.hand w.contents.now session;
+  shares = w.sessions.shares_partition session;
+  fast = fast_account w session;
   trace = w.sessions.trace session;
 }
 
--- The words that a session holds are the same in two Worlds.
-pub record HoldsTheSame (w v : World) (session : ℕ) : Type 0 where
-  pub partition : (p : ℕ) → v.sessions.holds_partition session p ≡ w.sessions.holds_partition session p
-  pub shared_partition : (p : ℕ) → v.sessions.shares_partition session p ≡ w.sessions.shares_partition session p
-  pub fast : (owner : ℕ) → v.sessions.holds_fast session owner ≡ w.sessions.holds_fast session owner
-  pub shared_fast : (owner : ℕ) → v.sessions.shares_fast session owner ≡ w.sessions.shares_fast session owner
-
--- What stays of a session number where another session makes a step: its account, its words, and whether it is live and kept
--- apart.
+-- What stays of a session number where another session makes a step: its account, with all locks that it has, and whether it
+-- is live and kept apart.
 pub record IsLeftAlone (w v : World) (session : ℕ) : Type 0 where
   pub account : account v session ≡ account w session
-  pub words : HoldsTheSame w v session
   pub live : v.numbers.live session ≡ w.numbers.live session
   pub kept_by : v.numbers.kept_by session ≡ w.numbers.kept_by session

@@ -4,6 +4,8 @@ use Rattle.modes_core.specs.declared.modes.Mode.{Mode}
 use Rattle.modes_core.specs.declared.tags.Tag.{Tag}
 use Rattle.modes_core.specs.Mode.{mode_eq}
 use Rattle.modes_core.specs.Tag.{tag_eq, index_of, is_strong_on}
+use Rattle.lock_table.specs.declared.moves.Move.{Move}
+use Rattle.lock_table.specs.declared.moves.Move.TheVariants.{Keep, Grant, Join, Release, Leave}
 use Rattle.lock_table.specs.Content.{Holds}
 use Rattle.lock_table.specs.OwnWait.{OwnWait, is_for}
 use Rattle.lock_world.specs.Total.{total}
@@ -79,3 +81,11 @@ pub record StrongIsDone (limit : ℕ) (counted : ℕ → List Counted) (own : Ho
 abbrev pub PastHasNoSlot : (ℕ → List Counted) → Holds → Type 0
 PastHasNoSlot counted slots =
     (session other : ℕ) (tag : Tag) (mode : Mode) → is_past (counted session) tag other ≡ true → slots other tag mode ≡ false
+
+-- What a move asks of the counts: where it grants or queues a strong mode, this is counted, and past each session.
+abbrev pub IsCountedFor : ℕ → List Counted → Move → Type 0
+IsCountedFor limit counted Keep = Unit {0}
+IsCountedFor limit counted (Grant tag mode) = is_strong_on tag mode ≡ true → is_done limit counted tag mode ≡ true
+IsCountedFor limit counted (Join tag mode) = is_strong_on tag mode ≡ true → is_done limit counted tag mode ≡ true
+IsCountedFor limit counted (Release tag mode) = Unit {0}
+IsCountedFor limit counted (Leave tag) = Unit {0}

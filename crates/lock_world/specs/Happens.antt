@@ -8,7 +8,7 @@ use Rattle.std.specs.Prelude.{◌≡◌, ℕ, List, ◌⊎◌, [], ◌∷◌}
 use Rattle.lock_world.specs.World.{World, MakesSteps}
 use Rattle.lock_world.specs.declared.events.Event.{Event}
 use Rattle.lock_world.specs.declared.events.Step.{Step}
-use Rattle.lock_world.specs.declared.events.Step.TheVariants.{TakeExclusive, PutExclusive, TakeShared, PutShared, SplitSeat, JoinSeat, AskCancel, LoadWait, SetWaiting, MarkGranted, ClearWait}
+use Rattle.lock_world.specs.declared.events.Step.TheVariants.{TakeExclusive, PutExclusive, TakeShared, PutShared, SplitSeat, JoinSeat, AskCancel, LoadWait, SetWaiting, MarkGranted, ClearWait, PutPassing, LoadStrong, LoadWord, SetSlot, ClearSlot, StoreDatabase, Count, Uncount}
 use Rattle.lock_world.specs.Happens.Seats.{HappensSplitting, HappensJoining}
 use Rattle.lock_table.specs.declared.moves.Move.{Move}
 use Rattle.lock_table.specs.declared.moves.Move.TheVariants.{Keep}
@@ -16,7 +16,8 @@ use Rattle.lock_world.specs.declared.events.Word.{Word}
 use Rattle.lock_world.specs.declared.events.Word.TheVariants.{Partition, Fast, Database, Slot, Wait, Strong, Sleep}
 use Rattle.lock_world.specs.Happens.Partitions.{HappensTakingPartition, HappensPuttingPartition}
 use Rattle.lock_world.specs.Happens.Sharing.{HappensSharingPartition, HappensUnsharingPartition, HappensSharingFast, HappensUnsharingFast}
-use Rattle.lock_world.specs.Happens.Slots.{HappensTakingFast, HappensPuttingFast}
+use Rattle.lock_world.specs.Happens.Slots.{HappensTakingFast, HappensPuttingFast, MayLoad, after_loading, after_reading_counter, MaySetSlot, after_setting_slot, MayClearSlot, after_clearing_slot, MayStoreDatabase, after_storing_database}
+use Rattle.lock_world.specs.Happens.Counters.{MayCount, after_counting, MayUncount, after_uncounting, MayPass, after_passing}
 use Rattle.lock_world.specs.Happens.Waits.{after_asking, MayLoadWait, after_loading_wait, HappensSetting, HappensMarking, HappensClearing}
 
 -- Lightweight locks: the words of partitions and of sessions' fast-path slots. With the latter no move is made.
@@ -57,6 +58,16 @@ HappensUnsharing w session (Wait owner) v = ⊥
 HappensUnsharing w session (Strong index) v = ⊥
 HappensUnsharing w session (Sleep owner) v = ⊥
 
+-- Loads that only join the trace: of a session's slots and database, and of the lock of the own slots.
+abbrev pub HappensLoading : World → ℕ → Word → ℕ → World → Type 0
+HappensLoading w session (Partition partition) shown v = ⊥
+HappensLoading w session (Fast owner) shown v = (owner ≡ session) × MayLoad w session (Fast owner) shown × (v ≡ after_loading w session (Fast owner) shown)
+HappensLoading w session (Database owner) shown v = MayLoad w session (Database owner) shown × (v ≡ after_loading w session (Database owner) shown)
+HappensLoading w session (Slot owner place) shown v = MayLoad w session (Slot owner place) shown × (v ≡ after_loading w session (Slot owner place) shown)
+HappensLoading w session (Wait owner) shown v = ⊥
+HappensLoading w session (Strong index) shown v = ⊥
+HappensLoading w session (Sleep owner) shown v = ⊥
+
 -- The step by the session is lawful in the World w, and v is the World after it.
 abbrev pub HappensStep : World → ℕ → Step → World → Type 0
 HappensStep w session (TakeExclusive word) v = HappensTaking w session word v
@@ -70,6 +81,14 @@ HappensStep w session (LoadWait shown) v = MayLoadWait w session shown × (v ≡
 HappensStep w session (SetWaiting tag mode) v = HappensSetting w session tag mode v
 HappensStep w session (MarkGranted other done) v = HappensMarking w session other done v
 HappensStep w session (ClearWait leaving) v = HappensClearing w session leaving v
+HappensStep w session (PutPassing owner tag mode) v = MayPass w session owner tag mode × (v ≡ after_passing w session owner tag mode)
+HappensStep w session (LoadStrong index shown) v = MayLoad w session (Strong index) shown × (v ≡ after_reading_counter w session index shown)
+HappensStep w session (LoadWord word shown) v = HappensLoading w session word shown v
+HappensStep w session (SetSlot place tag mode) v = MaySetSlot w session place tag mode × (v ≡ after_setting_slot w session place tag mode)
+HappensStep w session (ClearSlot place tag mode) v = MayClearSlot w session place tag mode × (v ≡ after_clearing_slot w session place tag mode)
+HappensStep w session (StoreDatabase database) v = MayStoreDatabase w session × (v ≡ after_storing_database w session database)
+HappensStep w session (Count tag mode) v = MayCount w session tag mode × (v ≡ after_counting w session tag mode)
+HappensStep w session (Uncount tag mode) v = MayUncount w session tag mode × (v ≡ after_uncounting w session tag mode)
 
 -- The event is lawful in the World w, and v is the World after it.
 abbrev pub Happens : World → Event → World → Type 0

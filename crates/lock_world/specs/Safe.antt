@@ -202,7 +202,7 @@ pub record LocksAreShown (limit : ℕ) (live : ℕ → Bool) (fast : ℕ → ℕ
   pub no_shared_fast : (session owner : ℕ) → live session ≡ false → shares_fast session owner ≡ false
   pub no_shared_partition : (session p : ℕ) → live session ≡ false → shares_partition session p ≡ false
 
-pub record Safe (w : World) : Type 0 where
+pub record SafeButSlots (w : World) : Type 0 where
   pub table : TableIsSafe w
   pub locks : LocksAreShown w.numbers.limit w.numbers.live w.words.fast w.sessions.holds_fast w.sessions.shares_fast w.sessions.shares_partition
   pub traces : TracesTell w.contents w.sessions.trace w.numbers.issued

@@ -7,7 +7,7 @@ use Rattle.lock_table.specs.OwnWait.{OwnWait, is_for}
 use Rattle.lock_world.specs.SlotHolds.{slot_holds, OneSlotEach, InUseHasDatabase}
 use Rattle.lock_world.specs.Counted.{Counted, AtMostOnce, counter, is_past, PastHasNoSlot, StrongIsDone}
 use Rattle.lock_world.specs.World.{World, Words}
-use Rattle.lock_world.specs.Safe.{Safe}
+use Rattle.lock_world.specs.Safe.{SafeButSlots}
 
 -- What holds between any two atomic steps, with fast-path slots: a hold stands in a slot or in a content, and what stands in a
 -- slot conflicts with nothing.
@@ -56,7 +56,7 @@ pub record ZeroIsAPermission (zero : ℕ → Option ℕ) (holds_fast : ℕ → �
       (session other : ℕ) (tag : Tag) → zero session ≡ Some (index_of tag) → is_past (counted other) tag session ≡ false
 
 pub record SafeWorld (w : World) : Type 0 where
-  pub but_slots : Safe (tabled w)
+  pub but_slots : SafeButSlots (tabled w)
   pub slots : SlotsAreOwn w.words.database w.words.slot w.sessions.own
   pub order : OwnIsInOrder w.numbers.live w.sessions.own w.sessions.awaited w.sessions.counted
   pub counters : CountersAreCounts w.numbers.limit w.words.strong w.sessions.counted

@@ -37,6 +37,10 @@ pub enum Step {
     /// Put a lightweight lock that is held shared, by a fetch-and-subtract of 1 (`LWLockRelease` in
     /// lwlock.c).
     PutShared { word: Word },
+    /// Put the lock of a session's fast-path slots, which was held exclusively, by a fetch-and-subtract, and go
+    /// past that session with a strong lock that is counted: it has no slot on the object (the end of a turn
+    /// of the loop in `FastPathTransferRelationLocks` in lock.c).
+    PutPassing { owner: SessionId, tag: Tag, mode: Mode },
     /// Split a seat: a session number is issued, or a session that was kept apart goes on by itself
     /// (`InitProcess` in proc.c).
     SplitSeat,
@@ -60,6 +64,26 @@ pub enum Step {
     /// With `leaving` this very step takes the wait out of the queue, with the partition in hand
     /// (`LockErrorCleanup` in proc.c).
     ClearWait { leaving: bool },
+    /// Load a strong lock counter, which shows this value (`FastPathStrongRelationLocks->count`, as
+    /// `LockAcquireExtended` in lock.c reads it).
+    LoadStrong { index: u16, shown: u64 },
+    /// Load a word, which shows this value: any slot, any session's database, or the lock of the own fast-path
+    /// slots.
+    LoadWord { word: Word, shown: u64 },
+    /// Store in an own fast-path slot that the session holds the mode, with the lock of its slots held
+    /// (`FastPathGrantRelationLock` in lock.c).
+    SetSlot { slot: u8, tag: Tag, mode: Mode },
+    /// Store in an own fast-path slot that the session holds the mode no more, with the lock of its slots held
+    /// (`FastPathUnGrantRelationLock` in lock.c).
+    ClearSlot { slot: u8, tag: Tag, mode: Mode },
+    /// Store the own database, once, with no slot in use (`InitPostgres` in postinit.c).
+    StoreDatabase { database: u32 },
+    /// Add 1 to the strong lock counter of the object: the mode is counted, past nobody yet
+    /// (`BeginStrongLockAcquire` in lock.c).
+    Count { tag: Tag, mode: Mode },
+    /// Take 1 from it: the mode, neither had nor awaited, is counted no more (`AbortStrongLockAcquire` and
+    /// `RemoveLocalLock` in lock.c).
+    Uncount { tag: Tag, mode: Mode },
 }
 
 /// One atomic step of one session.

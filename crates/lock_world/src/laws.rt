@@ -6,33 +6,36 @@ ghost use Rattle.std.specs.Prelude.{◌≡◌, ◌≢◌, ◌↔◌, ◌⊎◌, 
 ghost use Rattle.modes_core.specs.declared.modes.Mode.{Mode};
 ghost use Rattle.modes_core.specs.declared.tags.Tag.{Tag};
 ghost use Rattle.modes_core.specs.Conflict.{conflict};
-ghost use Rattle.modes_core.specs.Tag.{partition_of};
+ghost use Rattle.modes_core.specs.Tag.{index_of, partition_of, is_strong_on};
 ghost use Rattle.lock_world.specs.declared.events.Event.{Event};
 ghost use Rattle.lock_table.specs.Content.{Wait, Content};
 ghost use Rattle.lw_word.specs.LightweightWord.{IsHeldExclusively, shared_count};
 ghost use Rattle.lock_table.specs.OwnWait.{OwnWait, entry_of, is_for};
 ghost use Rattle.lock_table.specs.Queue.{NoneFree, waits_there};
 ghost use Rattle.lock_world.specs.Total.{how_many};
+ghost use Rattle.lock_world.specs.SlotHolds.{IsHeldIn};
+ghost use Rattle.lock_world.specs.Counted.{AtMostOnce, counter, is_done, is_past};
 ghost use Rattle.lock_world.specs.WaitWord.{wait_state, is_asked, asked_word, granted_word};
 ghost use Rattle.lock_world.specs.World.{World, TraceEntry, Took, Episode, opening, is_unmarked};
 ghost use Rattle.lock_world.specs.Happens.{Happens, Runs};
-ghost use Rattle.lock_world.specs.Safe.{Safe, taken_by, taken_in, IsOneMove};
+ghost use Rattle.lock_world.specs.Safe.{taken_by, taken_in, IsOneMove};
+ghost use Rattle.lock_world.specs.SafeWorld.{SafeWorld, slots_of};
 ghost use Rattle.lock_world.specs.Account.{IsLeftAlone};
 
 /// The World before the first event is safe, of any number of sessions that the count of a lightweight word can hold.
 pub fn opening_is_safe()
-    ensures { (limit : ℕ) → limit < 2 ^ 24 → Safe (opening limit) }
+    ensures { (limit : ℕ) → limit < 2 ^ 24 → SafeWorld (opening limit) }
 {}
 
 /// Where an event is lawful in a safe World, the World after it is safe.
 pub fn each_event_is_safe()
-    ensures { (w v : World) (event : Event) → Safe w → Happens w event v → Safe v }
+    ensures { (w v : World) (event : Event) → SafeWorld w → Happens w event v → SafeWorld v }
 {}
 
 /// Whatever list of events comes, lawful or not, the World after it is safe. Each World on the way is
 /// the World after a front of the list, so this says it of all of them.
 pub fn every_world_is_safe()
-    ensures { (limit : ℕ) (events : List Event) (w : World) → limit < 2 ^ 24 → Runs (opening limit) events w → Safe w }
+    ensures { (limit : ℕ) (events : List Event) (w : World) → limit < 2 ^ 24 → Runs (opening limit) events w → SafeWorld w }
 {}
 
 /// A list of events leads to one World and no other.
@@ -41,50 +44,88 @@ pub fn one_world_comes()
         Runs (opening limit) events w → Runs (opening limit) events v → w ≡ v }
 {}
 
-/// In a safe World no two sessions hold conflicting modes on one object, by the contents of the partitions,
-/// and so by their own accounts.
+/// In a safe World no two sessions hold conflicting modes on one object, wherever the holds stand: both in
+/// contents of partitions, one in a fast-path slot (two in slots never conflict by their modes), and so by the
+/// sessions' own accounts.
 pub fn no_two_conflicting_holds()
-    ensures in_contents { (w : World) → Safe w →
+    ensures in_contents { (w : World) → SafeWorld w →
         (p session other : ℕ) (tag : Tag) (mode its : Mode) → session ≢ other →
         (w.contents.now p).holds session tag mode ≡ true → (w.contents.now p).holds other tag its ≡ true → conflict mode its ≡ false }
-    ensures own { (w : World) → Safe w →
+    ensures slot_and_content { (w : World) → SafeWorld w →
+        (p session other : ℕ) (tag : Tag) (mode its : Mode) →
+        slots_of w.words.database w.words.slot session tag mode ≡ true → (w.contents.now p).holds other tag its ≡ true →
+        conflict mode its ≡ false }
+    ensures own { (w : World) → SafeWorld w →
         (session other : ℕ) (tag : Tag) (mode its : Mode) → session ≢ other →
         w.sessions.own session tag mode ≡ true → w.sessions.own other tag its ≡ true → conflict mode its ≡ false }
 {}
 
 /// In a safe World a hold stands in a content exactly where the object is of that partition and the hold is
-/// the session's own or its pending grant: what it awaits, where its wait word shows that this was granted,
-/// or that grant stands unmarked in the hand that has the partition. What a session awaits is no own hold of it, so
-/// no hold is both.
+/// the session's own and in none of its slots, or its pending grant: what it awaits, where its wait word shows
+/// that this was granted, or that grant stands unmarked in the hand that has the partition. What a slot shows
+/// is own, and stands in no content and in no other slot. What a session awaits is no own hold of it, so no
+/// hold is both.
 pub fn each_hold_in_one_place()
-    ensures own_or_pending { (w : World) → Safe w →
+    ensures in_content { (w : World) → SafeWorld w →
         (p session : ℕ) (tag : Tag) (mode : Mode) →
         ((w.contents.now p).holds session tag mode ≡ true)
         ↔ ((partition_of tag ≡ p)
-        × ((w.sessions.own session tag mode ≡ true)
+        × (((w.sessions.own session tag mode ≡ true) × (slots_of w.words.database w.words.slot session tag mode ≡ false))
         ⊎ ((is_for (w.sessions.awaited session) tag mode ≡ true)
         × ((wait_state (w.words.wait session) ≡ 2) ⊎ (is_unmarked (w.contents.hand p) session ≡ true))))) }
-    ensures never_both { (w : World) → Safe w →
+    ensures in_slot { (w : World) → SafeWorld w →
+        (p session : ℕ) (tag : Tag) (mode : Mode) → slots_of w.words.database w.words.slot session tag mode ≡ true →
+        (w.sessions.own session tag mode ≡ true) × ((w.contents.now p).holds session tag mode ≡ false) }
+    ensures one_slot { (w : World) → SafeWorld w →
+        (session place other : ℕ) (tag : Tag) (mode : Mode) →
+        IsHeldIn (w.words.database session) (w.words.slot session) tag mode place →
+        IsHeldIn (w.words.database session) (w.words.slot session) tag mode other → place ≡ other }
+    ensures never_both { (w : World) → SafeWorld w →
         (session : ℕ) (tag : Tag) (mode : Mode) → is_for (w.sessions.awaited session) tag mode ≡ true → w.sessions.own session tag mode ≡ false }
+{}
+
+/// In a safe World each strong lock counter is how much is counted at its index: by each session, each mode on
+/// each object once at most. A strong mode that a session has, or awaits, is counted and past each session; and
+/// where something counted for an object is past a session, no slot of that session has the object.
+pub fn counters_show_what_is_counted()
+    ensures shown { (w : World) → SafeWorld w → (index : ℕ) → w.words.strong index ≡ counter w.numbers.limit w.sessions.counted index }
+    ensures once { (w : World) → SafeWorld w → (session : ℕ) → AtMostOnce (w.sessions.counted session) }
+    ensures held { (w : World) → SafeWorld w → (session : ℕ) (tag : Tag) (mode : Mode) → is_strong_on tag mode ≡ true →
+        w.sessions.own session tag mode ≡ true → is_done w.numbers.limit (w.sessions.counted session) tag mode ≡ true }
+    ensures awaited { (w : World) → SafeWorld w → (session : ℕ) (tag : Tag) (mode : Mode) → is_strong_on tag mode ≡ true →
+        is_for (w.sessions.awaited session) tag mode ≡ true → is_done w.numbers.limit (w.sessions.counted session) tag mode ≡ true }
+    ensures past { (w : World) → SafeWorld w → (session other : ℕ) (tag : Tag) (mode : Mode) →
+        is_past (w.sessions.counted session) tag other ≡ true → slots_of w.words.database w.words.slot other tag mode ≡ false }
+{}
+
+/// In a safe World a session that has read a strong lock counter as 0, and has not put the lock of its own slots
+/// since, holds that lock, and nobody has a strong mode on an object of that index, nor awaits one: so it may
+/// set a slot for such an object.
+pub fn a_counter_read_as_zero_is_a_permission()
+    ensures lock_is_held { (w : World) → SafeWorld w → (session index : ℕ) → w.sessions.zero session ≡ Some index →
+        w.sessions.holds_fast session session ≡ true }
+    ensures nobody_strong { (w : World) → SafeWorld w → (session other : ℕ) (tag : Tag) (mode : Mode) →
+        w.sessions.zero session ≡ Some (index_of tag) → session < w.numbers.limit → is_strong_on tag mode ≡ true →
+        (w.sessions.own other tag mode ≡ false) × (is_for (w.sessions.awaited other) tag mode ≡ false) }
 {}
 
 /// In a safe World nobody who waits is free to go: each waits for a holder in its way, or for somebody
 /// before it in the queue.
 pub fn nobody_who_waits_is_free()
-    ensures { (w : World) → Safe w →
+    ensures { (w : World) → SafeWorld w →
         (p : ℕ) (tag : Tag) → NoneFree (w.contents.now p) tag }
 {}
 
 /// In a safe World each entry of a queue, at any place, is the wait that its session has recorded, on that
 /// object, which is of that partition. A session stands at most once in a queue, and in one queue at most.
 pub fn a_session_waits_once()
-    ensures recorded { (w : World) → Safe w →
+    ensures recorded { (w : World) → SafeWorld w →
         (p place : ℕ) (tag : Tag) (entry : Wait) → slice_get ((w.contents.now p).waits tag) place ≡ Some entry →
         (partition_of tag ≡ p)
         × ((wait : OwnWait) × (w.sessions.awaited entry.session ≡ Some wait) × (wait.tag ≡ tag) × (entry ≡ entry_of entry.session wait)) }
-    ensures once { (w : World) → Safe w →
+    ensures once { (w : World) → SafeWorld w →
         (p session : ℕ) (tag : Tag) → count_by (λ wait. wait.session == session) ((w.contents.now p).waits tag) ≤ 1 }
-    ensures in_one_queue { (w : World) → Safe w →
+    ensures in_one_queue { (w : World) → SafeWorld w →
         (p q session : ℕ) (tag other : Tag) →
         waits_there ((w.contents.now p).waits tag) session ≡ true → waits_there ((w.contents.now q).waits other) session ≡ true →
         (p ≡ q) × (tag ≡ other) }
@@ -95,14 +136,14 @@ pub fn a_session_waits_once()
 /// its object's queue. Where it shows granted, what the session awaits is a hold in the content, and not
 /// its own yet.
 pub fn wait_words_tell()
-    ensures idle { (w : World) → Safe w →
+    ensures idle { (w : World) → SafeWorld w →
         (session : ℕ) → (wait_state (w.words.wait session) ≡ 0) ↔ (w.sessions.awaited session ≡ None) }
-    ensures queued { (w : World) → Safe w →
+    ensures queued { (w : World) → SafeWorld w →
         (p session : ℕ) (tag : Tag) → waits_there ((w.contents.now p).waits tag) session ≡ true → wait_state (w.words.wait session) ≡ 1 }
-    ensures waiting { (w : World) → Safe w →
+    ensures waiting { (w : World) → SafeWorld w →
         (session : ℕ) (wait : OwnWait) → w.sessions.awaited session ≡ Some wait → w.contents.hand (partition_of wait.tag) ≡ None →
         wait_state (w.words.wait session) ≡ 1 → waits_there ((w.contents.now (partition_of wait.tag)).waits wait.tag) session ≡ true }
-    ensures granted { (w : World) → Safe w →
+    ensures granted { (w : World) → SafeWorld w →
         (session : ℕ) → wait_state (w.words.wait session) ≡ 2 →
         (wait : OwnWait) × (w.sessions.awaited session ≡ Some wait)
         × ((w.contents.now (partition_of wait.tag)).holds session wait.tag wait.mode ≡ true)
@@ -112,7 +153,7 @@ pub fn wait_words_tell()
 /// In a safe World a partition's word shows an exclusive holder exactly where a session has the partition
 /// in hand.
 pub fn partition_words_show_the_hand()
-    ensures { (w : World) → Safe w →
+    ensures { (w : World) → SafeWorld w →
         (p : ℕ) → IsHeldExclusively (w.words.partition p) ↔ ((session : ℕ) × (w.sessions.holds_partition session p ≡ true)) }
 {}
 
@@ -120,38 +161,41 @@ pub fn partition_words_show_the_hand()
 /// it, and nobody shares it while somebody holds it exclusively; the word of a session's fast-path slots shows an exclusive holder
 /// exactly where there is one, and there is one at most.
 pub fn lightweight_words_show_who_holds_them()
-    ensures partition_shared { (w : World) → Safe w → (p : ℕ) →
+    ensures partition_shared { (w : World) → SafeWorld w → (p : ℕ) →
         shared_count (w.words.partition p) ≡ how_many w.numbers.limit (λ session. w.sessions.shares_partition session p) }
-    ensures partition_never_both { (w : World) → Safe w → (p session other : ℕ) →
+    ensures partition_never_both { (w : World) → SafeWorld w → (p session other : ℕ) →
         w.sessions.holds_partition session p ≡ true → w.sessions.shares_partition other p ≡ false }
-    ensures fast_exclusive { (w : World) → Safe w → (owner : ℕ) →
+    ensures fast_exclusive { (w : World) → SafeWorld w → (owner : ℕ) →
         IsHeldExclusively (w.words.fast owner) ↔ ((session : ℕ) × (w.sessions.holds_fast session owner ≡ true)) }
-    ensures fast_by_one { (w : World) → Safe w → (owner session other : ℕ) →
+    ensures fast_by_one { (w : World) → SafeWorld w → (owner session other : ℕ) →
         w.sessions.holds_fast session owner ≡ true → w.sessions.holds_fast other owner ≡ true → session ≡ other }
-    ensures fast_shared { (w : World) → Safe w → (owner : ℕ) →
+    ensures fast_shared { (w : World) → SafeWorld w → (owner : ℕ) →
         shared_count (w.words.fast owner) ≡ how_many w.numbers.limit (λ session. w.sessions.shares_fast session owner) }
-    ensures fast_never_both { (w : World) → Safe w → (owner session other : ℕ) →
+    ensures fast_never_both { (w : World) → SafeWorld w → (owner session other : ℕ) →
         w.sessions.holds_fast session owner ≡ true → w.sessions.shares_fast other owner ≡ false }
 {}
 
 /// In a safe World no two sessions have one partition in hand.
 pub fn one_hand_at_a_time()
-    ensures { (w : World) → Safe w →
+    ensures { (w : World) → SafeWorld w →
         (p session other : ℕ) → w.sessions.holds_partition session p ≡ true → w.sessions.holds_partition other p ≡ true → session ≡ other }
 {}
 
-/// In a safe World a session number that is not live has no hold, by its own account and in each content,
-/// no wait, recorded or in a queue, no partition in hand, and no lightweight lock, exclusively or shared.
+/// In a safe World a session number that is not live has no hold, by its own account, in each content and in its
+/// slots, no wait, recorded or in a queue, no partition in hand, no lightweight lock, exclusively or shared, and
+/// nothing counted.
 pub fn spent_sessions_have_nothing()
-    ensures no_hold { (w : World) → Safe w →
+    ensures no_hold { (w : World) → SafeWorld w →
         (session p : ℕ) (tag : Tag) (mode : Mode) → w.numbers.live session ≡ false →
-        (w.sessions.own session tag mode ≡ false) × ((w.contents.now p).holds session tag mode ≡ false) }
-    ensures no_wait { (w : World) → Safe w →
+        (w.sessions.own session tag mode ≡ false) × ((w.contents.now p).holds session tag mode ≡ false)
+        × (slots_of w.words.database w.words.slot session tag mode ≡ false) }
+    ensures no_count { (w : World) → SafeWorld w → (session : ℕ) → w.numbers.live session ≡ false → w.sessions.counted session ≡ [] }
+    ensures no_wait { (w : World) → SafeWorld w →
         (session p : ℕ) (tag : Tag) → w.numbers.live session ≡ false →
         (w.sessions.awaited session ≡ None) × (waits_there ((w.contents.now p).waits tag) session ≡ false) }
-    ensures no_hand { (w : World) → Safe w →
+    ensures no_hand { (w : World) → SafeWorld w →
         (session p : ℕ) → w.numbers.live session ≡ false → w.sessions.holds_partition session p ≡ false }
-    ensures no_lock { (w : World) → Safe w →
+    ensures no_lock { (w : World) → SafeWorld w →
         (session lock : ℕ) → w.numbers.live session ≡ false →
         (w.sessions.shares_partition session lock ≡ false) × (w.sessions.holds_fast session lock ≡ false)
         × (w.sessions.shares_fast session lock ≡ false) }
@@ -160,7 +204,7 @@ pub fn spent_sessions_have_nothing()
 /// In a safe World each episode of a trace put what one move of its session makes of the content that it took: an earlier
 /// entry took just that content, and the session had it in hand until then.
 pub fn each_episode_is_one_move()
-    ensures moved { (w : World) → Safe w →
+    ensures moved { (w : World) → SafeWorld w →
         (session p : ℕ) (taken put_back : Content) (before after : List TraceEntry) →
         w.sessions.trace session ≡ before ++ Episode p taken put_back ∷ after →
         (taken_by (λ _. None) before p ≡ Some taken) × IsOneMove taken session put_back }
@@ -171,14 +215,14 @@ pub fn each_episode_is_one_move()
 /// In a safe World a trace tells what its session has in hand: of each partition the content as it took it, and nothing where
 /// the partition is at home or in another's hand.
 pub fn traces_tell_what_is_in_hand()
-    ensures { (w : World) → Safe w → (session p : ℕ) →
+    ensures { (w : World) → SafeWorld w → (session p : ℕ) →
         taken_by (λ _. None) (w.sessions.trace session) p ≡ taken_in (w.contents.hand p) session }
 {}
 
 /// In a safe World a number that was not given out has no trace; whoever is kept apart is live, and so is who keeps it apart.
 pub fn numbers_are_in_order()
-    ensures new { (w : World) → Safe w → (session : ℕ) → w.numbers.issued ≤ session → w.sessions.trace session ≡ [] }
-    ensures kept_apart { (w : World) → Safe w → (session joiner : ℕ) → w.numbers.kept_by session ≡ Some joiner →
+    ensures new { (w : World) → SafeWorld w → (session : ℕ) → w.numbers.issued ≤ session → w.sessions.trace session ≡ [] }
+    ensures kept_apart { (w : World) → SafeWorld w → (session joiner : ℕ) → w.numbers.kept_by session ≡ Some joiner →
         (w.numbers.live session ≡ true) × (w.numbers.live joiner ≡ true) }
 {}
 
@@ -194,7 +238,7 @@ pub fn asking_sets_one_bit()
 /// seen of that, what it has in hand with its contents, and its trace; the words that it holds; and whether its number is
 /// live and kept apart. Its wait word the event leaves, or asks it there to cancel, or turns waiting into granted.
 pub fn others_are_untouched()
-    ensures account { (w v : World) (event : Event) (other : ℕ) → Safe w → Happens w event v → other ≢ event.session → IsLeftAlone w v other }
+    ensures account { (w v : World) (event : Event) (other : ℕ) → SafeWorld w → Happens w event v → other ≢ event.session → IsLeftAlone w v other }
     ensures wait_word { (w v : World) (event : Event) (other : ℕ) → Happens w event v → other ≢ event.session →
         (v.words.wait other ≡ w.words.wait other)
         ⊎ ((v.words.wait other ≡ asked_word (w.words.wait other))

@@ -1,23 +1,24 @@
 use Rattle.std.proofs.Common.{◌≢◌, ℕ, refl}
 use Rattle.lock_world.specs.declared.events.Event.{Event}
 use Rattle.lock_world.specs.declared.events.Step.{Step}
-use Rattle.lock_world.specs.declared.events.Step.TheVariants.{TakeExclusive, PutExclusive, TakeShared, PutShared, SplitSeat, JoinSeat, AskCancel, LoadWait, SetWaiting, MarkGranted, ClearWait}
+use Rattle.lock_world.specs.declared.events.Step.TheVariants.{TakeExclusive, PutExclusive, TakeShared, PutShared, SplitSeat, JoinSeat, AskCancel, LoadWait, SetWaiting, MarkGranted, ClearWait, PutPassing, LoadStrong, LoadWord, SetSlot, ClearSlot, StoreDatabase, Count, Uncount}
 use Rattle.lock_world.specs.World.{World}
 use Rattle.lock_world.specs.Account.{IsLeftAlone}
-use Rattle.lock_world.specs.Happens.{Happens, HappensStep, HappensTaking, HappensPutting, HappensSharing, HappensUnsharing}
-use Rattle.lock_world.specs.Safe.{Safe}
+use Rattle.lock_world.specs.Happens.{Happens, HappensStep, HappensTaking, HappensPutting, HappensSharing, HappensUnsharing, HappensLoading}
+use Rattle.lock_world.specs.SafeWorld.{SafeWorld}
 use Rattle.lock_table.proofs.PutLemmas.{set_at-else}
-use Rattle.lock_world.proofs.Others.Hands.{IsLeftAlone-same, IsLeftAlone-by, no_lock}
+use Rattle.lock_world.proofs.Others.Hands.{IsLeftAlone-same, IsLeftAlone-by}
 use Rattle.lock_world.proofs.Others.Seats.{splitting-others, joining-others}
 use Rattle.lock_table.specs.declared.moves.Move.{Move}
 use Rattle.lock_world.specs.declared.events.Word.{Word}
 use Rattle.lock_world.specs.declared.events.Word.TheVariants.{Partition, Fast, Database, Slot, Wait, Strong, Sleep}
 use Rattle.lock_world.proofs.Others.Partitions.{taking_partition-others, putting_partition-others}
 use Rattle.lock_world.proofs.Others.Sharing.{sharing_partition-others, unsharing_partition-others, sharing_fast-others, unsharing_fast-others}
-use Rattle.lock_world.proofs.Others.Slots.{taking_fast-others, putting_fast-others}
+use Rattle.lock_world.proofs.Others.Slots.{taking_fast-others, putting_fast-others, loading-others, reading_counter-others, setting_slot-others, clearing_slot-others, storing_database-others}
+use Rattle.lock_world.proofs.Others.Counters.{counting-others, uncounting-others, passing-others}
 use Rattle.lock_world.proofs.Others.Waits.{setting-others, marking-others, clearing-others}
 
-taking-others : (w : World) (s : ℕ) (word : Word) (v : World) (k : ℕ) → Safe w → k ≢ s → HappensTaking w s word v → IsLeftAlone w v k
+taking-others : (w : World) (s : ℕ) (word : Word) (v : World) (k : ℕ) → SafeWorld w → k ≢ s → HappensTaking w s word v → IsLeftAlone w v k
 taking-others w s (Partition p) v k safe other h = taking_partition-others w s p v k safe other h
 taking-others w s (Fast o) v k safe other h = taking_fast-others w s o v k other h
 taking-others w s (Database o) v k safe other h = absurd h
@@ -26,7 +27,7 @@ taking-others w s (Wait o) v k safe other h = absurd h
 taking-others w s (Strong i) v k safe other h = absurd h
 taking-others w s (Sleep o) v k safe other h = absurd h
 
-putting-others : (w : World) (s : ℕ) (word : Word) (done : Move) (v : World) (k : ℕ) → Safe w → k ≢ s → HappensPutting w s word done v → IsLeftAlone w v k
+putting-others : (w : World) (s : ℕ) (word : Word) (done : Move) (v : World) (k : ℕ) → SafeWorld w → k ≢ s → HappensPutting w s word done v → IsLeftAlone w v k
 putting-others w s (Partition p) done v k safe other h = putting_partition-others w s p done v k safe other h
 putting-others w s (Fast o) done v k safe other h = putting_fast-others w s o v k other h.1
 putting-others w s (Database o) done v k safe other h = absurd h
@@ -53,7 +54,16 @@ unsharing-others w s (Wait o) v k other h = absurd h
 unsharing-others w s (Strong i) v k other h = absurd h
 unsharing-others w s (Sleep o) v k other h = absurd h
 
-step-others : (w : World) (s : ℕ) (step : Step) (v : World) (k : ℕ) → Safe w → k ≢ s → HappensStep w s step v → IsLeftAlone w v k
+loaded-others : (w : World) (s : ℕ) (word : Word) (n : ℕ) (v : World) (k : ℕ) → k ≢ s → HappensLoading w s word n v → IsLeftAlone w v k
+loaded-others w s (Partition p) n v k other h = absurd h
+loaded-others w s (Fast o) n v k other h = IsLeftAlone-same k w _ v h.2 (loading-others w s (Fast o) n k other)
+loaded-others w s (Database o) n v k other h = IsLeftAlone-same k w _ v h.1 (loading-others w s (Database o) n k other)
+loaded-others w s (Slot o i) n v k other h = IsLeftAlone-same k w _ v h.1 (loading-others w s (Slot o i) n k other)
+loaded-others w s (Wait o) n v k other h = absurd h
+loaded-others w s (Strong i) n v k other h = absurd h
+loaded-others w s (Sleep o) n v k other h = absurd h
+
+step-others : (w : World) (s : ℕ) (step : Step) (v : World) (k : ℕ) → SafeWorld w → k ≢ s → HappensStep w s step v → IsLeftAlone w v k
 step-others w s (TakeExclusive word) v k safe other h = taking-others w s word v k safe other h
 step-others w s (PutExclusive word done) v k safe other h = putting-others w s word done v k safe other h
 step-others w s (TakeShared word) v k safe other h = sharing-others w s word v k other h
@@ -61,13 +71,21 @@ step-others w s (PutShared word) v k safe other h = unsharing-others w s word v 
 step-others w s SplitSeat v k safe other h = splitting-others w s v k other h
 step-others w s (JoinSeat joiner) v k safe other h = joining-others w s joiner v k other h
 step-others w s (AskCancel o) v k safe other h =
-    IsLeftAlone-same k w _ v h.1 (IsLeftAlone-by w _ k refl refl refl refl (set_at-else w.sessions.trace s _ k other) (no_lock w _ k refl refl refl refl) refl refl)
+    IsLeftAlone-same k w _ v h.1 (IsLeftAlone-by w _ k refl refl refl refl refl refl (set_at-else w.sessions.trace s _ k other) refl refl)
 step-others w s (LoadWait n) v k safe other h =
-    IsLeftAlone-same k w _ v h.1 (IsLeftAlone-by w _ k refl refl (set_at-else w.sessions.seen s _ k other) refl (set_at-else w.sessions.trace s _ k other) (no_lock w _ k refl refl refl refl) refl refl)
+    IsLeftAlone-same k w _ v h.1 (IsLeftAlone-by w _ k refl refl (set_at-else w.sessions.seen s _ k other) refl refl refl (set_at-else w.sessions.trace s _ k other) refl refl)
 step-others w s (SetWaiting t m) v k safe other h = setting-others w s t m v k safe other h
 step-others w s (MarkGranted marked done) v k safe other h = marking-others w s marked done v k safe other h
 step-others w s (ClearWait leaving) v k safe other h = clearing-others w s leaving v k safe other h
+step-others w s (PutPassing o t m) v k safe other h = IsLeftAlone-same k w _ v h.1 (passing-others w s o t m k other)
+step-others w s (LoadStrong i n) v k safe other h = IsLeftAlone-same k w _ v h.1 (reading_counter-others w s i n k other)
+step-others w s (LoadWord word n) v k safe other h = loaded-others w s word n v k other h
+step-others w s (SetSlot i t m) v k safe other h = IsLeftAlone-same k w _ v h.1 (setting_slot-others w s i t m k safe other h.0)
+step-others w s (ClearSlot i t m) v k safe other h = IsLeftAlone-same k w _ v h.1 (clearing_slot-others w s i t m k safe other h.0)
+step-others w s (StoreDatabase d) v k safe other h = IsLeftAlone-same k w _ v h.1 (storing_database-others w s d k other h.0)
+step-others w s (Count t m) v k safe other h = IsLeftAlone-same k w _ v h.1 (counting-others w s t m k other)
+step-others w s (Uncount t m) v k safe other h = IsLeftAlone-same k w _ v h.1 (uncounting-others w s t m k other)
 
 -- An event leaves other sessions alone.
-pub event-others : (w v : World) (event : Event) (other : ℕ) → Safe w → Happens w event v → other ≢ event.session → IsLeftAlone w v other
+pub event-others : (w v : World) (event : Event) (other : ℕ) → SafeWorld w → Happens w event v → other ≢ event.session → IsLeftAlone w v other
 event-others w v event other safe h apart = step-others w event.session event.step v other safe apart h

@@ -4,7 +4,7 @@ use Rattle.std.proofs.lemmas.Bool.{cases_eq, cond-false, eqb-true, ne_eqb}
 use Rattle.lock_table.specs.Content.{Content}
 use Rattle.lock_table.specs.Put.{set_at}
 use Rattle.lock_world.specs.World.{World, Hand}
-use Rattle.lock_world.specs.Account.{own_hand, own_hands, HoldsTheSame, IsLeftAlone}
+use Rattle.lock_world.specs.Account.{own_hand, own_hands, slots_in_hand, fast_account, IsLeftAlone}
 use Rattle.lock_world.specs.Safe.{is_hand_of}
 use Rattle.lock_table.proofs.PutLemmas.{set_at-here, set_at-else}
 
@@ -34,28 +34,20 @@ IsLeftAlone-same k w u v e alone = subst (λ z. IsLeftAlone w z k) (sym e) alone
 -- An account is the same part by part.
 pub IsLeftAlone-by :
     (w v : World) (k : ℕ) → v.sessions.own k ≡ w.sessions.own k → v.sessions.awaited k ≡ w.sessions.awaited k → v.sessions.seen k ≡ w.sessions.seen k
-    → own_hands v.contents.hand v.contents.now k ≡ own_hands w.contents.hand w.contents.now k → v.sessions.trace k ≡ w.sessions.trace k
-    → HoldsTheSame w v k → v.numbers.live k ≡ w.numbers.live k → v.numbers.kept_by k ≡ w.numbers.kept_by k
+    → own_hands v.contents.hand v.contents.now k ≡ own_hands w.contents.hand w.contents.now k → v.sessions.shares_partition k ≡ w.sessions.shares_partition k
+    → fast_account v k ≡ fast_account w k → v.sessions.trace k ≡ w.sessions.trace k
+    → v.numbers.live k ≡ w.numbers.live k → v.numbers.kept_by k ≡ w.numbers.kept_by k
     → IsLeftAlone w v k
-IsLeftAlone-by w v k own awaited seen hand trace words live kept_by = record {
-  account = λ i. record { own = own i; awaited = awaited i; seen = seen i; hand = hand i; trace = trace i };
-  words = words;
+IsLeftAlone-by w v k own awaited seen hand shares fast trace live kept_by = record {
+  account = λ i. record { own = own i; awaited = awaited i; seen = seen i; hand = hand i; shares = shares i; fast = fast i; trace = trace i };
   live = live;
   kept_by = kept_by;
 }
 
--- The words that a session holds are the same range by range.
-pub IsLeftAlone-holds :
-    (w v : World) (k : ℕ) → ((p : ℕ) → v.sessions.holds_partition k p ≡ w.sessions.holds_partition k p) → ((p : ℕ) → v.sessions.shares_partition k p ≡ w.sessions.shares_partition k p)
-    → ((o : ℕ) → v.sessions.holds_fast k o ≡ w.sessions.holds_fast k o) → ((o : ℕ) → v.sessions.shares_fast k o ≡ w.sessions.shares_fast k o) → HoldsTheSame w v k
-IsLeftAlone-holds w v k partition shared_partition fast shared_fast = record { partition = partition; shared_partition = shared_partition; fast = fast; shared_fast = shared_fast }
-
--- A step on no word of a lightweight lock leaves all of them as they are.
-pub no_lock : (w v : World) (k : ℕ) → v.sessions.holds_partition ≡ w.sessions.holds_partition → v.sessions.shares_partition ≡ w.sessions.shares_partition
-    → v.sessions.holds_fast ≡ w.sessions.holds_fast → v.sessions.shares_fast ≡ w.sessions.shares_fast → HoldsTheSame w v k
-no_lock w v k a b c d = record {
-  partition = λ p. ap (λ f. f k p) a;
-  shared_partition = λ p. ap (λ f. f k p) b;
-  fast = λ o. ap (λ f. f k o) c;
-  shared_fast = λ o. ap (λ f. f k o) d;
-}
+-- What a session knows of slots and counters is the same part by part.
+pub fast_account-by :
+    (w v : World) (k : ℕ) → slots_in_hand (v.sessions.holds_fast k) v.words.database v.words.slot ≡ slots_in_hand (w.sessions.holds_fast k) w.words.database w.words.slot
+    → slots_in_hand (v.sessions.shares_fast k) v.words.database v.words.slot ≡ slots_in_hand (w.sessions.shares_fast k) w.words.database w.words.slot
+    → v.words.database k ≡ w.words.database k → v.sessions.zero k ≡ w.sessions.zero k → v.sessions.counted k ≡ w.sessions.counted k
+    → fast_account v k ≡ fast_account w k
+fast_account-by w v k slots shared_slots database zero counted = λ i. record { slots = slots i; shared_slots = shared_slots i; database = database i; zero = zero i; counted = counted i }

@@ -5,14 +5,14 @@ use Rattle.lock_world.specs.declared.events.Event.{Event}
 use Rattle.lock_table.specs.declared.moves.Move.{Move}
 use Rattle.lock_table.specs.declared.moves.Move.TheVariants.{Keep, Grant, Join, Release, Leave}
 use Rattle.lock_world.specs.declared.events.Step.{Step}
-use Rattle.lock_world.specs.declared.events.Step.TheVariants.{TakeExclusive, PutExclusive, TakeShared, PutShared, SplitSeat, JoinSeat, AskCancel, LoadWait, SetWaiting, MarkGranted, ClearWait}
+use Rattle.lock_world.specs.declared.events.Step.TheVariants.{TakeExclusive, PutExclusive, TakeShared, PutShared, SplitSeat, JoinSeat, AskCancel, LoadWait, SetWaiting, MarkGranted, ClearWait, PutPassing, LoadStrong, LoadWord, SetSlot, ClearSlot, StoreDatabase, Count, Uncount}
 use Rattle.lock_world.specs.declared.events.Word.{Word}
 use Rattle.lock_world.specs.declared.events.Word.TheVariants.{Partition, Fast, Database, Slot, Wait, Strong, Sleep}
 use Rattle.lock_world.specs.WaitWord.{wait_state, asked_word, granted_word}
 use Rattle.lock_world.specs.World.{World}
 use Rattle.lock_table.specs.Put.{set_at}
 use Rattle.lock_world.specs.Happens.Waits.{HappensMarking, HappensMarkingIn, HappensClearing}
-use Rattle.lock_world.specs.Happens.{Happens, HappensStep, HappensTaking, HappensPutting, HappensSharing, HappensUnsharing}
+use Rattle.lock_world.specs.Happens.{Happens, HappensStep, HappensTaking, HappensPutting, HappensSharing, HappensUnsharing, HappensLoading}
 use Rattle.lock_world.specs.Happens.Seats.{HappensJoining}
 use Rattle.lock_table.proofs.PutLemmas.{set_at-here, set_at-else}
 
@@ -88,6 +88,15 @@ word-clearing w s false v k other h = word k w _ v h.2 (inl (set_at-else w.words
 word-clearing w s true v k other (inl h) = word k w _ v h.4 (inl (set_at-else w.words.wait s 0 k other))
 word-clearing w s true v k other (inr h) = word k w _ v h.3 (inl (set_at-else w.words.wait s 0 k other))
 
+word-loading : (w : World) (s : ℕ) (loaded : Word) (n : ℕ) (v : World) (k : ℕ) → HappensLoading w s loaded n v → IsLeftOrMarked (w.words.wait k) (v.words.wait k)
+word-loading w s (Partition p) n v k h = absurd h
+word-loading w s (Fast o) n v k h = word k w _ v h.2 (inl refl)
+word-loading w s (Database o) n v k h = word k w _ v h.1 (inl refl)
+word-loading w s (Slot o i) n v k h = word k w _ v h.1 (inl refl)
+word-loading w s (Wait o) n v k h = absurd h
+word-loading w s (Strong i) n v k h = absurd h
+word-loading w s (Sleep o) n v k h = absurd h
+
 word-step_by : (w : World) (s : ℕ) (step : Step) (v : World) (k : ℕ) → k ≢ s → HappensStep w s step v → IsLeftOrMarked (w.words.wait k) (v.words.wait k)
 word-step_by w s (TakeExclusive taken) v k other h = word-taking w s taken v k h
 word-step_by w s (PutExclusive put done) v k other h = word-putting w s put done v k h
@@ -101,6 +110,14 @@ word-step_by w s (LoadWait n) v k other h = word k w _ v h.1 (inl refl)
 word-step_by w s (SetWaiting t m) v k other h = word k w _ v h.2 (inl (set_at-else w.words.wait s 1 k other))
 word-step_by w s (MarkGranted marked done) v k other h = word-marking w s marked done v k h
 word-step_by w s (ClearWait leaving) v k other h = word-clearing w s leaving v k other h
+word-step_by w s (PutPassing o t m) v k other h = word k w _ v h.1 (inl refl)
+word-step_by w s (LoadStrong i n) v k other h = word k w _ v h.1 (inl refl)
+word-step_by w s (LoadWord loaded n) v k other h = word-loading w s loaded n v k h
+word-step_by w s (SetSlot i t m) v k other h = word k w _ v h.1 (inl refl)
+word-step_by w s (ClearSlot i t m) v k other h = word k w _ v h.1 (inl refl)
+word-step_by w s (StoreDatabase d) v k other h = word k w _ v h.1 (inl refl)
+word-step_by w s (Count t m) v k other h = word k w _ v h.1 (inl refl)
+word-step_by w s (Uncount t m) v k other h = word k w _ v h.1 (inl refl)
 
 pub left_or_marked : (w v : World) (event : Event) (other : ℕ) → Happens w event v → other ≢ event.session → IsLeftOrMarked (w.words.wait other) (v.words.wait other)
 left_or_marked w v event other h apart = word-step_by w event.session event.step v other apart h

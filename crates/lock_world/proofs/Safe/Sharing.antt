@@ -4,13 +4,13 @@ use Rattle.lw_word.specs.LightweightWord.{shared_word, unshared_word}
 use Rattle.lock_table.specs.Put.{set_at}
 use Rattle.lock_world.specs.World.{World}
 use Rattle.lock_world.specs.Happens.Sharing.{MayShare, MayUnshare, after_sharing_partition, after_unsharing_partition, after_sharing_fast, after_unsharing_fast}
-use Rattle.lock_world.specs.Safe.{Safe}
+use Rattle.lock_world.specs.Safe.{SafeButSlots}
 use Rattle.lock_table.proofs.PutLemmas.{row-else}
 use Rattle.lock_world.proofs.Words.Holders.{ShowsHolders-shared, ShowsHolders-unshared, WordsShowHolders-share}
 use Rattle.lock_world.proofs.Table.Sharing.{with_partition_words-table, with_fast_words-table}
 
 -- Whoever is live is below the limit.
-pub live-within : (w : World) (s : ℕ) → Safe w → w.numbers.live s ≡ true → s < w.numbers.limit
+pub live-within : (w : World) (s : ℕ) → SafeButSlots w → w.numbers.live s ≡ true → s < w.numbers.limit
 live-within w s safe alive =
     let given : s < w.numbers.issued = safe.table.carriers.numbers.live_is_issued s alive in
     let all = safe.table.carriers.numbers.within in
@@ -26,7 +26,7 @@ none-else live has s lock b alive none k q dead =
     ]
 
 -- Sharing a partition's word is safe, and so is giving it back.
-pub sharing_partition-safe : (w : World) (s p : ℕ) → Safe w → MayShare w.numbers (w.words.partition p) w.sessions.shares_partition s p → Safe (after_sharing_partition w s p)
+pub sharing_partition-safe : (w : World) (s p : ℕ) → SafeButSlots w → MayShare w.numbers (w.words.partition p) w.sessions.shares_partition s p → SafeButSlots (after_sharing_partition w s p)
 sharing_partition-safe w s p safe may = record {
   table = with_partition_words-table w _ _ safe.table
       (WordsShowHolders-share w.numbers.limit w.words.partition w.sessions.holds_partition w.sessions.shares_partition s p true (shared_word (w.words.partition p))
@@ -41,7 +41,7 @@ sharing_partition-safe w s p safe may = record {
   traces = safe.traces;
 }
 
-pub unsharing_partition-safe : (w : World) (s p : ℕ) → Safe w → MayUnshare w.numbers w.sessions.shares_partition s p → Safe (after_unsharing_partition w s p)
+pub unsharing_partition-safe : (w : World) (s p : ℕ) → SafeButSlots w → MayUnshare w.numbers w.sessions.shares_partition s p → SafeButSlots (after_unsharing_partition w s p)
 unsharing_partition-safe w s p safe may = record {
   table = with_partition_words-table w _ _ safe.table
       (WordsShowHolders-share w.numbers.limit w.words.partition w.sessions.holds_partition w.sessions.shares_partition s p false (unshared_word (w.words.partition p))
@@ -57,7 +57,7 @@ unsharing_partition-safe w s p safe may = record {
 }
 
 -- Sharing the word of a session's fast-path lock is safe, and so is giving it back.
-pub sharing_fast-safe : (w : World) (s o : ℕ) → Safe w → MayShare w.numbers (w.words.fast o) w.sessions.shares_fast s o → Safe (after_sharing_fast w s o)
+pub sharing_fast-safe : (w : World) (s o : ℕ) → SafeButSlots w → MayShare w.numbers (w.words.fast o) w.sessions.shares_fast s o → SafeButSlots (after_sharing_fast w s o)
 sharing_fast-safe w s o safe may = record {
   table = with_fast_words-table w _ w.sessions.holds_fast _ _ safe.table;
   locks = record {
@@ -71,7 +71,7 @@ sharing_fast-safe w s o safe may = record {
   traces = safe.traces;
 }
 
-pub unsharing_fast-safe : (w : World) (s o : ℕ) → Safe w → MayUnshare w.numbers w.sessions.shares_fast s o → Safe (after_unsharing_fast w s o)
+pub unsharing_fast-safe : (w : World) (s o : ℕ) → SafeButSlots w → MayUnshare w.numbers w.sessions.shares_fast s o → SafeButSlots (after_unsharing_fast w s o)
 unsharing_fast-safe w s o safe may = record {
   table = with_fast_words-table w _ w.sessions.holds_fast _ _ safe.table;
   locks = record {

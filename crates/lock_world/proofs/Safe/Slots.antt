@@ -2,13 +2,13 @@ use Rattle.std.proofs.Common.{ℕ, true, false}
 use Rattle.lw_word.specs.LightweightWord.{taken_word, put_word}
 use Rattle.lock_world.specs.World.{World}
 use Rattle.lock_world.specs.Happens.Slots.{MayTakeFast, after_taking_fast, MayPutFast, after_putting_fast}
-use Rattle.lock_world.specs.Safe.{Safe}
+use Rattle.lock_world.specs.Safe.{SafeButSlots}
 use Rattle.lock_world.proofs.Words.Holders.{ShowsHolders-taken, ShowsHolders-put, WordsShowHolders-set}
 use Rattle.lock_world.proofs.Table.Sharing.{with_fast_words-table}
 use Rattle.lock_world.proofs.Safe.Sharing.{none-else}
 
 -- Taking the lock of a session's fast-path slots is safe, and so is putting it.
-pub taking_fast-safe : (w : World) (s o : ℕ) → Safe w → MayTakeFast w s o → Safe (after_taking_fast w s o)
+pub taking_fast-safe : (w : World) (s o : ℕ) → SafeButSlots w → MayTakeFast w s o → SafeButSlots (after_taking_fast w s o)
 taking_fast-safe w s o safe may = record {
   table = with_fast_words-table w _ _ w.sessions.shares_fast _ safe.table;
   locks = record {
@@ -21,7 +21,7 @@ taking_fast-safe w s o safe may = record {
   traces = safe.traces;
 }
 
-pub putting_fast-safe : (w : World) (s o : ℕ) → Safe w → MayPutFast w s o → Safe (after_putting_fast w s o)
+pub putting_fast-safe : (w : World) (s o : ℕ) → SafeButSlots w → MayPutFast w s o → SafeButSlots (after_putting_fast w s o)
 putting_fast-safe w s o safe may = record {
   table = with_fast_words-table w _ _ w.sessions.shares_fast _ safe.table;
   locks = record {

@@ -12,7 +12,7 @@ use Rattle.lock_world.specs.declared.events.Word.TheVariants as word
 use Rattle.lock_world.specs.Happens.Partitions.{MayMove}
 use Rattle.lock_world.specs.Happens.Waits.{after_asking, after_loading_wait, recording, without, after_setting_waiting, MayMarkFirst, after_marking_first, MayMarkNext, after_marking_next, MayClearSeen, MayClearInHand, after_clearing, MayLeave, after_leaving}
 use Rattle.lock_table.specs.Queue.{waits_there}
-use Rattle.lock_world.specs.Safe.{Safe, TracesTell}
+use Rattle.lock_world.specs.Safe.{SafeButSlots, TracesTell}
 use Rattle.lock_world.proofs.Safe.Partitions.{live-given, holding-hand}
 use Rattle.lock_world.proofs.Waits.Steps.{GrantsOthers}
 use Rattle.lock_world.proofs.Table.Waits.{asking-table, loading_wait-table, setting_waiting-table, marking_first-table, marking_next-table, clearing_seen-table, clearing_in_hand-table, leaving-table}
@@ -21,14 +21,14 @@ use Rattle.lock_table.proofs.PutLemmas.{set_at-same}
 
 -- A move made on a content in hand is recorded.
 recording-traces :
-    (w : World) (s p : ℕ) (done : Move) (granted : List Wait) (content : Content) (unmarked : ℕ → Bool) → Safe w → MayMove w s p done granted content
+    (w : World) (s p : ℕ) (done : Move) (granted : List Wait) (content : Content) (unmarked : ℕ → Bool) → SafeButSlots w → MayMove w s p done granted content
     → TracesTell (record { now = set_at w.contents.now p content; hand = set_at w.contents.hand p (recording (w.contents.hand p) done unmarked) }) w.sessions.trace w.numbers.issued
 recording-traces w s p done granted content unmarked safe may =
     TracesTell-record w.contents w.sessions.trace w.numbers.issued safe.traces p done unmarked content
     (recorded-made w.contents w.sessions.trace w.numbers.issued safe.traces s p done unmarked granted content (holding-hand w s p safe may.holding) may.unrecorded may.moved)
 
 -- Asking a session to cancel is safe.
-pub asking-safe : (w : World) (s k : ℕ) → Safe w → MakesSteps w.numbers s → Safe (after_asking w s k)
+pub asking-safe : (w : World) (s k : ℕ) → SafeButSlots w → MakesSteps w.numbers s → SafeButSlots (after_asking w s k)
 asking-safe w s k safe steps = record {
   table = asking-table w s k safe.table;
   locks = safe.locks;
@@ -36,7 +36,7 @@ asking-safe w s k safe steps = record {
 }
 
 -- Loading the own wait word is safe.
-pub loading_wait-safe : (w : World) (s n : ℕ) → Safe w → MakesSteps w.numbers s → Safe (after_loading_wait w s n)
+pub loading_wait-safe : (w : World) (s n : ℕ) → SafeButSlots w → MakesSteps w.numbers s → SafeButSlots (after_loading_wait w s n)
 loading_wait-safe w s n safe steps = record {
   table = loading_wait-table w s n safe.table;
   locks = safe.locks;
@@ -44,7 +44,7 @@ loading_wait-safe w s n safe steps = record {
 }
 
 -- Setting the own wait word to waiting is safe.
-pub setting_waiting-safe : (w : World) (s : ℕ) (t : Tag) (m : Mode) (content : Content) → Safe w → MayMove w s (partition_of t) (Join t m) [] content → Safe (after_setting_waiting w s t m content)
+pub setting_waiting-safe : (w : World) (s : ℕ) (t : Tag) (m : Mode) (content : Content) → SafeButSlots w → MayMove w s (partition_of t) (Join t m) [] content → SafeButSlots (after_setting_waiting w s t m content)
 setting_waiting-safe w s t m content safe may = record {
   table = setting_waiting-table w s t m content safe.table may;
   locks = safe.locks;
@@ -52,15 +52,15 @@ setting_waiting-safe w s t m content safe may = record {
 }
 
 -- Marking a wait granted is safe: the first one of a move, and each further one.
-pub marking_first-safe : (w : World) (s k p : ℕ) (done : Move) (granted : List Wait) (content : Content) → GrantsOthers done → Safe w → MayMarkFirst w s k p done granted content
-    → Safe (after_marking_first w s k p done granted content)
+pub marking_first-safe : (w : World) (s k p : ℕ) (done : Move) (granted : List Wait) (content : Content) → GrantsOthers done → SafeButSlots w → MayMarkFirst w s k p done granted content
+    → SafeButSlots (after_marking_first w s k p done granted content)
 marking_first-safe w s k p done granted content grants safe may = record {
   table = marking_first-table w s k p done granted content grants safe.table may;
   locks = safe.locks;
   traces = recording-traces w s p done granted content (without (waits_there granted) k) safe may.may_move;
 }
 
-pub marking_next-safe : (w : World) (s k p : ℕ) (done : Move) → Safe w → MayMarkNext w s k p done → Safe (after_marking_next w k p done)
+pub marking_next-safe : (w : World) (s k p : ℕ) (done : Move) → SafeButSlots w → MayMarkNext w s k p done → SafeButSlots (after_marking_next w k p done)
 marking_next-safe w s k p done safe may = record {
   table = marking_next-table w s k p done safe.table may;
   locks = safe.locks;
@@ -73,14 +73,14 @@ marking_next-safe w s k p done safe may = record {
   unmarked = without (is_unmarked (w.contents.hand p)) k
 
 -- Clearing the own wait word is safe.
-pub clearing_seen-safe : (w : World) (s : ℕ) (wait : OwnWait) → Safe w → MayClearSeen w s wait → Safe (after_clearing w s wait)
+pub clearing_seen-safe : (w : World) (s : ℕ) (wait : OwnWait) → SafeButSlots w → MayClearSeen w s wait → SafeButSlots (after_clearing w s wait)
 clearing_seen-safe w s wait safe may = record { table = clearing_seen-table w s wait safe.table may; locks = safe.locks; traces = safe.traces }
 
-pub clearing_in_hand-safe : (w : World) (s : ℕ) (wait : OwnWait) → Safe w → MayClearInHand w s wait → Safe (after_clearing w s wait)
+pub clearing_in_hand-safe : (w : World) (s : ℕ) (wait : OwnWait) → SafeButSlots w → MayClearInHand w s wait → SafeButSlots (after_clearing w s wait)
 clearing_in_hand-safe w s wait safe may = record { table = clearing_in_hand-table w s wait safe.table may; locks = safe.locks; traces = safe.traces }
 
 -- So is a step that takes the wait out of the queue itself.
-pub leaving-safe : (w : World) (s : ℕ) (wait : OwnWait) (granted : List Wait) (content : Content) → Safe w → MayLeave w s wait granted content → Safe (after_leaving w s wait granted content)
+pub leaving-safe : (w : World) (s : ℕ) (wait : OwnWait) (granted : List Wait) (content : Content) → SafeButSlots w → MayLeave w s wait granted content → SafeButSlots (after_leaving w s wait granted content)
 leaving-safe w s wait granted content safe may = record {
   table = leaving-table w s wait granted content safe.table may;
   locks = safe.locks;

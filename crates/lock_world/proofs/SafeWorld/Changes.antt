@@ -11,7 +11,7 @@ use Rattle.lock_table.proofs.HoldLemmas.{IsTheHold, SetHoldAt, here, elsewhere, 
 use Rattle.lock_world.specs.SlotHolds.{slot_holds}
 use Rattle.lock_world.specs.Counted.{Counted}
 use Rattle.lock_world.specs.World.{World, TraceEntry}
-use Rattle.lock_world.specs.Safe.{Safe, TableIsSafe, TracesTell}
+use Rattle.lock_world.specs.Safe.{SafeButSlots, TableIsSafe, TracesTell}
 use Rattle.lock_world.specs.SafeWorld.{slots_of, own_but}
 
 -- What steps on slots and counters change, and what stays.
@@ -45,8 +45,8 @@ with_fast_path-table w database slot strong counted zero trace safe = record {
 }
 
 pub with_fast_path-safe :
-    (w : World) (database : ℕ → ℕ) (slot : ℕ → ℕ → ℕ) (strong : ℕ → ℕ) (counted : ℕ → List Counted) (zero : ℕ → Option ℕ) (trace : ℕ → List TraceEntry) → Safe w
-    → TracesTell w.contents trace w.numbers.issued → Safe (with_fast_path w database slot strong counted zero trace)
+    (w : World) (database : ℕ → ℕ) (slot : ℕ → ℕ → ℕ) (strong : ℕ → ℕ) (counted : ℕ → List Counted) (zero : ℕ → Option ℕ) (trace : ℕ → List TraceEntry) → SafeButSlots w
+    → TracesTell w.contents trace w.numbers.issued → SafeButSlots (with_fast_path w database slot strong counted zero trace)
 with_fast_path-safe w database slot strong counted zero trace safe traces = record {
   table = with_fast_path-table w database slot strong counted zero trace safe.table;
   locks = safe.locks;

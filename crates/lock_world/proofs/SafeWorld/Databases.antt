@@ -17,7 +17,7 @@ use Rattle.lock_world.specs.World.{World}
 use Rattle.lock_world.specs.Happens.Slots.{MayLoad, after_loading, zero_after_reading, after_reading_counter, MaySetSlot, after_setting_slot, MayClearSlot, after_clearing_slot, MayStoreDatabase, after_storing_database}
 use Rattle.lock_world.specs.declared.events.Word.{Word}
 use Rattle.lock_world.specs.declared.events.Word.TheVariants.{Strong}
-use Rattle.lock_world.specs.Safe.{Safe}
+use Rattle.lock_world.specs.Safe.{SafeButSlots}
 use Rattle.lock_world.specs.SafeWorld.{SafeWorld, SlotsAreOwn, slots_of, own_but, tabled}
 use Rattle.lock_world.proofs.Slots.Eligible.{eligible-is, is_in-held}
 use Rattle.lock_world.proofs.Slots.Setting.{slot_holds-set, OneSlotEach-set}

@@ -11,9 +11,8 @@ use Rattle.lock_table.specs.Content.{Holds, set_hold}
 use Rattle.lock_table.specs.OwnWait.{OwnWait, is_for}
 use Rattle.lock_table.specs.Moves.{FitsOwn}
 use Rattle.lock_table.proofs.HoldLemmas.{SetHoldAt, here, elsewhere, set_hold-at, set_hold-other_session}
-use Rattle.lock_world.specs.Counted.{Counted, is_done, StrongIsDone}
+use Rattle.lock_world.specs.Counted.{IsCountedFor, Counted, is_done, StrongIsDone}
 use Rattle.lock_world.specs.Happens.Partitions.{own_after}
-use Rattle.lock_world.specs.Happens.Counters.{IsCountedFor}
 use Rattle.lock_world.specs.SafeWorld.{SlotsAreOwn, OwnIsInOrder, slots_of}
 use Rattle.lock_world.proofs.Table.Partitions.{own_after-else}
 

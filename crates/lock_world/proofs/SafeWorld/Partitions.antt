@@ -3,7 +3,6 @@ use Rattle.lock_table.specs.declared.moves.Move.{Move}
 use Rattle.lock_table.specs.Content.{Holds, Wait, Content}
 use Rattle.lock_world.specs.World.{World}
 use Rattle.lock_world.specs.Happens.Partitions.{MayTakePartition, after_taking_partition, MayMove, MayPutPartition, after_putting_partition, MayPutRecorded, after_putting_recorded, own_after}
-use Rattle.lock_world.specs.Happens.Counters.{IsCountedFor}
 use Rattle.lock_world.specs.Counted.{StrongIsDone}
 use Rattle.lock_world.specs.SafeWorld.{SafeWorld, SlotsAreOwn, OwnIsInOrder, tabled}
 use Rattle.lock_world.proofs.Table.Partitions.{own_after-else}
@@ -23,7 +22,7 @@ taking_partition-safe_world w s p safe may = record {
   zero = safe.zero;
 }
 
--- What own holds are after a move of a session, where a strong mode that it grants is done.
+-- What own holds are after a move of a session.
 module _ (w : World) (safe : SafeWorld w) (s p : ℕ) (done : Move) (granted : List Wait) (content : Content) (may : MayMove w s p done granted content) where
   abbrev own' : Holds
   own' = own_after w.sessions.own s done
@@ -38,17 +37,17 @@ module _ (w : World) (safe : SafeWorld w) (s p : ℕ) (done : Move) (granted : L
       w.numbers.live w.sessions.counted may.steps.live safe.order
       (own_after-awaited w.sessions.own w.sessions.awaited s done may.own (safe.order.awaited_is_not_own s))
 
-  pub done-moved : IsCountedFor w.numbers.limit (w.sessions.counted s) done → StrongIsDone w.numbers.limit w.sessions.counted own' w.sessions.awaited
-  done-moved counted = StrongIsDone-one w.sessions.own own' w.sessions.awaited w.sessions.awaited s (own_after-else w.sessions.own s done) (λ _ _. refl)
+  pub done-moved : StrongIsDone w.numbers.limit w.sessions.counted own' w.sessions.awaited
+  done-moved = StrongIsDone-one w.sessions.own own' w.sessions.awaited w.sessions.awaited s (own_after-else w.sessions.own s done) (λ _ _. refl)
       w.numbers.limit w.sessions.counted safe.done
-      (own_after-done w.sessions.own w.sessions.awaited s w.numbers.limit (w.sessions.counted s) done counted (safe.done.held s))
+      (own_after-done w.sessions.own w.sessions.awaited s w.numbers.limit (w.sessions.counted s) done may.counted (safe.done.held s))
       (safe.done.awaits s)
 
--- Putting a partition by a move of the session's own is safe, where a strong mode that it grants is counted and done.
+-- Putting a partition by a move of the session's own is safe.
 pub putting_partition-safe_world :
     (w : World) (s p : ℕ) (done : Move) (content : Content) → SafeWorld w → MayPutPartition w s p done content
-    → IsCountedFor w.numbers.limit (w.sessions.counted s) done → SafeWorld (after_putting_partition w s p done content)
-putting_partition-safe_world w s p done content safe may counted = record {
+    → SafeWorld (after_putting_partition w s p done content)
+putting_partition-safe_world w s p done content safe may = record {
   but_slots = with_own-safe (after_putting_partition w s p done content) _ _ (tabled-after w safe s p done [] content may.may_move)
       (putting_partition-safe (tabled w) s p done content safe.but_slots
       (record { may_move = MayMove-tabled w safe s p done [] content may.may_move; by_putting = may.by_putting }));
@@ -56,7 +55,7 @@ putting_partition-safe_world w s p done content safe may counted = record {
   order = order-moved w safe s p done [] content may.may_move;
   counters = safe.counters;
   past = safe.past;
-  done = done-moved w safe s p done [] content may.may_move counted;
+  done = done-moved w safe s p done [] content may.may_move;
   zero = safe.zero;
 }
 

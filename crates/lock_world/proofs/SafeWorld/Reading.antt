@@ -10,7 +10,7 @@ use Rattle.lock_world.specs.World.{World, Loaded}
 use Rattle.lock_world.specs.declared.events.Word.{Word}
 use Rattle.lock_world.specs.declared.events.Word.TheVariants.{Strong}
 use Rattle.lock_world.specs.Happens.Slots.{MayLoad, after_loading, zero_after_reading, after_reading_counter}
-use Rattle.lock_world.specs.Safe.{Safe, TracesTell}
+use Rattle.lock_world.specs.Safe.{SafeButSlots, TracesTell}
 use Rattle.lock_world.specs.SafeWorld.{SafeWorld, ZeroIsAPermission, tabled}
 use Rattle.lock_world.proofs.Safe.Partitions.{live-given}
 use Rattle.lock_world.proofs.Traces.{TracesTell-entry}

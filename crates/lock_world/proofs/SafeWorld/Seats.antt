@@ -56,9 +56,9 @@ keeping_apart-safe_world w s joiner safe may = record {
   zero = safe.zero;
 }
 
--- Closing is safe, with nothing counted.
-pub closing-safe_world : (w : World) (s : ℕ) → SafeWorld w → MayClose w s → w.sessions.counted s ≡ [] → SafeWorld (after_closing w s)
-closing-safe_world w s safe may nothing_counted = record {
+-- Closing is safe.
+pub closing-safe_world : (w : World) (s : ℕ) → SafeWorld w → MayClose w s → SafeWorld (after_closing w s)
+closing-safe_world w s safe may = record {
   but_slots = closing-safe (tabled w) s safe.but_slots (record {
     steps = may.steps;
     no_word = may.no_word;
@@ -67,13 +67,14 @@ closing-safe_world w s safe may nothing_counted = record {
     no_shared_fast_word = may.no_shared_fast_word;
     no_hold = λ o n. own_but-false w.sessions.own (slots_of w.words.database w.words.slot) s o n (may.no_hold o n);
     no_wait = may.no_wait;
+    no_count = may.no_count;
     keeps_nobody = may.keeps_nobody;
   });
   slots = safe.slots;
   order = record {
     awaited_is_not_own = safe.order.awaited_is_not_own;
     no_hold = λ k o n. set_at-each (λ k b. b ≡ false → w.sessions.own k o n ≡ false) w.numbers.live s false (λ _. may.no_hold o n) (λ k _ dead. safe.order.no_hold k o n dead) k;
-    no_count = set_at-each (λ k b. b ≡ false → w.sessions.counted k ≡ []) w.numbers.live s false (λ _. nothing_counted) (λ k _ dead. safe.order.no_count k dead);
+    no_count = set_at-each (λ k b. b ≡ false → w.sessions.counted k ≡ []) w.numbers.live s false (λ _. may.no_count) (λ k _ dead. safe.order.no_count k dead);
   };
   counters = safe.counters;
   past = safe.past;

@@ -11,7 +11,7 @@ use Rattle.lock_table.specs.Moves.{Moves, FitsOwn, IsInPartition}
 use Rattle.lock_table.proofs.HoldLemmas.{IsTheHold, SetHoldAt, here, elsewhere, set_hold-at, set_hold-here}
 use Rattle.lock_world.specs.World.{World}
 use Rattle.lock_world.specs.Happens.Partitions.{MayMove, own_after}
-use Rattle.lock_world.specs.Safe.{Safe, stages}
+use Rattle.lock_world.specs.Safe.{SafeButSlots, stages}
 use Rattle.lock_world.specs.SafeWorld.{SafeWorld, slots_of, own_but, tabled}
 
 -- The World as partitions know it: what is lawful there, and what comes of it.
@@ -48,8 +48,8 @@ own_but-set_hold own slots s t m b c is = λ i k o n. at k o n i where
 abbrev pub with_own : World → Holds → World
 with_own w own = record { words = w.words; contents = w.contents; sessions = record (w.sessions) { own = own }; numbers = w.numbers }
 
-pub with_own-safe : (w : World) (a b : Holds) → a ≡ b → Safe (with_own w a) → Safe (with_own w b)
-with_own-safe w a b same safe = subst (λ own. Safe (with_own w own)) same safe
+pub with_own-safe : (w : World) (a b : Holds) → a ≡ b → SafeButSlots (with_own w a) → SafeButSlots (with_own w b)
+with_own-safe w a b same safe = subst (λ own. SafeButSlots (with_own w own)) same safe
 
 pending-for : (awaited : Option OwnWait) (stage : Stage) (t : Tag) (m : Mode) → is_pending awaited stage t m ≡ true → is_for awaited t m ≡ true
 pending-for awaited InQueue t m e = absurd (both_ways false refl e)
@@ -97,6 +97,7 @@ module _ (w : World) (safe : SafeWorld w) where
     unrecorded = may.unrecorded;
     object = may.object;
     own = fits s p done granted content may.object may.moved may.own;
+    counted = may.counted;
     moved = may.moved;
   }
 

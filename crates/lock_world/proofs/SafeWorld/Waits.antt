@@ -15,8 +15,7 @@ use Rattle.lock_world.specs.Counted.{is_done}
 use Rattle.lock_world.specs.World.{World, MakesSteps}
 use Rattle.lock_world.specs.Happens.Partitions.{MayMove, own_after}
 use Rattle.lock_world.specs.Happens.Waits.{after_asking, after_loading_wait, after_setting_waiting, MayMarkFirst, after_marking_first, MayMarkNext, after_marking_next, MayClearSeen, MayClearInHand, taken_over, after_clearing, MayLeave, after_leaving}
-use Rattle.lock_world.specs.Happens.Counters.{IsCountedFor}
-use Rattle.lock_world.specs.Safe.{Safe}
+use Rattle.lock_world.specs.Safe.{SafeButSlots}
 use Rattle.lock_world.specs.SafeWorld.{SafeWorld, slots_of, own_but, tabled}
 use Rattle.lock_world.proofs.Waits.Steps.{GrantsOthers}
 use Rattle.lock_world.proofs.Safe.Waits.{asking-safe, loading_wait-safe, setting_waiting-safe, marking_first-safe, marking_next-safe, clearing_seen-safe, clearing_in_hand-safe, leaving-safe}
@@ -48,11 +47,11 @@ loading_wait-safe_world w s n safe steps = record {
   zero = safe.zero;
 }
 
--- Setting the own wait word to waiting is safe, where a strong mode awaited is counted and done.
+-- Setting the own wait word to waiting is safe.
 pub setting_waiting-safe_world :
     (w : World) (s : ℕ) (t : Tag) (m : Mode) (content : Content) → SafeWorld w → MayMove w s (partition_of t) (Join t m) [] content
-    → IsCountedFor w.numbers.limit (w.sessions.counted s) (Join t m) → SafeWorld (after_setting_waiting w s t m content)
-setting_waiting-safe_world w s t m content safe may counted = record {
+    → SafeWorld (after_setting_waiting w s t m content)
+setting_waiting-safe_world w s t m content safe may = record {
   but_slots = setting_waiting-safe (tabled w) s t m content safe.but_slots (MayMove-tabled w safe s (partition_of t) (Join t m) [] content may);
   slots = safe.slots;
   order = OwnIsInOrder-one w.sessions.own w.sessions.own w.sessions.awaited awaited' s (λ _ _ _ _. refl) (set_at-else w.sessions.awaited s (Some wait))
@@ -62,7 +61,7 @@ setting_waiting-safe_world w s t m content safe may counted = record {
   done = StrongIsDone-one w.sessions.own w.sessions.own w.sessions.awaited awaited' s (λ _ _ _ _. refl) (set_at-else w.sessions.awaited s (Some wait))
       w.numbers.limit w.sessions.counted safe.done (safe.done.held s)
       (λ o n strong awaits. let it = its o n awaits in
-      (λ i. is_done w.numbers.limit (w.sessions.counted s) (sym it.0 i) (sym it.1 i)) ∙ counted ((λ i. is_strong_on (it.0 i) (it.1 i)) ∙ strong));
+      (λ i. is_done w.numbers.limit (w.sessions.counted s) (sym it.0 i) (sym it.1 i)) ∙ may.counted ((λ i. is_strong_on (it.0 i) (it.1 i)) ∙ strong));
   zero = safe.zero;
 } where
   wait : OwnWait
@@ -77,8 +76,8 @@ setting_waiting-safe_world w s t m content safe may counted = record {
 -- Marking a wait granted is safe: the first one of a move, and each further one.
 pub marking_first-safe_world :
     (w : World) (s k p : ℕ) (done : Move) (granted : List Wait) (content : Content) → GrantsOthers done → SafeWorld w → MayMarkFirst w s k p done granted content
-    → IsCountedFor w.numbers.limit (w.sessions.counted s) done → SafeWorld (after_marking_first w s k p done granted content)
-marking_first-safe_world w s k p done granted content grants safe may counted = record {
+    → SafeWorld (after_marking_first w s k p done granted content)
+marking_first-safe_world w s k p done granted content grants safe may = record {
   but_slots = with_own-safe (after_marking_first w s k p done granted content) _ _ (tabled-after w safe s p done granted content may.may_move)
       (marking_first-safe (tabled w) s k p done granted content grants safe.but_slots
       (record { may_move = MayMove-tabled w safe s p done granted content may.may_move; may_mark = record { another = may.may_mark.another; waiting = may.may_mark.waiting }; among = may.among }));
@@ -86,7 +85,7 @@ marking_first-safe_world w s k p done granted content grants safe may counted = 
   order = order-moved w safe s p done granted content may.may_move;
   counters = safe.counters;
   past = safe.past;
-  done = done-moved w safe s p done granted content may.may_move counted;
+  done = done-moved w safe s p done granted content may.may_move;
   zero = safe.zero;
 }
 
@@ -155,7 +154,7 @@ module _ (w : World) (safe : SafeWorld w) (s : ℕ) (wait : OwnWait) (alive : w.
       (ap not (not_own-no_slot w safe s wait.tag wait.mode (safe.order.awaited_is_not_own s wait.tag wait.mode awaits_it))))
   over-tabled false = refl
 
-  pub clearing-safe_world : Safe (after_clearing (tabled w) s wait) → SafeWorld (after_clearing w s wait)
+  pub clearing-safe_world : SafeButSlots (after_clearing (tabled w) s wait) → SafeWorld (after_clearing w s wait)
   clearing-safe_world but_slots = record {
     but_slots = with_own-safe (after_clearing w s wait) _ _ (over-tabled granted) but_slots;
     slots = SlotsAreOwn-one own (over granted) w.sessions.awaited awaited' s (over-else granted) (set_at-else w.sessions.awaited s None)
@@ -170,7 +169,7 @@ module _ (w : World) (safe : SafeWorld w) (s : ℕ) (wait : OwnWait) (alive : w.
   }
 
   -- Nothing becomes own where the wait leaves the queue.
-  pub left-safe_world : (woken : List Wait) (content : Content) → Safe (after_leaving (tabled w) s wait woken content) → SafeWorld (after_leaving w s wait woken content)
+  pub left-safe_world : (woken : List Wait) (content : Content) → SafeButSlots (after_leaving (tabled w) s wait woken content) → SafeWorld (after_leaving w s wait woken content)
   left-safe_world woken content but_slots = record {
     but_slots = but_slots;
     slots = safe.slots;

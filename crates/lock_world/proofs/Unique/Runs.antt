@@ -1,14 +1,14 @@
 use Rattle.std.proofs.Common.{◌≡◌, ℕ, List, [], ◌∷◌, sym, ◌∙◌, subst, inl, inr}
 use Rattle.lock_world.specs.declared.events.Event.{Event}
 use Rattle.lock_world.specs.declared.events.Step.{Step}
-use Rattle.lock_world.specs.declared.events.Step.TheVariants.{TakeExclusive, PutExclusive, TakeShared, PutShared, SplitSeat, JoinSeat, AskCancel, LoadWait, SetWaiting, MarkGranted, ClearWait}
+use Rattle.lock_world.specs.declared.events.Step.TheVariants.{TakeExclusive, PutExclusive, TakeShared, PutShared, SplitSeat, JoinSeat, AskCancel, LoadWait, SetWaiting, MarkGranted, ClearWait, PutPassing, LoadStrong, LoadWord, SetSlot, ClearSlot, StoreDatabase, Count, Uncount}
 use Rattle.lock_world.specs.World.{World}
 use Rattle.lock_table.specs.declared.moves.Move.{Move}
 use Rattle.lock_world.specs.declared.events.Word.{Word}
 use Rattle.lock_world.specs.declared.events.Word.TheVariants.{Partition, Fast, Database, Slot, Wait, Strong, Sleep}
-use Rattle.lock_world.specs.Happens.{HappensTaking, HappensPutting, HappensSharing, HappensUnsharing, HappensStep, Next, Runs}
-use Rattle.lock_world.specs.Safe.{Safe}
-use Rattle.lock_world.proofs.Safe.Runs.{Next-safe}
+use Rattle.lock_world.specs.Happens.{HappensTaking, HappensPutting, HappensSharing, HappensUnsharing, HappensLoading, HappensStep, Next, Runs}
+use Rattle.lock_world.specs.SafeWorld.{SafeWorld}
+use Rattle.lock_world.proofs.SafeWorld.Runs.{Next-safe}
 use Rattle.lock_world.proofs.Unique.Seats.{one_splitting, one_joining}
 use Rattle.lock_world.proofs.Unique.Partitions.{one_putting_partition}
 use Rattle.lock_world.proofs.Unique.Waits.{one_marking, one_clearing, one_setting}
@@ -49,27 +49,44 @@ one_unsharing w s (Wait k) u v one two = absurd one
 one_unsharing w s (Strong i) u v one two = absurd one
 one_unsharing w s (Sleep k) u v one two = absurd one
 
-one_step : (w : World) (s : ℕ) (step : Step) (u v : World) → Safe w → HappensStep w s step u → HappensStep w s step v → u ≡ v
+one_loading : (w : World) (s : ℕ) (word : Word) (n : ℕ) (u v : World) → HappensLoading w s word n u → HappensLoading w s word n v → u ≡ v
+one_loading w s (Partition p) n u v one two = absurd one
+one_loading w s (Fast o) n u v one two = one.2 ∙ sym two.2
+one_loading w s (Database k) n u v one two = one.1 ∙ sym two.1
+one_loading w s (Slot k i) n u v one two = one.1 ∙ sym two.1
+one_loading w s (Wait k) n u v one two = absurd one
+one_loading w s (Strong i) n u v one two = absurd one
+one_loading w s (Sleep k) n u v one two = absurd one
+
+one_step : (w : World) (s : ℕ) (step : Step) (u v : World) → SafeWorld w → HappensStep w s step u → HappensStep w s step v → u ≡ v
 one_step w s (TakeExclusive word) u v safe one two = one_taking w s word u v one two
 one_step w s (PutExclusive word done) u v safe one two = one_putting w s word done u v one two
 one_step w s (TakeShared word) u v safe one two = one_sharing w s word u v one two
 one_step w s (PutShared word) u v safe one two = one_unsharing w s word u v one two
-one_step w s SplitSeat u v safe one two = one_splitting w s u v safe one two
+one_step w s SplitSeat u v safe one two = one_splitting w s u v safe.but_slots.table.carriers.numbers one two
 one_step w s (JoinSeat joiner) u v safe one two = one_joining w s joiner u v one two
 one_step w s (AskCancel k) u v safe one two = one.1 ∙ sym two.1
 one_step w s (LoadWait n) u v safe one two = one.1 ∙ sym two.1
 one_step w s (SetWaiting t m) u v safe one two = one_setting w s t m u v one two
 one_step w s (MarkGranted k done) u v safe one two = one_marking w s k done u v one two
 one_step w s (ClearWait leaving) u v safe one two = one_clearing w s leaving u v one two
+one_step w s (PutPassing o t m) u v safe one two = one.1 ∙ sym two.1
+one_step w s (LoadStrong i n) u v safe one two = one.1 ∙ sym two.1
+one_step w s (LoadWord word n) u v safe one two = one_loading w s word n u v one two
+one_step w s (SetSlot i t m) u v safe one two = one.1 ∙ sym two.1
+one_step w s (ClearSlot i t m) u v safe one two = one.1 ∙ sym two.1
+one_step w s (StoreDatabase d) u v safe one two = one.1 ∙ sym two.1
+one_step w s (Count t m) u v safe one two = one.1 ∙ sym two.1
+one_step w s (Uncount t m) u v safe one two = one.1 ∙ sym two.1
 
-one_next : (w : World) (event : Event) (u v : World) → Safe w → Next w event u → Next w event v → u ≡ v
+one_next : (w : World) (event : Event) (u v : World) → SafeWorld w → Next w event u → Next w event v → u ≡ v
 one_next w event u v safe (inl one) (inl two) = one_step w event.session event.step u v safe one two
 one_next w event u v safe (inr one) (inr two) = one.1 ∙ sym two.1
 one_next w event u v safe (inl one) (inr two) = absurd (two.0 (u, one))
 one_next w event u v safe (inr one) (inl two) = absurd (one.0 (v, two))
 
 -- A list of events leads from a safe World to one World.
-pub one_run : (w w' : World) (events : List Event) (u v : World) → Safe w → w ≡ w' → Runs w events u → Runs w' events v → u ≡ v
+pub one_run : (w w' : World) (events : List Event) (u v : World) → SafeWorld w → w ≡ w' → Runs w events u → Runs w' events v → u ≡ v
 one_run w w' [] u v safe same one two = one ∙ same ∙ sym two
 one_run w w' (event ∷ events) u v safe same one two =
     one_run one.0 two.0 events u v (Next-safe w event one.0 safe one.1)

@@ -1,14 +1,12 @@
-use Rattle.std.specs.Prelude.{◌≡◌, ℕ, ◌+◌, ◌-◌, ◌<◌, true, false, List, length}
+use Rattle.std.specs.Prelude.{◌≡◌, ℕ, ◌+◌, ◌-◌, ◌<◌, true, false, length}
 use Rattle.modes_core.specs.declared.modes.Mode.{Mode}
 use Rattle.modes_core.specs.declared.tags.Tag.{Tag}
 use Rattle.modes_core.specs.Tag.{index_of, is_strong_on}
 use Rattle.lw_word.specs.LightweightWord.{put_word}
-use Rattle.lock_table.specs.declared.moves.Move.{Move}
-use Rattle.lock_table.specs.declared.moves.Move.TheVariants.{Keep, Grant, Join, Release, Leave}
 use Rattle.lock_table.specs.OwnWait.{is_for}
 use Rattle.lock_table.specs.Put.{set_at}
 use Rattle.lock_world.specs.SlotHolds.{slot_holds}
-use Rattle.lock_world.specs.Counted.{Counted, counting, uncounting, passing, is_counted, is_at, is_done}
+use Rattle.lock_world.specs.Counted.{Counted, counting, uncounting, passing, is_counted, is_at}
 use Rattle.lock_world.specs.World.{World, MakesSteps}
 use Rattle.lock_world.specs.Happens.Slots.{zero_after_putting}
 
@@ -73,11 +71,3 @@ after_passing w session owner tag mode = record {
   };
   numbers = w.numbers;
 }
-
--- What a move asks of the counts: where it grants or queues a strong mode, this is counted, and past each session.
-abbrev pub IsCountedFor : ℕ → List Counted → Move → Type 0
-IsCountedFor limit counted Keep = Unit {0}
-IsCountedFor limit counted (Grant tag mode) = is_strong_on tag mode ≡ true → is_done limit counted tag mode ≡ true
-IsCountedFor limit counted (Join tag mode) = is_strong_on tag mode ≡ true → is_done limit counted tag mode ≡ true
-IsCountedFor limit counted (Release tag mode) = Unit {0}
-IsCountedFor limit counted (Leave tag) = Unit {0}

@@ -6,6 +6,7 @@ use Rattle.lock_table.specs.Content.{Holds, Content, set_hold}
 use Rattle.lock_table.specs.Content as content
 use Rattle.lock_table.specs.Moves.{Moves, IsInPartition, FitsOwn}
 use Rattle.lock_table.specs.OwnWait.{OwnWait}
+use Rattle.lock_world.specs.Counted.{IsCountedFor}
 use Rattle.lock_world.specs.World.{World, Hand, MakesSteps, recorded_in, is_unmarked, Took, Episode}
 use Rattle.lock_table.specs.Put.{set_at}
 use Rattle.lw_word.specs.LightweightWord.{IsHeldByNobody, taken_word, put_word}
@@ -35,13 +36,15 @@ after_taking_partition w session partition = record {
 abbrev pub HappensTakingPartition : World → ℕ → ℕ → World → Type 0
 HappensTakingPartition w session partition v = MayTakePartition w session partition × (v ≡ after_taking_partition w session partition)
 
--- The session has the partition in hand, has made no move on it, and this one leads to the content and grants these waits.
+-- The session has the partition in hand, has made no move on it, and this one leads to the content and grants these waits. A
+-- strong mode that it grants or queues is counted, and past each session.
 pub record MayMove (w : World) (session partition : ℕ) (done : Move) (granted : List content.Wait) (content : Content) : Type 0 where
   pub steps : MakesSteps w.numbers session
   pub holding : w.sessions.holds_partition session partition ≡ true
   pub unrecorded : recorded_in (w.contents.hand partition) ≡ None
   pub object : IsInPartition partition done
   pub own : FitsOwn w.sessions.own (w.sessions.awaited session) session done
+  pub counted : IsCountedFor w.numbers.limit (w.sessions.counted session) done
   pub moved : Moves (w.contents.now partition) session done granted content
 
 -- own holds follow the move

@@ -1,4 +1,4 @@
-use Rattle.std.specs.Prelude.{◌≡◌, ◌≢◌, ℕ, true, false, Option, Some, None, ◌⊎◌, ◌+◌, ◌<◌}
+use Rattle.std.specs.Prelude.{◌≡◌, ◌≢◌, ℕ, true, false, [], Option, Some, None, ◌⊎◌, ◌+◌, ◌<◌}
 use Rattle.modes_core.specs.declared.modes.Mode.{Mode}
 use Rattle.modes_core.specs.declared.tags.Tag.{Tag}
 use Rattle.lock_world.specs.World.{World, MakesSteps}
@@ -51,7 +51,7 @@ after_keeping_apart w session joiner = record {
   numbers = record (w.numbers) { kept_by = set_at w.numbers.kept_by session (Some joiner) };
 }
 
--- Closing: with no word held, exclusively or shared, no hold, no wait, and no other session kept apart.
+-- Closing: with no word held, exclusively or shared, no hold, no wait, nothing counted, and no other session kept apart.
 pub record MayClose (w : World) (session : ℕ) : Type 0 where
   pub steps : MakesSteps w.numbers session
   pub no_word : (partition : ℕ) → w.sessions.holds_partition session partition ≡ false
@@ -60,6 +60,7 @@ pub record MayClose (w : World) (session : ℕ) : Type 0 where
   pub no_shared_fast_word : (owner : ℕ) → w.sessions.shares_fast session owner ≡ false
   pub no_hold : (tag : Tag) (mode : Mode) → w.sessions.own session tag mode ≡ false
   pub no_wait : w.sessions.awaited session ≡ None
+  pub no_count : w.sessions.counted session ≡ []
   pub keeps_nobody : (other : ℕ) → w.numbers.kept_by other ≢ Some session
 
 abbrev pub after_closing : World → ℕ → World

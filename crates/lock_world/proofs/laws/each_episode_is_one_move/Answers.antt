@@ -7,7 +7,7 @@ use Rattle.lock_world.proofs.laws.each_episode_is_one_move.Goals as goal
 pub returns-clause-moved : goal.returns-clause-moved
 returns-clause-moved c =
     λ w safe s p taken put_back before after is.
-    episode-sound s (λ _. None) before after (Episode p taken put_back) (subst (EpisodesAreMoves s (λ _. None)) is (safe.traces.episodes s))
+    episode-sound s (λ _. None) before after (Episode p taken put_back) (subst (EpisodesAreMoves s (λ _. None)) is (safe.but_slots.traces.episodes s))
 
 pub returns-clause-was_taken : goal.returns-clause-was_taken
 returns-clause-was_taken c =

@@ -1,5 +1,6 @@
 use Rattle.lock_world.specs.World.{opening}
-use Rattle.lock_world.proofs.Safe.Runs.{opening-safe, Runs-safe}
+use Rattle.lock_world.proofs.SafeWorld.Opening.{opening-safe}
+use Rattle.lock_world.proofs.SafeWorld.Runs.{Runs-safe}
 use Rattle.lock_world.proofs.laws.every_world_is_safe.Goals as goal
 
 pub returns : goal.returns

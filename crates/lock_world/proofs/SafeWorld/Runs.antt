@@ -1,0 +1,135 @@
+use Rattle.std.proofs.Common.{◌≡◌, [], ℕ, ◌^◌, ◌<◌, Bool, true, false, List, ◌∷◌, ◌++◌, Option, Some, None, refl, sym, subst, inl, inr, arith}
+use Rattle.std.proofs.lemmas.Bool.{false≢true}
+use Rattle.modes_core.specs.Tag.{partition_of}
+use Rattle.lock_world.specs.declared.events.Event.{Event}
+use Rattle.lock_table.specs.declared.moves.Move.{Move}
+use Rattle.lock_table.specs.declared.moves.Move.TheVariants.{Keep, Grant, Join, Release, Leave}
+use Rattle.lock_world.specs.declared.events.Step.{Step}
+use Rattle.lock_world.specs.declared.events.Step.TheVariants.{TakeExclusive, PutExclusive, TakeShared, PutShared, SplitSeat, JoinSeat, AskCancel, LoadWait, SetWaiting, MarkGranted, ClearWait, PutPassing, LoadStrong, LoadWord, SetSlot, ClearSlot, StoreDatabase, Count, Uncount}
+use Rattle.lock_world.specs.declared.events.Word.{Word}
+use Rattle.lock_world.specs.declared.events.Word.TheVariants.{Partition, Fast, Database, Slot, Wait, Strong, Sleep}
+use Rattle.lock_world.specs.World.{World}
+use Rattle.lock_world.specs.Happens.{HappensTaking, HappensPutting, HappensSharing, HappensUnsharing, HappensLoading, Happens, HappensStep, Next, Runs}
+use Rattle.lock_world.specs.Happens.Seats.{HappensJoining}
+use Rattle.lock_world.specs.Happens.Waits.{HappensMarkingIn, HappensMarking, HappensClearing}
+use Rattle.lock_world.specs.SafeWorld.{SafeWorld}
+use Rattle.lock_world.proofs.Waits.Steps.{GrantsOthers}
+use Rattle.lock_world.proofs.SafeWorld.Partitions.{taking_partition-safe_world, putting_partition-safe_world, putting_recorded-safe_world}
+use Rattle.lock_world.proofs.SafeWorld.Seats.{issuing-safe_world, going_on-safe_world, keeping_apart-safe_world, closing-safe_world}
+use Rattle.lock_world.proofs.SafeWorld.Waits.{asking-safe_world, loading_wait-safe_world, setting_waiting-safe_world, marking_first-safe_world, marking_next-safe_world, clearing_seen-safe_world, clearing_in_hand-safe_world, leaving-safe_world}
+use Rattle.lock_world.proofs.SafeWorld.Locks.{sharing_partition-safe_world, unsharing_partition-safe_world, sharing_fast-safe_world, unsharing_fast-safe_world, taking_fast-safe_world, putting_fast-safe_world}
+use Rattle.lock_world.proofs.SafeWorld.Setting.{setting_slot-safe_world}
+use Rattle.lock_world.proofs.SafeWorld.Clearing.{clearing_slot-safe_world}
+use Rattle.lock_world.proofs.SafeWorld.Databases.{storing_database-safe_world}
+use Rattle.lock_world.proofs.SafeWorld.Reading.{loading-safe_world, reading_counter-safe_world}
+use Rattle.lock_world.proofs.SafeWorld.Counters.{counting-safe_world, uncounting-safe_world, passing-safe_world}
+
+taking-safe : (w : World) (s : ℕ) (word : Word) (v : World) → SafeWorld w → HappensTaking w s word v → SafeWorld v
+taking-safe w s (Partition p) v safe h = subst SafeWorld (sym h.1) (taking_partition-safe_world w s p safe h.0)
+taking-safe w s (Fast o) v safe h = subst SafeWorld (sym h.1) (taking_fast-safe_world w s o safe h.0)
+taking-safe w s (Database k) v safe h = absurd h
+taking-safe w s (Slot k i) v safe h = absurd h
+taking-safe w s (Wait k) v safe h = absurd h
+taking-safe w s (Strong i) v safe h = absurd h
+taking-safe w s (Sleep k) v safe h = absurd h
+
+putting-safe : (w : World) (s : ℕ) (word : Word) (done : Move) (v : World) → SafeWorld w → HappensPutting w s word done v → SafeWorld v
+putting-safe w s (Partition p) done v safe (inl h) = subst SafeWorld (sym h.2) (putting_partition-safe_world w s p done h.0 safe h.1)
+putting-safe w s (Partition p) done v safe (inr h) = subst SafeWorld (sym h.1) (putting_recorded-safe_world w s p done safe h.0)
+putting-safe w s (Fast o) done v safe h = subst SafeWorld (sym h.1.1) (putting_fast-safe_world w s o safe h.1.0)
+putting-safe w s (Database k) done v safe h = absurd h
+putting-safe w s (Slot k i) done v safe h = absurd h
+putting-safe w s (Wait k) done v safe h = absurd h
+putting-safe w s (Strong i) done v safe h = absurd h
+putting-safe w s (Sleep k) done v safe h = absurd h
+
+sharing-safe : (w : World) (s : ℕ) (word : Word) (v : World) → SafeWorld w → HappensSharing w s word v → SafeWorld v
+sharing-safe w s (Partition p) v safe h = subst SafeWorld (sym h.2) (sharing_partition-safe_world w s p safe h.1)
+sharing-safe w s (Fast o) v safe h = subst SafeWorld (sym h.2) (sharing_fast-safe_world w s o safe h.1)
+sharing-safe w s (Database k) v safe h = absurd h
+sharing-safe w s (Slot k i) v safe h = absurd h
+sharing-safe w s (Wait k) v safe h = absurd h
+sharing-safe w s (Strong i) v safe h = absurd h
+sharing-safe w s (Sleep k) v safe h = absurd h
+
+unsharing-safe : (w : World) (s : ℕ) (word : Word) (v : World) → SafeWorld w → HappensUnsharing w s word v → SafeWorld v
+unsharing-safe w s (Partition p) v safe h = subst SafeWorld (sym h.1) (unsharing_partition-safe_world w s p safe h.0)
+unsharing-safe w s (Fast o) v safe h = subst SafeWorld (sym h.1) (unsharing_fast-safe_world w s o safe h.0)
+unsharing-safe w s (Database k) v safe h = absurd h
+unsharing-safe w s (Slot k i) v safe h = absurd h
+unsharing-safe w s (Wait k) v safe h = absurd h
+unsharing-safe w s (Strong i) v safe h = absurd h
+unsharing-safe w s (Sleep k) v safe h = absurd h
+
+joining-safe : (w : World) (s : ℕ) (joiner : Option ℕ) (v : World) → SafeWorld w → HappensJoining w s joiner v → SafeWorld v
+joining-safe w s (Some j) v safe h = subst SafeWorld (sym h.1) (keeping_apart-safe_world w s j safe h.0)
+joining-safe w s None v safe h = subst SafeWorld (sym h.1) (closing-safe_world w s safe h.0)
+
+marking_in-safe : (w : World) (s k p : ℕ) (done : Move) (v : World) → SafeWorld w → GrantsOthers done → HappensMarkingIn w s k p done v → SafeWorld v
+marking_in-safe w s k p done v safe grants (inl h) = subst SafeWorld (sym h.3) (marking_first-safe_world w s k p done h.0 h.1 grants safe h.2)
+marking_in-safe w s k p done v safe grants (inr h) = subst SafeWorld (sym h.1) (marking_next-safe_world w s k p done safe h.0)
+
+marking-safe : (w : World) (s k : ℕ) (done : Move) (v : World) → SafeWorld w → HappensMarking w s k done v → SafeWorld v
+marking-safe w s k Keep v safe h = absurd h
+marking-safe w s k (Grant t m) v safe h = absurd h
+marking-safe w s k (Join t m) v safe h = absurd h
+marking-safe w s k (Release t m) v safe h = marking_in-safe w s k (partition_of t) (Release t m) v safe tt h
+marking-safe w s k (Leave t) v safe h = marking_in-safe w s k (partition_of t) (Leave t) v safe tt h
+
+clearing-safe : (w : World) (s : ℕ) (leaving : Bool) (v : World) → SafeWorld w → HappensClearing w s leaving v → SafeWorld v
+clearing-safe w s false v safe h =
+    elim h.1 [
+      | inl seen ↦ subst SafeWorld (sym h.2) (clearing_seen-safe_world w s h.0 safe seen)
+      | inr in_hand ↦ subst SafeWorld (sym h.2) (clearing_in_hand-safe_world w s h.0 safe in_hand)
+    ]
+clearing-safe w s true v safe (inl h) = subst SafeWorld (sym h.4) (leaving-safe_world w s h.0 h.1 h.2 safe h.3)
+clearing-safe w s true v safe (inr h) = subst SafeWorld (sym h.3) (clearing_in_hand-safe_world w s h.0 safe h.1)
+
+loading-safe : (w : World) (s : ℕ) (word : Word) (n : ℕ) (v : World) → SafeWorld w → HappensLoading w s word n v → SafeWorld v
+loading-safe w s (Partition p) n v safe h = absurd h
+loading-safe w s (Fast o) n v safe h = subst SafeWorld (sym h.2) (loading-safe_world w s (Fast o) n safe h.1)
+loading-safe w s (Database k) n v safe h = subst SafeWorld (sym h.1) (loading-safe_world w s (Database k) n safe h.0)
+loading-safe w s (Slot k i) n v safe h = subst SafeWorld (sym h.1) (loading-safe_world w s (Slot k i) n safe h.0)
+loading-safe w s (Wait k) n v safe h = absurd h
+loading-safe w s (Strong i) n v safe h = absurd h
+loading-safe w s (Sleep k) n v safe h = absurd h
+
+step-safe : (w : World) (s : ℕ) (step : Step) (v : World) → SafeWorld w → HappensStep w s step v → SafeWorld v
+step-safe w s (TakeExclusive word) v safe h = taking-safe w s word v safe h
+step-safe w s (PutExclusive word done) v safe h = putting-safe w s word done v safe h
+step-safe w s (TakeShared word) v safe h = sharing-safe w s word v safe h
+step-safe w s (PutShared word) v safe h = unsharing-safe w s word v safe h
+step-safe w s SplitSeat v safe (inl h) = subst SafeWorld (sym h.1) (issuing-safe_world w s safe h.0)
+step-safe w s SplitSeat v safe (inr h) = subst SafeWorld (sym h.1) (going_on-safe_world w s safe h.0)
+step-safe w s (JoinSeat joiner) v safe h = joining-safe w s joiner v safe h
+step-safe w s (AskCancel k) v safe h = subst SafeWorld (sym h.1) (asking-safe_world w s k safe h.0)
+step-safe w s (LoadWait n) v safe h = subst SafeWorld (sym h.1) (loading_wait-safe_world w s n safe h.0.steps)
+step-safe w s (SetWaiting t m) v safe h = subst SafeWorld (sym h.2) (setting_waiting-safe_world w s t m h.0 safe h.1)
+step-safe w s (MarkGranted k done) v safe h = marking-safe w s k done v safe h
+step-safe w s (ClearWait leaving) v safe h = clearing-safe w s leaving v safe h
+step-safe w s (PutPassing o t m) v safe h = subst SafeWorld (sym h.1) (passing-safe_world w s o t m safe h.0)
+step-safe w s (LoadStrong i n) v safe h = subst SafeWorld (sym h.1) (reading_counter-safe_world w s i n safe h.0)
+step-safe w s (LoadWord word n) v safe h = loading-safe w s word n v safe h
+step-safe w s (SetSlot i t m) v safe h = subst SafeWorld (sym h.1) (setting_slot-safe_world w s i t m safe h.0)
+step-safe w s (ClearSlot i t m) v safe h = subst SafeWorld (sym h.1) (clearing_slot-safe_world w s i t m safe h.0)
+step-safe w s (StoreDatabase d) v safe h = subst SafeWorld (sym h.1) (storing_database-safe_world w s d safe h.0)
+step-safe w s (Count t m) v safe h = subst SafeWorld (sym h.1) (counting-safe_world w s t m safe h.0)
+step-safe w s (Uncount t m) v safe h = subst SafeWorld (sym h.1) (uncounting-safe_world w s t m safe h.0)
+
+-- Each event that is lawful leads from a safe World to a safe one.
+pub event-safe : (w : World) (event : Event) (v : World) → SafeWorld w → Happens w event v → SafeWorld v
+event-safe w event v safe h = step-safe w event.session event.step v safe h
+
+pub Next-safe : (w : World) (event : Event) (v : World) → SafeWorld w → Next w event v → SafeWorld v
+Next-safe w event v safe (inl h) = event-safe w event v safe h
+Next-safe w event v safe (inr h) = subst SafeWorld (sym h.1) safe
+
+-- A run from a safe World comes to a safe one, whatever the events.
+pub Runs-safe : (w : World) (events : List Event) (v : World) → SafeWorld w → Runs w events v → SafeWorld v
+Runs-safe w [] v safe e = subst SafeWorld (sym e) safe
+Runs-safe w (event ∷ events) v safe run = Runs-safe run.0 events v (Next-safe w event run.0 safe run.1) run.2
+
+-- A run goes on by one event.
+pub Runs-push : (w : World) (events : List Event) (event : Event) (u v : World) → Runs w events u → Next u event v → Runs w (events ++ event ∷ []) v
+Runs-push w [] event u v run next = (v, subst (λ z. Next z event v) run next, refl)
+Runs-push w (first ∷ events) event u v run next = (run.0, run.1, Runs-push run.0 events event u v run.2 next)

@@ -1,0 +1,21 @@
+use Rattle.lock_world.proofs.laws.counters_show_what_is_counted.Goals as goal
+
+pub returns-clause-shown : goal.returns-clause-shown
+returns-clause-shown c =
+    λ w safe index. safe.counters.shown index
+
+pub returns-clause-once : goal.returns-clause-once
+returns-clause-once c =
+    λ w safe s. safe.counters.once s
+
+pub returns-clause-held : goal.returns-clause-held
+returns-clause-held c =
+    λ w safe s t m strong has. safe.done.held s t m strong has
+
+pub returns-clause-awaited : goal.returns-clause-awaited
+returns-clause-awaited c =
+    λ w safe s t m strong awaits. safe.done.awaits s t m strong awaits
+
+pub returns-clause-past : goal.returns-clause-past
+returns-clause-past c =
+    λ w safe s o t m gone. safe.past s o t m gone
