@@ -7,20 +7,22 @@ use Rattle.std.specs.Prelude.{◌≡◌, ℕ, List, ◌⊎◌, [], ◌∷◌}
 use Rattle.lock_world.specs.World.{World, MakesSteps}
 use Rattle.lock_world.specs.declared.events.Event.{Event}
 use Rattle.lock_world.specs.declared.events.Step.{Step}
-use Rattle.lock_world.specs.declared.events.Step.TheVariants.{TakeExclusive, PutExclusive, SplitSeat, JoinSeat, AskCancel, LoadWait, SetWaiting, MarkGranted, ClearWait}
+use Rattle.lock_world.specs.declared.events.Step.TheVariants.{TakeExclusive, PutExclusive, TakeShared, PutShared, SplitSeat, JoinSeat, AskCancel, LoadWait, SetWaiting, MarkGranted, ClearWait}
 use Rattle.lock_world.specs.Happens.Seats.{HappensSplitting, HappensJoining}
 use Rattle.lock_table.specs.declared.moves.Move.{Move}
+use Rattle.lock_table.specs.declared.moves.Move.TheVariants.{Keep}
 use Rattle.lock_world.specs.declared.events.Word.{Word}
 use Rattle.lock_world.specs.declared.events.Word.TheVariants.{Partition, Fast, Database, Slot, Wait, Strong, Sleep}
 use Rattle.lock_world.specs.Happens.Partitions.{HappensTakingPartition, HappensPuttingPartition}
+use Rattle.lock_world.specs.Happens.Sharing.{HappensSharingPartition, HappensUnsharingPartition, HappensSharingFast, HappensUnsharingFast}
+use Rattle.lock_world.specs.Happens.Slots.{HappensTakingFast, HappensPuttingFast}
 use Rattle.lock_world.specs.Happens.Waits.{after_asking, MayLoadWait, after_loading_wait, HappensSetting, HappensMarking, HappensClearing}
 
--- Lightweight locks: so far the words of partitions. The steps of `Sharing` and `Slots` are defined, and safe, and no event makes
--- them yet.
+-- Lightweight locks: the words of partitions and of sessions' fast-path slots. With the latter no move is made.
 
 abbrev pub HappensTaking : World → ℕ → Word → World → Type 0
 HappensTaking w session (Partition partition) v = HappensTakingPartition w session partition v
-HappensTaking w session (Fast owner) v = ⊥
+HappensTaking w session (Fast owner) v = HappensTakingFast w session owner v
 HappensTaking w session (Database owner) v = ⊥
 HappensTaking w session (Slot owner place) v = ⊥
 HappensTaking w session (Wait owner) v = ⊥
@@ -29,17 +31,37 @@ HappensTaking w session (Sleep owner) v = ⊥
 
 abbrev pub HappensPutting : World → ℕ → Word → Move → World → Type 0
 HappensPutting w session (Partition partition) done v = HappensPuttingPartition w session partition done v
-HappensPutting w session (Fast owner) done v = ⊥
+HappensPutting w session (Fast owner) done v = (done ≡ Keep) × HappensPuttingFast w session owner v
 HappensPutting w session (Database owner) done v = ⊥
 HappensPutting w session (Slot owner place) done v = ⊥
 HappensPutting w session (Wait owner) done v = ⊥
 HappensPutting w session (Strong index) done v = ⊥
 HappensPutting w session (Sleep owner) done v = ⊥
 
+abbrev pub HappensSharing : World → ℕ → Word → World → Type 0
+HappensSharing w session (Partition partition) v = HappensSharingPartition w session partition v
+HappensSharing w session (Fast owner) v = HappensSharingFast w session owner v
+HappensSharing w session (Database owner) v = ⊥
+HappensSharing w session (Slot owner place) v = ⊥
+HappensSharing w session (Wait owner) v = ⊥
+HappensSharing w session (Strong index) v = ⊥
+HappensSharing w session (Sleep owner) v = ⊥
+
+abbrev pub HappensUnsharing : World → ℕ → Word → World → Type 0
+HappensUnsharing w session (Partition partition) v = HappensUnsharingPartition w session partition v
+HappensUnsharing w session (Fast owner) v = HappensUnsharingFast w session owner v
+HappensUnsharing w session (Database owner) v = ⊥
+HappensUnsharing w session (Slot owner place) v = ⊥
+HappensUnsharing w session (Wait owner) v = ⊥
+HappensUnsharing w session (Strong index) v = ⊥
+HappensUnsharing w session (Sleep owner) v = ⊥
+
 -- The step by the session is lawful in the World w, and v is the World after it.
 abbrev pub HappensStep : World → ℕ → Step → World → Type 0
 HappensStep w session (TakeExclusive word) v = HappensTaking w session word v
 HappensStep w session (PutExclusive word done) v = HappensPutting w session word done v
+HappensStep w session (TakeShared word) v = HappensSharing w session word v
+HappensStep w session (PutShared word) v = HappensUnsharing w session word v
 HappensStep w session SplitSeat v = HappensSplitting w session v
 HappensStep w session (JoinSeat joiner) v = HappensJoining w session joiner v
 HappensStep w session (AskCancel other) v = MakesSteps w.numbers session × (v ≡ after_asking w session other)

@@ -28,8 +28,15 @@ pub enum Step {
     /// with its word (`LWLockAcquire` in lwlock.c).
     TakeExclusive { word: Word },
     /// Put a lightweight lock that is held exclusively, by a fetch-and-subtract; the content of a
-    /// partition goes home with its word, after one move (`LWLockRelease` in lwlock.c).
+    /// partition goes home with its word, after one move; with any other word the move is to keep
+    /// (`LWLockRelease` in lwlock.c).
     PutExclusive { word: Word, done: Move },
+    /// Take a lightweight lock shared, by a compare-exchange that adds 1 (`LWLockAcquire` with `LW_SHARED`
+    /// in lwlock.c). A partition's content does not come with its word.
+    TakeShared { word: Word },
+    /// Put a lightweight lock that is held shared, by a fetch-and-subtract of 1 (`LWLockRelease` in
+    /// lwlock.c).
+    PutShared { word: Word },
     /// Split a seat: a session number is issued, or a session that was kept apart goes on by itself
     /// (`InitProcess` in proc.c).
     SplitSeat,

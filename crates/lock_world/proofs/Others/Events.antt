@@ -1,10 +1,10 @@
 use Rattle.std.proofs.Common.{◌≢◌, ℕ, refl}
 use Rattle.lock_world.specs.declared.events.Event.{Event}
 use Rattle.lock_world.specs.declared.events.Step.{Step}
-use Rattle.lock_world.specs.declared.events.Step.TheVariants.{TakeExclusive, PutExclusive, SplitSeat, JoinSeat, AskCancel, LoadWait, SetWaiting, MarkGranted, ClearWait}
+use Rattle.lock_world.specs.declared.events.Step.TheVariants.{TakeExclusive, PutExclusive, TakeShared, PutShared, SplitSeat, JoinSeat, AskCancel, LoadWait, SetWaiting, MarkGranted, ClearWait}
 use Rattle.lock_world.specs.World.{World}
 use Rattle.lock_world.specs.Account.{IsLeftAlone}
-use Rattle.lock_world.specs.Happens.{Happens, HappensStep, HappensTaking, HappensPutting}
+use Rattle.lock_world.specs.Happens.{Happens, HappensStep, HappensTaking, HappensPutting, HappensSharing, HappensUnsharing}
 use Rattle.lock_world.specs.Safe.{Safe}
 use Rattle.lock_table.proofs.PutLemmas.{set_at-else}
 use Rattle.lock_world.proofs.Others.Hands.{IsLeftAlone-same, IsLeftAlone-by, no_lock}
@@ -13,11 +13,13 @@ use Rattle.lock_table.specs.declared.moves.Move.{Move}
 use Rattle.lock_world.specs.declared.events.Word.{Word}
 use Rattle.lock_world.specs.declared.events.Word.TheVariants.{Partition, Fast, Database, Slot, Wait, Strong, Sleep}
 use Rattle.lock_world.proofs.Others.Partitions.{taking_partition-others, putting_partition-others}
+use Rattle.lock_world.proofs.Others.Sharing.{sharing_partition-others, unsharing_partition-others, sharing_fast-others, unsharing_fast-others}
+use Rattle.lock_world.proofs.Others.Slots.{taking_fast-others, putting_fast-others}
 use Rattle.lock_world.proofs.Others.Waits.{setting-others, marking-others, clearing-others}
 
 taking-others : (w : World) (s : ℕ) (word : Word) (v : World) (k : ℕ) → Safe w → k ≢ s → HappensTaking w s word v → IsLeftAlone w v k
 taking-others w s (Partition p) v k safe other h = taking_partition-others w s p v k safe other h
-taking-others w s (Fast o) v k safe other h = absurd h
+taking-others w s (Fast o) v k safe other h = taking_fast-others w s o v k other h
 taking-others w s (Database o) v k safe other h = absurd h
 taking-others w s (Slot o i) v k safe other h = absurd h
 taking-others w s (Wait o) v k safe other h = absurd h
@@ -26,16 +28,36 @@ taking-others w s (Sleep o) v k safe other h = absurd h
 
 putting-others : (w : World) (s : ℕ) (word : Word) (done : Move) (v : World) (k : ℕ) → Safe w → k ≢ s → HappensPutting w s word done v → IsLeftAlone w v k
 putting-others w s (Partition p) done v k safe other h = putting_partition-others w s p done v k safe other h
-putting-others w s (Fast o) done v k safe other h = absurd h
+putting-others w s (Fast o) done v k safe other h = putting_fast-others w s o v k other h.1
 putting-others w s (Database o) done v k safe other h = absurd h
 putting-others w s (Slot o i) done v k safe other h = absurd h
 putting-others w s (Wait o) done v k safe other h = absurd h
 putting-others w s (Strong i) done v k safe other h = absurd h
 putting-others w s (Sleep o) done v k safe other h = absurd h
 
+sharing-others : (w : World) (s : ℕ) (word : Word) (v : World) (k : ℕ) → k ≢ s → HappensSharing w s word v → IsLeftAlone w v k
+sharing-others w s (Partition p) v k other h = sharing_partition-others w s p v k other h
+sharing-others w s (Fast o) v k other h = sharing_fast-others w s o v k other h
+sharing-others w s (Database o) v k other h = absurd h
+sharing-others w s (Slot o i) v k other h = absurd h
+sharing-others w s (Wait o) v k other h = absurd h
+sharing-others w s (Strong i) v k other h = absurd h
+sharing-others w s (Sleep o) v k other h = absurd h
+
+unsharing-others : (w : World) (s : ℕ) (word : Word) (v : World) (k : ℕ) → k ≢ s → HappensUnsharing w s word v → IsLeftAlone w v k
+unsharing-others w s (Partition p) v k other h = unsharing_partition-others w s p v k other h
+unsharing-others w s (Fast o) v k other h = unsharing_fast-others w s o v k other h
+unsharing-others w s (Database o) v k other h = absurd h
+unsharing-others w s (Slot o i) v k other h = absurd h
+unsharing-others w s (Wait o) v k other h = absurd h
+unsharing-others w s (Strong i) v k other h = absurd h
+unsharing-others w s (Sleep o) v k other h = absurd h
+
 step-others : (w : World) (s : ℕ) (step : Step) (v : World) (k : ℕ) → Safe w → k ≢ s → HappensStep w s step v → IsLeftAlone w v k
 step-others w s (TakeExclusive word) v k safe other h = taking-others w s word v k safe other h
 step-others w s (PutExclusive word done) v k safe other h = putting-others w s word done v k safe other h
+step-others w s (TakeShared word) v k safe other h = sharing-others w s word v k other h
+step-others w s (PutShared word) v k safe other h = unsharing-others w s word v k other h
 step-others w s SplitSeat v k safe other h = splitting-others w s v k other h
 step-others w s (JoinSeat joiner) v k safe other h = joining-others w s joiner v k other h
 step-others w s (AskCancel o) v k safe other h =

@@ -5,14 +5,14 @@ use Rattle.lock_world.specs.declared.events.Event.{Event}
 use Rattle.lock_table.specs.declared.moves.Move.{Move}
 use Rattle.lock_table.specs.declared.moves.Move.TheVariants.{Keep, Grant, Join, Release, Leave}
 use Rattle.lock_world.specs.declared.events.Step.{Step}
-use Rattle.lock_world.specs.declared.events.Step.TheVariants.{TakeExclusive, PutExclusive, SplitSeat, JoinSeat, AskCancel, LoadWait, SetWaiting, MarkGranted, ClearWait}
+use Rattle.lock_world.specs.declared.events.Step.TheVariants.{TakeExclusive, PutExclusive, TakeShared, PutShared, SplitSeat, JoinSeat, AskCancel, LoadWait, SetWaiting, MarkGranted, ClearWait}
 use Rattle.lock_world.specs.declared.events.Word.{Word}
 use Rattle.lock_world.specs.declared.events.Word.TheVariants.{Partition, Fast, Database, Slot, Wait, Strong, Sleep}
 use Rattle.lock_world.specs.WaitWord.{wait_state, asked_word, granted_word}
 use Rattle.lock_world.specs.World.{World}
 use Rattle.lock_table.specs.Put.{set_at}
 use Rattle.lock_world.specs.Happens.Waits.{HappensMarking, HappensMarkingIn, HappensClearing}
-use Rattle.lock_world.specs.Happens.{Happens, HappensStep, HappensTaking, HappensPutting}
+use Rattle.lock_world.specs.Happens.{Happens, HappensStep, HappensTaking, HappensPutting, HappensSharing, HappensUnsharing}
 use Rattle.lock_world.specs.Happens.Seats.{HappensJoining}
 use Rattle.lock_table.proofs.PutLemmas.{set_at-here, set_at-else}
 
@@ -33,7 +33,7 @@ word-set waits j after k marked =
 
 word-taking : (w : World) (s : ℕ) (taken : Word) (v : World) (k : ℕ) → HappensTaking w s taken v → IsLeftOrMarked (w.words.wait k) (v.words.wait k)
 word-taking w s (Partition p) v k h = word k w _ v h.1 (inl refl)
-word-taking w s (Fast o) v k h = absurd h
+word-taking w s (Fast o) v k h = word k w _ v h.1 (inl refl)
 word-taking w s (Database o) v k h = absurd h
 word-taking w s (Slot o i) v k h = absurd h
 word-taking w s (Wait o) v k h = absurd h
@@ -43,12 +43,30 @@ word-taking w s (Sleep o) v k h = absurd h
 word-putting : (w : World) (s : ℕ) (put : Word) (done : Move) (v : World) (k : ℕ) → HappensPutting w s put done v → IsLeftOrMarked (w.words.wait k) (v.words.wait k)
 word-putting w s (Partition p) done v k (inl h) = word k w _ v h.2 (inl refl)
 word-putting w s (Partition p) done v k (inr h) = word k w _ v h.1 (inl refl)
-word-putting w s (Fast o) done v k h = absurd h
+word-putting w s (Fast o) done v k h = word k w _ v h.1.1 (inl refl)
 word-putting w s (Database o) done v k h = absurd h
 word-putting w s (Slot o i) done v k h = absurd h
 word-putting w s (Wait o) done v k h = absurd h
 word-putting w s (Strong i) done v k h = absurd h
 word-putting w s (Sleep o) done v k h = absurd h
+
+word-sharing : (w : World) (s : ℕ) (shared : Word) (v : World) (k : ℕ) → HappensSharing w s shared v → IsLeftOrMarked (w.words.wait k) (v.words.wait k)
+word-sharing w s (Partition p) v k h = word k w _ v h.2 (inl refl)
+word-sharing w s (Fast o) v k h = word k w _ v h.2 (inl refl)
+word-sharing w s (Database o) v k h = absurd h
+word-sharing w s (Slot o i) v k h = absurd h
+word-sharing w s (Wait o) v k h = absurd h
+word-sharing w s (Strong i) v k h = absurd h
+word-sharing w s (Sleep o) v k h = absurd h
+
+word-unsharing : (w : World) (s : ℕ) (shared : Word) (v : World) (k : ℕ) → HappensUnsharing w s shared v → IsLeftOrMarked (w.words.wait k) (v.words.wait k)
+word-unsharing w s (Partition p) v k h = word k w _ v h.1 (inl refl)
+word-unsharing w s (Fast o) v k h = word k w _ v h.1 (inl refl)
+word-unsharing w s (Database o) v k h = absurd h
+word-unsharing w s (Slot o i) v k h = absurd h
+word-unsharing w s (Wait o) v k h = absurd h
+word-unsharing w s (Strong i) v k h = absurd h
+word-unsharing w s (Sleep o) v k h = absurd h
 
 word-joining : (w : World) (s : ℕ) (joiner : Option ℕ) (v : World) (k : ℕ) → HappensJoining w s joiner v → IsLeftOrMarked (w.words.wait k) (v.words.wait k)
 word-joining w s (Some j) v k h = word k w _ v h.1 (inl refl)
@@ -73,6 +91,8 @@ word-clearing w s true v k other (inr h) = word k w _ v h.3 (inl (set_at-else w.
 word-step_by : (w : World) (s : ℕ) (step : Step) (v : World) (k : ℕ) → k ≢ s → HappensStep w s step v → IsLeftOrMarked (w.words.wait k) (v.words.wait k)
 word-step_by w s (TakeExclusive taken) v k other h = word-taking w s taken v k h
 word-step_by w s (PutExclusive put done) v k other h = word-putting w s put done v k h
+word-step_by w s (TakeShared shared) v k other h = word-sharing w s shared v k h
+word-step_by w s (PutShared shared) v k other h = word-unsharing w s shared v k h
 word-step_by w s SplitSeat v k other (inl h) = word k w _ v h.1 (inl refl)
 word-step_by w s SplitSeat v k other (inr h) = word k w _ v h.1 (inl refl)
 word-step_by w s (JoinSeat joiner) v k other h = word-joining w s joiner v k h

@@ -5,11 +5,11 @@ use Rattle.lock_world.specs.declared.events.Event.{Event}
 use Rattle.lock_table.specs.declared.moves.Move.{Move}
 use Rattle.lock_table.specs.declared.moves.Move.TheVariants.{Keep, Grant, Join, Release, Leave}
 use Rattle.lock_world.specs.declared.events.Step.{Step}
-use Rattle.lock_world.specs.declared.events.Step.TheVariants.{TakeExclusive, PutExclusive, SplitSeat, JoinSeat, AskCancel, LoadWait, SetWaiting, MarkGranted, ClearWait}
+use Rattle.lock_world.specs.declared.events.Step.TheVariants.{TakeExclusive, PutExclusive, TakeShared, PutShared, SplitSeat, JoinSeat, AskCancel, LoadWait, SetWaiting, MarkGranted, ClearWait}
 use Rattle.lock_world.specs.declared.events.Word.{Word}
 use Rattle.lock_world.specs.declared.events.Word.TheVariants.{Partition, Fast, Database, Slot, Wait, Strong, Sleep}
 use Rattle.lock_world.specs.World.{World, opening}
-use Rattle.lock_world.specs.Happens.{HappensTaking, HappensPutting, Happens, HappensStep, Next, Runs}
+use Rattle.lock_world.specs.Happens.{HappensTaking, HappensPutting, HappensSharing, HappensUnsharing, Happens, HappensStep, Next, Runs}
 use Rattle.lock_world.specs.Happens.Seats.{HappensJoining}
 use Rattle.lock_world.specs.Happens.Waits.{HappensMarkingIn, HappensMarking, HappensClearing}
 use Rattle.lw_word.specs.LightweightWord.{free_word}
@@ -19,6 +19,8 @@ use Rattle.lock_world.proofs.Waits.Steps.{GrantsOthers}
 use Rattle.lock_world.proofs.Safe.Partitions.{taking_partition-safe, putting_partition-safe, putting_recorded-safe}
 use Rattle.lock_world.proofs.Safe.Seats.{issuing-safe, going_on-safe, keeping_apart-safe, closing-safe}
 use Rattle.lock_world.proofs.Safe.Waits.{asking-safe, loading_wait-safe, setting_waiting-safe, marking_first-safe, marking_next-safe, clearing_seen-safe, clearing_in_hand-safe, leaving-safe}
+use Rattle.lock_world.proofs.Safe.Sharing.{sharing_partition-safe, unsharing_partition-safe, sharing_fast-safe, unsharing_fast-safe}
+use Rattle.lock_world.proofs.Safe.Slots.{taking_fast-safe, putting_fast-safe}
 
 -- A free word shows that nobody holds it.
 shows_nobody : (limit : ℕ) → ShowsHolders limit free_word (λ k. false) (λ k. false)
@@ -84,7 +86,7 @@ opening-safe limit few = record {
 
 taking-safe : (w : World) (s : ℕ) (word : Word) (v : World) → Safe w → HappensTaking w s word v → Safe v
 taking-safe w s (Partition p) v safe h = subst Safe (sym h.1) (taking_partition-safe w s p safe h.0)
-taking-safe w s (Fast o) v safe h = absurd h
+taking-safe w s (Fast o) v safe h = subst Safe (sym h.1) (taking_fast-safe w s o safe h.0)
 taking-safe w s (Database k) v safe h = absurd h
 taking-safe w s (Slot k i) v safe h = absurd h
 taking-safe w s (Wait k) v safe h = absurd h
@@ -94,12 +96,30 @@ taking-safe w s (Sleep k) v safe h = absurd h
 putting-safe : (w : World) (s : ℕ) (word : Word) (done : Move) (v : World) → Safe w → HappensPutting w s word done v → Safe v
 putting-safe w s (Partition p) done v safe (inl h) = subst Safe (sym h.2) (putting_partition-safe w s p done h.0 safe h.1)
 putting-safe w s (Partition p) done v safe (inr h) = subst Safe (sym h.1) (putting_recorded-safe w s p done safe h.0)
-putting-safe w s (Fast o) done v safe h = absurd h
+putting-safe w s (Fast o) done v safe h = subst Safe (sym h.1.1) (putting_fast-safe w s o safe h.1.0)
 putting-safe w s (Database k) done v safe h = absurd h
 putting-safe w s (Slot k i) done v safe h = absurd h
 putting-safe w s (Wait k) done v safe h = absurd h
 putting-safe w s (Strong i) done v safe h = absurd h
 putting-safe w s (Sleep k) done v safe h = absurd h
+
+sharing-safe : (w : World) (s : ℕ) (word : Word) (v : World) → Safe w → HappensSharing w s word v → Safe v
+sharing-safe w s (Partition p) v safe h = subst Safe (sym h.2) (sharing_partition-safe w s p safe h.1)
+sharing-safe w s (Fast o) v safe h = subst Safe (sym h.2) (sharing_fast-safe w s o safe h.1)
+sharing-safe w s (Database k) v safe h = absurd h
+sharing-safe w s (Slot k i) v safe h = absurd h
+sharing-safe w s (Wait k) v safe h = absurd h
+sharing-safe w s (Strong i) v safe h = absurd h
+sharing-safe w s (Sleep k) v safe h = absurd h
+
+unsharing-safe : (w : World) (s : ℕ) (word : Word) (v : World) → Safe w → HappensUnsharing w s word v → Safe v
+unsharing-safe w s (Partition p) v safe h = subst Safe (sym h.1) (unsharing_partition-safe w s p safe h.0)
+unsharing-safe w s (Fast o) v safe h = subst Safe (sym h.1) (unsharing_fast-safe w s o safe h.0)
+unsharing-safe w s (Database k) v safe h = absurd h
+unsharing-safe w s (Slot k i) v safe h = absurd h
+unsharing-safe w s (Wait k) v safe h = absurd h
+unsharing-safe w s (Strong i) v safe h = absurd h
+unsharing-safe w s (Sleep k) v safe h = absurd h
 
 joining-safe : (w : World) (s : ℕ) (joiner : Option ℕ) (v : World) → Safe w → HappensJoining w s joiner v → Safe v
 joining-safe w s (Some j) v safe h = subst Safe (sym h.1) (keeping_apart-safe w s j safe h.0)
@@ -128,6 +148,8 @@ clearing-safe w s true v safe (inr h) = subst Safe (sym h.3) (clearing_in_hand-s
 step-safe : (w : World) (s : ℕ) (step : Step) (v : World) → Safe w → HappensStep w s step v → Safe v
 step-safe w s (TakeExclusive word) v safe h = taking-safe w s word v safe h
 step-safe w s (PutExclusive word done) v safe h = putting-safe w s word done v safe h
+step-safe w s (TakeShared word) v safe h = sharing-safe w s word v safe h
+step-safe w s (PutShared word) v safe h = unsharing-safe w s word v safe h
 step-safe w s SplitSeat v safe (inl h) = subst Safe (sym h.1) (issuing-safe w s safe h.0)
 step-safe w s SplitSeat v safe (inr h) = subst Safe (sym h.1) (going_on-safe w s safe h.0)
 step-safe w s (JoinSeat joiner) v safe h = joining-safe w s joiner v safe h

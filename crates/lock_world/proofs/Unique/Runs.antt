@@ -1,12 +1,12 @@
 use Rattle.std.proofs.Common.{◌≡◌, ℕ, List, [], ◌∷◌, sym, ◌∙◌, subst, inl, inr}
 use Rattle.lock_world.specs.declared.events.Event.{Event}
 use Rattle.lock_world.specs.declared.events.Step.{Step}
-use Rattle.lock_world.specs.declared.events.Step.TheVariants.{TakeExclusive, PutExclusive, SplitSeat, JoinSeat, AskCancel, LoadWait, SetWaiting, MarkGranted, ClearWait}
+use Rattle.lock_world.specs.declared.events.Step.TheVariants.{TakeExclusive, PutExclusive, TakeShared, PutShared, SplitSeat, JoinSeat, AskCancel, LoadWait, SetWaiting, MarkGranted, ClearWait}
 use Rattle.lock_world.specs.World.{World}
 use Rattle.lock_table.specs.declared.moves.Move.{Move}
 use Rattle.lock_world.specs.declared.events.Word.{Word}
 use Rattle.lock_world.specs.declared.events.Word.TheVariants.{Partition, Fast, Database, Slot, Wait, Strong, Sleep}
-use Rattle.lock_world.specs.Happens.{HappensTaking, HappensPutting, HappensStep, Next, Runs}
+use Rattle.lock_world.specs.Happens.{HappensTaking, HappensPutting, HappensSharing, HappensUnsharing, HappensStep, Next, Runs}
 use Rattle.lock_world.specs.Safe.{Safe}
 use Rattle.lock_world.proofs.Safe.Runs.{Next-safe}
 use Rattle.lock_world.proofs.Unique.Seats.{one_splitting, one_joining}
@@ -15,7 +15,7 @@ use Rattle.lock_world.proofs.Unique.Waits.{one_marking, one_clearing, one_settin
 
 one_taking : (w : World) (s : ℕ) (word : Word) (u v : World) → HappensTaking w s word u → HappensTaking w s word v → u ≡ v
 one_taking w s (Partition p) u v one two = one.1 ∙ sym two.1
-one_taking w s (Fast o) u v one two = absurd one
+one_taking w s (Fast o) u v one two = one.1 ∙ sym two.1
 one_taking w s (Database k) u v one two = absurd one
 one_taking w s (Slot k i) u v one two = absurd one
 one_taking w s (Wait k) u v one two = absurd one
@@ -24,16 +24,36 @@ one_taking w s (Sleep k) u v one two = absurd one
 
 one_putting : (w : World) (s : ℕ) (word : Word) (done : Move) (u v : World) → HappensPutting w s word done u → HappensPutting w s word done v → u ≡ v
 one_putting w s (Partition p) done u v one two = one_putting_partition w s p done u v one two
-one_putting w s (Fast o) done u v one two = absurd one
+one_putting w s (Fast o) done u v one two = one.1.1 ∙ sym two.1.1
 one_putting w s (Database k) done u v one two = absurd one
 one_putting w s (Slot k i) done u v one two = absurd one
 one_putting w s (Wait k) done u v one two = absurd one
 one_putting w s (Strong i) done u v one two = absurd one
 one_putting w s (Sleep k) done u v one two = absurd one
 
+one_sharing : (w : World) (s : ℕ) (word : Word) (u v : World) → HappensSharing w s word u → HappensSharing w s word v → u ≡ v
+one_sharing w s (Partition p) u v one two = one.2 ∙ sym two.2
+one_sharing w s (Fast o) u v one two = one.2 ∙ sym two.2
+one_sharing w s (Database k) u v one two = absurd one
+one_sharing w s (Slot k i) u v one two = absurd one
+one_sharing w s (Wait k) u v one two = absurd one
+one_sharing w s (Strong i) u v one two = absurd one
+one_sharing w s (Sleep k) u v one two = absurd one
+
+one_unsharing : (w : World) (s : ℕ) (word : Word) (u v : World) → HappensUnsharing w s word u → HappensUnsharing w s word v → u ≡ v
+one_unsharing w s (Partition p) u v one two = one.1 ∙ sym two.1
+one_unsharing w s (Fast o) u v one two = one.1 ∙ sym two.1
+one_unsharing w s (Database k) u v one two = absurd one
+one_unsharing w s (Slot k i) u v one two = absurd one
+one_unsharing w s (Wait k) u v one two = absurd one
+one_unsharing w s (Strong i) u v one two = absurd one
+one_unsharing w s (Sleep k) u v one two = absurd one
+
 one_step : (w : World) (s : ℕ) (step : Step) (u v : World) → Safe w → HappensStep w s step u → HappensStep w s step v → u ≡ v
 one_step w s (TakeExclusive word) u v safe one two = one_taking w s word u v one two
 one_step w s (PutExclusive word done) u v safe one two = one_putting w s word done u v one two
+one_step w s (TakeShared word) u v safe one two = one_sharing w s word u v one two
+one_step w s (PutShared word) u v safe one two = one_unsharing w s word u v one two
 one_step w s SplitSeat u v safe one two = one_splitting w s u v safe one two
 one_step w s (JoinSeat joiner) u v safe one two = one_joining w s joiner u v one two
 one_step w s (AskCancel k) u v safe one two = one.1 ∙ sym two.1
