@@ -3,3 +3,5 @@ pub mod Skipped
 pub mod Seats
 pub mod Partitions
 pub mod Waits
+pub mod Slots
+pub mod Sharing

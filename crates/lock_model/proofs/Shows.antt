@@ -2,5 +2,6 @@
 pub mod Places
 pub mod Changes
 pub mod Hands
+pub mod Locks
 pub mod Looks
 pub mod Runs

@@ -30,7 +30,7 @@ waits_of plain = plain.waits.items
 
 abbrev pub word_of : Plain → Word → ℕ
 word_of plain (Partition p) = slice_index_or plain.words.partitions p free_word
-word_of plain (Fast session) = free_word
+word_of plain (Fast session) = slice_index_or plain.words.fast session free_word
 word_of plain (Database session) = 0
 word_of plain (Slot session place) = 0
 word_of plain (Wait session) = slice_index_or plain.words.waits session 0

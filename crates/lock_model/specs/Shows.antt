@@ -1,4 +1,4 @@
-use Rattle.std.specs.Prelude.{◌≡◌, ◌⊎◌, ℕ, ◌<◌, Bool, true, false, not, ◌&&◌, ◌==◌, List, length, count_by, Option, Some, None, is_none, All, option_map, slice_index_or, if◌then◌else◌}
+use Rattle.std.specs.Prelude.{◌≡◌, ◌⊎◌, ℕ, ◌<◌, Bool, true, false, not, ◌&&◌, ◌==◌, List, [], length, count_by, Option, Some, None, is_none, All, option_map, slice_index_or, if◌then◌else◌}
 use Rattle.std.specs.List.{list_any}
 use Rattle.modes_core.specs.declared.modes.Mode.{Mode}
 use Rattle.modes_core.specs.declared.tags.Tag.{Tag}
@@ -10,6 +10,7 @@ use Rattle.lock_model.specs.declared.machine.hands.InHand.{InHand}
 use Rattle.lock_model.specs.declared.machine.own_waits.Awaited.{Awaited}
 use Rattle.lock_model.specs.declared.machine.state.Numbers.{Numbers}
 use Rattle.lock_model.specs.declared.machine.state.Words.{Words}
+use Rattle.lock_model.specs.declared.machine.state.Locks.{Locks}
 use Rattle.lock_model.specs.declared.machine.state.Contents.{Contents}
 use Rattle.lock_model.specs.declared.machine.state.OwnWaits.{OwnWaits}
 use Rattle.lock_model.specs.declared.machine.state.Machine.{Machine}
@@ -76,23 +77,23 @@ pub record ShowsNumbers (shown : Numbers) (numbers : world.Numbers) : Type 0 whe
 
 -- The words show what they show in the World.
 pub record ShowsWords (shown : Words) (words : world.Words) : Type 0 where
+  pub sixty_four_fast : length shown.fast ≡ 64
+  pub sixty_four_waits : length shown.waits ≡ 64
   pub partition : (p : ℕ) → slice_index_or shown.partitions p free_word ≡ words.partition p
-  -- no event so far changes the words of fast-path locks
-  pub fast : (session : ℕ) → words.fast session ≡ free_word
+  pub fast : (session : ℕ) → slice_index_or shown.fast session free_word ≡ words.fast session
   pub wait : (session : ℕ) → slice_index_or shown.waits session 0 ≡ words.wait session
 
--- The words that no event so far changes show what they opened with.
-pub record NotYetUsed (database : ℕ → ℕ) (slot : ℕ → ℕ → ℕ) (strong sleep : ℕ → ℕ) : Type 0 where
-  pub databases : (session : ℕ) → database session ≡ 0
-  pub slots : (session place : ℕ) → slot session place ≡ 0
-  pub counters : (index : ℕ) → strong index ≡ 0
-  pub sleeps : (session : ℕ) → sleep session ≡ 0
+-- The marks of so many locks, of each 64 of them, tell which sessions have it in the World.
+pub record ShowsMarks (shown : List (List Bool)) (locks : ℕ) (has : ℕ → ℕ → Bool) : Type 0 where
+  pub as_many : length shown ≡ locks
+  pub sixty_four : (lock : ℕ) → lock < locks → length (slice_index_or shown lock []) ≡ 64
+  pub mark : (session lock : ℕ) → slice_index_or (slice_index_or shown lock []) session false ≡ has session lock
 
--- No event so far takes the lock of fast-path slots or shares a lock, so nobody has one, and the machine keeps none.
-pub record NobodyHas (holds_fast shares_fast shares_partition : ℕ → ℕ → Bool) : Type 0 where
-  pub fast : (session owner : ℕ) → holds_fast session owner ≡ false
-  pub shared_fast : (session owner : ℕ) → shares_fast session owner ≡ false
-  pub shared_partition : (session p : ℕ) → shares_partition session p ≡ false
+-- Who has the lightweight locks of fast-path slots, exclusively or shared, and who shares those of partitions is as in the World.
+pub record ShowsLocks (shown : Locks) (holds_fast shares_fast shares_partition : ℕ → ℕ → Bool) : Type 0 where
+  pub fast_holders : ShowsMarks shown.fast_holders 64 holds_fast
+  pub fast_sharers : ShowsMarks shown.fast_sharers 64 shares_fast
+  pub partition_sharers : ShowsMarks shown.partition_sharers 16 shares_partition
 
 -- The contents, at home and in hand, are the World's, and no request is begun in any.
 pub record ShowsContents (shown : Contents) (contents : world.Contents) : Type 0 where
@@ -114,14 +115,17 @@ pub record ShowsWaits (shown : OwnWaits) (wait : ℕ → Option OwnWait) (has_se
 pub record Shows (machine : Machine) (w : World) : Type 0 where
   pub numbers : ShowsNumbers machine.numbers w.numbers
   pub words : ShowsWords machine.words w.words
-  pub unused : NotYetUsed w.words.database w.words.slot w.words.strong w.words.sleep
-  pub locks : NobodyHas w.sessions.holds_fast w.sessions.shares_fast w.sessions.shares_partition
+  pub locks : ShowsLocks machine.locks w.sessions.holds_fast w.sessions.shares_fast w.sessions.shares_partition
   pub contents : ShowsContents machine.contents w.contents
   pub waits : ShowsWaits machine.waits w.sessions.awaited w.sessions.seen
 
 -- whether the session makes steps of its own
 abbrev pub makes_steps : Machine → ℕ → Bool
 makes_steps machine session = slice_index_or machine.numbers.live session false && is_none (slice_index_or machine.numbers.kept_by session None)
+
+-- whether the session has a mark of any lock
+abbrev pub has_a_mark : ℕ → List (List Bool) → Bool
+has_a_mark session marks = list_any (λ of_lock. slice_index_or of_lock session false) marks
 
 -- whether it is this session's number
 abbrev pub is_number : ℕ → Option ℕ → Bool

@@ -14,6 +14,8 @@ mod partitions;
 mod plain;
 mod plain_lists;
 mod seats;
+mod sharing;
+mod slots;
 mod state;
 #[cfg(test)]
 mod tests;

@@ -1,8 +1,8 @@
-use Rattle.std.proofs.Common.{◌≡◌, ◌≢◌, ℕ, ◌+◌, ◌<◌, Bool, true, false, not, List, length, get_or, Option, Some, None, is_none, refl, sym, ap, ◌∙◌, subst, inl, inr}
+use Rattle.std.proofs.Common.{◌≡◌, ◌≢◌, ℕ, ◌+◌, ◌<◌, Bool, true, false, not, ◌||◌, List, length, get_or, Option, Some, None, is_none, refl, sym, ap, ◌∙◌, subst, inl, inr}
 use Rattle.std.specs.Prelude.{◌==◌}
 use Rattle.std.specs.List.{list_any}
 use Rattle.std.proofs.Math.ListN.{set}
-use Rattle.std.proofs.lemmas.Bool.{both_ways, false≢true, and_parts, and_from, eq-eqb, eqb-true, false_from_ne_true}
+use Rattle.std.proofs.lemmas.Bool.{cases_Bool, both_ways, false≢true, or_parts, and_parts, and_from, eq-eqb, eqb-true, false_from_ne_true}
 use Rattle.std.proofs.lemmas.List.Folds.{list_any_at}
 use Rattle.modes_core.specs.declared.modes.Mode.{Mode}
 use Rattle.modes_core.specs.declared.tags.Tag.{Tag}
@@ -18,8 +18,9 @@ use Rattle.lock_world.specs.Happens.{Next}
 use Rattle.lock_world.specs.Happens.Seats.{MayBeIssued, after_issuing, after_going_on, MayBeKeptApart, after_keeping_apart, MayClose, after_closing}
 use Rattle.lock_world.specs.Safe.{Safe}
 use Rattle.lock_table.specs.OwnWait.{is_for}
-use Rattle.lock_model.specs.Shows.{Shows, is_number, is_holder, makes_steps, awaits}
+use Rattle.lock_model.specs.Shows.{Shows, is_number, is_holder, has_a_mark, makes_steps, awaits}
 use Rattle.lock_model.proofs.Shows.Changes.{get_or-set_at}
+use Rattle.lock_model.proofs.Shows.Locks.{no_mark, some_mark}
 use Rattle.lock_table.proofs.ListLemmas.{any_found, any_weaker, found_within}
 use Rattle.lock_table.proofs.Same.{same_triple-refl}
 use Rattle.lock_model.proofs.Shows.Looks.{hand_kept, kept_hand, steps_from, own_from, content_from, awaits_from, no_wait_from}
@@ -110,6 +111,20 @@ module _ (m : Machine) (w : World) (safe : Safe w) (shows : Shows m w) where
       both_ways (w.sessions.holds_partition s found.0) (none found.0)
       (safe.table.carriers.hands found.0 s ∙ kept_hand (get_or m.contents.hands found.0 None) (w.contents.hand found.0) s (shows.contents.hand found.0) its)
 
+  no_fast_word : (s : ℕ) → has_a_mark s m.locks.fast_holders ≡ false → (o : ℕ) → w.sessions.holds_fast s o ≡ false
+  no_fast_word s none o = no_mark m.locks.fast_holders 64 w.sessions.holds_fast s shows.locks.fast_holders none o
+
+  pub some_fast_word : (s : ℕ) → has_a_mark s m.locks.fast_holders ≡ true → ((o : ℕ) → w.sessions.holds_fast s o ≡ false) → ⊥
+  some_fast_word s any none = some_mark m.locks.fast_holders 64 w.sessions.holds_fast s shows.locks.fast_holders any none
+
+  pub some_shared_word : (s : ℕ) → (has_a_mark s m.locks.fast_sharers || has_a_mark s m.locks.partition_sharers) ≡ true
+      → ((p : ℕ) → w.sessions.shares_partition s p ≡ false) → ((o : ℕ) → w.sessions.shares_fast s o ≡ false) → ⊥
+  some_shared_word s any none none_fast =
+      elim (cases_Bool (has_a_mark s m.locks.fast_sharers)) [
+        | inl some ↦ some_mark m.locks.fast_sharers 64 w.sessions.shares_fast s shows.locks.fast_sharers some none_fast
+        | inr no_fast ↦ some_mark m.locks.partition_sharers 16 w.sessions.shares_partition s shows.locks.partition_sharers (ap (λ b. b || has_a_mark s m.locks.partition_sharers) (sym no_fast) ∙ any) none
+      ]
+
   pub no_hold : (s : ℕ) → list_any (has_hold_of s) m.contents.parts.items ≡ false → (t : Tag) (n : Mode) → w.sessions.own s t n ≡ false
   no_hold s none t n = false_from_ne_true _ (λ own.
       let there : (w.contents.now (partition_of t)).holds s t n ≡ true = (and_parts _ _ (sym (own_from m w safe shows s t n) ∙ own)).0 in
@@ -139,15 +154,15 @@ module _ (m : Machine) (w : World) (safe : Safe w) (shows : Shows m w) where
       let found = any_found (is_number s) m.numbers.kept_by any in
       nobody found.0 (sym (shows.numbers.kept_by found.0) ∙ number_of_some (get_or m.numbers.kept_by found.0 None) s (ap (is_number s) (found.3 None) ∙ found.4))
 
-  pub was_kept_apart : (s joiner : ℕ) → makes_steps m s ≡ true → joiner ≢ s → makes_steps m joiner ≡ true → list_any (is_holder s) m.contents.hands ≡ false → s < length m.numbers.kept_by
+  pub was_kept_apart : (s joiner : ℕ) → makes_steps m s ≡ true → joiner ≢ s → makes_steps m joiner ≡ true → list_any (is_holder s) m.contents.hands ≡ false → has_a_mark s m.locks.fast_holders ≡ false → s < length m.numbers.kept_by
       → (v : World) × Next w (record { session = s; step = JoinSeat (Some joiner) }) v × Shows (record m { numbers = record (m.numbers) { kept_by = set m.numbers.kept_by s (Some joiner) } }) v
-  was_kept_apart s joiner steps another joiner_steps no_hand in_kept_by =
+  was_kept_apart s joiner steps another joiner_steps no_hand no_fast in_kept_by =
       let may : MayBeKeptApart w s joiner = record {
         steps = steps_from m w safe shows s steps;
         another = another;
         joiner_steps = steps_from m w safe shows joiner joiner_steps;
         no_word = no_word s no_hand;
-        no_fast_word = shows.locks.fast s;
+        no_fast_word = no_fast_word s no_fast;
       } in (
         after_keeping_apart w s joiner,
         inl (may, refl),
@@ -166,15 +181,17 @@ module _ (m : Machine) (w : World) (safe : Safe w) (shows : Shows m w) where
         },
       )
 
-  pub was_closed : (s : ℕ) → makes_steps m s ≡ true → list_any (is_holder s) m.contents.hands ≡ false → list_any (has_hold_of s) m.contents.parts.items ≡ false → is_none (get_or m.waits.awaited s None) ≡ true → list_any (is_number s) m.numbers.kept_by ≡ false → s < length m.numbers.live
+  pub was_closed : (s : ℕ) → makes_steps m s ≡ true → list_any (is_holder s) m.contents.hands ≡ false → has_a_mark s m.locks.fast_holders ≡ false → (has_a_mark s m.locks.fast_sharers || has_a_mark s m.locks.partition_sharers) ≡ false
+      → list_any (has_hold_of s) m.contents.parts.items ≡ false → is_none (get_or m.waits.awaited s None) ≡ true → list_any (is_number s) m.numbers.kept_by ≡ false → s < length m.numbers.live
       → (v : World) × Next w (record { session = s; step = JoinSeat None }) v × Shows (record m { numbers = record (m.numbers) { live = set m.numbers.live s false } }) v
-  was_closed s steps no_hand none_held no_wait keeps_none in_live =
+  was_closed s steps no_hand no_fast no_shared none_held no_wait keeps_none in_live =
+      let shares_none = or_parts (has_a_mark s m.locks.fast_sharers) (has_a_mark s m.locks.partition_sharers) no_shared in
       let may : MayClose w s = record {
         steps = steps_from m w safe shows s steps;
         no_word = no_word s no_hand;
-        no_fast_word = shows.locks.fast s;
-        no_shared_word = shows.locks.shared_partition s;
-        no_shared_fast_word = shows.locks.shared_fast s;
+        no_fast_word = no_fast_word s no_fast;
+        no_shared_word = no_mark m.locks.partition_sharers 16 w.sessions.shares_partition s shows.locks.partition_sharers shares_none.1;
+        no_shared_fast_word = no_mark m.locks.fast_sharers 64 w.sessions.shares_fast s shows.locks.fast_sharers shares_none.0;
         no_hold = no_hold s none_held;
         no_wait = no_wait_from m w safe shows s no_wait;
         keeps_nobody = keeps_nobody s keeps_none;

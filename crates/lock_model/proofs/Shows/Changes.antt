@@ -28,21 +28,35 @@ get_or-set_at xs k a d f within reads j =
       | inr other ↦ get_or-set_other xs k j a d other ∙ reads j ∙ sym (set_at-else f k a j other)
     ]
 
--- A partition's word, and a session's wait word.
+-- A partition's word, that of a session's fast-path slots, and a session's wait word.
 pub partition_word-set : (shown : Words) (words : world.Words) (p a b : ℕ) → ShowsWords shown words → p < length shown.partitions → a ≡ b
     → ShowsWords (record shown { partitions = set shown.partitions p a }) (record words { partition = set_at words.partition p b })
 partition_word-set shown words p a b shows within same = record {
+  sixty_four_fast = shows.sixty_four_fast;
+  sixty_four_waits = shows.sixty_four_waits;
   partition = λ q. get_or-set_at shown.partitions p a free_word words.partition within shows.partition q ∙ ap (λ n. set_at words.partition p n q) same;
   fast = shows.fast;
   wait = shows.wait;
 }
 
-pub wait_word-set : (shown : Words) (words : world.Words) (s a b : ℕ) → ShowsWords shown words → s < length shown.waits → a ≡ b
+pub fast_word-set : (shown : Words) (words : world.Words) (o a b : ℕ) → ShowsWords shown words → o < 64 → a ≡ b
+    → ShowsWords (record shown { fast = set shown.fast o a }) (record words { fast = set_at words.fast o b })
+fast_word-set shown words o a b shows below same = record {
+  sixty_four_fast = length-set shown.fast o a ∙ shows.sixty_four_fast;
+  sixty_four_waits = shows.sixty_four_waits;
+  partition = shows.partition;
+  fast = λ k. get_or-set_at shown.fast o a free_word words.fast (subst (λ n. o < n) (sym shows.sixty_four_fast) below) shows.fast k ∙ ap (λ n. set_at words.fast o n k) same;
+  wait = shows.wait;
+}
+
+pub wait_word-set : (shown : Words) (words : world.Words) (s a b : ℕ) → ShowsWords shown words → s < 64 → a ≡ b
     → ShowsWords (record shown { waits = set shown.waits s a }) (record words { wait = set_at words.wait s b })
-wait_word-set shown words s a b shows within same = record {
+wait_word-set shown words s a b shows below same = record {
+  sixty_four_fast = shows.sixty_four_fast;
+  sixty_four_waits = length-set shown.waits s a ∙ shows.sixty_four_waits;
   partition = shows.partition;
   fast = shows.fast;
-  wait = λ k. get_or-set_at shown.waits s a 0 words.wait within shows.wait k ∙ ap (λ n. set_at words.wait s n k) same;
+  wait = λ k. get_or-set_at shown.waits s a 0 words.wait (subst (λ n. s < n) (sym shows.sixty_four_waits) below) shows.wait k ∙ ap (λ n. set_at words.wait s n k) same;
 }
 
 -- A hand.

@@ -25,13 +25,15 @@ use Rattle.lock_world.specs.World.{WordExists, word_in, World, opening}
 use Rattle.lock_world.specs.Safe.{Safe}
 use Rattle.lock_model.specs.Shows.{Shows, ShowsHandIfAny, AreInTable, ListsHolds}
 use Rattle.lock_model.proofs.Shows.Places.{get_or-one_value}
+use Rattle.lock_model.proofs.Shows.Locks.{no_marks}
 use Rattle.lock_model.proofs.Shows.Looks.{content_from}
 
 -- The machine as it is made shows the opening World.
 pub opening-shown : (m : Machine) → m.numbers.issued ≡ 0 → m.numbers.live ≡ replicate 64 false → m.numbers.kept_by ≡ replicate 64 None → m.words.partitions ≡ replicate 16 536870912
-    → m.words.waits ≡ replicate 64 0 → m.contents.hands ≡ replicate 16 None → m.waits.awaited ≡ replicate 64 None → m.waits.seen ≡ replicate 64 false
+    → m.words.fast ≡ replicate 64 536870912 → m.words.waits ≡ replicate 64 0 → m.locks.fast_holders ≡ replicate 64 (replicate 64 false)
+    → m.locks.fast_sharers ≡ replicate 64 (replicate 64 false) → m.locks.partition_sharers ≡ replicate 16 (replicate 64 false) → m.contents.hands ≡ replicate 16 None → m.waits.awaited ≡ replicate 64 None → m.waits.seen ≡ replicate 64 false
     → length m.contents.parts.items ≡ 16 → ((p : ℕ) → (contents_in m.contents.parts.items p ≡ empty_content) × ((part_at m.contents.parts.items p).begun ≡ None)) → Shows m (opening 64)
-opening-shown m issued live kept_by words wait_words hands awaited seen sixteen empty = record {
+opening-shown m issued live kept_by words fast_words wait_words holders sharers partition_sharers hands awaited seen sixteen empty = record {
   numbers = record {
     limit = refl;
     issued = issued;
@@ -39,12 +41,17 @@ opening-shown m issued live kept_by words wait_words hands awaited seen sixteen 
     kept_by = λ k. ap (λ list. get_or list k None) kept_by ∙ get_or-one_value 64 None k;
   };
   words = record {
+    sixty_four_fast = ap length fast_words ∙ length-replicate {A = ℕ} 64 536870912;
+    sixty_four_waits = ap length wait_words ∙ length-replicate {A = ℕ} 64 0;
     partition = λ p. ap (λ list. get_or list p free_word) words ∙ get_or-one_value 16 536870912 p;
-    fast = λ k. refl;
+    fast = λ k. ap (λ list. get_or list k free_word) fast_words ∙ get_or-one_value 64 536870912 k;
     wait = λ k. ap (λ list. get_or list k 0) wait_words ∙ get_or-one_value 64 0 k;
   };
-  unused = record { databases = λ s. refl; slots = λ s i. refl; counters = λ i. refl; sleeps = λ s. refl };
-  locks = record { fast = λ s o. refl; shared_fast = λ s o. refl; shared_partition = λ s p. refl };
+  locks = record {
+    fast_holders = no_marks 64 m.locks.fast_holders holders;
+    fast_sharers = no_marks 64 m.locks.fast_sharers sharers;
+    partition_sharers = no_marks 16 m.locks.partition_sharers partition_sharers;
+  };
   contents = record {
     sixteen_hands = ap length hands ∙ length-replicate {A = Option InHand} 16 None;
     hand = λ p. subst (λ o. ShowsHandIfAny o None) (sym (ap (λ list. get_or list p None) hands ∙ get_or-one_value 16 None p)) tt;
@@ -111,9 +118,9 @@ plain-shown m w safe shows plain parts parts_2 these those gathered in_table gat
 
   word_shown : (word : Word) → WordExists word → word_of plain word ≡ word_in w.words word
   word_shown (Partition p) exists = ap (λ words. get_or words.partitions p free_word) same ∙ shows.words.partition p
-  word_shown (Fast k) exists = sym (shows.words.fast k)
-  word_shown (Database k) exists = sym (shows.unused.databases k)
-  word_shown (Slot k i) exists = sym (shows.unused.slots k i)
+  word_shown (Fast k) exists = ap (λ words. get_or words.fast k free_word) same ∙ shows.words.fast k
+  word_shown (Database k) exists = sym (safe.table.carriers.not_yet.database k)
+  word_shown (Slot k i) exists = sym (safe.table.carriers.not_yet.slot k i)
   word_shown (Wait k) exists = ap (λ words. get_or words.waits k 0) same ∙ shows.words.wait k
-  word_shown (Strong i) exists = sym (shows.unused.counters i)
-  word_shown (Sleep k) exists = sym (shows.unused.sleeps k)
+  word_shown (Strong i) exists = sym (safe.table.carriers.not_yet.strong i)
+  word_shown (Sleep k) exists = sym (safe.table.carriers.not_yet.sleep k)

@@ -12,14 +12,14 @@ impl Machine {
     ghost use Rattle.lock_table.specs.declared.moves.Move.{Move};
     ghost use Rattle.lock_model.specs.Shows.{ShowsSafe, Follows, HasUnmoved, is_over};
 
-    /// Takes a word exclusively, where nobody holds it: that of a partition, with its content
-    /// (`LWLockAcquire` with `LW_EXCLUSIVE` in lwlock.c).
+    /// Takes a word exclusively, where nobody has it: that of a partition, with its content, or that of a
+    /// session's fast-path slots (`LWLockAcquire` with `LW_EXCLUSIVE` in lwlock.c).
     pub fn take_exclusive(&mut self, session: SessionId, word: Word)
         ensures { Follows self.old session (Step.TakeExclusive word) self.new }
     {
         match word {
             Word::Partition(partition) => self.take_partition(session, partition),
-            Word::Fast(_) => {}
+            Word::Fast(owner) => self.take_fast(session, owner),
             Word::Database(_) => {}
             Word::Slot(_, _) => {}
             Word::Wait(_) => {}
@@ -28,8 +28,8 @@ impl Machine {
         }
     }
 
-    /// Puts a word back, with the move that the session has made on what the word guards
-    /// (`LWLockRelease` in lwlock.c).
+    /// Puts a word back, with the move that the session has made on the partition that it guards: none with
+    /// another word (`LWLockRelease` in lwlock.c).
     pub fn put_exclusive(
         &mut self,
         session: SessionId,
@@ -41,7 +41,10 @@ impl Machine {
     {
         match word {
             Word::Partition(partition) => self.put_partition(session, partition, done),
-            Word::Fast(_) => Ok(()),
+            Word::Fast(owner) => {
+                self.put_fast(session, owner, done);
+                Ok(())
+            }
             Word::Database(_) => Ok(()),
             Word::Slot(_, _) => Ok(()),
             Word::Wait(_) => Ok(()),

@@ -81,7 +81,7 @@ impl Plain {
                     0
                 }
             }
-            Word::Fast(_) => 0x2000_0000,
+            Word::Fast(session) => u64::from(self.words.fast[usize::from(session.number())]),
             Word::Database(_) => 0,
             Word::Slot(_, _) => 0,
             Word::Wait(session) => u64::from(self.words.waits[usize::from(session.number())]),

@@ -41,6 +41,7 @@ impl Machine {
             && joiner != session
             && self.makes_steps(joiner)
             && !self.has_a_word(session)
+            && !self.has_a_fast_word(session)
         {
             self.numbers.kept_by[usize::from(session.number())] = Some(joiner);
         }
@@ -53,6 +54,8 @@ impl Machine {
         let index = usize::from(session.number());
         if self.makes_steps(session)
             && !self.has_a_word(session)
+            && !self.has_a_fast_word(session)
+            && !self.shares_a_word(session)
             && !self.has_a_hold(session)
             && self.waits.awaited[index].is_none()
             && !self.keeps_someone(session)

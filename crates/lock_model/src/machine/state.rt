@@ -1,6 +1,7 @@
 ghost use Rattle.std.specs.Prelude.{◌≡◌, ℕ, length, IfOk, None};
 ghost use Rattle.lock_table.specs.Content.{empty_content};
 ghost use Rattle.lock_table.specs.Parts.{part_at, contents_in};
+ghost use Rattle.lock_model.specs.Shows.{has_a_mark};
 
 use super::hands::InHand;
 use super::own_waits::Awaited;
@@ -26,8 +27,31 @@ pub struct Numbers {
 pub struct Words {
     /// The lightweight lock of each partition.
     pub partitions: [u32; 16],
+    /// The lightweight lock of each session's fast-path slots.
+    pub fast: [u32; 64],
     /// The wait word of each session.
     pub waits: [u8; 64],
+}
+
+/// Who has which lightweight locks: of each lock a mark for each session. Who holds a partition's exclusively,
+/// the hands tell.
+#[derive(Clone, Copy)]
+pub struct Locks {
+    /// Who holds the lock of a session's fast-path slots exclusively.
+    pub fast_holders: [[bool; 64]; 64],
+    /// Who shares it.
+    pub fast_sharers: [[bool; 64]; 64],
+    /// Who shares the lock of a partition.
+    pub partition_sharers: [[bool; 64]; 16],
+}
+
+/// Whether the session has a mark of any lock.
+pub fn has_a_mark(marks: &[[bool; 64]], session: SessionId) -> bool
+    ensures { result ≡ has_a_mark session marks.now }
+{
+    marks
+        .iter()
+        .any(|of_lock| of_lock[usize::from(session.number())])
 }
 
 /// The contents of the partitions.
@@ -52,6 +76,7 @@ pub struct OwnWaits {
 pub struct Machine {
     pub numbers: Numbers,
     pub words: Words,
+    pub locks: Locks,
     pub contents: Contents,
     pub waits: OwnWaits,
 }
@@ -78,7 +103,13 @@ impl Machine {
             },
             words: Words {
                 partitions: [0x2000_0000; 16],
+                fast: [0x2000_0000; 64],
                 waits: [0; 64],
+            },
+            locks: Locks {
+                fast_holders: [[false; 64]; 64],
+                fast_sharers: [[false; 64]; 64],
+                partition_sharers: [[false; 64]; 16],
             },
             contents: Contents {
                 hands: [None; 16],
@@ -108,6 +139,8 @@ impl Machine {
         match step {
             Step::TakeExclusive { word } => self.take_exclusive(session, word),
             Step::PutExclusive { word, done } => return self.put_exclusive(session, word, done),
+            Step::TakeShared { word } => self.take_shared(session, word),
+            Step::PutShared { word } => self.put_shared(session, word),
             Step::SplitSeat => self.split_seat(session),
             Step::JoinSeat { joiner } => self.join_seat(session, joiner),
             Step::AskCancel { other } => self.ask_cancel(session, other),

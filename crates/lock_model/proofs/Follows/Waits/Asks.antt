@@ -20,15 +20,14 @@ use Rattle.lock_model.proofs.Shows.Looks.{steps_from, steps_not}
 -- Asking to cancel, and loading the own wait word.
 
 module _ (m : Machine) (w : World) (safe : Safe w) (shows : Shows m w) where
-  pub was_asked : (s k : ℕ) → makes_steps m s ≡ true → k < length m.words.waits
+  pub was_asked : (s k : ℕ) → makes_steps m s ≡ true → k < 64
       → (v : World) × Next w (record { session = s; step = AskCancel k }) v × Shows (record m { words = record (m.words) { waits = set m.words.waits k (asked_word (get_or m.words.waits k 0)) } }) v
-  was_asked s k steps in_wait_words = (
+  was_asked s k steps below = (
     after_asking w s k,
     inl (steps_from m w safe shows s steps, refl),
     record {
       numbers = shows.numbers;
-      words = wait_word-set m.words w.words k _ _ shows.words in_wait_words (ap asked_word (shows.words.wait k));
-      unused = shows.unused;
+      words = wait_word-set m.words w.words k _ _ shows.words below (ap asked_word (shows.words.wait k));
       locks = shows.locks;
       contents = shows.contents;
       waits = shows.waits;
@@ -47,7 +46,6 @@ module _ (m : Machine) (w : World) (safe : Safe w) (shows : Shows m w) where
     record {
       numbers = shows.numbers;
       words = shows.words;
-      unused = shows.unused;
       locks = shows.locks;
       contents = shows.contents;
       waits = record {
@@ -69,7 +67,6 @@ module _ (m : Machine) (w : World) (safe : Safe w) (shows : Shows m w) where
     record {
       numbers = shows.numbers;
       words = shows.words;
-      unused = shows.unused;
       locks = shows.locks;
       contents = shows.contents;
       waits = record {

@@ -1,4 +1,4 @@
-use Rattle.std.proofs.Common.{◌≡◌, ℕ, ◌<◌, Bool, true, false, not, ◌&&◌, List, length, get_or, Option, Some, None, is_some, option_map, refl, sym, ap, ◌∙◌, subst, inl, inr}
+use Rattle.std.proofs.Common.{◌≡◌, ℕ, ◌<◌, Bool, true, false, not, ◌&&◌, List, get_or, Option, Some, None, is_some, option_map, refl, sym, ap, ◌∙◌, subst, inl, inr}
 use Rattle.std.specs.Vec.{with_item}
 use Rattle.std.proofs.Math.ListN.{set}
 use Rattle.std.proofs.lemmas.Bool.{both_ways, and_parts, and_from, not-true, not_from_false}
@@ -89,12 +89,11 @@ module _ (m : Machine) (w : World) (safe : Safe w) (shows : Shows m w) where
   tag_of s a wait kept is = same_wait wait a (sym kept ∙ shows.waits.awaited s ∙ ap (option_map awaited_of) is)
 
   -- The wait is over in what the machine keeps.
-  ended : (s : ℕ) (wait : OwnWait) → s < length m.words.waits → s < 64
+  ended : (s : ℕ) (wait : OwnWait) → s < 64
       → Shows (ended_by m s) (after_clearing w s wait)
-  ended s wait in_wait_words below = record {
+  ended s wait below = record {
     numbers = shows.numbers;
-    words = wait_word-set m.words w.words s 0 0 shows.words in_wait_words refl;
-    unused = shows.unused;
+    words = wait_word-set m.words w.words s 0 0 shows.words below refl;
     locks = shows.locks;
     contents = shows.contents;
     waits = own_wait-set m.waits w.sessions.awaited w.sessions.seen s None None shows.waits below refl;
@@ -124,21 +123,21 @@ module _ (m : Machine) (w : World) (safe : Safe w) (shows : Shows m w) where
       (and_from _ _ (some_hand (hand_of m s (partition_of wait.tag)) (λ none. hand_not m w safe shows s (partition_of wait.tag) none may.steps may.holding))
       (not_from_false _ (ap (λ (c : Content). waits_there (c.waits wait.tag) s) (content_from m w safe shows wait.tag) ∙ may.gone)))
 
-  pub cleared_seen : (s : ℕ) (a : Awaited) → makes_steps m s ≡ true → get_or m.waits.awaited s None ≡ Some a → get_or m.waits.seen s false ≡ true → s < length m.words.waits → s < 64
+  pub cleared_seen : (s : ℕ) (a : Awaited) → makes_steps m s ≡ true → get_or m.waits.awaited s None ≡ Some a → get_or m.waits.seen s false ≡ true → s < 64
       → (v : World) × Next w (record { session = s; step = ClearWait false }) v
       × Shows (ended_by m s) v
-  cleared_seen s a steps kept seen in_wait_words below =
+  cleared_seen s a steps kept seen below =
       let wait = wait_of s a kept in
       let may : MayClearSeen w s wait.0 = record { steps = steps_from m w safe shows s steps; is_wait = wait.1; seen = sym (shows.waits.seen s) ∙ seen } in
-      (after_clearing w s wait.0, inl (wait.0, inl may, refl), ended s wait.0 in_wait_words below)
+      (after_clearing w s wait.0, inl (wait.0, inl may, refl), ended s wait.0 below)
 
   pub cleared_gone : (s : ℕ) (a : Awaited) → get_or m.waits.awaited s None ≡ Some a
-      → (is_some (hand_of m s (partition_of a.tag)) && not (waits_there ((contents_in m.contents.parts.items (partition_of a.tag)).waits a.tag) s)) ≡ true → s < length m.words.waits → s < 64
+      → (is_some (hand_of m s (partition_of a.tag)) && not (waits_there ((contents_in m.contents.parts.items (partition_of a.tag)).waits a.tag) s)) ≡ true → s < 64
       → (v : World) × Next w (record { session = s; step = ClearWait false }) v
       × Shows (ended_by m s) v
-  cleared_gone s a kept gone in_wait_words below =
+  cleared_gone s a kept gone below =
       let wait = wait_of s a kept in
-      (after_clearing w s wait.0, inl (wait.0, inr (gone_may s a.tag wait.0 wait.2 wait.1 gone), refl), ended s wait.0 in_wait_words below)
+      (after_clearing w s wait.0, inl (wait.0, inr (gone_may s a.tag wait.0 wait.2 wait.1 gone), refl), ended s wait.0 below)
 
   not_clear : (s : ℕ) (a : Awaited) → get_or m.waits.awaited s None ≡ Some a → get_or m.waits.seen s false ≡ false
       → (is_some (hand_of m s (partition_of a.tag)) && not (waits_there ((contents_in m.contents.parts.items (partition_of a.tag)).waits a.tag) s)) ≡ false → (v : World) → HappensClearing w s false v → ⊥
@@ -152,25 +151,25 @@ module _ (m : Machine) (w : World) (safe : Safe w) (shows : Shows m w) where
 
   -- Leaving, where the leave stands recorded.
   pub left_before : (s : ℕ) (a : Awaited) (t : Tag) (shown : InHand) (r : Move) → get_or m.waits.awaited s None ≡ Some a → a.tag ≡ t → hand_of m s (partition_of t) ≡ Some shown → shown.recorded ≡ Some r → r ≡ Leave t
-      → waits_there ((contents_in m.contents.parts.items (partition_of t)).waits t) s ≡ false → s < length m.words.waits → s < 64
+      → waits_there ((contents_in m.contents.parts.items (partition_of t)).waits t) s ≡ false → s < 64
       → (v : World) × Next w (record { session = s; step = ClearWait true }) v
       × Shows (ended_by m s) v
-  left_before s a t shown r kept of_tag in_hand recorded is_leave gone in_wait_words below =
+  left_before s a t shown r kept of_tag in_hand recorded is_leave gone below =
       let wait = wait_of s a kept in
       let tag : wait.0.tag ≡ t = wait.2 ∙ of_tag in
       let hand : hand_of m s (partition_of wait.0.tag) ≡ Some shown = ap (λ x. hand_of m s (partition_of x)) tag ∙ in_hand in
       let may = in_hand_gone s wait.0 shown wait.1 hand (ap (λ x. waits_there ((contents_in m.contents.parts.items (partition_of x)).waits x) s) tag ∙ gone) in
       let its : recorded_in (w.contents.hand (partition_of wait.0.tag)) ≡ Some (Leave wait.0.tag) =
       recorded_from w s (partition_of wait.0.tag) shown (hand_from m w safe shows s (partition_of wait.0.tag) shown hand) ∙ recorded ∙ ap Some is_leave ∙ ap (λ x. Some (Leave x)) (sym tag) in
-      (after_clearing w s wait.0, inl (inr (wait.0, may, its, refl)), ended s wait.0 in_wait_words below)
+      (after_clearing w s wait.0, inl (inr (wait.0, may, its, refl)), ended s wait.0 below)
 
   -- Leaving by this step.
   pub left : (s : ℕ) (a : Awaited) (t : Tag) (shown : InHand) (part : PartView) (granted : List Wait) (marks : List Bool) → get_or m.waits.awaited s None ≡ Some a → a.tag ≡ t → hand_of m s (partition_of t) ≡ Some shown → shown.recorded ≡ None
       → waits_there ((contents_in m.contents.parts.items (partition_of t)).waits t) s ≡ true → Wakes (remove_wait (contents_in m.contents.parts.items (partition_of t)) s t) t granted (content_of part) → part.begun ≡ None
-      → ((k : ℕ) → is_unmarked_in marks k ≡ waits_there granted k) → s < length m.words.waits → s < 64
+      → ((k : ℕ) → is_unmarked_in marks k ≡ waits_there granted k) → s < 64
       → (v : World) × Next w (record { session = s; step = ClearWait true }) v
       × Shows (left_by m s t shown part marks) v
-  left s a t shown part granted marks kept of_tag in_hand unmoved there wakes begun marked in_wait_words below =
+  left s a t shown part granted marks kept of_tag in_hand unmoved there wakes begun marked below =
       at (wait_of s a kept).0 (wait_of s a kept).1 ((wait_of s a kept).2 ∙ of_tag) where
         by_wait : (wait : OwnWait) → w.sessions.awaited s ≡ Some wait → hand_of m s (partition_of wait.tag) ≡ Some shown
             → waits_there ((contents_in m.contents.parts.items (partition_of wait.tag)).waits wait.tag) s ≡ true → Wakes (remove_wait (contents_in m.contents.parts.items (partition_of wait.tag)) s wait.tag) wait.tag granted (content_of part)
@@ -195,8 +194,7 @@ module _ (m : Machine) (w : World) (safe : Safe w) (shows : Shows m w) where
               inl (inl (wait, granted, content_of part, record { is_wait = is; may_move = may }, refl)),
               record {
                 numbers = shows.numbers;
-                words = wait_word-set m.words w.words s 0 0 shows.words in_wait_words refl;
-                unused = shows.unused;
+                words = wait_word-set m.words w.words s 0 0 shows.words below refl;
                 locks = shows.locks;
                 contents = hand-set _ _ p _ _ (part-set m.contents w.contents p part (content_of part) shows.contents has.exists refl begun) has.exists
                     (recording-shown (w.contents.hand p) has.hand shown.holder (Leave wait.tag) marks (waits_there granted) has.is_hand has.shows.holder marked);

@@ -1,4 +1,4 @@
-use Rattle.std.proofs.Common.{◌≡◌, ℕ, ◌<◌, Bool, true, false, not, ◌&&◌, List, [], length, get_or, Option, Some, None, is_none, is_some, option_map, refl, sym, ap, ◌∙◌, subst, inl}
+use Rattle.std.proofs.Common.{◌≡◌, ℕ, ◌<◌, Bool, true, false, not, ◌&&◌, List, [], get_or, Option, Some, None, is_none, is_some, option_map, refl, sym, ap, ◌∙◌, subst, inl}
 use Rattle.std.specs.Vec.{with_item}
 use Rattle.std.proofs.Math.ListN.{set}
 use Rattle.std.proofs.lemmas.Bool.{both_ways, and_from, not_from_false, false_from_ne_true}
@@ -42,7 +42,7 @@ none_awaits (Some wait) t n e = absurd (cc)
 module _ (m : Machine) (w : World) (safe : Safe w) (shows : Shows m w) where
   pub was_set_waiting : (s : ℕ) (t : Tag) (n : Mode) (shown : InHand) (place : ℕ) (part : PartView) (marks : List Bool) → hand_of m s (partition_of t) ≡ Some shown → shown.recorded ≡ None
       → is_none (get_or m.waits.awaited s None) ≡ true → (contents_in m.contents.parts.items (partition_of t)).holds s t n ≡ false → WaitingAnswer (contents_in m.contents.parts.items (partition_of t)) s t n (Queued place)
-      → content_of part ≡ add_wait (contents_in m.contents.parts.items (partition_of t)) s t n place → part.begun ≡ None → ((k : ℕ) → is_unmarked_in marks k ≡ false) → s < length m.words.waits → s < 64
+      → content_of part ≡ add_wait (contents_in m.contents.parts.items (partition_of t)) s t n place → part.begun ≡ None → ((k : ℕ) → is_unmarked_in marks k ≡ false) → s < 64
       → (v : World) × Next w (record { session = s; step = SetWaiting t n }) v
       × Shows
       (record m {
@@ -53,13 +53,12 @@ module _ (m : Machine) (w : World) (safe : Safe w) (shows : Shows m w) where
         };
         waits = record { awaited = set m.waits.awaited s (Some (record { tag = t; mode = n })); seen = set m.waits.seen s false };
       }) v
-  was_set_waiting s t n shown place part marks in_hand unmoved none not_held answer is begun unmarked in_wait_words below = (
+  was_set_waiting s t n shown place part marks in_hand unmoved none not_held answer is begun unmarked below = (
     after_setting_waiting w s t n content,
     inl (content, may, refl),
     record {
       numbers = shows.numbers;
-      words = wait_word-set m.words w.words s 1 1 shows.words in_wait_words refl;
-      unused = shows.unused;
+      words = wait_word-set m.words w.words s 1 1 shows.words below refl;
       locks = shows.locks;
       contents = hand-set _ _ p _ _
           (part-set m.contents w.contents p part content shows.contents has.exists (is ∙ ap (λ (c : Content). add_wait c s t n place) same) begun) has.exists

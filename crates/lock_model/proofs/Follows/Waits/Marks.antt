@@ -111,8 +111,7 @@ module _ (m : Machine) (w : World) (safe : Safe w) (shows : Shows m w) where
         )),
     record {
       numbers = shows.numbers;
-      words = wait_word-set m.words w.words k _ _ shows.words (word_within m.words.waits k waiting) (ap granted_word (shows.words.wait k));
-      unused = shows.unused;
+      words = wait_word-set m.words w.words k _ _ shows.words (subst (λ n. k < n) shows.words.sixty_four_waits (word_within m.words.waits k waiting)) (ap granted_word (shows.words.wait k));
       locks = shows.locks;
       contents = hand-set m.contents w.contents p _ _ shows.contents has.exists
           (recording-shown (w.contents.hand p) has.hand hand.holder done (set hand.unmarked k false) (without (is_unmarked (w.contents.hand p)) k) has.is_hand has.shows.holder
@@ -145,8 +144,7 @@ module _ (m : Machine) (w : World) (safe : Safe w) (shows : Shows m w) where
     inl (inl (moved.granted, content_of after.part, record { may_move = may_move; may_mark = may_mark s k another waiting; among = sym (granted_named k) ∙ among }, refl)),
     record {
       numbers = shows.numbers;
-      words = wait_word-set m.words w.words k _ _ shows.words (word_within m.words.waits k waiting) (ap granted_word (shows.words.wait k));
-      unused = shows.unused;
+      words = wait_word-set m.words w.words k _ _ shows.words (subst (λ n. k < n) shows.words.sixty_four_waits (word_within m.words.waits k waiting)) (ap granted_word (shows.words.wait k));
       locks = shows.locks;
       contents = hand-set _ _ p _ _
           (part-set m.contents w.contents p after.part (content_of after.part) shows.contents has.exists refl (moved.begun ∙ shows.contents.none_begun p)) has.exists

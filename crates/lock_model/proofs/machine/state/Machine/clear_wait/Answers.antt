@@ -1,4 +1,4 @@
-use Rattle.std.proofs.Common.{◌≡◌, ◌<◌, false, None, length, get_or, sym, ap, ◌∙◌, arith}
+use Rattle.std.proofs.Common.{◌≡◌, ◌<◌, false, None, get_or, sym, ap, ◌∙◌, arith}
 use Rattle.lock_model.proofs.Follows.Waits.Clears.{clear_refused, clear_of_nothing, cleared_seen, cleared_gone, clear_too_early}
 use Rattle.lock_model.proofs.machine.state.Machine.clear_wait.Goals as goal
 use Rattle.lock_model.proofs.machine.state.Machine.clear_wait.Goals.{then-self-from-via-then-self-from, then-self-from-via-else-self-from+then-is_gone}
@@ -21,13 +21,12 @@ returns-then-self-from c = λ w safe shows.
     let place : c.from.result ≡ c.args.session = c.from.ensures ∙ c.number.ensures.value in
     let again : c.from-else-leaving.result ≡ c.args.session = c.from-else-leaving.ensures ∙ c.number-else-leaving.ensures.value in
     let kept = ap (λ i. get_or now.waits.awaited i None) (sym place) ∙ c.in-Some.is in
-    let in_wait_words : c.args.session < length now.words.waits = omega arith in
     let below_64 : c.args.session < 64 = omega arith in
     rw (c.if-leaving.false, c.end_wait.ensures)
     (elim c.then-self-from.branch [
       | then-self-from-via-then-self-from b ↦
-          cleared_seen now w safe shows c.args.session c.in-Some.wait (sym c.if-not-makes_steps.ensures) kept (ap (λ i. get_or now.waits.seen i false) (sym again) ∙ b.if-self-from.true) in_wait_words below_64
-      | then-self-from-via-else-self-from+then-is_gone b ↦ cleared_gone now w safe shows c.args.session c.in-Some.wait kept (sym b.if-is_gone.ensures) in_wait_words below_64
+          cleared_seen now w safe shows c.args.session c.in-Some.wait (sym c.if-not-makes_steps.ensures) kept (ap (λ i. get_or now.waits.seen i false) (sym again) ∙ b.if-self-from.true) below_64
+      | then-self-from-via-else-self-from+then-is_gone b ↦ cleared_gone now w safe shows c.args.session c.in-Some.wait kept (sym b.if-is_gone.ensures) below_64
     ])
 
 pub returns-else-is_gone : goal.returns-else-is_gone

@@ -17,7 +17,6 @@ returns c = λ w safe shows.
     let sixteen : length now.contents.parts.items ≡ 16 = shows.contents.sixteen in
     let within : c.from.result < length now.contents.parts.items = omega arith in
     let part = part_read now.contents.parts.items c.from.result (partition_of c.args.tag) c.index_mut-part.result.now place within c.index_mut-part.ensures.value in
-    let in_wait_words : c.args.session < length now.words.waits = omega arith in
     let below_64 : c.args.session < 64 = omega arith in
     let stands : waits_there ((content_of c.index_mut-part.result.now).waits c.args.tag) c.args.session ≡ true =
     ap (λ (x : PartView). waits_there ((content_of x).waits c.args.tag) c.args.session) part ∙ c.requires.in_queue in
@@ -29,4 +28,4 @@ returns c = λ w safe shows.
     (ap (λ (x : PartView). remove_wait (content_of x) c.args.session c.args.tag) part) woken.1)
     (c.remove_waiter-removed.ensures.begun ∙ ap (λ (x : PartView). x.begun) part ∙ shows.contents.none_begun (partition_of c.args.tag))
     (λ k. c.unmarked_of.ensures k ∙ ap (λ xs. names_in xs k) woken.2 ∙ names_in-granted woken.0 k)
-    in_wait_words below_64)
+    below_64)

@@ -26,14 +26,13 @@ returns-then-not-waits c = λ w safe shows.
     let sixteen : length now.contents.parts.items ≡ 16 = shows.contents.sixteen in
     let within : c.from.result < length now.contents.parts.items = omega arith in
     let part = part_read now.contents.parts.items c.from.result (partition_of c.args.tag) c.index.result.now place within c.index.ensures in
-    let in_wait_words : c.args.session < length now.words.waits = omega arith in
     let below_64 : c.args.session < 64 = omega arith in
     rw c.end_wait.ensures
     (left_before now w safe shows c.args.session c.requires.awaited.0 c.args.tag c.in-Some.hand c.in-Some-recorded.recorded c.requires.awaited.1 c.requires.awaited.2
     (ap (hand_of now c.args.session) (sym c.partition-partition.ensures.value) ∙ sym c.in-Some.ensures) c.in-Some-recorded.is
     (move_eq-same c.in-Some-recorded.recorded (Leave c.args.tag) (sym c.if-is_same.ensures))
     (ap (λ (x : PartView). waits_there ((content_of x).waits c.args.tag) c.args.session) (sym part) ∙ sym c.if-not-waits.ensures)
-    in_wait_words below_64)
+    below_64)
 
 pub returns-else-is_same : goal.returns-else-is_same
 returns-else-is_same c = λ w safe shows.

@@ -2,3 +2,6 @@ use Rattle.lock_model.proofs.machine.state.Machine.put_exclusive.Goals as goal
 
 pub returns-in-Partition : goal.returns-in-Partition
 returns-in-Partition c = rw c.in-Partition.is c.put_partition.ensures
+
+pub returns-in-Fast : goal.returns-in-Fast
+returns-in-Fast c = rw c.in-Fast.is c.put_fast.ensures

@@ -26,3 +26,9 @@ returns-in-ClearWait c = rw c.in-ClearWait.is c.clear_wait.ensures
 
 pub returns-in-SplitSeat : goal.returns-in-SplitSeat
 returns-in-SplitSeat c = rw c.in-SplitSeat.is c.split_seat.ensures
+
+pub returns-in-TakeShared : goal.returns-in-TakeShared
+returns-in-TakeShared c = rw c.in-TakeShared.is c.take_shared.ensures
+
+pub returns-in-PutShared : goal.returns-in-PutShared
+returns-in-PutShared c = rw c.in-PutShared.is c.put_shared.ensures
