@@ -34,11 +34,11 @@ pub fn after_release(
     ensures moved { IfOk result (λ found. IfSome found (IsMoved part.now session (Release tag mode))) }
     ensures no_hold { IfOk result (λ found. found ≡ None → (content_of part.now).holds session tag mode ≡ false) }
 {
-    if !part.held(session, tag).has(mode) {
+    if !part.held(session, &tag).has(mode) {
         return Ok(None);
     }
     let mut after = part.clone()?;
-    let woken = release(&mut after, session, tag, mode);
+    let woken = release(&mut after, session, &tag, mode);
     Ok(Some(MovedPart { part: after, woken }))
 }
 
@@ -53,7 +53,7 @@ pub fn after_leaving(
     ensures no_wait { IfOk result (λ found. found ≡ None → waits_there ((content_of part.now).waits tag) session ≡ false) }
 {
     let mut after = part.clone()?;
-    let removed = remove_waiter(&mut after, session, tag);
+    let removed = remove_waiter(&mut after, session, &tag);
     if removed.was_granted {
         return Ok(None);
     }

@@ -34,7 +34,7 @@ impl Machine {
     {
         let part = &self.contents.parts[usize::from(tag.partition())];
         self.waits.awaited[usize::from(session.number())].is_none()
-            && !part.held(session, tag).has(mode)
+            && !part.held(session, &tag).has(mode)
     }
 
     /// The session waits from now on, by its own account and by its wait word.

@@ -135,12 +135,13 @@ impl Machine {
             return Ok(());
         }
         let index = usize::from(partition);
-        let Answer::Granted = waiting_answer(&self.contents.parts[index], session, tag, mode) else {
+        let Answer::Granted = waiting_answer(&self.contents.parts[index], session, &tag, mode)
+        else {
             return Ok(());
         };
         let part = &mut self.contents.parts[index];
-        part.begin(session, tag, mode)?;
-        part.grant(session, tag, mode);
+        part.begin(session, &tag, mode)?;
+        part.grant(session, &tag, mode);
         self.set_free(partition);
         Ok(())
     }

@@ -52,7 +52,7 @@ impl Machine {
             return Ok(());
         }
         let part = &self.contents.parts[usize::from(partition)];
-        let Answer::Queued(place) = waiting_answer(part, session, tag, mode) else {
+        let Answer::Queued(place) = waiting_answer(part, session, &tag, mode) else {
             return Ok(());
         };
         self.join_now(session, tag, mode, hand, place)
@@ -120,8 +120,8 @@ impl Machine {
     {
         let partition = tag.partition();
         let part = &mut self.contents.parts[usize::from(partition)];
-        part.begin(session, tag, mode)?;
-        part.join(session, tag, mode, place);
+        part.begin(session, &tag, mode)?;
+        part.join(session, &tag, mode, place);
         self.record(partition, hand, Move::Join { tag, mode }, [false; 64]);
         self.begin_wait(session, tag, mode);
         Ok(())
@@ -190,7 +190,7 @@ impl Machine {
     {
         let partition = tag.partition();
         match self.hand_of(session, partition) {
-            Some(_) => !self.contents.parts[usize::from(partition)].has_wait_of(session, tag),
+            Some(_) => !self.contents.parts[usize::from(partition)].has_wait_of(session, &tag),
             None => false,
         }
     }
@@ -207,7 +207,7 @@ impl Machine {
         let Some(hand) = self.hand_of(session, partition) else {
             return;
         };
-        let waits = self.contents.parts[usize::from(partition)].has_wait_of(session, tag);
+        let waits = self.contents.parts[usize::from(partition)].has_wait_of(session, &tag);
         let Some(recorded) = hand.recorded else {
             if waits {
                 self.leave_now(session, tag, hand);
@@ -230,7 +230,7 @@ impl Machine {
     {
         let partition = tag.partition();
         let part = &mut self.contents.parts[usize::from(partition)];
-        let removed = remove_waiter(part, session, tag);
+        let removed = remove_waiter(part, session, &tag);
         self.record(
             partition,
             hand,
