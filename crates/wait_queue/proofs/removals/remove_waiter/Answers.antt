@@ -1,5 +1,5 @@
 use Rattle.std.proofs.Common.{not, sym, ap, ◌∙◌}
-use Rattle.lock_table.proofs.MovedLemmas.{waits_there-mode}
+use Rattle.lock_table.proofs.QueueLemmas.{waits_there-mode}
 use Rattle.wait_queue.proofs.RemovalLemmas.{remove_wait-none}
 use Rattle.wait_queue.proofs.removals.remove_waiter.Goals as goal
 
