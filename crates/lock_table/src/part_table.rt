@@ -84,7 +84,9 @@ pub trait PartTable {
     /// Grants each wait of the object's queue that is free to go, and says whose they are
     /// (`ProcLockWakeup` in proc.c).
     fn wake(&mut self, tag: &Tag) -> Woken
-        ensures woken { (granted : List Wait) × Wakes (content self.old) tag.now granted (content self.new) × (result.items ≡ map whose_and_mode granted) }
+        ensures woken { (granted : List Wait)
+            × Wakes (content self.old) tag.now granted (content self.new)
+            × (result.items ≡ map whose_and_mode granted) }
         ensures begun { begun self.new ≡ begun self.old };
 
     /// Appends the content's rows in the listing's order (`GetLockStatusData` in lock.c). After a

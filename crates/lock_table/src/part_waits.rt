@@ -98,7 +98,8 @@ pub fn waiter_at(waits: &[PartWait], tag: &Tag, place: usize) -> Option<Waiter>
 
 /// For which mode the session waits on the object, if it does.
 pub fn awaited_mode(waits: &[PartWait], session: SessionId, tag: &Tag) -> Option<Mode>
-    ensures { result ≡ option_map (λ wait. wait.waiter.mode) (find (λ wait. is_request_on (request_of wait) session tag.now) waits.now) }
+    ensures { result ≡ option_map (λ wait. wait.waiter.mode)
+        (find (λ wait. is_request_on (request_of wait) session tag.now) waits.now) }
 {
     waits
         .iter()
@@ -108,7 +109,8 @@ pub fn awaited_mode(waits: &[PartWait], session: SessionId, tag: &Tag) -> Option
 
 /// Takes the session's wait on the object out.
 pub fn take_wait_out(waits: &mut Vec<PartWait>, session: SessionId, tag: &Tag)
-    ensures items { waits.new.items ≡ filter (λ wait. not (is_request_on (request_of wait) session tag.now)) waits.old.items }
+    ensures items { waits.new.items
+        ≡ filter (λ wait. not (is_request_on (request_of wait) session tag.now)) waits.old.items }
     ensures len { vec_len waits.new ≤ vec_len waits.old }
     ensures capacity { vec_capacity waits.new ≡ vec_capacity waits.old }
 {
@@ -168,12 +170,18 @@ fn goes(holds: &[Request], ahead: &[PartWait], wait: PartWait, tag: &Tag) -> boo
 pub fn wake_queue(holds: &mut Vec<Request>, waits: &mut Vec<PartWait>, tag: &Tag) -> Woken
     requires one_wait_each { OneWaitEach waits.old.items }
     requires room { vec_len holds.old + vec_len waits.old ≤ vec_capacity holds.old }
-    ensures woken { (granted : List Wait) × Wakes (content_in holds.old.items waits.old.items) tag.now granted (content_in holds.new.items waits.new.items) × (result.items ≡ map whose_and_mode granted) }
-    ensures same_requests { (session : ℕ) (tag : Tag) (mode : Mode) → times_in holds.new.items waits.new.items session tag mode ≡ times_in holds.old.items waits.old.items session tag mode }
+    ensures woken { (granted : List Wait)
+        × Wakes (content_in holds.old.items waits.old.items) tag.now granted
+        (content_in holds.new.items waits.new.items)
+        × (result.items ≡ map whose_and_mode granted) }
+    ensures same_requests { (session : ℕ) (tag : Tag) (mode : Mode) →
+        times_in holds.new.items waits.new.items session tag mode
+        ≡ times_in holds.old.items waits.old.items session tag mode }
     ensures one_wait_each { OneWaitEach waits.new.items }
     ensures len { vec_len holds.new + vec_len waits.new ≡ vec_len holds.old + vec_len waits.old }
     ensures fewer { vec_len waits.new ≤ vec_len waits.old }
-    ensures capacity { (vec_capacity holds.new ≡ vec_capacity holds.old) × (vec_capacity waits.new ≡ vec_capacity waits.old) }
+    ensures capacity { (vec_capacity holds.new ≡ vec_capacity holds.old)
+        × (vec_capacity waits.new ≡ vec_capacity waits.old) }
 {
     let mut woken = Woken::new();
     let mut place = 0;

@@ -126,7 +126,8 @@ impl Ord for Tag {
 
     ghost matches_partial_cmp = { Prim.search (comparing, rules) };
 
-    ghost matches_eq = { same_tag-by_numbers _ (λ _ _ _ _. refl) (λ _ _ _ _ _ _ _ _. refl) (λ _ _ _ _ _ _. refl) (λ _ _ _ _ _ _. refl) };
+    ghost matches_eq = { same_tag-by_numbers _ (λ _ _ _ _. refl) (λ _ _ _ _ _ _ _ _. refl)
+        (λ _ _ _ _ _ _. refl) (λ _ _ _ _ _ _. refl) };
 
     fn cmp(&self, other: &Tag) -> Ordering {
         self.numbers().cmp(&other.numbers())
@@ -136,7 +137,10 @@ impl Ord for Tag {
 impl PartialOrd for Tag {
     ghost partial_cmp = { as_partial_cmp (on numbers_of (slice_cmp nat_cmp)) };
 
-    ghost laws = { partial_order_from_agreeing_total (on numbers_of (slice_cmp nat_cmp)) (on_texts numbers_of) (λ _ _. refl) (same_tag-by_numbers _ (λ _ _ _ _. refl) (λ _ _ _ _ _ _ _ _. refl) (λ _ _ _ _ _ _. refl) (λ _ _ _ _ _ _. refl)) };
+    ghost laws = { partial_order_from_agreeing_total (on numbers_of (slice_cmp nat_cmp)) (on_texts numbers_of)
+        (λ _ _. refl)
+        (same_tag-by_numbers _ (λ _ _ _ _. refl) (λ _ _ _ _ _ _ _ _. refl)
+        (λ _ _ _ _ _ _. refl) (λ _ _ _ _ _ _. refl)) };
 
     fn partial_cmp(&self, other: &Tag) -> Option<Ordering> {
         Some(self.cmp(other))

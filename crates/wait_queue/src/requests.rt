@@ -107,7 +107,8 @@ fn end_by_place<P: PartTable>(
 
     ensures decided { IfOk result (λ decision.
         IsDecided Kind.Waiting (P.content part.old) session tag.now mode decision (P.content part.new)) }
-    ensures refused { IfErr result (λ other. WaitingAnswer (P.content part.old) session tag.now mode (Answer.SimpleDeadlock other)) }
+    ensures refused { IfErr result (λ other.
+        WaitingAnswer (P.content part.old) session tag.now mode (Answer.SimpleDeadlock other)) }
     ensures unchanged { OnErr result (P.content part.new ≡ P.content part.old) }
     ensures ended { P.begun part.new ≡ None }
 {

@@ -129,7 +129,8 @@ impl Machine {
     ) -> Result<(), NoMemory>
         requires shown { ShowsSafe self.old }
         requires in_hand { HasUnmoved self.old session partition }
-        ensures { OnOk result (Follows self.old session (Step.PutExclusive (Word.Partition partition) (Move.Grant tag mode)) self.new) }
+        ensures { OnOk result
+            (Follows self.old session (Step.PutExclusive (Word.Partition partition) (Move.Grant tag mode)) self.new) }
     {
         if tag.partition() != partition || !self.may_ask(session, tag, mode) {
             return Ok(());
@@ -156,7 +157,8 @@ impl Machine {
     ) -> Result<(), NoMemory>
         requires shown { ShowsSafe self.old }
         requires in_hand { HasUnmoved self.old session partition }
-        ensures { OnOk result (Follows self.old session (Step.PutExclusive (Word.Partition partition) (Move.Release tag mode)) self.new) }
+        ensures { OnOk result
+            (Follows self.old session (Step.PutExclusive (Word.Partition partition) (Move.Release tag mode)) self.new) }
     {
         if tag.partition() != partition {
             return Ok(());
