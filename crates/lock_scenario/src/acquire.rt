@@ -46,7 +46,7 @@ pub fn acquire<P: PartTable>(
 {
     locals.reserve(tag, mode, owner)?;
     if locals.total(tag, mode) == 0 {
-        decide(part, session, tag, mode, Kind::Conditional)?;
+        decide(part, session, &tag, mode, Kind::Conditional)?;
     }
     Ok(locals.add(tag, mode, owner))
 }
@@ -124,7 +124,7 @@ pub fn request<P: PartTable>(
         locals.add(tag, mode, owner);
         return Ok(Started::AlreadyHeld);
     }
-    match decide(part, session, tag, mode, Kind::Waiting)? {
+    match decide(part, session, &tag, mode, Kind::Waiting)? {
         Decision::Granted => {
             locals.add(tag, mode, owner);
             Ok(Started::Granted)

@@ -301,7 +301,7 @@ impl Desk {
             return Err(Refusal::NotHeld);
         }
         let part = &self.parts[usize::from(tag.partition())];
-        Ok(awaited_in_conflict(part, tag, mode))
+        Ok(awaited_in_conflict(part, &tag, mode))
     }
 
     /// The modes that the session has the object in (`holdMask` of `PROCLOCK` in lock.h).
@@ -309,7 +309,7 @@ impl Desk {
         requires issued { session < issued_of self.now }
         ensures { set_has result ≡ (λ mode. has_entry (entries_of self.now session) tag mode || is_pending (wait_of self.now session) tag mode) }
     {
-        self.parts[usize::from(tag.partition())].held(session, tag)
+        self.parts[usize::from(tag.partition())].held(session, &tag)
     }
 
     /// How often the owner has the object in the mode (`LOCALLOCKOWNER` in lock.h).

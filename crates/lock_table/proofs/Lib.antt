@@ -13,7 +13,6 @@ pub mod OneAnswer
 pub mod ListLemmas
 pub mod OneMove
 pub mod MoveTests
-pub mod MovedLemmas
 pub mod QueueLaws
 pub mod FindLemmas
 pub mod WalkLemmas
