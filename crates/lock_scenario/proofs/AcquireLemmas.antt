@@ -1,5 +1,5 @@
-use Rattle.std.proofs.Common.{◌≡◌, ◌≢◌, ℕ, ◌<◌, Bool, true, false, List, Result, Ok, Err, refl, sym, ap, ◌∙◌, arith, inl, inr}
-use Rattle.std.specs.Prelude.{OnOk, OnErr, All, ◌↔◌, if◌then◌else◌, ◌==◌, Option, Some, None, is_some}
+use Rattle.std.proofs.Common.{◌≡◌, ◌≢◌, ◌<◌, Bool, true, false, List, Result, Ok, Err, refl, sym, ap, ◌∙◌, arith, inl, inr}
+use Rattle.std.specs.Prelude.{All, ◌↔◌, if◌then◌else◌, ◌==◌, Option, Some, None, is_some}
 use Rattle.std.specs.Option.{option_map_or}
 use Rattle.std.proofs.lemmas.Bool.{cases_Bool, cases_lt, false≢true}
 use Rattle.modes_core.specs.declared.modes.Mode.{Mode}
@@ -8,59 +8,10 @@ use Rattle.modes_core.specs.declared.sessions.Owner.{Owner}
 use Rattle.modes_core.specs.declared.refusals.Refusal.{Refusal}
 use Rattle.modes_core.specs.declared.refusals.Refusal.TheVariants.{NotHeld}
 use Rattle.local_locks.specs.declared.records.Entry.{Entry}
-use Rattle.local_locks.specs.declared.answers.Acquired.{Acquired}
-use Rattle.local_locks.specs.declared.answers.Acquired.TheVariants.{Granted, AlreadyHeld}
 use Rattle.local_locks.specs.declared.answers.Unlocked.{Unlocked}
 use Rattle.local_locks.specs.declared.answers.Unlocked.TheVariants.{Released, StillHeld}
-use Rattle.local_locks.specs.Owned.{has_entry, entry_of, count_for, total_of, owner_count_of, with_one_more, with_one_less, IsCounted}
-use Rattle.lock_table.specs.Content.{Content, set_hold, add_hold}
-use Rattle.lock_scenario.proofs.Entries.{same_key, same_key-refl, same_key-from, has_entry-none, has_entry-some, has_entry-with_one_more, has_entry-with_one_less}
-use Rattle.lock_scenario.proofs.DeskLemmas.{set_hold-same}
-
-abbrev Acquires : Type 0
-Acquires = Result Acquired Refusal
-
-held_not_granted : (let it : Acquires = Ok AlreadyHeld in it) ≢ Ok Granted
-held_not_granted e = cc
-
-refused_not_granted : (refusal : Refusal) → (let it : Acquires = Err refusal in it) ≢ Ok Granted
-refused_not_granted refusal e = cc
-
--- After an acquire, whatever its answer, the session holds the mode just where it has an entry.
-pub holds-acquire :
-    (before after : Content) (old new : List Entry) (s : ℕ) (tag : Tag) (mode : Mode) (owner : Owner) (result : Result Acquired Refusal) →
-    before.holds s tag mode ≡ has_entry old tag mode →
-    (result ≡ Ok Granted → after ≡ add_hold before s tag mode) → (result ≢ Ok Granted → after ≡ before) →
-    (result ≡ Ok AlreadyHeld → has_entry old tag mode ≡ true) →
-    OnOk result (new ≡ with_one_more old tag mode owner) → OnErr result (new ≡ old) →
-    after.holds ≡ set_hold before.holds s tag mode (has_entry new tag mode)
-holds-acquire before after old new s tag mode owner (Ok Granted) held granted other already more same =
-    let there : has_entry new tag mode ≡ true =
-    ap (λ (entries : List Entry). has_entry entries tag mode) more ∙ has_entry-with_one_more old tag mode owner tag mode ∙ rw (same_key-refl tag mode) refl in
-    ap (λ (content : Content). content.holds) (granted refl) ∙ rw there refl
-holds-acquire before after old new s tag mode owner (Ok AlreadyHeld) held granted other already more same =
-    let there : has_entry new tag mode ≡ true =
-    ap (λ (entries : List Entry). has_entry entries tag mode) more ∙ has_entry-with_one_more old tag mode owner tag mode ∙ rw (same_key-refl tag mode) refl in
-    ap (λ (content : Content). content.holds) (other held_not_granted) ∙ rw there (set_hold-same before.holds s tag mode true (held ∙ already refl))
-holds-acquire before after old new s tag mode owner (Err refusal) held granted other already more same =
-    ap (λ (content : Content). content.holds) (other (refused_not_granted refusal)) ∙
-    set_hold-same before.holds s tag mode (has_entry new tag mode) (held ∙ ap (λ (entries : List Entry). has_entry entries tag mode) (sym same))
-
--- The entries of other objects and modes are as they were.
-pub others-acquire :
-    (old new : List Entry) (tag : Tag) (mode : Mode) (owner : Owner) (result : Result Acquired Refusal) →
-    OnOk result (new ≡ with_one_more old tag mode owner) → OnErr result (new ≡ old) →
-    (t : Tag) (m : Mode) → same_key t m tag mode ≡ false → has_entry new t m ≡ has_entry old t m
-others-acquire old new tag mode owner (Ok answer) more same t m apart =
-    ap (λ (entries : List Entry). has_entry entries t m) more ∙ has_entry-with_one_more old tag mode owner t m ∙ rw apart refl
-others-acquire old new tag mode owner (Err refusal) more same t m apart = ap (λ (entries : List Entry). has_entry entries t m) same
-
--- The queues are as they were.
-pub queues-acquire : (before after : Content) (s : ℕ) (tag : Tag) (mode : Mode) (result : Result Acquired Refusal) →
-    (result ≡ Ok Granted → after ≡ add_hold before s tag mode) → (result ≢ Ok Granted → after ≡ before) → after.waits ≡ before.waits
-queues-acquire before after s tag mode (Ok Granted) granted other = ap (λ (content : Content). content.waits) (granted refl)
-queues-acquire before after s tag mode (Ok AlreadyHeld) granted other = ap (λ (content : Content). content.waits) (other held_not_granted)
-queues-acquire before after s tag mode (Err refusal) granted other = ap (λ (content : Content). content.waits) (other (refused_not_granted refusal))
+use Rattle.local_locks.specs.Owned.{has_entry, entry_of, count_for, total_of, owner_count_of, with_one_less, IsCounted}
+use Rattle.lock_scenario.proofs.Entries.{same_key, same_key-refl, same_key-from, has_entry-none, has_entry-some, has_entry-with_one_less}
 
 -- After a release the entries of other objects and modes are as they were,
 pub others-give_up :

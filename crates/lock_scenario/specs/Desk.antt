@@ -1,4 +1,5 @@
-use Rattle.std.specs.Prelude.{◌≡◌, ℕ, ◌<◌, ◌≤◌, ◌&&◌, nat_le, Bool, false, List, [], length, map, Option, None, Some, IfSome, slice_index_or, if◌then◌else◌}
+use Rattle.std.specs.Prelude.{◌≡◌, ◌≢◌, ℕ, ◌<◌, ◌≤◌, ◌&&◌, nat_le, Bool, false, List, [], length, map, Option, None, Some, IfSome, slice_index_or, if◌then◌else◌}
+use Rattle.modes_core.specs.declared.tags.Tag.{Tag}
 use Rattle.modes_core.specs.Tag.{partition_of}
 use Rattle.local_locks.specs.declared.records.Entry.{Entry}
 use Rattle.local_locks.specs.Owned.{Owned, has_entry, IsWellOwned, IsReserved}
@@ -6,6 +7,7 @@ use Rattle.lock_table.specs.Content.{Content, empty_content}
 use Rattle.lock_table.specs.PartView.{PartView}
 use Rattle.lock_table.specs.Parts.{no_part, contents_in}
 use Rattle.lock_scenario.specs.Sessions.{session_at, entries_in, waits_in, as_asked}
+use Rattle.lock_scenario.specs.Started.{PartAndEntries}
 use Rattle.lock_scenario.specs.Waiting.{Agrees, Shared}
 use Rattle.lock_scenario.specs.declared.sessions.OwnWait.{OwnWait}
 use Rattle.lock_scenario.specs.declared.sessions.DeskSession.{DeskSession}
@@ -92,6 +94,15 @@ pub record IsUnchanged (old new : DeskView) : Type 0 where
   pub entries : entries_of new ≡ entries_of old
   pub waits : wait_of new ≡ wait_of old
   pub contents : contents_of new ≡ contents_of old
+
+-- what an acquire of the session on the object can change
+abbrev pub part_and_entries : DeskView → ℕ → Tag → PartAndEntries
+part_and_entries desk session tag = record { content = contents_of desk (partition_of tag); entries = entries_of desk session }
+
+-- The other sessions' entries and the other partitions are as before.
+pub record LeavesOthers (old new : DeskView) (session : ℕ) (tag : Tag) : Type 0 where
+  pub entries : (other : ℕ) → other ≢ session → entries_of new other ≡ entries_of old other
+  pub contents : (p : ℕ) → p ≢ partition_of tag → contents_of new p ≡ contents_of old p
 
 -- What a call leaves alone: which sessions there are, with their databases, and how many sessions and entries there may be.
 pub record LeavesAlone (old new : DeskView) : Type 0 where
