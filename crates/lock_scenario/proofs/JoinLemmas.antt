@@ -17,7 +17,7 @@ use Rattle.lock_scenario.specs.declared.sessions.OwnWait.{OwnWait}
 use Rattle.lock_scenario.specs.Sessions.{marked, is_pending, is_awaiting}
 use Rattle.lock_scenario.specs.Waiting.{is_wait_of, AgreesOn, Agrees}
 use Rattle.lock_scenario.proofs.Agreement.{count-cons, Agrees-change, Agrees-wakes, Agrees-same}
-use Rattle.lock_scenario.proofs.Entries.{same_key, has_entry-with_one_more}
+use Rattle.local_locks.proofs.EntryLaws.{same_key, has_entry-with_one_more}
 
 -- One wait more in the queue.
 count-joined : (p : Wait → Bool) (n : ℕ) (w : Wait) (queue : List Wait) → count_by p (joined n w queue) ≡ (if p w then 1 else 0) + count_by p queue

@@ -23,7 +23,7 @@ use Rattle.lock_scenario.specs.Started.{IsStarted, Acquires, PartAndEntries, ent
 use Rattle.lock_scenario.specs.Waiting.{Agrees}
 use Rattle.lock_scenario.specs.Desk.{DeskView, wait_of, IsUnchanged, IsInOrder, IsDesk}
 use Rattle.lock_scenario.proofs.Agreement.{GoneAt}
-use Rattle.lock_scenario.proofs.Entries.{same_key, same_key-refl, has_entry-with_one_more}
+use Rattle.local_locks.proofs.EntryLaws.{same_key, same_key-refl, has_entry-with_one_more}
 use Rattle.lock_scenario.proofs.JoinLemmas.{Agrees-join}
 use Rattle.lock_scenario.proofs.DeskLemmas.{Finds, in_parts, in_sessions, held_there, wait_there, limit_there, set_hold-same, contents_after, entries-set, IsDesk-after, IsDesk-told}
 

@@ -69,13 +69,6 @@ after_asking (Some wait) = Some (if wait.is_granted then wait else as_asked wait
 abbrev pub cancelled_as : OwnWait → Cancelled
 cancelled_as wait = if wait.is_granted then WasGranted else Removed
 
--- all partitions as one content: what each object's partition has on it
-abbrev pub whole_of : (ℕ → Content) → Content
-whole_of contents = record {
-  holds = λ session tag mode. (contents (partition_of tag)).holds session tag mode;
-  waits = λ tag. (contents (partition_of tag)).waits tag;
-}
-
 -- whether a desk can have this many sessions and local entries
 abbrev pub is_in_range : Config → Bool
 is_in_range config = nat_le 1 config.sessions && (nat_le config.sessions 64 && (nat_le 1 config.max_local && nat_le config.max_local 65536))

@@ -3,6 +3,7 @@ ghost use Rattle.local_locks.specs.Owned.{has_entry, owner_count_of, total_of, w
 ghost use Rattle.modes_core.specs.ModeSet.{set_has};
 ghost use Rattle.modes_core.specs.Tag.{partition_of};
 ghost use Rattle.lock_table.specs.Listing.{IsListing};
+ghost use Rattle.lock_table.specs.WholeContent.{whole_of};
 ghost use Rattle.lock_table.specs.Queue.{some_awaits_conflict};
 ghost use Rattle.lock_table.specs.Put.{set_at};
 ghost use Rattle.lock_scenario.specs.Sessions.{is_pending};
@@ -14,8 +15,7 @@ use crate::acquire::acquire;
 use crate::give_up::{leave_queue, release_hold};
 pub use crate::sessions::{DeskSession, OwnWait};
 use local_locks::{End, LocalTable, Unlocked};
-use lock_table::rows::sort_rows;
-use lock_table::{PartTable, PlainPart, SlotRow, TableRow, empty_parts};
+use lock_table::{PartTable, PlainPart, SlotRow, TableRow, empty_parts, list_parts};
 use modes_core::sessions::SESSIONS;
 use modes_core::{Mode, ModeSet, Owner, Refusal, SessionId, Tag};
 use std::alloc::Global;
@@ -95,7 +95,7 @@ impl Model for Desk {
 }
 
 impl Desk {
-    ghost use Rattle.lock_scenario.specs.Desk.{issued_of, databases_of, entries_of, wait_of, contents_of, shared_of, polled_as, cancelled_as, asked_as, after_asking, whole_of, is_in_range, part_and_entries, IsNew, IsUnchanged, LeavesAlone, LeavesOthers};
+    ghost use Rattle.lock_scenario.specs.Desk.{issued_of, databases_of, entries_of, wait_of, contents_of, shared_of, polled_as, cancelled_as, asked_as, after_asking, is_in_range, part_and_entries, IsNew, IsUnchanged, LeavesAlone, LeavesOthers};
 
     /// Takes a mode on an object for an owner, or refuses at once where it clashes (`LockAcquire` in
     /// lock.c with `dontWait`). After a refusal nothing has changed.
@@ -454,13 +454,9 @@ impl Desk {
         ensures no_slots { IfOk result (λ listing. listing.fast.items ≡ []) }
         ensures no_memory { IsOkUnless result Refusal.NoMemory }
     {
-        let mut table = Vec::new(self.alloc);
-        for part in &self.parts {
-            let Ok(()) = part.rows(&mut table) else {
-                return Err(Refusal::NoMemory);
-            };
-        }
-        sort_rows(&mut table);
+        let Ok(table) = list_parts(self.alloc, &self.parts) else {
+            return Err(Refusal::NoMemory);
+        };
         Ok(Listing {
             fast: Vec::new(self.alloc),
             table,

@@ -5,7 +5,7 @@ use Rattle.local_locks.specs.declared.records.Entry.{Entry}
 use Rattle.local_locks.specs.Owned.{has_entry, total_of}
 use Rattle.lock_scenario.specs.declared.acquire.Started.{Started}
 use Rattle.lock_scenario.specs.declared.acquire.Started.TheVariants.{Granted, AlreadyHeld, Queued}
-use Rattle.lock_scenario.proofs.Entries.{has_entry-none}
+use Rattle.local_locks.proofs.EntryLaws.{has_entry-none}
 use Rattle.lock_scenario.proofs.acquire.acquire.Goals as goal
 
 granted_not_held : (let it : Result Started Refusal = Ok Granted in it) ≢ Ok AlreadyHeld
