@@ -16,7 +16,7 @@ use Rattle.local_locks.specs.declared.answers.Unlocked.{Unlocked}
 use Rattle.local_locks.specs.declared.answers.Unlocked.TheVariants.{Released, StillHeld}
 use Rattle.local_locks.specs.declared.ends.End.{End}
 use Rattle.local_locks.specs.declared.ends.End.TheVariants.{Commit, Abort, Close}
-use Rattle.local_locks.specs.Owned.{is_of, count_for, count_in_all, entry_of, total_of, owner_count_of, has_entry, are_of_same, is_ended, after_end, ended_by, with_next_ended, with_one_more, with_one_less, IsCounted}
+use Rattle.local_locks.specs.Owned.{is_of, count_for, count_in_all, entry_for, total_of, owner_count_of, has_entry, are_of_same, is_ended, after_end, ended_by, with_next_ended, with_one_more, with_one_less, IsCounted}
 use Rattle.local_locks.proofs.OwnedLaws.{has_entry-with_one_more as one_more, has_entry-with_one_less as one_less}
 
 -- An object and mode with no count has no entry.
@@ -121,7 +121,7 @@ keys-still_held old new tag mode owner less some t m =
 
 -- What has a count has an entry.
 pub owned-entry : (entries : List Entry) (tag : Tag) (mode : Mode) (owner : Owner) → owner_count_of entries tag mode owner ≢ 0 → has_entry entries tag mode ≡ true
-owned-entry entries tag mode owner some = at (entry_of entries tag mode) some where
+owned-entry entries tag mode owner some = at (entry_for entries tag mode) some where
   at : (found : Option Entry) → option_map_or (count_for owner) found 0 ≢ 0 → is_some found ≡ true
   at None none = absurd (none refl)
   at (Some entry) some = refl

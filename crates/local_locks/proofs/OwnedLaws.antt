@@ -6,7 +6,7 @@ use Rattle.modes_core.specs.declared.tags.Tag.{Tag}
 use Rattle.modes_core.specs.declared.sessions.Owner.{Owner}
 use Rattle.modes_core.specs.declared.sessions.Owner.TheVariants.{Session, Transaction}
 use Rattle.local_locks.specs.declared.records.Entry.{Entry}
-use Rattle.local_locks.specs.Owned.{is_of, entry_of, has_entry, total_of, change, without, raised, lowered, new_entry, with_one_more, with_one_less}
+use Rattle.local_locks.specs.Owned.{is_of, entry_for, has_entry, total_of, change, without, raised, lowered, new_entry, with_one_more, with_one_less}
 use Rattle.local_locks.specs.Slots.{is_key}
 use Rattle.local_locks.proofs.SlotLaws.{is_of-same, is_of-own, is_key-same, is_key-own, key-is_of}
 use Rattle.local_locks.proofs.TableSteps.{raised-key, lowered-key}
@@ -16,8 +16,8 @@ use Rattle.local_locks.proofs.TableSteps.{raised-key, lowered-key}
 has_entry-cons : (e : Entry) (es : List Entry) (t : Tag) (m : Mode) → has_entry (e ∷ es) t m ≡ (is_of t m e || has_entry es t m)
 has_entry-cons e es t m =
     elim (cases_Bool (is_of t m e)) [
-      | inl own ↦ ap (λ b. is_some (cond b (Some e) (entry_of es t m))) own ∙ sym (ap (λ b. b || has_entry es t m) own)
-      | inr other ↦ ap (λ b. is_some (cond b (Some e) (entry_of es t m))) other ∙ sym (ap (λ b. b || has_entry es t m) other)
+      | inl own ↦ ap (λ b. is_some (cond b (Some e) (entry_for es t m))) own ∙ sym (ap (λ b. b || has_entry es t m) own)
+      | inr other ↦ ap (λ b. is_some (cond b (Some e) (entry_for es t m))) other ∙ sym (ap (λ b. b || has_entry es t m) other)
     ]
 
 -- two tests of one entry

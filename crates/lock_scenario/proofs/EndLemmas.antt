@@ -13,7 +13,7 @@ use Rattle.lock_scenario.specs.declared.sessions.DeskSession.{DeskSession}
 use Rattle.lock_table.specs.Parts.{no_part, contents_in}
 use Rattle.lock_table.specs.Put.{set_at}
 use Rattle.lock_table.proofs.PutLemmas.{set_at-here}
-use Rattle.lock_scenario.specs.Sessions.{entries_in, waits_in, is_pending}
+use Rattle.lock_scenario.specs.Sessions.{entries_in, waits_in, has_grant}
 use Rattle.lock_scenario.specs.Waiting.{Shared, Releases, ReleasesAll}
 use Rattle.lock_scenario.specs.Desk.{IsDesk}
 
@@ -62,7 +62,7 @@ fewer-step end entries after session key step next =
 pub held_modes :
     (parts : List PartView) (sessions : List DeskSession) (limit max_local p session : ℕ) (tag : Tag) (part : PartView) →
     IsDesk parts sessions limit max_local → p ≡ partition_of tag → part ≡ get_or parts p part →
-    (content_of part).holds session tag ≡ (λ mode. has_entry (entries_in sessions session) tag mode || is_pending (waits_in sessions session) tag mode)
+    (content_of part).holds session tag ≡ (λ mode. has_entry (entries_in sessions session) tag mode || has_grant (waits_in sessions session) tag mode)
 held_modes parts sessions limit max_local p session tag part is partition part_is =
     let sixteen : length parts ≡ 16 = is.sixteen in
     let within : p < length parts = rw partition (omega arith) in

@@ -15,7 +15,7 @@ use Rattle.lock_table.proofs.PutLemmas.{set_at-same, set_at-here}
 use Rattle.wait_queue.specs.declared.requests.Kind.{Kind}
 use Rattle.lock_scenario.specs.declared.acquire.Started.{Started}
 use Rattle.lock_scenario.specs.declared.acquire.Started.TheVariants.{Granted, AlreadyHeld, Queued}
-use Rattle.lock_scenario.specs.declared.sessions.OwnWait.{OwnWait}
+use Rattle.lock_scenario.specs.declared.sessions.DeskWait.{DeskWait}
 use Rattle.lock_scenario.specs.declared.sessions.DeskSession.{DeskSession}
 use Rattle.lock_table.specs.Parts.{contents_in}
 use Rattle.lock_scenario.specs.Sessions.{entries_in, waits_in}
@@ -71,15 +71,15 @@ IsDesk-started kind Queued parts sessions limit max_local p s session tag part i
     IsDesk-told parts sessions limit max_local p s part_after after [] found.desk (rw found.partition (omega arith)) found.opened begun in_order
     (subst (λ (content : Content). Agrees (set_at (contents_in parts) p content) (set_at (entries_in sessions) s after.locals.entries) (set_at (waits_in sessions) s after.wait)) (sym here)
     (subst (λ (all : ℕ → List Entry). Agrees (set_at (contents_in parts) p (add_wait (contents_in parts p) s tag mode is.0)) all (set_at (waits_in sessions) s after.wait)) same
-    (subst (λ (own : Option OwnWait). Agrees (set_at (contents_in parts) p (add_wait (contents_in parts p) s tag mode is.0)) (entries_in sessions) (set_at (waits_in sessions) s own)) (sym wait)
+    (subst (λ (own : Option DeskWait). Agrees (set_at (contents_in parts) p (add_wait (contents_in parts p) s tag mode is.0)) (entries_in sessions) (set_at (waits_in sessions) s own)) (sym wait)
     (Agrees-join (contents_in parts) (entries_in sessions) (waits_in sessions) p s tag mode is.0 (record { tag = tag; mode = mode; owner = owner; is_granted = false; cancel_asked = false }) found.desk.agrees found.partition (ap (waits_in sessions) found.number ∙ none) (record { tag = refl; mode = refl; is_not_granted = refl })))))
 
 -- The session is ready for what it awaits.
-pub started_ready : (started : Started) (tag : Tag) (mode : Mode) (owner : Owner) (own : Option OwnWait) (P : OwnWait → Type 0) → own ≡ wait_started started tag mode owner →
+pub started_ready : (started : Started) (tag : Tag) (mode : Mode) (owner : Owner) (own : Option DeskWait) (P : DeskWait → Type 0) → own ≡ wait_started started tag mode owner →
     (started ≡ Queued → P (record { tag = tag; mode = mode; owner = owner; is_granted = false; cancel_asked = false })) → IfSome own P
-started_ready Granted tag mode owner own P is ready = subst (λ (w : Option OwnWait). IfSome w P) (sym is) tt
-started_ready AlreadyHeld tag mode owner own P is ready = subst (λ (w : Option OwnWait). IfSome w P) (sym is) tt
-started_ready Queued tag mode owner own P is ready = subst (λ (w : Option OwnWait). IfSome w P) (sym is) (ready refl)
+started_ready Granted tag mode owner own P is ready = subst (λ (w : Option DeskWait). IfSome w P) (sym is) tt
+started_ready AlreadyHeld tag mode owner own P is ready = subst (λ (w : Option DeskWait). IfSome w P) (sym is) tt
+started_ready Queued tag mode owner own P is ready = subst (λ (w : Option DeskWait). IfSome w P) (sym is) (ready refl)
 
 -- An acquire on the partition and the session that were found is one on the desk.
 pub Acquires-there :

@@ -1,5 +1,5 @@
 use Rattle.std.specs.Prelude.{◌≡◌, ◌≢◌, ◌<◌, ◌↔◌, ℕ, Bool, true, false, List, length, Option, Some, None, Result, Ok, IsErrOf, IfOk, IfErr, OnErr}
-use Rattle.lock_scenario.specs.declared.sessions.OwnWait.{OwnWait}
+use Rattle.lock_scenario.specs.declared.sessions.DeskWait.{DeskWait}
 use Rattle.modes_core.specs.declared.modes.Mode.{Mode}
 use Rattle.modes_core.specs.declared.tags.Tag.{Tag}
 use Rattle.modes_core.specs.declared.sessions.Owner.{Owner}
@@ -34,7 +34,7 @@ is_queued AlreadyHeld = false
 is_queued Queued = true
 
 -- the wait of the session after it
-abbrev pub wait_started : Started → Tag → Mode → Owner → Option OwnWait
+abbrev pub wait_started : Started → Tag → Mode → Owner → Option DeskWait
 wait_started Granted tag mode owner = None
 wait_started AlreadyHeld tag mode owner = None
 wait_started Queued tag mode owner = Some (record { tag = tag; mode = mode; owner = owner; is_granted = false; cancel_asked = false })

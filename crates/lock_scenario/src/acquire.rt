@@ -3,7 +3,7 @@ ghost use Rattle.lock_table.specs.Queue.{waits_there};
 ghost use Rattle.local_locks.specs.Owned.{has_entry, IsWellOwned, IsReserved};
 ghost use Rattle.lock_scenario.specs.Started.{Acquires, is_queued, wait_started};
 
-use crate::sessions::OwnWait;
+use crate::sessions::DeskWait;
 use local_locks::LocalTable;
 use lock_table::PartTable;
 use modes_core::{Mode, Owner, Refusal, SessionId, Tag};
@@ -29,12 +29,12 @@ impl Started {
     }
 
     /// The session's wait after it, if it waits.
-    pub fn wait_for(self, tag: Tag, mode: Mode, owner: Owner) -> Option<OwnWait>
+    pub fn wait_for(self, tag: Tag, mode: Mode, owner: Owner) -> Option<DeskWait>
         ensures { result ≡ wait_started self tag mode owner }
     {
         match self {
             Started::Granted | Started::AlreadyHeld => None,
-            Started::Queued => Some(OwnWait {
+            Started::Queued => Some(DeskWait {
                 tag,
                 mode,
                 owner,

@@ -6,14 +6,14 @@ ghost use Rattle.lock_table.specs.Listing.{IsListing};
 ghost use Rattle.lock_table.specs.WholeContent.{whole_of};
 ghost use Rattle.lock_table.specs.Queue.{some_awaits_conflict};
 ghost use Rattle.lock_table.specs.Put.{set_at};
-ghost use Rattle.lock_scenario.specs.Sessions.{is_pending};
+ghost use Rattle.lock_scenario.specs.Sessions.{has_grant};
 ghost use Rattle.lock_scenario.specs.Started.{Acquires, wait_started};
 ghost use Rattle.lock_scenario.specs.Waiting.{Releases, ReleasesAll, Leaves};
 
 pub use crate::acquire::Started;
 use crate::acquire::acquire;
 use crate::give_up::{leave_queue, release_hold};
-pub use crate::sessions::{DeskSession, OwnWait};
+pub use crate::sessions::{DeskSession, DeskWait};
 use local_locks::{End, LocalTable, Unlocked};
 use lock_table::{PartTable, PlainPart, SlotRow, TableRow, empty_parts, list_parts};
 use modes_core::sessions::SESSIONS;
@@ -302,7 +302,7 @@ impl Desk {
     /// The modes that the session has the object in (`holdMask` of `PROCLOCK` in lock.h).
     pub fn held(&self, session: SessionId, tag: Tag) -> ModeSet
         requires issued { session < issued_of self.now }
-        ensures { set_has result ≡ (λ mode. has_entry (entries_of self.now session) tag mode || is_pending (wait_of self.now session) tag mode) }
+        ensures { set_has result ≡ (λ mode. has_entry (entries_of self.now session) tag mode || has_grant (wait_of self.now session) tag mode) }
     {
         self.parts[usize::from(tag.partition())].held(session, tag)
     }
