@@ -18,3 +18,4 @@ pub mod FindLemmas
 pub mod WalkLemmas
 pub mod PlaceLemmas
 pub mod PartLemmas
+pub mod WholeLemmas
