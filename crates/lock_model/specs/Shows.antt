@@ -83,6 +83,13 @@ pub record ShowsWords (shown : Words) (words : world.Words) : Type 0 where
   pub fast : (session : ℕ) → slice_index_or shown.fast session free_word ≡ words.fast session
   pub wait : (session : ℕ) → slice_index_or shown.waits session 0 ≡ words.wait session
 
+-- The words that no step of the machine changes yet show what they opened with.
+pub record NotYetUsed (database : ℕ → ℕ) (slot : ℕ → ℕ → ℕ) (strong sleep : ℕ → ℕ) : Type 0 where
+  pub databases : (session : ℕ) → database session ≡ 0
+  pub slots : (session place : ℕ) → slot session place ≡ 0
+  pub counters : (index : ℕ) → strong index ≡ 0
+  pub sleeps : (session : ℕ) → sleep session ≡ 0
+
 -- The marks of so many locks, of each 64 of them, tell which sessions have it in the World.
 pub record ShowsMarks (shown : List (List Bool)) (locks : ℕ) (has : ℕ → ℕ → Bool) : Type 0 where
   pub as_many : length shown ≡ locks
@@ -115,6 +122,7 @@ pub record ShowsWaits (shown : OwnWaits) (wait : ℕ → Option OwnWait) (has_se
 pub record Shows (machine : Machine) (w : World) : Type 0 where
   pub numbers : ShowsNumbers machine.numbers w.numbers
   pub words : ShowsWords machine.words w.words
+  pub unused : NotYetUsed w.words.database w.words.slot w.words.strong w.words.sleep
   pub locks : ShowsLocks machine.locks w.sessions.holds_fast w.sessions.shares_fast w.sessions.shares_partition
   pub contents : ShowsContents machine.contents w.contents
   pub waits : ShowsWaits machine.waits w.sessions.awaited w.sessions.seen

@@ -1,4 +1,4 @@
-use super::run_events;
+use super::{Plain, run_events};
 use lock_table::Move;
 use lock_world::{Event, Step, Word};
 use modes_core::{Mode, SessionId, Tag};
@@ -7,6 +7,8 @@ use std::test::Fail;
 
 mod partitions;
 mod seats;
+mod sharing;
+mod slots;
 mod waits;
 
 fn session(rt: &impl Abort, number: u8) -> SessionId {
@@ -36,22 +38,39 @@ fn is_kept(session: SessionId, joiner: SessionId) -> Event {
     }
 }
 
-fn takes(session: SessionId, partition: u8) -> Event {
+fn takes_word(session: SessionId, word: Word) -> Event {
     Event {
         session,
-        step: Step::TakeExclusive {
-            word: Word::Partition(partition),
-        },
+        step: Step::TakeExclusive { word },
     }
 }
 
-fn puts(session: SessionId, partition: u8, done: Move) -> Event {
+fn puts_word(session: SessionId, word: Word, done: Move) -> Event {
     Event {
         session,
-        step: Step::PutExclusive {
-            word: Word::Partition(partition),
-            done,
-        },
+        step: Step::PutExclusive { word, done },
+    }
+}
+
+fn takes(session: SessionId, partition: u8) -> Event {
+    takes_word(session, Word::Partition(partition))
+}
+
+fn puts(session: SessionId, partition: u8, done: Move) -> Event {
+    puts_word(session, Word::Partition(partition), done)
+}
+
+fn shares(session: SessionId, word: Word) -> Event {
+    Event {
+        session,
+        step: Step::TakeShared { word },
+    }
+}
+
+fn unshares(session: SessionId, word: Word) -> Event {
+    Event {
+        session,
+        step: Step::PutShared { word },
     }
 }
 
@@ -114,6 +133,28 @@ fn no_event_leaves_the_opening_world(rt: HostRuntime) -> Result<(), Fail> {
     Ok(())
 }
 
+/// Runs the events after sessions 0 and 1 are open.
+fn run_open<R: Abort + AllocGlobal>(rt: &R, more: &[Event]) -> Result<Plain, Fail> {
+    let mut events = Vec::new(rt.alloc());
+    events.push(opens(session(rt, 0)))?;
+    events.push(opens(session(rt, 1)))?;
+    events.extend_from_slice(more)?;
+    Ok(run_events(rt.alloc(), events.as_slice())?)
+}
+
+/// Runs the events after sessions 0 and 1 are open, and looks at what the word shows; there are no holds.
+fn shows<R: Abort + AllocGlobal>(
+    rt: &R,
+    more: &[Event],
+    word: Word,
+    shown: u64,
+) -> Result<(), Fail> {
+    let plain = run_open(rt, more)?;
+    assert_eq!(rt; plain.word(word), shown);
+    assert_eq!(rt; plain.holds().len(), 0);
+    Ok(())
+}
+
 /// Runs the events after sessions 0 and 1 are open, and looks at the number of holds and at word 15.
 fn leads_to<R: Abort + AllocGlobal>(
     rt: &R,
@@ -121,11 +162,7 @@ fn leads_to<R: Abort + AllocGlobal>(
     holds: usize,
     word: u64,
 ) -> Result<(), Fail> {
-    let mut events = Vec::new(rt.alloc());
-    events.push(opens(session(rt, 0)))?;
-    events.push(opens(session(rt, 1)))?;
-    events.extend_from_slice(more)?;
-    let plain = run_events(rt.alloc(), events.as_slice())?;
+    let plain = run_open(rt, more)?;
     assert_eq!(rt; plain.holds().len(), holds);
     assert_eq!(rt; plain.word(Word::Partition(15)), word);
     Ok(())
