@@ -1,4 +1,4 @@
-use Rattle.std.specs.Prelude.{◌≡◌, ℕ, List, map, filter, slice_index_or}
+use Rattle.std.specs.Prelude.{◌≡◌, ℕ, ◌==◌, List, [], map, filter, count_by, slice_index_or}
 use Rattle.std.specs.Ordering.{nat_cmp, on, then_cmp}
 use Rattle.std.specs.declared.cmp.Ordering.{Ordering}
 use Rattle.std.specs.declared.cmp.Ordering.TheVariants.{Less, Equal, Greater}
@@ -7,7 +7,7 @@ use Rattle.std.specs.List.Sorted.{IsSortedByKey}
 use Rattle.modes_core.specs.declared.tags.Tag.{Tag}
 use Rattle.modes_core.specs.Mode.{number_of}
 use Rattle.modes_core.specs.ModeSet.{set_has}
-use Rattle.modes_core.specs.Tag.{tag_eq, numbers_of, partition_of}
+use Rattle.modes_core.specs.Tag.{tag_eq, numbers_of, partition_of, index_of}
 use Rattle.lock_world.specs.declared.events.Word.{Word}
 use Rattle.lock_world.specs.declared.events.Word.TheVariants.{Partition, Fast, Database, Slot, Wait, Strong, Sleep}
 use Rattle.lock_model.specs.declared.machine.plain.Hold.{Hold}
@@ -31,10 +31,10 @@ waits_of plain = plain.waits.items
 abbrev pub word_of : Plain → Word → ℕ
 word_of plain (Partition p) = slice_index_or plain.words.partitions p free_word
 word_of plain (Fast session) = slice_index_or plain.words.fast session free_word
-word_of plain (Database session) = 0
-word_of plain (Slot session place) = 0
+word_of plain (Database session) = slice_index_or plain.fast_path.databases session 0
+word_of plain (Slot session place) = slice_index_or (slice_index_or plain.fast_path.slots session []) place 0
 word_of plain (Wait session) = slice_index_or plain.words.waits session 0
-word_of plain (Strong index) = 0
+word_of plain (Strong index) = count_by (λ c. index_of c.tag == index) plain.counted.items
 word_of plain (Sleep session) = 0
 
 -- the order of where holds stand: the fast-path slots by their places, and the lock table after them

@@ -1,4 +1,4 @@
-use Rattle.std.specs.Prelude.{◌≡◌, ◌⊎◌, ℕ, ◌<◌, Bool, true, false, not, ◌&&◌, ◌==◌, List, [], length, count_by, Option, Some, None, is_none, All, option_map, slice_index_or, if◌then◌else◌}
+use Rattle.std.specs.Prelude.{◌≡◌, ◌⊎◌, ℕ, ◌<◌, Bool, true, false, not, ◌&&◌, ◌==◌, List, [], length, map, filter, count_by, Option, Some, None, is_none, All, option_map, slice_index_or, if◌then◌else◌}
 use Rattle.std.specs.List.{list_any}
 use Rattle.modes_core.specs.declared.modes.Mode.{Mode}
 use Rattle.modes_core.specs.declared.tags.Tag.{Tag}
@@ -11,6 +11,8 @@ use Rattle.lock_model.specs.declared.machine.own_waits.Awaited.{Awaited}
 use Rattle.lock_model.specs.declared.machine.state.Numbers.{Numbers}
 use Rattle.lock_model.specs.declared.machine.state.Words.{Words}
 use Rattle.lock_model.specs.declared.machine.state.Locks.{Locks}
+use Rattle.lock_model.specs.declared.machine.state.FastPath.{FastPath}
+use Rattle.lock_model.specs.declared.machine.state.CountedBy.{CountedBy}
 use Rattle.lock_model.specs.declared.machine.state.Contents.{Contents}
 use Rattle.lock_model.specs.declared.machine.state.OwnWaits.{OwnWaits}
 use Rattle.lock_model.specs.declared.machine.state.Machine.{Machine}
@@ -21,12 +23,13 @@ use Rattle.lock_table.specs.Content.{Holds, Content}
 use Rattle.lw_word.specs.LightweightWord.{free_word}
 use Rattle.lock_table.specs.OwnWait.{OwnWait}
 use Rattle.lock_table.specs.Parts.{part_at, contents_in}
+use Rattle.lock_world.specs.Counted.{Counted}
 use Rattle.lock_world.specs.World.{World, Hand}
 use Rattle.lock_world.specs.World as world
 use Rattle.lock_world.specs.Happens.{Next}
 use Rattle.lock_world.specs.Happens.Waits.{HappensMarkingIn}
 use Rattle.lock_table.specs.Queue.{waits_there}
-use Rattle.lock_world.specs.Safe.{Safe}
+use Rattle.lock_world.specs.SafeWorld.{SafeWorld}
 
 -- whether it is the hold of this session on this object in this mode
 abbrev pub is_hold : ℕ → Tag → Mode → Hold → Bool
@@ -83,13 +86,6 @@ pub record ShowsWords (shown : Words) (words : world.Words) : Type 0 where
   pub fast : (session : ℕ) → slice_index_or shown.fast session free_word ≡ words.fast session
   pub wait : (session : ℕ) → slice_index_or shown.waits session 0 ≡ words.wait session
 
--- The words that no step of the machine changes yet show what they opened with.
-pub record NotYetUsed (database : ℕ → ℕ) (slot : ℕ → ℕ → ℕ) (strong sleep : ℕ → ℕ) : Type 0 where
-  pub databases : (session : ℕ) → database session ≡ 0
-  pub slots : (session place : ℕ) → slot session place ≡ 0
-  pub counters : (index : ℕ) → strong index ≡ 0
-  pub sleeps : (session : ℕ) → sleep session ≡ 0
-
 -- The marks of so many locks, of each 64 of them, tell which sessions have it in the World.
 pub record ShowsMarks (shown : List (List Bool)) (locks : ℕ) (has : ℕ → ℕ → Bool) : Type 0 where
   pub as_many : length shown ≡ locks
@@ -101,6 +97,29 @@ pub record ShowsLocks (shown : Locks) (holds_fast shares_fast shares_partition :
   pub fast_holders : ShowsMarks shown.fast_holders 64 holds_fast
   pub fast_sharers : ShowsMarks shown.fast_sharers 64 shares_fast
   pub partition_sharers : ShowsMarks shown.partition_sharers 16 shares_partition
+
+-- The databases and the slots are the World's, and so is which counter each session has read as 0.
+pub record ShowsFastPath (shown : FastPath) (databases : ℕ → ℕ) (slots : ℕ → ℕ → ℕ) (zeros : ℕ → Option ℕ) : Type 0 where
+  pub sixty_four_databases : length shown.databases ≡ 64
+  pub sixty_four : length shown.slots ≡ 64
+  pub sixteen : (session : ℕ) → session < 64 → length (slice_index_or shown.slots session []) ≡ 16
+  pub sixty_four_zeros : length shown.zeros ≡ 64
+  pub database : (session : ℕ) → slice_index_or shown.databases session 0 ≡ databases session
+  pub slot : (session place : ℕ) → slice_index_or (slice_index_or shown.slots session []) place 0 ≡ slots session place
+  pub zero : (session : ℕ) → slice_index_or shown.zeros session None ≡ zeros session
+
+-- what the machine keeps of a strong lock that is counted, without the session
+abbrev pub counted_from : CountedBy → Counted
+counted_from c = record { tag = c.tag; mode = c.mode; position = c.position }
+
+-- the strong locks that the session has counted
+abbrev pub counted_of : ℕ → List CountedBy → List Counted
+counted_of session list = map counted_from (filter (λ c. c.session == session) list)
+
+-- The strong locks that each session has counted are the World's.
+pub record ShowsCounted (shown : List CountedBy) (counted : ℕ → List Counted) : Type 0 where
+  pub each : (session : ℕ) → counted_of session shown ≡ counted session
+  pub within : All (λ c. c.session < 64) shown
 
 -- The contents, at home and in hand, are the World's, and no request is begun in any.
 pub record ShowsContents (shown : Contents) (contents : world.Contents) : Type 0 where
@@ -122,8 +141,11 @@ pub record ShowsWaits (shown : OwnWaits) (wait : ℕ → Option OwnWait) (has_se
 pub record Shows (machine : Machine) (w : World) : Type 0 where
   pub numbers : ShowsNumbers machine.numbers w.numbers
   pub words : ShowsWords machine.words w.words
-  pub unused : NotYetUsed w.words.database w.words.slot w.words.strong w.words.sleep
   pub locks : ShowsLocks machine.locks w.sessions.holds_fast w.sessions.shares_fast w.sessions.shares_partition
+  pub fast_path : ShowsFastPath machine.fast_path w.words.database w.words.slot w.sessions.zero
+  pub counted : ShowsCounted machine.counted.items w.sessions.counted
+  -- no step of the machine changes a sleep word yet
+  pub asleep : (session : ℕ) → w.words.sleep session ≡ 0
   pub contents : ShowsContents machine.contents w.contents
   pub waits : ShowsWaits machine.waits w.sessions.awaited w.sessions.seen
 
@@ -194,15 +216,15 @@ CannotMake awaited content session (Leave tag) = waits_there (content.waits tag)
 
 -- The machine shows a safe World.
 abbrev pub ShowsSafe : Machine → Type 0
-ShowsSafe machine = (w : World) × Safe w × Shows machine w
+ShowsSafe machine = (w : World) × SafeWorld w × Shows machine w
 
 -- Whatever safe World the machine showed, the event of the session leads on from it to one that the machine shows now.
 abbrev pub Follows : Machine → ℕ → Step → Machine → Type 0
 Follows old session step new =
-    (w : World) → Safe w → Shows old w → (v : World) × Next w (record { session = session; step = step }) v × Shows new v
+    (w : World) → SafeWorld w → Shows old w → (v : World) × Next w (record { session = session; step = step }) v × Shows new v
 
 -- The same of marking the other session's wait granted, by a move in the partition.
 abbrev pub FollowsMarking : Machine → ℕ → ℕ → ℕ → Move → Machine → Type 0
 FollowsMarking old session other p done new =
-    (w : World) → Safe w → Shows old w →
+    (w : World) → SafeWorld w → Shows old w →
     (v : World) × (HappensMarkingIn w session other p done v ⊎ (((u : World) × HappensMarkingIn w session other p done u → ⊥) × (v ≡ w))) × Shows new v

@@ -4,9 +4,10 @@ ghost use Rattle.std.specs.Prelude.{IfOk};
 ghost use Rattle.std.specs.List.Sorted.{IsSorted};
 ghost use Rattle.lock_world.specs.World.{World, opening};
 ghost use Rattle.lock_world.specs.Happens.{Runs};
-ghost use Rattle.lock_world.specs.Safe.{Safe};
+ghost use Rattle.lock_world.specs.SafeWorld.{SafeWorld};
 ghost use Rattle.lock_model.specs.Plain.{IsPlainOf, hold_cmp, holds_of};
 
+mod counters;
 mod hands;
 mod moved_part;
 mod own_waits;
@@ -30,7 +31,7 @@ use std::alloc::Global;
 /// Runs the events of up to 64 sessions from the opening World, one after another. An event that is not
 /// lawful where it comes is skipped. The World after them, and each one on the way, is safe.
 pub fn run_events(alloc: Global, events: &[Event]) -> Result<Plain, NoMemory>
-    ensures ran { IfOk result (λ plain. (w : World) × Runs (opening 64) events.now w × Safe w × IsPlainOf plain w) }
+    ensures ran { IfOk result (λ plain. (w : World) × Runs (opening 64) events.now w × SafeWorld w × IsPlainOf plain w) }
     ensures in_order { IfOk result (λ plain. IsSorted hold_cmp (holds_of plain)) }
 {
     let mut machine = Machine::new(alloc)?;

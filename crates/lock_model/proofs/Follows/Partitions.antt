@@ -21,7 +21,7 @@ use Rattle.lock_table.specs.Parts.{contents_in}
 use Rattle.lock_world.specs.World.{World}
 use Rattle.lock_world.specs.Happens.{Lawful, Next}
 use Rattle.lock_world.specs.Happens.Partitions.{after_taking_partition, IsMadeByPutting, MayPutPartition, after_putting_partition, WaitIsOver, MayPutRecorded, after_putting_recorded}
-use Rattle.lock_world.specs.Safe.{Safe}
+use Rattle.lock_world.specs.SafeWorld.{SafeWorld}
 use Rattle.lock_model.specs.Shows.{Shows, is_unmarked_in, none_unmarked, makes_steps, hand_of, awaits, awaited_of, HasUnmoved, is_over, CannotMake}
 use Rattle.lock_model.proofs.Shows.Hands.{none_unmarked-each, each-none_unmarked}
 use Rattle.lock_model.proofs.Shows.Changes.{partition_word-set, hand-set, IsChangedAt, changed_nowhere, parts-changed}
@@ -64,7 +64,7 @@ put_by m p changed = record m {
   contents = record { hands = set m.contents.hands p None; parts = changed.parts };
 }
 
-module _ (m : Machine) (w : World) (safe : Safe w) (shows : Shows m w) where
+module _ (m : Machine) (w : World) (safe : SafeWorld w) (shows : Shows m w) where
   pub taken : (s p : ℕ) (unmarked : List Bool) → makes_steps m s ≡ true → p < 16 → p < length m.words.partitions → IsHeldByNobody (get_or m.words.partitions p free_word) → ((k : ℕ) → is_unmarked_in unmarked k ≡ false)
       → (v : World) × Next w (record { session = s; step = TakeExclusive (Partition p) }) v
       × Shows
@@ -78,7 +78,9 @@ module _ (m : Machine) (w : World) (safe : Safe w) (shows : Shows m w) where
     record {
       numbers = shows.numbers;
       words = partition_word-set m.words w.words p _ _ shows.words in_words (ap taken_word (shows.words.partition p));
-      unused = shows.unused;
+      fast_path = shows.fast_path;
+      counted = shows.counted;
+      asleep = shows.asleep;
       locks = shows.locks;
       contents = hand-set m.contents w.contents p _ _ shows.contents exists (record { holder = refl; recorded = refl; unmarked = none });
       waits = shows.waits;
@@ -91,7 +93,9 @@ module _ (m : Machine) (w : World) (safe : Safe w) (shows : Shows m w) where
   shown_put s p done content changed exists in_words at = record {
     numbers = shows.numbers;
     words = partition_word-set m.words w.words p _ _ shows.words in_words (ap put_word (shows.words.partition p));
-    unused = shows.unused;
+    fast_path = shows.fast_path;
+    counted = shows.counted;
+    asleep = shows.asleep;
     locks = shows.locks;
     contents = hand-set _ _ p None None (parts-changed m.contents changed w.contents p content shows.contents at) exists tt;
     waits = shows.waits;

@@ -16,7 +16,7 @@ use Rattle.lock_table.specs.Request.{is_request_of}
 use Rattle.lock_world.specs.World.{World}
 use Rattle.lock_world.specs.Happens.{Next}
 use Rattle.lock_world.specs.Happens.Seats.{MayBeIssued, after_issuing, after_going_on, MayBeKeptApart, after_keeping_apart, MayClose, after_closing}
-use Rattle.lock_world.specs.Safe.{Safe}
+use Rattle.lock_world.specs.SafeWorld.{SafeWorld}
 use Rattle.lock_table.specs.OwnWait.{is_for}
 use Rattle.lock_model.specs.Shows.{Shows, is_number, is_holder, has_a_mark, makes_steps, awaits}
 use Rattle.lock_model.proofs.Shows.Locks.{no_mark, some_mark}
@@ -56,7 +56,7 @@ hold_of_session xs s any =
       found_at : (p : Request → Bool) (i : ℕ) → i < length xs → p (get_or xs i (any_found (λ hold. hold.session == s) xs any).1) ≡ true → list_any p xs ≡ true
       found_at p i within e = list_any_at p xs i _ within e
 
-module _ (m : Machine) (w : World) (safe : Safe w) (shows : Shows m w) where
+module _ (m : Machine) (w : World) (safe : SafeWorld w) (shows : Shows m w) where
   pub was_issued : (s : ℕ) → s ≡ m.numbers.issued → s < 64 → s < length m.numbers.live
       → (v : World) × Next w (record { session = s; step = SplitSeat }) v × Shows (record m { numbers = record (m.numbers) { issued = m.numbers.issued + 1; live = set m.numbers.live s true } }) v
   was_issued s next below in_live =
@@ -71,7 +71,9 @@ module _ (m : Machine) (w : World) (safe : Safe w) (shows : Shows m w) where
             kept_by = shows.numbers.kept_by;
           };
           words = shows.words;
-          unused = shows.unused;
+          fast_path = shows.fast_path;
+          counted = shows.counted;
+          asleep = shows.asleep;
           locks = shows.locks;
           contents = shows.contents;
           waits = shows.waits;
@@ -91,7 +93,9 @@ module _ (m : Machine) (w : World) (safe : Safe w) (shows : Shows m w) where
         kept_by = λ j. written-at (λ own its. own ≡ its) m.numbers.kept_by s None None w.numbers.kept_by None in_kept_by refl j (shows.numbers.kept_by j);
       };
       words = shows.words;
-      unused = shows.unused;
+      fast_path = shows.fast_path;
+      counted = shows.counted;
+      asleep = shows.asleep;
       locks = shows.locks;
       contents = shows.contents;
       waits = shows.waits;
@@ -102,14 +106,14 @@ module _ (m : Machine) (w : World) (safe : Safe w) (shows : Shows m w) where
   no_word s none p =
       false_from_ne_true _ (λ held. both_ways (list_any (is_holder s) m.contents.hands) none
       (found_within (is_holder s) m.contents.hands p None refl
-      (hand_kept (get_or m.contents.hands p None) (w.contents.hand p) s (shows.contents.hand p) (sym (safe.table.carriers.hands p s) ∙ held)).0))
+      (hand_kept (get_or m.contents.hands p None) (w.contents.hand p) s (shows.contents.hand p) (sym (safe.but_slots.table.carriers.hands p s) ∙ held)).0))
 
   pub some_word : (s : ℕ) → list_any (is_holder s) m.contents.hands ≡ true → ((p : ℕ) → w.sessions.holds_partition s p ≡ false) → ⊥
   some_word s any none =
       let found = any_found (is_holder s) m.contents.hands any in
       let its : is_holder s (get_or m.contents.hands found.0 None) ≡ true = ap (is_holder s) (found.3 None) ∙ found.4 in
       both_ways (w.sessions.holds_partition s found.0) (none found.0)
-      (safe.table.carriers.hands found.0 s ∙ kept_hand (get_or m.contents.hands found.0 None) (w.contents.hand found.0) s (shows.contents.hand found.0) its)
+      (safe.but_slots.table.carriers.hands found.0 s ∙ kept_hand (get_or m.contents.hands found.0 None) (w.contents.hand found.0) s (shows.contents.hand found.0) its)
 
   no_fast_word : (s : ℕ) → has_a_mark s m.locks.fast_holders ≡ false → (o : ℕ) → w.sessions.holds_fast s o ≡ false
   no_fast_word s none o = no_mark m.locks.fast_holders 64 w.sessions.holds_fast s shows.locks.fast_holders none o
@@ -140,7 +144,7 @@ module _ (m : Machine) (w : World) (safe : Safe w) (shows : Shows m w) where
       let t : Tag = hold.0 in
       let n : Mode = hold.1 in
       let there : (w.contents.now p).holds s t n ≡ true = sym (ap (λ c. c.holds s t n) (shows.contents.now p (subst (λ k. p < k) shows.contents.sixteen found.2))) ∙ hold.2 in
-      let home : partition_of t ≡ p = safe.table.promise.one_place.no_hold_elsewhere p s t n there in
+      let home : partition_of t ≡ p = safe.but_slots.table.promise.one_place.no_hold_elsewhere p s t n there in
       let not_awaited : awaits (get_or m.waits.awaited s None) t n ≡ false = awaits_from m w safe shows s t n ∙ ap (λ o. is_for o t n) no_wait in
       both_ways (w.sessions.own s t n) (none t n)
       (own_from m w safe shows s t n ∙ and_from _ _ (ap (λ q. (w.contents.now q).holds s t n) home ∙ there) (ap not not_awaited))
@@ -174,7 +178,9 @@ module _ (m : Machine) (w : World) (safe : Safe w) (shows : Shows m w) where
             kept_by = λ j. written-at (λ own its. own ≡ its) m.numbers.kept_by s (Some joiner) None w.numbers.kept_by (Some joiner) in_kept_by refl j (shows.numbers.kept_by j);
           };
           words = shows.words;
-          unused = shows.unused;
+          fast_path = shows.fast_path;
+          counted = shows.counted;
+          asleep = shows.asleep;
           locks = shows.locks;
           contents = shows.contents;
           waits = shows.waits;
@@ -206,7 +212,9 @@ module _ (m : Machine) (w : World) (safe : Safe w) (shows : Shows m w) where
             kept_by = shows.numbers.kept_by;
           };
           words = shows.words;
-          unused = shows.unused;
+          fast_path = shows.fast_path;
+          counted = shows.counted;
+          asleep = shows.asleep;
           locks = shows.locks;
           contents = shows.contents;
           waits = shows.waits;

@@ -8,7 +8,7 @@ use Rattle.lw_word.specs.LightweightWord.{free_word, shared_word, unshared_word,
 use Rattle.lock_world.specs.World.{World}
 use Rattle.lock_world.specs.Happens.{Next}
 use Rattle.lock_world.specs.Happens.Sharing.{MayShare, MayUnshare, after_sharing_partition, after_unsharing_partition, after_sharing_fast, after_unsharing_fast}
-use Rattle.lock_world.specs.Safe.{Safe}
+use Rattle.lock_world.specs.SafeWorld.{SafeWorld}
 use Rattle.lock_table.specs.Put.{set_at}
 use Rattle.lock_model.specs.Shows.{Shows, ShowsMarks, makes_steps}
 use Rattle.lock_model.proofs.Shows.Changes.{partition_word-set, fast_word-set}
@@ -29,7 +29,7 @@ with_fast_sharer m s o word b = record m {
   locks = record (m.locks) { fast_sharers = set m.locks.fast_sharers o (set (get_or m.locks.fast_sharers o []) s b) };
 }
 
-module _ (m : Machine) (w : World) (safe : Safe w) (shows : Shows m w) where
+module _ (m : Machine) (w : World) (safe : SafeWorld w) (shows : Shows m w) where
   -- What the machine tests before a session shares a word, or gives it back.
   may_share : (s lock shown word : ℕ) (marks : List (List Bool)) (locks : ℕ) (has : ℕ → ℕ → Bool) → ShowsMarks marks locks has → shown ≡ word
       → makes_steps m s ≡ true → IsFreeToShare shown → get_or (get_or marks lock []) s false ≡ false → MayShare w.numbers word has s lock
@@ -56,6 +56,9 @@ module _ (m : Machine) (w : World) (safe : Safe w) (shows : Shows m w) where
   shown_partition s p word its b below exists in_words same = record {
     numbers = shows.numbers;
     words = partition_word-set m.words w.words p word its shows.words in_words same;
+    fast_path = shows.fast_path;
+    counted = shows.counted;
+    asleep = shows.asleep;
     locks = record {
       fast_holders = shows.locks.fast_holders;
       fast_sharers = shows.locks.fast_sharers;
@@ -97,6 +100,9 @@ module _ (m : Machine) (w : World) (safe : Safe w) (shows : Shows m w) where
   shown_fast s o word its b below exists same = record {
     numbers = shows.numbers;
     words = fast_word-set m.words w.words o word its shows.words exists same;
+    fast_path = shows.fast_path;
+    counted = shows.counted;
+    asleep = shows.asleep;
     locks = record {
       fast_holders = shows.locks.fast_holders;
       fast_sharers = marks-set m.locks.fast_sharers 64 w.sessions.shares_fast s o b shows.locks.fast_sharers below exists;

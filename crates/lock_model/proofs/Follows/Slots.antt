@@ -9,7 +9,7 @@ use Rattle.lw_word.specs.LightweightWord.{free_word, taken_word, put_word, IsHel
 use Rattle.lock_world.specs.World.{World}
 use Rattle.lock_world.specs.Happens.{Next}
 use Rattle.lock_world.specs.Happens.Slots.{after_taking_fast, after_putting_fast}
-use Rattle.lock_world.specs.Safe.{Safe}
+use Rattle.lock_world.specs.SafeWorld.{SafeWorld}
 use Rattle.lock_model.specs.Shows.{Shows, makes_steps}
 use Rattle.lock_model.proofs.Shows.Changes.{fast_word-set}
 use Rattle.lock_model.proofs.Shows.Locks.{marks-set}
@@ -22,7 +22,7 @@ with_holder m s o word b = record m {
   locks = record (m.locks) { fast_holders = set m.locks.fast_holders o (set (get_or m.locks.fast_holders o []) s b) };
 }
 
-module _ (m : Machine) (w : World) (safe : Safe w) (shows : Shows m w) where
+module _ (m : Machine) (w : World) (safe : SafeWorld w) (shows : Shows m w) where
   fast_word : (o : ℕ) → o < 64 → get_or m.words.fast o 0 ≡ w.words.fast o
   fast_word o exists = get_or_default m.words.fast o 0 free_word (subst (λ n. o < n) (sym shows.words.sixty_four_fast) exists) ∙ shows.words.fast o
 
@@ -42,6 +42,9 @@ module _ (m : Machine) (w : World) (safe : Safe w) (shows : Shows m w) where
     record {
       numbers = shows.numbers;
       words = fast_word-set m.words w.words o _ _ shows.words exists (ap taken_word (fast_word o exists));
+      fast_path = shows.fast_path;
+      counted = shows.counted;
+      asleep = shows.asleep;
       locks = record {
         fast_holders = marks-set m.locks.fast_holders 64 w.sessions.holds_fast s o true shows.locks.fast_holders below exists;
         fast_sharers = shows.locks.fast_sharers;
@@ -61,6 +64,9 @@ module _ (m : Machine) (w : World) (safe : Safe w) (shows : Shows m w) where
     record {
       numbers = shows.numbers;
       words = fast_word-set m.words w.words o _ _ shows.words exists (ap put_word (fast_word o exists));
+      fast_path = shows.fast_path;
+      counted = shows.counted;
+      asleep = shows.asleep;
       locks = record {
         fast_holders = marks-set m.locks.fast_holders 64 w.sessions.holds_fast s o false shows.locks.fast_holders below exists;
         fast_sharers = shows.locks.fast_sharers;

@@ -13,7 +13,8 @@ use Rattle.lock_table.specs.OwnWait.{OwnWait, Stage, InQueue, WasGranted, HasLef
 use Rattle.lock_table.specs.Parts.{contents_in}
 use Rattle.lock_table.specs.Queue.{waits_there, awaits_mode}
 use Rattle.lock_world.specs.World.{World, Hand, MakesSteps, recorded_in, is_unmarked}
-use Rattle.lock_world.specs.Safe.{Safe, is_hand_of, stages}
+use Rattle.lock_world.specs.Safe.{is_hand_of, stages}
+use Rattle.lock_world.specs.SafeWorld.{SafeWorld}
 use Rattle.lock_model.specs.Shows.{Shows, ShowsHand, ShowsHandIfAny, is_unmarked_in, is_holder, makes_steps, hand_of, awaits, awaited_of}
 use Rattle.lock_table.proofs.ListLemmas.{any_weaker, filter_nothing}
 
@@ -93,7 +94,7 @@ kept_hand (Some shown) (Some hand) s shows e = sym (ap (λ k. k == s) shows.hold
 kept_hand None (Some hand) s shows e = absurd shows
 kept_hand (Some shown) None s shows e = absurd shows
 
-module _ (m : Machine) (w : World) (safe : Safe w) (shows : Shows m w) where
+module _ (m : Machine) (w : World) (safe : SafeWorld w) (shows : Shows m w) where
   pub steps_from : (s : ℕ) → makes_steps m s ≡ true → MakesSteps w.numbers s
   steps_from s e =
       let parts = and_parts (get_or m.numbers.live s false) (is_none (get_or m.numbers.kept_by s None)) e in
@@ -124,7 +125,7 @@ module _ (m : Machine) (w : World) (safe : Safe w) (shows : Shows m w) where
             let whose : hand.holder ≡ s = sym it.holder ∙ eqb-true shown.holder s own in
             record {
               steps = steps_from s steps;
-              holding = safe.table.carriers.hands p s ∙ ap (λ h. is_hand_of h s) is ∙ sym (ap (λ k. k == s) it.holder) ∙ own;
+              holding = safe.but_slots.table.carriers.hands p s ∙ ap (λ h. is_hand_of h s) is ∙ sym (ap (λ k. k == s) it.holder) ∙ own;
               exists = subst (λ n. p < n) shows.contents.sixteen_hands (hand_within m s p shown e);
               hand = hand;
               is_hand = is;
@@ -134,7 +135,7 @@ module _ (m : Machine) (w : World) (safe : Safe w) (shows : Shows m w) where
 
   pub hand_not : (s p : ℕ) → hand_of m s p ≡ None → MakesSteps w.numbers s → w.sessions.holds_partition s p ≡ true → ⊥
   hand_not s p e steps holding =
-      let kept = hand_kept (get_or m.contents.hands p None) (w.contents.hand p) s (shows.contents.hand p) (sym (safe.table.carriers.hands p s) ∙ holding) in
+      let kept = hand_kept (get_or m.contents.hands p None) (w.contents.hand p) s (shows.contents.hand p) (sym (safe.but_slots.table.carriers.hands p s) ∙ holding) in
       let own = and_from (makes_steps m s) (is_holder s (get_or m.contents.hands p None)) (steps_kept s steps) kept.0 in
       kept.1 (sym (cond-true _ (get_or m.contents.hands p None) None own) ∙ e)
 
@@ -146,10 +147,10 @@ module _ (m : Machine) (w : World) (safe : Safe w) (shows : Shows m w) where
   own_from s t n =
       let there = (w.contents.now (partition_of t)).holds s t n in
       elim (cases_Bool (is_for (w.sessions.awaited s) t n)) [
-        | inl its ↦ safe.table.promise.one_place.awaited_is_not_own s t n its ∙ sym (and_not_true there _ (awaits_from s t n ∙ its))
+        | inl its ↦ safe.but_slots.table.promise.one_place.awaited_is_not_own s t n its ∙ sym (and_not_true there _ (awaits_from s t n ∙ its))
         | inr other ↦
             sym (or_false (w.sessions.own s t n) _ (not_pending (w.sessions.awaited s) (stages w s) t n other))
-            ∙ sym ((safe.table.promise.one_place.on_object t).held s n) ∙ sym (and_not_false there _ (awaits_from s t n ∙ other))
+            ∙ sym ((safe.but_slots.table.promise.one_place.on_object t).held s n) ∙ sym (and_not_false there _ (awaits_from s t n ∙ other))
       ]
 
   pub content_from : (t : Tag) → contents_in m.contents.parts.items (partition_of t) ≡ w.contents.now (partition_of t)
@@ -165,7 +166,7 @@ module _ (m : Machine) (w : World) (safe : Safe w) (shows : Shows m w) where
   pub stands_not : (s : ℕ) → w.sessions.awaited s ≡ None → (t : Tag) → waits_there ((w.contents.now (partition_of t)).waits t) s ≡ false
   stands_not s none t =
       filter_nothing (λ wait. wait.session == s) ((w.contents.now (partition_of t)).waits t)
-      ((safe.table.promise.one_place.on_object t).in_queue s ∙ ap (λ o. queued_by s o (stages w s) t) none)
+      ((safe.but_slots.table.promise.one_place.on_object t).in_queue s ∙ ap (λ o. queued_by s o (stages w s) t) none)
 
   pub awaits_not : (s : ℕ) → w.sessions.awaited s ≡ None → (t : Tag) (n : Mode) → awaits_mode ((w.contents.now (partition_of t)).waits t) s n ≡ false
   awaits_not s none t n =

@@ -22,7 +22,7 @@ use Rattle.lock_table.specs.Parts.{AreAtHome, no_part, part_at, contents_in}
 use Rattle.lock_table.specs.PartView.{PartView, content_of}
 use Rattle.lock_model.specs.Plain.{IsPlainOf, word_of, holds_of, waits_of, wait_of}
 use Rattle.lock_world.specs.World.{WordExists, word_in, World, opening}
-use Rattle.lock_world.specs.Safe.{Safe}
+use Rattle.lock_world.specs.SafeWorld.{SafeWorld}
 use Rattle.lock_model.specs.Shows.{Shows, ShowsHandIfAny, AreInTable, ListsHolds}
 use Rattle.lock_model.proofs.Shows.Places.{get_or-one_value}
 use Rattle.lock_model.proofs.Shows.Locks.{no_marks}
@@ -47,6 +47,9 @@ opening-shown m issued live kept_by words fast_words wait_words holders sharers 
     fast = λ k. ap (λ list. get_or list k free_word) fast_words ∙ get_or-one_value 64 536870912 k;
     wait = λ k. ap (λ list. get_or list k 0) wait_words ∙ get_or-one_value 64 0 k;
   };
+  fast_path = shows.fast_path;
+  counted = shows.counted;
+  asleep = shows.asleep;
   locks = record {
     fast_holders = no_marks 64 m.locks.fast_holders holders;
     fast_sharers = no_marks 64 m.locks.fast_sharers sharers;
@@ -68,12 +71,12 @@ opening-shown m issued live kept_by words fast_words wait_words holders sharers 
 }
 
 -- In a safe World each hold and each wait that the machine keeps stands in the partition that its object lies in.
-pub parts_at_home : (m : Machine) (w : World) → Safe w → Shows m w → AreAtHome m.contents.parts.items
+pub parts_at_home : (m : Machine) (w : World) → SafeWorld w → Shows m w → AreAtHome m.contents.parts.items
 parts_at_home m w safe shows = record { holds = held; waits = waiting } where
   held : (p s : ℕ) (t : Tag) (n : Mode) → (contents_in m.contents.parts.items p).holds s t n ≡ true → partition_of t ≡ p
   held p s t n has =
       elim (cases_lt p 16) [
-        | inl within ↦ safe.table.promise.one_place.no_hold_elsewhere p s t n (sym (ap (λ c. c.holds s t n) (shows.contents.now p within)) ∙ has)
+        | inl within ↦ safe.but_slots.table.promise.one_place.no_hold_elsewhere p s t n (sym (ap (λ c. c.holds s t n) (shows.contents.now p within)) ∙ has)
         | inr past ↦
             let none : part_at m.contents.parts.items p ≡ no_part = get_or_past m.contents.parts.items p no_part (let sixteen = shows.contents.sixteen in omega (arith, sixteen)) in
             absurd (false≢true (sym (ap (λ part. (content_of part).holds s t n) none) ∙ has))
@@ -82,7 +85,7 @@ parts_at_home m w safe shows = record { holds = held; waits = waiting } where
   waiting : (p : ℕ) (t : Tag) → partition_of t ≢ p → (contents_in m.contents.parts.items p).waits t ≡ []
   waiting p t elsewhere =
       elim (cases_lt p 16) [
-        | inl within ↦ ap (λ c. c.waits t) (shows.contents.now p within) ∙ safe.table.promise.one_place.no_wait_elsewhere p t elsewhere
+        | inl within ↦ ap (λ c. c.waits t) (shows.contents.now p within) ∙ safe.but_slots.table.promise.one_place.no_wait_elsewhere p t elsewhere
         | inr past ↦
             let none : part_at m.contents.parts.items p ≡ no_part = get_or_past m.contents.parts.items p no_part (let sixteen = shows.contents.sixteen in omega (arith, sixteen)) in
             ap (λ part. (content_of part).waits t) none
@@ -96,7 +99,7 @@ abbrev pub GathersWaits : List PartView → List QueuedWait → Type 0
 GathersWaits parts list = AreAtHome parts → (t : Tag) → map wait_of (filter (λ queued. tag_eq queued.tag t) list) ≡ (contents_in parts (partition_of t)).waits t
 
 -- What the machine gives in the end is what the World has.
-pub plain-shown : (m : Machine) (w : World) → Safe w → Shows m w → (plain : Plain) (parts parts_2 : List PartView) → parts ≡ m.contents.parts.items → parts_2 ≡ m.contents.parts.items
+pub plain-shown : (m : Machine) (w : World) → SafeWorld w → Shows m w → (plain : Plain) (parts parts_2 : List PartView) → parts ≡ m.contents.parts.items → parts_2 ≡ m.contents.parts.items
     → GathersHolds parts (holds_of plain) → AreInTable (holds_of plain) → GathersWaits parts_2 (waits_of plain)
     → IsSortedByKey (λ queued. queued.tag) (on numbers_of (slice_cmp nat_cmp)) (waits_of plain)
     → plain.words ≡ m.words → IsPlainOf plain w
@@ -119,8 +122,8 @@ plain-shown m w safe shows plain parts parts_2 these those gathered in_table gat
   word_shown : (word : Word) → WordExists word → word_of plain word ≡ word_in w.words word
   word_shown (Partition p) exists = ap (λ words. get_or words.partitions p free_word) same ∙ shows.words.partition p
   word_shown (Fast k) exists = ap (λ words. get_or words.fast k free_word) same ∙ shows.words.fast k
-  word_shown (Database k) exists = sym (safe.table.carriers.not_yet.database k)
-  word_shown (Slot k i) exists = sym (safe.table.carriers.not_yet.slot k i)
+  word_shown (Database k) exists = sym (safe.but_slots.table.carriers.not_yet.database k)
+  word_shown (Slot k i) exists = sym (safe.but_slots.table.carriers.not_yet.slot k i)
   word_shown (Wait k) exists = ap (λ words. get_or words.waits k 0) same ∙ shows.words.wait k
-  word_shown (Strong i) exists = sym (safe.table.carriers.not_yet.strong i)
-  word_shown (Sleep k) exists = sym (safe.table.carriers.not_yet.sleep k)
+  word_shown (Strong i) exists = sym (safe.but_slots.table.carriers.not_yet.strong i)
+  word_shown (Sleep k) exists = sym (safe.but_slots.table.carriers.not_yet.sleep k)

@@ -1,4 +1,4 @@
-use super::state::Words;
+use super::state::{CountedBy, FastPath, Words};
 use lock_world::Word;
 use modes_core::{Mode, ModeSet, SessionId, Tag};
 
@@ -36,6 +36,8 @@ pub struct Plain {
     pub(crate) holds: Vec<Hold>,
     pub(crate) waits: Vec<QueuedWait>,
     pub(crate) words: Words,
+    pub(crate) fast_path: FastPath,
+    pub(crate) counted: Vec<CountedBy>,
 }
 
 impl Plain {

@@ -2,7 +2,8 @@
 
 use super::state::{Machine, has_a_mark};
 use lock_table::Move;
-use modes_core::SessionId;
+use lock_world::Word;
+use modes_core::{Mode, SessionId, Tag, is_eligible};
 
 impl Machine {
     ghost use Rattle.std.specs.Prelude.{◌≡◌};
@@ -46,5 +47,32 @@ impl Machine {
         ensures { result ≡ has_a_mark session self.now.locks.fast_holders }
     {
         has_a_mark(self.locks.fast_holders.as_slice(), session)
+    }
+
+    /// Loads a word, which must show this: any slot, any session's database, or the lock of the own slots.
+    pub fn load_word(&mut self, session: SessionId, word: Word, shown: u64)
+        ensures { Follows self.old session (Step.LoadWord word shown) self.new }
+    {
+        // no step of the machine keeps what a load showed
+    }
+
+    /// Sets the mode in the session's slot, with the lock of its slots held, after its counter was read as 0
+    /// (`FastPathGrantRelationLock` in lock.c).
+    pub fn set_slot(&mut self, session: SessionId, slot: u8, tag: Tag, mode: Mode)
+        ensures { Follows self.old session (Step.SetSlot slot tag mode) self.new }
+    {
+    }
+
+    /// Clears the mode in the session's slot, with the lock of its slots held (`FastPathUnGrantRelationLock` in
+    /// lock.c).
+    pub fn clear_slot(&mut self, session: SessionId, slot: u8, tag: Tag, mode: Mode)
+        ensures { Follows self.old session (Step.ClearSlot slot tag mode) self.new }
+    {
+    }
+
+    /// Stores the session's database, where it has none and no slot in use (`InitPostgres` in postinit.c).
+    pub fn store_database(&mut self, session: SessionId, database: u32)
+        ensures { Follows self.old session (Step.StoreDatabase database) self.new }
+    {
     }
 }

@@ -9,7 +9,8 @@ use super::plain::{Hold, Plain};
 use super::plain_lists::{gather_holds, gather_waits};
 use lock_table::{NoMemory, PlainPart, empty_parts};
 use lock_world::{Event, Step};
-use modes_core::SessionId;
+use lw_word::SlotWord;
+use modes_core::{Mode, SessionId, Tag};
 use std::alloc::Global;
 
 /// The session numbers in use.
@@ -71,12 +72,36 @@ pub struct OwnWaits {
     pub seen: [bool; 64],
 }
 
+/// Sessions' databases and fast-path slots, and which strong lock counter each session has read as 0.
+#[derive(Clone, Copy, Debug)]
+pub struct FastPath {
+    /// The database of each session.
+    pub databases: [u32; 64],
+    /// The words of each session's slots.
+    pub slots: [[SlotWord; 16]; 64],
+    /// The index of the counter that a session has read as 0, for as long as that lets it set a slot.
+    pub zeros: [Option<u16>; 64],
+}
+
+/// A strong lock that a session has counted, and the position up to which the session has gone past others.
+#[derive(Clone, Copy, Debug)]
+pub struct CountedBy {
+    pub session: SessionId,
+    pub tag: Tag,
+    pub mode: Mode,
+    pub position: u8,
+}
+
 /// What the plain machine keeps of a World.
 #[derive(Drop)]
 pub struct Machine {
     pub numbers: Numbers,
     pub words: Words,
     pub locks: Locks,
+    pub fast_path: FastPath,
+    /// The strong locks that sessions have counted, in the order of counting. Each strong lock counter shows
+    /// how many there are at its index.
+    pub counted: Vec<CountedBy>,
     pub contents: Contents,
     pub waits: OwnWaits,
 }
@@ -85,7 +110,7 @@ impl Machine {
     ghost use Rattle.std.specs.Prelude.{◌≡◌, ◌&&◌, not, OnOk, IfOk, is_none, slice_index_or, None};
     ghost use Rattle.std.specs.List.Sorted.{IsSorted};
     ghost use Rattle.lock_world.specs.World.{World, opening};
-    ghost use Rattle.lock_world.specs.Safe.{Safe};
+    ghost use Rattle.lock_world.specs.SafeWorld.{SafeWorld};
     ghost use Rattle.lock_model.specs.Plain.{IsPlainOf, hold_cmp, holds_of};
     ghost use Rattle.lock_model.specs.Shows.{Shows, ShowsSafe, Follows, makes_steps};
     ghost use Rattle.lock_table.specs.Parts.{contents_in};
@@ -111,6 +136,12 @@ impl Machine {
                 fast_sharers: [[false; 64]; 64],
                 partition_sharers: [[false; 64]; 16],
             },
+            fast_path: FastPath {
+                databases: [0; 64],
+                slots: [[SlotWord::from_number(0); 16]; 64],
+                zeros: [None; 64],
+            },
+            counted: Vec::new_in(alloc),
             contents: Contents {
                 hands: [None; 16],
                 parts: empty_parts(alloc)?,
@@ -148,13 +179,21 @@ impl Machine {
             Step::SetWaiting { tag, mode } => return self.set_waiting(session, tag, mode),
             Step::MarkGranted { other, done } => return self.mark_granted(session, other, done),
             Step::ClearWait { leaving } => self.clear_wait(session, leaving),
+            Step::PutPassing { owner, tag, mode } => self.put_passing(session, owner, tag, mode),
+            Step::LoadStrong { index, shown } => self.load_strong(session, index, shown),
+            Step::LoadWord { word, shown } => self.load_word(session, word, shown),
+            Step::SetSlot { slot, tag, mode } => self.set_slot(session, slot, tag, mode),
+            Step::ClearSlot { slot, tag, mode } => self.clear_slot(session, slot, tag, mode),
+            Step::StoreDatabase { database } => self.store_database(session, database),
+            Step::Count { tag, mode } => return self.count(session, tag, mode),
+            Step::Uncount { tag, mode } => self.uncount(session, tag, mode),
         }
         Ok(())
     }
 
     /// What the machine shows, with its holds and waits in order.
     pub fn into_plain(self, alloc: Global) -> Result<Plain, NoMemory>
-        ensures shown { IfOk result (λ plain. (w : World) → Safe w → Shows self w → IsPlainOf plain w) }
+        ensures shown { IfOk result (λ plain. (w : World) → SafeWorld w → Shows self w → IsPlainOf plain w) }
         ensures in_order { IfOk result (λ plain. IsSorted hold_cmp (holds_of plain)) }
     {
         let holds = gather_holds(alloc, self.contents.parts.as_slice())?;
@@ -163,6 +202,8 @@ impl Machine {
             holds,
             waits,
             words: self.words,
+            fast_path: self.fast_path,
+            counted: self.counted,
         })
     }
 }

@@ -9,7 +9,7 @@ use Rattle.lock_world.specs.WaitWord.{wait_state, asked_word}
 use Rattle.lock_world.specs.World.{World}
 use Rattle.lock_world.specs.Happens.{Next}
 use Rattle.lock_world.specs.Happens.Waits.{after_asking, after_loading_wait}
-use Rattle.lock_world.specs.Safe.{Safe}
+use Rattle.lock_world.specs.SafeWorld.{SafeWorld}
 use Rattle.lock_model.specs.Shows.{Shows, makes_steps}
 use Rattle.lock_model.proofs.Follows.Skipped.{skipped}
 use Rattle.lock_model.proofs.Shows.Changes.{wait_word-set}
@@ -18,7 +18,7 @@ use Rattle.lock_model.proofs.Shows.Looks.{steps_from, steps_not}
 
 -- Asking to cancel, and loading the own wait word.
 
-module _ (m : Machine) (w : World) (safe : Safe w) (shows : Shows m w) where
+module _ (m : Machine) (w : World) (safe : SafeWorld w) (shows : Shows m w) where
   pub was_asked : (s k : ℕ) → makes_steps m s ≡ true → k < 64
       → (v : World) × Next w (record { session = s; step = AskCancel k }) v × Shows (record m { words = record (m.words) { waits = set m.words.waits k (asked_word (get_or m.words.waits k 0)) } }) v
   was_asked s k steps below = (
@@ -27,6 +27,9 @@ module _ (m : Machine) (w : World) (safe : Safe w) (shows : Shows m w) where
     record {
       numbers = shows.numbers;
       words = wait_word-set m.words w.words k _ _ shows.words below (ap asked_word (shows.words.wait k));
+      fast_path = shows.fast_path;
+      counted = shows.counted;
+      asleep = shows.asleep;
       locks = shows.locks;
       contents = shows.contents;
       waits = shows.waits;
@@ -45,6 +48,9 @@ module _ (m : Machine) (w : World) (safe : Safe w) (shows : Shows m w) where
     record {
       numbers = shows.numbers;
       words = shows.words;
+      fast_path = shows.fast_path;
+      counted = shows.counted;
+      asleep = shows.asleep;
       locks = shows.locks;
       contents = shows.contents;
       waits = record {
@@ -66,6 +72,9 @@ module _ (m : Machine) (w : World) (safe : Safe w) (shows : Shows m w) where
     record {
       numbers = shows.numbers;
       words = shows.words;
+      fast_path = shows.fast_path;
+      counted = shows.counted;
+      asleep = shows.asleep;
       locks = shows.locks;
       contents = shows.contents;
       waits = record {

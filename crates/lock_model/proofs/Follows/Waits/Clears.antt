@@ -19,7 +19,7 @@ use Rattle.lock_world.specs.World.{World, recorded_in, MakesSteps}
 use Rattle.lock_world.specs.Happens.Partitions.{MayMove}
 use Rattle.lock_world.specs.Happens.Waits.{MayClearSeen, MayClearInHand, after_clearing, after_leaving, HappensClearing}
 use Rattle.lock_world.specs.Happens.{Next}
-use Rattle.lock_world.specs.Safe.{Safe}
+use Rattle.lock_world.specs.SafeWorld.{SafeWorld}
 use Rattle.lock_model.specs.Shows.{Shows, is_unmarked_in, hand_of, awaited_of, makes_steps}
 use Rattle.lock_model.proofs.Shows.Changes.{wait_word-set, hand-set, part-set, own_wait-set}
 use Rattle.lock_model.proofs.Shows.Hands.{recording-shown, awaited-some}
@@ -69,7 +69,7 @@ left_by m s t shown part marks = record m {
   waits = record { awaited = set m.waits.awaited s None; seen = set m.waits.seen s false };
 }
 
-module _ (m : Machine) (w : World) (safe : Safe w) (shows : Shows m w) where
+module _ (m : Machine) (w : World) (safe : SafeWorld w) (shows : Shows m w) where
   pub clear_refused : (s : ℕ) (leaving : Bool) → makes_steps m s ≡ false → (v : World) × Next w (record { session = s; step = ClearWait leaving }) v × Shows m v
   clear_refused s leaving no_steps = skipped m w safe shows s (ClearWait leaving) (λ lawful. steps_not m w safe shows s no_steps (clearing_steps w s leaving lawful.0 lawful.1))
 
@@ -94,6 +94,9 @@ module _ (m : Machine) (w : World) (safe : Safe w) (shows : Shows m w) where
   ended s wait below = record {
     numbers = shows.numbers;
     words = wait_word-set m.words w.words s 0 0 shows.words below refl;
+    fast_path = shows.fast_path;
+    counted = shows.counted;
+    asleep = shows.asleep;
     locks = shows.locks;
     contents = shows.contents;
     waits = own_wait-set m.waits w.sessions.awaited w.sessions.seen s None None shows.waits below refl;
@@ -195,6 +198,9 @@ module _ (m : Machine) (w : World) (safe : Safe w) (shows : Shows m w) where
               record {
                 numbers = shows.numbers;
                 words = wait_word-set m.words w.words s 0 0 shows.words below refl;
+                fast_path = shows.fast_path;
+                counted = shows.counted;
+                asleep = shows.asleep;
                 locks = shows.locks;
                 contents = hand-set _ _ p _ _ (part-set m.contents w.contents p part (content_of part) shows.contents has.exists refl begun) has.exists
                     (recording-shown (w.contents.hand p) has.hand shown.holder (Leave wait.tag) marks (waits_there granted) has.is_hand has.shows.holder marked);

@@ -20,7 +20,7 @@ use Rattle.lock_world.specs.World.{World}
 use Rattle.lock_world.specs.Happens.Partitions.{MayMove}
 use Rattle.lock_world.specs.Happens.Waits.{after_setting_waiting}
 use Rattle.lock_world.specs.Happens.{Next}
-use Rattle.lock_world.specs.Safe.{Safe}
+use Rattle.lock_world.specs.SafeWorld.{SafeWorld}
 use Rattle.lock_model.specs.Shows.{Shows, is_unmarked_in, hand_of, awaits, awaited_of}
 use Rattle.lock_model.proofs.Shows.Changes.{wait_word-set, hand-set, part-set, own_wait-set}
 use Rattle.lock_model.proofs.Shows.Hands.{recording-shown}
@@ -39,7 +39,7 @@ none_awaits : (o : Option Awaited) (t : Tag) (n : Mode) → is_none o ≡ true �
 none_awaits None t n e = refl
 none_awaits (Some wait) t n e = absurd (cc)
 
-module _ (m : Machine) (w : World) (safe : Safe w) (shows : Shows m w) where
+module _ (m : Machine) (w : World) (safe : SafeWorld w) (shows : Shows m w) where
   pub was_set_waiting : (s : ℕ) (t : Tag) (n : Mode) (shown : InHand) (place : ℕ) (part : PartView) (marks : List Bool) → hand_of m s (partition_of t) ≡ Some shown → shown.recorded ≡ None
       → is_none (get_or m.waits.awaited s None) ≡ true → (contents_in m.contents.parts.items (partition_of t)).holds s t n ≡ false → WaitingAnswer (contents_in m.contents.parts.items (partition_of t)) s t n (Queued place)
       → content_of part ≡ add_wait (contents_in m.contents.parts.items (partition_of t)) s t n place → part.begun ≡ None → ((k : ℕ) → is_unmarked_in marks k ≡ false) → s < 64
@@ -59,6 +59,9 @@ module _ (m : Machine) (w : World) (safe : Safe w) (shows : Shows m w) where
     record {
       numbers = shows.numbers;
       words = wait_word-set m.words w.words s 1 1 shows.words below refl;
+      fast_path = shows.fast_path;
+      counted = shows.counted;
+      asleep = shows.asleep;
       locks = shows.locks;
       contents = hand-set _ _ p _ _
           (part-set m.contents w.contents p part content shows.contents has.exists (is ∙ ap (λ (c : Content). add_wait c s t n place) same) begun) has.exists

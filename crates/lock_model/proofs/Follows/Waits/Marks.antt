@@ -20,7 +20,7 @@ use Rattle.lock_world.specs.WaitWord.{wait_state, granted_word}
 use Rattle.lock_world.specs.World.{World, recorded_in, is_unmarked}
 use Rattle.lock_world.specs.Happens.Partitions.{MayMove}
 use Rattle.lock_world.specs.Happens.Waits.{MayMark, without, after_marking_first, after_marking_next, HappensMarkingIn}
-use Rattle.lock_world.specs.Safe.{Safe}
+use Rattle.lock_world.specs.SafeWorld.{SafeWorld}
 use Rattle.lock_model.specs.Shows.{Shows, is_unmarked_in, names_in, hand_of, awaits, IsWaking, IsOwnFor, CannotMake}
 use Rattle.lock_model.proofs.Shows.Changes.{wait_word-set, hand-set, part-set}
 use Rattle.lock_model.proofs.Shows.Hands.{names_in-granted, marks-without, recording-shown}
@@ -63,7 +63,7 @@ recorded_some o x some none = cc
 recorded_one : (o : Option Move) (x y : Move) → o ≡ Some x → o ≡ Some y → move_eq x y ≡ true
 recorded_one o x y one other = let same : x ≡ y = cc in ap (move_eq x) (sym same) ∙ move_eq-refl x
 
-module _ (m : Machine) (w : World) (safe : Safe w) (shows : Shows m w) where
+module _ (m : Machine) (w : World) (safe : SafeWorld w) (shows : Shows m w) where
   not_lawful : (s k p : ℕ) (done : Move) → ((u : World) → HappensMarkingIn w s k p done u → ⊥) → Marks w s k p done m
   not_lawful s k p done never = (w, inr (λ lawful. never lawful.0 lawful.1, refl), shows)
 
@@ -112,6 +112,9 @@ module _ (m : Machine) (w : World) (safe : Safe w) (shows : Shows m w) where
     record {
       numbers = shows.numbers;
       words = wait_word-set m.words w.words k _ _ shows.words (subst (λ n. k < n) shows.words.sixty_four_waits (word_within m.words.waits k waiting)) (ap granted_word (shows.words.wait k));
+      fast_path = shows.fast_path;
+      counted = shows.counted;
+      asleep = shows.asleep;
       locks = shows.locks;
       contents = hand-set m.contents w.contents p _ _ shows.contents has.exists
           (recording-shown (w.contents.hand p) has.hand hand.holder done (set hand.unmarked k false) (without (is_unmarked (w.contents.hand p)) k) has.is_hand has.shows.holder
@@ -145,6 +148,9 @@ module _ (m : Machine) (w : World) (safe : Safe w) (shows : Shows m w) where
     record {
       numbers = shows.numbers;
       words = wait_word-set m.words w.words k _ _ shows.words (subst (λ n. k < n) shows.words.sixty_four_waits (word_within m.words.waits k waiting)) (ap granted_word (shows.words.wait k));
+      fast_path = shows.fast_path;
+      counted = shows.counted;
+      asleep = shows.asleep;
       locks = shows.locks;
       contents = hand-set _ _ p _ _
           (part-set m.contents w.contents p after.part (content_of after.part) shows.contents has.exists refl (moved.begun ∙ shows.contents.none_begun p)) has.exists
