@@ -141,7 +141,7 @@ impl Machine {
                 slots: [[SlotWord::from_number(0); 16]; 64],
                 zeros: [None; 64],
             },
-            counted: Vec::new_in(alloc),
+            counted: Vec::new(alloc),
             contents: Contents {
                 hands: [None; 16],
                 parts: empty_parts(alloc)?,
