@@ -1,6 +1,6 @@
-use Rattle.std.proofs.Common.{◌≡◌, ◌≢◌, ◌⊎◌, ℕ, ◌<◌, ◌≤◌, Bool, true, false, not, ◌&&◌, Option, Some, refl, sym, ap, ◌∙◌, inl, inr, arith}
+use Rattle.std.proofs.Common.{◌≡◌, ◌≢◌, ◌⊎◌, ℕ, ◌<◌, ◌≤◌, true, false, not, Some, ap, ◌∙◌, inl, inr, arith}
 use Rattle.std.specs.Prelude.{◌↔◌}
-use Rattle.std.proofs.lemmas.Bool.{cases_Bool, both_ways, false_from_ne_true, and_parts, and_from, not-true, not_from_false}
+use Rattle.std.proofs.lemmas.Bool.{cases_Bool, both_ways, false_from_ne_true, and_parts, and_from, not-true}
 use Rattle.modes_core.specs.declared.modes.Mode.{Mode}
 use Rattle.modes_core.specs.declared.tags.Tag.{Tag}
 use Rattle.modes_core.specs.Conflict.{conflict}
@@ -18,7 +18,6 @@ use Rattle.lock_world.proofs.Counters.Passing.{is_at-past}
 use Rattle.lock_world.proofs.SlotsAgainstTable.{slot-no_conflict_own, slot-no_conflict_awaited}
 use Rattle.lock_world.proofs.FromSafe.{IsOwnOrPending, no_conflict-own, held-own_or_pending, own_or_pending-held, granted-held}
 use Rattle.lock_world.proofs.SafeWorld.OneSession.{is_for-itself}
-use Rattle.lock_world.proofs.SafeWorld.Tabled.{not_own-no_slot}
 
 -- What a safe World says of slots and contents together.
 
@@ -78,8 +77,10 @@ module _ (w : World) (safe : SafeWorld w) where
       ⊎ ((is_for (w.sessions.awaited s) t m ≡ true) × ((wait_state (w.words.wait s) ≡ 2) ⊎ (is_unmarked (w.contents.hand p) s ≡ true))))
 
   pub held-in_table : (p s : ℕ) (t : Tag) (m : Mode) → ((w.contents.now p).holds s t m ≡ true) ↔ IsInTable p s t m
-  held-in_table p s t m = (λ has. let found = held-own_or_pending (tabled w) safe.but_slots p s t m has in (found.0, there found.1),
-      λ is. own_or_pending-held (tabled w) safe.but_slots p s t m is.0 (back is.1)) where
+  held-in_table p s t m = (
+    λ has. let found = held-own_or_pending (tabled w) safe.but_slots p s t m has in (found.0, there found.1),
+    λ is. own_or_pending-held (tabled w) safe.but_slots p s t m is.0 (back is.1),
+  ) where
     there : IsOwnOrPending (tabled w) p s t m
         → ((w.sessions.own s t m ≡ true) × (slots s t m ≡ false)) ⊎ ((is_for (w.sessions.awaited s) t m ≡ true) × ((wait_state (w.words.wait s) ≡ 2) ⊎ (is_unmarked (w.contents.hand p) s ≡ true)))
     there (inl own) = let both = and_parts (w.sessions.own s t m) (not (slots s t m)) own in inl (both.0, not-true (slots s t m) both.1)
@@ -115,9 +116,10 @@ module _ (w : World) (safe : SafeWorld w) where
   -- Where a session has read a counter as 0, nobody has a strong mode on an object of its index, nor awaits one.
   pub permitted-none : (s o : ℕ) (t : Tag) (m : Mode) → w.sessions.zero s ≡ Some (index_of t) → s < w.numbers.limit → is_strong_on t m ≡ true
       → (w.sessions.own o t m ≡ false) × (is_for (w.sessions.awaited o) t m ≡ false)
-  permitted-none s o t m read below strong =
-      (false_from_ne_true (w.sessions.own o t m) (λ own. not_done (safe.done.held o t m strong own)),
-      false_from_ne_true (is_for (w.sessions.awaited o) t m) (λ awaits. not_done (safe.done.awaits o t m strong awaits))) where
-        not_done : is_done w.numbers.limit (w.sessions.counted o) t m ≡ true → ⊥
-        not_done done =
-            both_ways _ (safe.zero.nobody_is_past s o t read) (is_at-past (w.sessions.counted o) t m w.numbers.limit s below done)
+  permitted-none s o t m read below strong = (
+    false_from_ne_true (w.sessions.own o t m) (λ own. not_done (safe.done.held o t m strong own)),
+    false_from_ne_true (is_for (w.sessions.awaited o) t m) (λ awaits. not_done (safe.done.awaits o t m strong awaits)),
+  ) where
+    not_done : is_done w.numbers.limit (w.sessions.counted o) t m ≡ true → ⊥
+    not_done done =
+        both_ways _ (safe.zero.nobody_is_past s o t read) (is_at-past (w.sessions.counted o) t m w.numbers.limit s below done)

@@ -6,7 +6,7 @@ use Rattle.lock_table.specs.Content.{Content}
 use Rattle.lock_table.specs.OwnWait.{OwnWait}
 use Rattle.lock_world.specs.SlotHolds.{slot_holds}
 use Rattle.lock_world.specs.Counted.{Counted}
-use Rattle.lock_world.specs.World.{World, Words, Hand, TraceEntry}
+use Rattle.lock_world.specs.World.{World, Hand, TraceEntry}
 
 -- An account: all that one session knows of the World, with no other session's steps in it.
 

@@ -1,4 +1,4 @@
-use Rattle.std.specs.Prelude.{◌≡◌, ℕ, ◌<◌, Bool, true, false, not, ◌&&◌, List, [], Option, Some}
+use Rattle.std.specs.Prelude.{◌≡◌, ℕ, Bool, true, false, not, ◌&&◌, List, [], Option, Some}
 use Rattle.modes_core.specs.declared.modes.Mode.{Mode}
 use Rattle.modes_core.specs.declared.tags.Tag.{Tag}
 use Rattle.modes_core.specs.Tag.{index_of}
@@ -6,7 +6,7 @@ use Rattle.lock_table.specs.Content.{Holds}
 use Rattle.lock_table.specs.OwnWait.{OwnWait, is_for}
 use Rattle.lock_world.specs.SlotHolds.{slot_holds, OneSlotEach, InUseHasDatabase}
 use Rattle.lock_world.specs.Counted.{Counted, AtMostOnce, counter, is_past, PastHasNoSlot, StrongIsDone}
-use Rattle.lock_world.specs.World.{World, Words}
+use Rattle.lock_world.specs.World.{World}
 use Rattle.lock_world.specs.Safe.{SafeButSlots}
 
 -- What holds between any two atomic steps, with fast-path slots: a hold stands in a slot or in a content, and what stands in a

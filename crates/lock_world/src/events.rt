@@ -26,64 +26,113 @@ pub enum Word {
 pub enum Step {
     /// Take a lightweight lock exclusively, by a compare-exchange; the content of a partition comes
     /// with its word (`LWLockAcquire` in lwlock.c).
-    TakeExclusive { word: Word },
+    TakeExclusive {
+        word: Word,
+    },
     /// Put a lightweight lock that is held exclusively, by a fetch-and-subtract; the content of a
     /// partition goes home with its word, after one move; with any other word the move is to keep
     /// (`LWLockRelease` in lwlock.c).
-    PutExclusive { word: Word, done: Move },
+    PutExclusive {
+        word: Word,
+        done: Move,
+    },
     /// Take a lightweight lock shared, by a compare-exchange that adds 1 (`LWLockAcquire` with `LW_SHARED`
     /// in lwlock.c). A partition's content does not come with its word.
-    TakeShared { word: Word },
+    TakeShared {
+        word: Word,
+    },
     /// Put a lightweight lock that is held shared, by a fetch-and-subtract of 1 (`LWLockRelease` in
     /// lwlock.c).
-    PutShared { word: Word },
+    PutShared {
+        word: Word,
+    },
     /// Put the lock of a session's fast-path slots, which was held exclusively, by a fetch-and-subtract, and go
     /// past that session with a strong lock that is counted: it has no slot on the object (the end of a turn
     /// of the loop in `FastPathTransferRelationLocks` in lock.c).
-    PutPassing { owner: SessionId, tag: Tag, mode: Mode },
+    PutPassing {
+        owner: SessionId,
+        tag: Tag,
+        mode: Mode,
+    },
     /// Split a seat: a session number is issued, or a session that was kept apart goes on by itself
     /// (`InitProcess` in proc.c).
     SplitSeat,
     /// Join a seat: another session keeps this one apart, or with no joiner the session is closed
     /// (`ProcKill` in proc.c).
-    JoinSeat { joiner: Option<SessionId> },
+    JoinSeat {
+        joiner: Option<SessionId>,
+    },
     /// Ask a session to cancel its wait, by a fetch-or of bit 2 of its wait word: any session number,
     /// issued or not, closed or not, the own too (`pg_cancel_backend` in signalfuncs.c, which leads to the
     /// flag `QueryCancelPending` that is looked at while `ProcSleep` waits).
-    AskCancel { other: SessionId },
+    AskCancel {
+        other: SessionId,
+    },
     /// Load the own wait word, which shows this value (`waitStatus` in proc.h, as `ProcSleep` in proc.c
     /// reads it).
-    LoadWait { shown: u8 },
+    LoadWait {
+        shown: u8,
+    },
     /// Store in the own wait word that the session waits, with the object's partition in hand: its join is
     /// made (`ProcSleep` in proc.c sets `waitStatus` so).
-    SetWaiting { tag: Tag, mode: Mode },
+    SetWaiting {
+        tag: Tag,
+        mode: Mode,
+    },
     /// Add 1 to another session's wait word, which turns waiting into granted, with the partition in hand:
     /// its wait was granted by this move (`ProcWakeup` in proc.c sets `waitStatus` so).
-    MarkGranted { other: SessionId, done: Move },
+    MarkGranted {
+        other: SessionId,
+        done: Move,
+    },
     /// Clear the own wait word: the wait is over, and what was granted is the session's own from then on.
     /// With `leaving` this very step takes the wait out of the queue, with the partition in hand
     /// (`LockErrorCleanup` in proc.c).
-    ClearWait { leaving: bool },
+    ClearWait {
+        leaving: bool,
+    },
     /// Load a strong lock counter, which shows this value (`FastPathStrongRelationLocks->count`, as
     /// `LockAcquireExtended` in lock.c reads it).
-    LoadStrong { index: u16, shown: u64 },
+    LoadStrong {
+        index: u16,
+        shown: u64,
+    },
     /// Load a word, which shows this value: any slot, any session's database, or the lock of the own fast-path
     /// slots.
-    LoadWord { word: Word, shown: u64 },
+    LoadWord {
+        word: Word,
+        shown: u64,
+    },
     /// Store in an own fast-path slot that the session holds the mode, with the lock of its slots held
     /// (`FastPathGrantRelationLock` in lock.c).
-    SetSlot { slot: u8, tag: Tag, mode: Mode },
+    SetSlot {
+        slot: u8,
+        tag: Tag,
+        mode: Mode,
+    },
     /// Store in an own fast-path slot that the session holds the mode no more, with the lock of its slots held
     /// (`FastPathUnGrantRelationLock` in lock.c).
-    ClearSlot { slot: u8, tag: Tag, mode: Mode },
+    ClearSlot {
+        slot: u8,
+        tag: Tag,
+        mode: Mode,
+    },
     /// Store the own database, once, with no slot in use (`InitPostgres` in postinit.c).
-    StoreDatabase { database: u32 },
+    StoreDatabase {
+        database: u32,
+    },
     /// Add 1 to the strong lock counter of the object: the mode is counted, past nobody yet
     /// (`BeginStrongLockAcquire` in lock.c).
-    Count { tag: Tag, mode: Mode },
+    Count {
+        tag: Tag,
+        mode: Mode,
+    },
     /// Take 1 from it: the mode, neither had nor awaited, is counted no more (`AbortStrongLockAcquire` and
     /// `RemoveLocalLock` in lock.c).
-    Uncount { tag: Tag, mode: Mode },
+    Uncount {
+        tag: Tag,
+        mode: Mode,
+    },
 }
 
 /// One atomic step of one session.

@@ -7,11 +7,10 @@ use Rattle.lock_table.specs.Put.{set_at}
 use Rattle.lock_table.proofs.HoldLemmas.{set_hold-other_session}
 use Rattle.lock_table.proofs.PutLemmas.{set_at-here, set_at-else}
 use Rattle.lock_world.specs.declared.events.Word.{Word}
-use Rattle.lock_world.specs.declared.events.Word.TheVariants.{Strong}
 use Rattle.lw_word.specs.SlotWord.{word_with, word_without}
 use Rattle.lock_world.specs.SlotHolds.{slot_holds, relation_of, NoSlotInUse}
 use Rattle.lock_world.specs.World.{World}
-use Rattle.lock_world.specs.Account.{SlotsInHand, known_slots, slots_in_hand, IsLeftAlone}
+use Rattle.lock_world.specs.Account.{known_slots, slots_in_hand, IsLeftAlone}
 use Rattle.lock_world.specs.Happens.Slots.{HappensTakingFast, after_taking_fast, HappensPuttingFast, after_putting_fast, zero_after_putting, after_loading, zero_after_reading, after_reading_counter, MaySetSlot, after_setting_slot, MayClearSlot, after_clearing_slot, MayStoreDatabase, after_storing_database}
 use Rattle.lock_world.specs.SafeWorld.{SafeWorld}
 use Rattle.lock_world.proofs.Slots.Databases.{slot_holds-stored}

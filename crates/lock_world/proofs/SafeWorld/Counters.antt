@@ -1,17 +1,17 @@
-use Rattle.std.proofs.Common.{◌≡◌, ◌≢◌, ℕ, ◌+◌, ◌-◌, ◌<◌, ◌≤◌, Bool, true, false, List, [], Option, Some, refl, sym, ap, ◌∙◌, inl, inr, arith}
-use Rattle.std.proofs.lemmas.Bool.{cases_eq, both_ways, false_from_ne_true}
+use Rattle.std.proofs.Common.{◌≡◌, ◌≢◌, ℕ, ◌+◌, ◌-◌, ◌<◌, Bool, true, false, List, Option, Some, sym, ap, ◌∙◌, inl, inr, arith}
+use Rattle.std.proofs.lemmas.Bool.{both_ways, false_from_ne_true}
 use Rattle.modes_core.specs.declared.modes.Mode.{Mode}
 use Rattle.modes_core.specs.declared.tags.Tag.{Tag}
 use Rattle.modes_core.specs.Tag.{index_of, is_strong_on}
 use Rattle.lock_table.specs.Content.{Holds}
 use Rattle.lock_table.specs.OwnWait.{OwnWait, is_for}
 use Rattle.lock_table.specs.Put.{set_at}
-use Rattle.lock_table.proofs.PutLemmas.{set_at-here, set_at-else, set_at-each}
+use Rattle.lock_table.proofs.PutLemmas.{set_at-else, set_at-each}
 use Rattle.lock_world.specs.Counted.{Counted, counting, uncounting, passing, is_past, is_done, AtMostOnce, PastHasNoSlot, StrongIsDone, counter}
 use Rattle.lock_world.specs.World.{World}
 use Rattle.lock_world.specs.Happens.Slots.{zero_after_putting, after_putting_fast}
 use Rattle.lock_world.specs.Happens.Counters.{MayCount, after_counting, MayUncount, after_uncounting, MayPass, after_passing}
-use Rattle.lock_world.specs.SafeWorld.{SafeWorld, OwnIsInOrder, CountersAreCounts, ZeroIsAPermission, slots_of, tabled}
+use Rattle.lock_world.specs.SafeWorld.{SafeWorld, OwnIsInOrder, ZeroIsAPermission, slots_of, tabled}
 use Rattle.lock_world.proofs.Safe.Sharing.{live-within}
 use Rattle.lock_world.proofs.Counters.Counting.{is_past-counting, is_at-counting_stays, AtMostOnce-counting}
 use Rattle.lock_world.proofs.Counters.Uncounting.{is_past-uncounting, is_at-uncounting_else, AtMostOnce-uncounting}

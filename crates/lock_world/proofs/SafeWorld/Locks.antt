@@ -1,13 +1,12 @@
-use Rattle.std.proofs.Common.{◌≡◌, ◌≢◌, ℕ, Bool, true, false, Option, Some, None, sym, ap, ◌∙◌, inl, inr, cond}
+use Rattle.std.proofs.Common.{◌≡◌, ◌≢◌, ℕ, Bool, true, false, Option, Some, None, sym, ap, ◌∙◌, inl, inr}
 use Rattle.std.specs.Prelude.{◌==◌}
-use Rattle.std.proofs.lemmas.Bool.{cases_eq, cases_Bool, cond-true, cond-false, eqb-true, eq-eqb, ne_eqb}
-use Rattle.modes_core.specs.declared.tags.Tag.{Tag}
+use Rattle.std.proofs.lemmas.Bool.{cases_eq, cond-true, cond-false, eq-eqb, ne_eqb}
 use Rattle.lock_table.specs.Put.{set_at}
 use Rattle.lock_table.proofs.PutLemmas.{set_at-here, set_at-else, row-else}
 use Rattle.lock_world.specs.World.{World}
 use Rattle.lock_world.specs.Happens.Slots.{MayTakeFast, after_taking_fast, MayPutFast, zero_after_putting, after_putting_fast}
 use Rattle.lock_world.specs.Happens.Sharing.{MayShare, MayUnshare, after_sharing_partition, after_unsharing_partition, after_sharing_fast, after_unsharing_fast}
-use Rattle.lock_world.specs.SafeWorld.{SafeWorld, ZeroIsAPermission, tabled}
+use Rattle.lock_world.specs.SafeWorld.{SafeWorld, tabled}
 use Rattle.lock_world.proofs.Safe.Sharing.{sharing_partition-safe, unsharing_partition-safe, sharing_fast-safe, unsharing_fast-safe}
 use Rattle.lock_world.proofs.Safe.Slots.{taking_fast-safe, putting_fast-safe}
 

@@ -10,11 +10,10 @@ use Rattle.lock_table.specs.declared.moves.Move.TheVariants.{Keep, Grant, Join, 
 use Rattle.lock_table.specs.Content.{Holds, set_hold}
 use Rattle.lock_table.specs.OwnWait.{OwnWait, is_for}
 use Rattle.lock_table.specs.Moves.{FitsOwn}
-use Rattle.lock_table.proofs.HoldLemmas.{SetHoldAt, here, elsewhere, set_hold-at, set_hold-other_session}
+use Rattle.lock_table.proofs.HoldLemmas.{SetHoldAt, here, elsewhere, set_hold-at}
 use Rattle.lock_world.specs.Counted.{IsCountedFor, Counted, is_done, StrongIsDone}
 use Rattle.lock_world.specs.Happens.Partitions.{own_after}
 use Rattle.lock_world.specs.SafeWorld.{SlotsAreOwn, OwnIsInOrder, slots_of}
-use Rattle.lock_world.proofs.Table.Partitions.{own_after-else}
 
 -- A step that changes the own holds and the wait of one session alone: what has to be shown of that session.
 

@@ -1,16 +1,15 @@
-use Rattle.std.proofs.Common.{◌≡◌, ℕ, ◌<◌, ◌≤◌, Bool, true, false, ◌&&◌, List, [], Option, Some, refl, sym, ap, ◌∙◌, inl, inr, arith, subst}
+use Rattle.std.proofs.Common.{◌≡◌, ℕ, ◌<◌, ◌≤◌, true, ◌&&◌, Option, Some, refl, sym, ap, ◌∙◌, inl, inr, arith, subst}
 use Rattle.std.specs.Prelude.{◌==◌}
 use Rattle.std.proofs.lemmas.Bool.{cases_eq, cases_Bool, cond-true, cond-false, and_parts, eqb-true}
-use Rattle.modes_core.specs.declared.tags.Tag.{Tag}
 use Rattle.modes_core.specs.Tag.{index_of}
 use Rattle.lock_table.specs.Put.{set_at}
 use Rattle.lock_table.proofs.PutLemmas.{set_at-here, set_at-else}
-use Rattle.lock_world.specs.Counted.{Counted, is_past, counter, count_at}
+use Rattle.lock_world.specs.Counted.{count_at}
 use Rattle.lock_world.specs.World.{World, Loaded}
 use Rattle.lock_world.specs.declared.events.Word.{Word}
 use Rattle.lock_world.specs.declared.events.Word.TheVariants.{Strong}
 use Rattle.lock_world.specs.Happens.Slots.{MayLoad, after_loading, zero_after_reading, after_reading_counter}
-use Rattle.lock_world.specs.Safe.{SafeButSlots, TracesTell}
+use Rattle.lock_world.specs.Safe.{TracesTell}
 use Rattle.lock_world.specs.SafeWorld.{SafeWorld, ZeroIsAPermission, tabled}
 use Rattle.lock_world.proofs.Safe.Partitions.{live-given}
 use Rattle.lock_world.proofs.Traces.{TracesTell-entry}

@@ -1,10 +1,10 @@
-use Rattle.std.proofs.Common.{◌≡◌, ℕ, true, false, List, [], sym}
+use Rattle.std.proofs.Common.{◌≡◌, ℕ, true, false, [], sym}
 use Rattle.std.proofs.lemmas.Bool.{false≢true}
 use Rattle.lock_table.specs.Put.{set_at}
 use Rattle.lock_table.proofs.PutLemmas.{set_at-each}
 use Rattle.lock_world.specs.World.{World}
 use Rattle.lock_world.specs.Happens.Seats.{MayBeIssued, after_issuing, MayGoOn, after_going_on, MayBeKeptApart, after_keeping_apart, MayClose, after_closing}
-use Rattle.lock_world.specs.SafeWorld.{SafeWorld, tabled, slots_of, own_but}
+use Rattle.lock_world.specs.SafeWorld.{SafeWorld, tabled, slots_of}
 use Rattle.lock_world.proofs.Safe.Seats.{issuing-safe, going_on-safe, keeping_apart-safe, closing-safe}
 use Rattle.lock_world.proofs.SafeWorld.Tabled.{own_but-false}
 

@@ -1,30 +1,26 @@
-use Rattle.std.proofs.Common.{◌≡◌, ◌≢◌, ℕ, ◌<◌, ◌≤◌, Bool, true, false, not, ◌&&◌, nat_eq, nat_le, List, [], Option, Some, None, refl, sym, ap, ◌∙◌, inl, inr, subst, arith}
-use Rattle.std.proofs.lemmas.Bool.{cases_eq, cases_Bool, both_ways, false_from_ne_true, and_parts, and_right, leb-true, eqb-true, cond-true, cond-false, not-true, false≢true}
+use Rattle.std.proofs.Common.{◌≡◌, ◌≢◌, ℕ, ◌≤◌, true, false, not, nat_eq, nat_le, refl, sym, ap, ◌∙◌, inl, inr, subst, arith}
+use Rattle.std.proofs.lemmas.Bool.{both_ways, and_parts, leb-true, false≢true}
 use Rattle.modes_core.specs.declared.modes.Mode.{Mode}
 use Rattle.modes_core.specs.declared.tags.Tag.{Tag}
 use Rattle.modes_core.specs.declared.tags.Tag.TheVariants.{Relation, Object}
 use Rattle.modes_core.specs.Mode.{number_of}
-use Rattle.modes_core.specs.Tag.{index_of, is_eligible_for, is_strong_on}
-use Rattle.lw_word.specs.SlotWord.{word_with, word_without}
+use Rattle.modes_core.specs.Tag.{is_eligible_for, is_strong_on}
+use Rattle.lw_word.specs.SlotWord.{word_with}
 use Rattle.lock_table.specs.Content.{Holds, set_hold}
 use Rattle.lock_table.specs.OwnWait.{is_for}
 use Rattle.lock_table.specs.Put.{set_at}
-use Rattle.lock_table.proofs.PutLemmas.{set_at-here, set_at-else, set_at-each}
+use Rattle.lock_table.proofs.PutLemmas.{set_at-each}
 use Rattle.lock_table.proofs.HoldLemmas.{SetHoldAt, here, elsewhere, set_hold-at, set_hold-other_session}
-use Rattle.lock_world.specs.SlotHolds.{slot_holds, relation_of, OneSlotEach, InUseHasDatabase}
-use Rattle.lock_world.specs.Counted.{Counted, is_past, is_done, PastHasNoSlot, StrongIsDone, counter, count_at}
+use Rattle.lock_world.specs.SlotHolds.{relation_of, OneSlotEach, InUseHasDatabase}
+use Rattle.lock_world.specs.Counted.{is_past, PastHasNoSlot}
 use Rattle.lock_world.specs.World.{World}
-use Rattle.lock_world.specs.Happens.Slots.{MayLoad, after_loading, zero_after_reading, after_reading_counter, MaySetSlot, after_setting_slot, MayClearSlot, after_clearing_slot, MayStoreDatabase, after_storing_database}
-use Rattle.lock_world.specs.declared.events.Word.{Word}
-use Rattle.lock_world.specs.declared.events.Word.TheVariants.{Strong}
-use Rattle.lock_world.specs.Safe.{SafeButSlots}
-use Rattle.lock_world.specs.SafeWorld.{SafeWorld, SlotsAreOwn, slots_of, own_but, tabled}
-use Rattle.lock_world.proofs.Slots.Eligible.{eligible-is, is_in-held}
+use Rattle.lock_world.specs.Happens.Slots.{MaySetSlot, after_setting_slot}
+use Rattle.lock_world.specs.SafeWorld.{SafeWorld, slots_of, own_but, tabled}
+use Rattle.lock_world.proofs.Slots.Eligible.{eligible-is}
 use Rattle.lock_world.proofs.Slots.Setting.{slot_holds-set, OneSlotEach-set}
-use Rattle.lock_world.proofs.Slots.Clearing.{slot_holds-clear, OneSlotEach-clear}
-use Rattle.lock_world.proofs.Slots.Databases.{InUseHasDatabase-eligible, InUseHasDatabase-unused, slot_holds-stored}
+use Rattle.lock_world.proofs.Slots.Databases.{InUseHasDatabase-eligible}
 use Rattle.lock_world.proofs.SafeWorld.Tabled.{with_own-safe, own_but-false}
-use Rattle.lock_world.proofs.SafeWorld.OneSession.{OwnIsInOrder-one, StrongIsDone-one, set_hold-was, set_hold-new}
+use Rattle.lock_world.proofs.SafeWorld.OneSession.{OwnIsInOrder-one, StrongIsDone-one, set_hold-new}
 use Rattle.lock_world.proofs.SafeWorld.Changes.{with_fast_path-safe, slots_of-set, own_but-both, are_own-both}
 
 -- An eligible mode is not strong.
@@ -86,4 +82,3 @@ module _ (w : World) (s i : ℕ) (t : Tag) (m : Mode) (safe : SafeWorld w) (may 
         (safe.done.awaits s);
     zero = safe.zero;
   }
-

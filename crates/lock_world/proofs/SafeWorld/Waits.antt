@@ -13,8 +13,8 @@ use Rattle.lock_table.proofs.PutLemmas.{set_at-here, set_at-else}
 use Rattle.lock_table.proofs.HoldLemmas.{set_hold-other_session}
 use Rattle.lock_world.specs.Counted.{is_done}
 use Rattle.lock_world.specs.World.{World, MakesSteps}
-use Rattle.lock_world.specs.Happens.Partitions.{MayMove, own_after}
-use Rattle.lock_world.specs.Happens.Waits.{after_asking, after_loading_wait, after_setting_waiting, MayMarkFirst, after_marking_first, MayMarkNext, after_marking_next, MayClearSeen, MayClearInHand, taken_over, after_clearing, MayLeave, after_leaving}
+use Rattle.lock_world.specs.Happens.Partitions.{MayMove}
+use Rattle.lock_world.specs.Happens.Waits.{after_asking, after_loading_wait, after_setting_waiting, MayMarkFirst, after_marking_first, MayMarkNext, after_marking_next, MayClearSeen, MayClearInHand, after_clearing, MayLeave, after_leaving}
 use Rattle.lock_world.specs.Safe.{SafeButSlots}
 use Rattle.lock_world.specs.SafeWorld.{SafeWorld, slots_of, own_but, tabled}
 use Rattle.lock_world.proofs.Waits.Steps.{GrantsOthers}

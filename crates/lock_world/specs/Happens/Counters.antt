@@ -6,7 +6,7 @@ use Rattle.lw_word.specs.LightweightWord.{put_word}
 use Rattle.lock_table.specs.OwnWait.{is_for}
 use Rattle.lock_table.specs.Put.{set_at}
 use Rattle.lock_world.specs.SlotHolds.{slot_holds}
-use Rattle.lock_world.specs.Counted.{Counted, counting, uncounting, passing, is_counted, is_at}
+use Rattle.lock_world.specs.Counted.{counting, uncounting, passing, is_counted, is_at}
 use Rattle.lock_world.specs.World.{World, MakesSteps}
 use Rattle.lock_world.specs.Happens.Slots.{zero_after_putting}
 

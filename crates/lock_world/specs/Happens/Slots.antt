@@ -4,11 +4,11 @@ use Rattle.modes_core.specs.declared.tags.Tag.{Tag}
 use Rattle.modes_core.specs.Tag.{index_of, is_eligible_for}
 use Rattle.lw_word.specs.LightweightWord.{IsHeldByNobody, taken_word, put_word}
 use Rattle.lw_word.specs.SlotWord.{word_with, word_without}
-use Rattle.lock_table.specs.Content.{Holds, set_hold}
+use Rattle.lock_table.specs.Content.{set_hold}
 use Rattle.lock_table.specs.Put.{set_at}
 use Rattle.lock_world.specs.declared.events.Word.{Word}
 use Rattle.lock_world.specs.declared.events.Word.TheVariants.{Strong}
-use Rattle.lock_world.specs.SlotHolds.{slot_holds, relation_of, IsHeldIn, NoSlotInUse, IsSlotToGrant}
+use Rattle.lock_world.specs.SlotHolds.{relation_of, IsHeldIn, NoSlotInUse, IsSlotToGrant}
 use Rattle.lock_world.specs.World.{World, MakesSteps, Loaded, word_in, WordExists}
 
 -- Slots: a session takes the lock of its own fast-path slots, or of another's, and puts it back (fpInfoLock in proc.h); with
