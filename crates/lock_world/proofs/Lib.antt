@@ -10,6 +10,7 @@ pub mod Traces
 pub mod Safe
 pub mod Unique
 pub mod Others
+pub mod Accounts
 pub mod FromSafe
 pub mod SafeWorld
 pub mod FromSafeWorld

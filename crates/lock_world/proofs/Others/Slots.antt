@@ -53,7 +53,7 @@ reading_counter-others w s i n k other =
     (fast_account-by w (after_reading_counter w s i n) k refl refl refl (zero-read_others w.sessions.zero w.sessions.holds_fast s i n k other) refl) (set_at-else w.sessions.trace s _ k other) refl refl
 
 -- The slots of one session change: whoever has not their lock knows no more of them than before.
-slots_in_hand-set :
+pub slots_in_hand-set :
     (has : ℕ → Bool) (database : ℕ → ℕ) (slot : ℕ → ℕ → ℕ) (s : ℕ) (after : ℕ → ℕ) → has s ≡ false
     → slots_in_hand has database (set_at slot s after) ≡ slots_in_hand has database slot
 slots_in_hand-set has database slot s after not_his = λ i o. at o i where
@@ -87,7 +87,7 @@ clearing_slot-others w s i t m k safe other may =
     refl refl refl
 
 -- Storing a database: slots of which none is in use show nothing before and after.
-slots_in_hand-stored :
+pub slots_in_hand-stored :
     (has : ℕ → Bool) (database : ℕ → ℕ) (slot : ℕ → ℕ → ℕ) (s d : ℕ) → NoSlotInUse (slot s)
     → slots_in_hand has (set_at database s d) slot ≡ slots_in_hand has database slot
 slots_in_hand-stored has database slot s d none = λ i o. at o i where
