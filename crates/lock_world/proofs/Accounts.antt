@@ -3,3 +3,4 @@ pub mod Parts
 pub mod Partitions
 pub mod Waits
 pub mod Slots
+pub mod Lawful

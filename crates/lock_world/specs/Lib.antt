@@ -6,5 +6,6 @@ pub mod Counted
 pub mod Account
 pub mod AccountSteps
 pub mod Happens
+pub mod AccountLaw
 pub mod Safe
 pub mod SafeWorld

@@ -1,0 +1,90 @@
+use Rattle.std.specs.Prelude.{◌≡◌, ℕ, ◌^◌, ◌<◌, Bool, true, false, List, [], length, Option, Some, None}
+use Rattle.modes_core.specs.declared.modes.Mode.{Mode}
+use Rattle.modes_core.specs.declared.tags.Tag.{Tag}
+use Rattle.modes_core.specs.Tag.{index_of, partition_of, is_eligible_for, is_strong_on}
+use Rattle.lock_table.specs.declared.moves.Move.{Move}
+use Rattle.lock_table.specs.declared.moves.Move.TheVariants.{Leave}
+use Rattle.lock_table.specs.Content.{Wait, Content}
+use Rattle.lock_table.specs.Moves.{Moves, IsInPartition, FitsOwn}
+use Rattle.lock_table.specs.OwnWait.{OwnWait, is_for}
+use Rattle.lock_table.specs.Queue.{waits_there}
+use Rattle.lw_word.specs.SlotWord.{shows}
+use Rattle.lock_world.specs.SlotHolds.{slot_count, relation_of, NoSlotInUse, IsSlotToGrant}
+use Rattle.lock_world.specs.Counted.{IsCountedFor, is_counted, is_at}
+use Rattle.lock_world.specs.Happens.Partitions.{IsMadeByPutting, WaitIsOver}
+use Rattle.lock_world.specs.Happens.Counters.{most_counted}
+use Rattle.lock_world.specs.Account.{Account, InHand, SlotsInHand}
+
+-- Where a step is lawful, by the account of the session that makes it. That it makes steps of its own is not asked here. `number` is
+-- the session's, and `limit` how many sessions there can be.
+
+-- The partition is in hand with no move recorded, and this move leads to the content and grants these waits.
+pub record MayMoveBy (limit number : ℕ) (a : Account) (p : ℕ) (mine : InHand) (done : Move) (granted : List Wait) (content : Content) : Type 0 where
+  pub in_hand : a.hand p ≡ Some mine
+  pub unrecorded : mine.recorded ≡ None
+  pub object : IsInPartition p done
+  pub fits : FitsOwn (λ _. a.own) a.awaited number done
+  pub counted : IsCountedFor limit a.fast.counted done
+  pub moved : Moves mine.now number done granted content
+
+-- Putting a partition: after a move that is made as it is put, or after the one recorded.
+pub record MayPutBy (limit number : ℕ) (a : Account) (p : ℕ) (mine : InHand) (done : Move) (content : Content) : Type 0 where
+  pub may_move : MayMoveBy limit number a p mine done [] content
+  pub by_putting : IsMadeByPutting done
+
+pub record MayPutRecordedBy (a : Account) (p : ℕ) (mine : InHand) (done : Move) : Type 0 where
+  pub in_hand : a.hand p ≡ Some mine
+  pub recorded : mine.recorded ≡ Some done
+  pub all_marked : (other : ℕ) → mine.unmarked other ≡ false
+  pub wait_is_over : WaitIsOver a.awaited p done
+
+-- Clearing the own wait word: a grant was seen, or the wait is gone from the content in hand, or this step takes it out.
+pub record MayClearSeenBy (a : Account) (wait : OwnWait) : Type 0 where
+  pub is_wait : a.awaited ≡ Some wait
+  pub has_seen : a.seen ≡ true
+
+pub record MayClearInHandBy (number : ℕ) (a : Account) (wait : OwnWait) (mine : InHand) : Type 0 where
+  pub is_wait : a.awaited ≡ Some wait
+  pub in_hand : a.hand (partition_of wait.tag) ≡ Some mine
+  pub gone : waits_there (mine.now.waits wait.tag) number ≡ false
+
+pub record MayLeaveBy (limit number : ℕ) (a : Account) (wait : OwnWait) (mine : InHand) (granted : List Wait) (content : Content) : Type 0 where
+  pub is_wait : a.awaited ≡ Some wait
+  pub may_move : MayMoveBy limit number a (partition_of wait.tag) mine (Leave wait.tag) granted content
+
+-- Putting the lock of a session's slots.
+pub record MayPutFastBy (a : Account) (owner : ℕ) (slots : SlotsInHand) : Type 0 where
+  pub in_hand : a.fast.slots owner ≡ Some slots
+
+-- Going past it: no slot shows the object in any mode.
+pub record MayPassBy (a : Account) (owner : ℕ) (slots : SlotsInHand) (tag : Tag) (mode : Mode) : Type 0 where
+  pub in_hand : a.fast.slots owner ≡ Some slots
+  pub next : is_at owner a.fast.counted tag mode ≡ true
+  pub no_slot : (its : Mode) → slots.holds tag its ≡ false
+
+-- Setting a mode in an own slot, and clearing one.
+pub record MaySetSlotBy (number : ℕ) (a : Account) (mine : SlotsInHand) (place : ℕ) (tag : Tag) (mode : Mode) : Type 0 where
+  pub in_hand : a.fast.slots number ≡ Some mine
+  pub eligible : is_eligible_for a.fast.database tag mode ≡ true
+  pub below : relation_of tag < 2 ^ 32
+  pub read_as_zero : a.fast.zero ≡ Some (index_of tag)
+  pub no_wait : a.awaited ≡ None
+  pub new : a.own tag mode ≡ false
+  pub takes : IsSlotToGrant mine.word (relation_of tag) place
+
+pub record MayClearSlotBy (number : ℕ) (a : Account) (mine : SlotsInHand) (place : ℕ) (tag : Tag) (mode : Mode) : Type 0 where
+  pub in_hand : a.fast.slots number ≡ Some mine
+  pub eligible : is_eligible_for a.fast.database tag mode ≡ true
+  pub within : place < slot_count
+  pub shown : shows (mine.word place) (relation_of tag) mode ≡ true
+
+-- Counting a strong lock, and counting it no more.
+pub record MayCountBy (a : Account) (tag : Tag) (mode : Mode) : Type 0 where
+  pub strong : is_strong_on tag mode ≡ true
+  pub new : is_counted a.fast.counted tag mode ≡ false
+  pub few : length a.fast.counted < most_counted
+
+pub record MayUncountBy (a : Account) (tag : Tag) (mode : Mode) : Type 0 where
+  pub is : is_counted a.fast.counted tag mode ≡ true
+  pub not_own : a.own tag mode ≡ false
+  pub not_awaited : is_for a.awaited tag mode ≡ false
