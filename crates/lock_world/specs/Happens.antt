@@ -102,7 +102,18 @@ Lawful w event = (v : World) × Happens w event v
 abbrev pub Next : World → Event → World → Type 0
 Next w event v = Happens w event v ⊎ ((Lawful w event → ⊥) × (v ≡ w))
 
--- a whole run: each event in its turn, those that are not lawful being skipped
+-- A run by the Worlds on its way: each event in its turn leads on to the next World, those that are not lawful being skipped.
+abbrev pub RunsThrough : World → List Event → List World → Type 0
+RunsThrough w [] [] = Unit {0}
+RunsThrough w [] (u ∷ worlds) = ⊥
+RunsThrough w (event ∷ events) [] = ⊥
+RunsThrough w (event ∷ events) (u ∷ worlds) = Next w event u × RunsThrough u events worlds
+
+-- the last of them, or the first World where there is no event
+abbrev pub last_of : World → List World → World
+last_of w [] = w
+last_of w (u ∷ worlds) = last_of u worlds
+
+-- The events lead from the World w to v.
 abbrev pub Runs : World → List Event → World → Type 0
-Runs w [] v = v ≡ w
-Runs w (event ∷ events) v = (u : World) × Next w event u × Runs u events v
+Runs w events v = (worlds : List World) × RunsThrough w events worlds × (v ≡ last_of w worlds)

@@ -17,7 +17,7 @@ ghost use Rattle.lock_world.specs.SlotHolds.{IsHeldIn};
 ghost use Rattle.lock_world.specs.Counted.{AtMostOnce, counter, is_done, is_past};
 ghost use Rattle.lock_world.specs.WaitWord.{wait_state, is_asked, asked_word, granted_word};
 ghost use Rattle.lock_world.specs.World.{World, TraceEntry, Took, Episode, opening, is_unmarked};
-ghost use Rattle.lock_world.specs.Happens.{Happens, Runs};
+ghost use Rattle.lock_world.specs.Happens.{Happens, RunsThrough, Runs};
 ghost use Rattle.lock_world.specs.Safe.{taken_by, taken_in, IsOneMove};
 ghost use Rattle.lock_world.specs.SafeWorld.{SafeWorld, slots_of};
 ghost use Rattle.lock_world.specs.Account.{IsLeftAlone};
@@ -32,10 +32,13 @@ pub fn each_event_is_safe()
     ensures { (w v : World) (event : Event) → SafeWorld w → Happens w event v → SafeWorld v }
 {}
 
-/// Whatever list of events comes, lawful or not, the World after it is safe. Each World on the way is
-/// the World after a front of the list, so this says it of all of them.
+/// Whatever list of events comes, lawful or not, the World that it leads to is safe, and so is each World on
+/// the way.
 pub fn every_world_is_safe()
-    ensures { (limit : ℕ) (events : List Event) (w : World) → limit < 2 ^ 24 → Runs (opening limit) events w → SafeWorld w }
+    ensures last { (limit : ℕ) (events : List Event) (w : World) → limit < 2 ^ 24 →
+        Runs (opening limit) events w → SafeWorld w }
+    ensures on_the_way { (limit : ℕ) (events : List Event) (worlds : List World) (place : ℕ) (w : World) →
+        limit < 2 ^ 24 → RunsThrough (opening limit) events worlds → slice_get worlds place ≡ Some w → SafeWorld w }
 {}
 
 /// A list of events leads to one World and no other.

@@ -1,4 +1,5 @@
-use Rattle.std.proofs.Common.{[], ℕ, Bool, true, false, List, ◌∷◌, ◌++◌, Option, Some, None, refl, sym, subst, inl, inr}
+use Rattle.std.proofs.Common.{◌≡◌, [], ℕ, Bool, true, false, List, ◌∷◌, ◌++◌, Option, Some, None, refl, sym, subst, inl, inr, zero, suc}
+use Rattle.std.specs.Prelude.{slice_get}
 use Rattle.modes_core.specs.Tag.{partition_of}
 use Rattle.lock_world.specs.declared.events.Event.{Event}
 use Rattle.lock_table.specs.declared.moves.Move.{Move}
@@ -8,7 +9,7 @@ use Rattle.lock_world.specs.declared.events.Step.TheVariants.{TakeExclusive, Put
 use Rattle.lock_world.specs.declared.events.Word.{Word}
 use Rattle.lock_world.specs.declared.events.Word.TheVariants.{Partition, Fast, Database, Slot, Wait, Strong, Sleep}
 use Rattle.lock_world.specs.World.{World}
-use Rattle.lock_world.specs.Happens.{HappensTaking, HappensPutting, HappensSharing, HappensUnsharing, HappensLoading, Happens, HappensStep, Next, Runs}
+use Rattle.lock_world.specs.Happens.{HappensTaking, HappensPutting, HappensSharing, HappensUnsharing, HappensLoading, Happens, HappensStep, Next, RunsThrough, last_of, Runs}
 use Rattle.lock_world.specs.Happens.Seats.{HappensJoining}
 use Rattle.lock_world.specs.Happens.Waits.{HappensMarkingIn, HappensMarking, HappensClearing}
 use Rattle.lock_world.specs.SafeWorld.{SafeWorld}
@@ -123,12 +124,42 @@ pub Next-safe : (w : World) (event : Event) (v : World) → SafeWorld w → Next
 Next-safe w event v safe (inl h) = event-safe w event v safe h
 Next-safe w event v safe (inr h) = subst SafeWorld (sym h.1) safe
 
--- A run from a safe World comes to a safe one, whatever the events.
+-- Each World on the way of a run from a safe World is safe,
+pub through-safe : (w : World) (events : List Event) (worlds : List World) → SafeWorld w → RunsThrough w events worlds
+    → (place : ℕ) (u : World) → slice_get worlds place ≡ Some u → SafeWorld u
+through-safe w [] [] safe run place u at = absurd (cc)
+through-safe w [] (v ∷ worlds) safe run place u at = absurd run
+through-safe w (event ∷ events) [] safe run place u at = absurd run
+through-safe w (event ∷ events) (v ∷ worlds) safe run zero u at = subst SafeWorld (let same : v ≡ u = cc in same) (Next-safe w event v safe run.0)
+through-safe w (event ∷ events) (v ∷ worlds) safe run (suc place) u at = through-safe v events worlds (Next-safe w event v safe run.0) run.1 place u at
+
+-- and so is the one that it comes to, whatever the events.
+last-safe : (w : World) (events : List Event) (worlds : List World) → SafeWorld w → RunsThrough w events worlds → SafeWorld (last_of w worlds)
+last-safe w [] [] safe run = safe
+last-safe w [] (v ∷ worlds) safe run = absurd run
+last-safe w (event ∷ events) [] safe run = absurd run
+last-safe w (event ∷ events) (v ∷ worlds) safe run = last-safe v events worlds (Next-safe w event v safe run.0) run.1
+
 pub Runs-safe : (w : World) (events : List Event) (v : World) → SafeWorld w → Runs w events v → SafeWorld v
-Runs-safe w [] v safe e = subst SafeWorld (sym e) safe
-Runs-safe w (event ∷ events) v safe run = Runs-safe run.0 events v (Next-safe w event run.0 safe run.1) run.2
+Runs-safe w events v safe run = subst SafeWorld (sym run.2) (last-safe w events run.0 safe run.1)
+
+-- A run of no event stays where it is.
+pub Runs-none : (w : World) → Runs w [] w
+Runs-none w = ([], tt, refl)
 
 -- A run goes on by one event.
+through-push :
+    (w : World) (events : List Event) (worlds : List World) (event : Event) (v : World) → RunsThrough w events worlds → Next (last_of w worlds) event v
+    → RunsThrough w (events ++ event ∷ []) (worlds ++ v ∷ [])
+through-push w [] [] event v run next = (next, tt)
+through-push w [] (u ∷ worlds) event v run next = absurd run
+through-push w (first ∷ events) [] event v run next = absurd run
+through-push w (first ∷ events) (u ∷ worlds) event v run next = (run.0, through-push u events worlds event v run.1 next)
+
+last-push : (w : World) (worlds : List World) (v : World) → v ≡ last_of w (worlds ++ v ∷ [])
+last-push w [] v = refl
+last-push w (u ∷ worlds) v = last-push u worlds v
+
 pub Runs-push : (w : World) (events : List Event) (event : Event) (u v : World) → Runs w events u → Next u event v → Runs w (events ++ event ∷ []) v
-Runs-push w [] event u v run next = (v, subst (λ z. Next z event v) run next, refl)
-Runs-push w (first ∷ events) event u v run next = (run.0, run.1, Runs-push run.0 events event u v run.2 next)
+Runs-push w events event u v run next =
+    (run.0 ++ v ∷ [], through-push w events run.0 event v run.1 (subst (λ z. Next z event v) run.2 next), last-push w run.0 v)

@@ -1,4 +1,4 @@
-use Rattle.std.proofs.Common.{◌≡◌, ℕ, List, [], ◌∷◌, sym, ◌∙◌, subst, inl, inr}
+use Rattle.std.proofs.Common.{◌≡◌, ℕ, List, [], ◌∷◌, sym, ◌∙◌, subst, inl, inr, refl}
 use Rattle.lock_world.specs.declared.events.Event.{Event}
 use Rattle.lock_world.specs.declared.events.Step.{Step}
 use Rattle.lock_world.specs.declared.events.Step.TheVariants.{TakeExclusive, PutExclusive, TakeShared, PutShared, SplitSeat, JoinSeat, AskCancel, LoadWait, SetWaiting, MarkGranted, ClearWait, PutPassing, LoadStrong, LoadWord, SetSlot, ClearSlot, StoreDatabase, Count, Uncount}
@@ -6,7 +6,7 @@ use Rattle.lock_world.specs.World.{World}
 use Rattle.lock_table.specs.declared.moves.Move.{Move}
 use Rattle.lock_world.specs.declared.events.Word.{Word}
 use Rattle.lock_world.specs.declared.events.Word.TheVariants.{Partition, Fast, Database, Slot, Wait, Strong, Sleep}
-use Rattle.lock_world.specs.Happens.{HappensTaking, HappensPutting, HappensSharing, HappensUnsharing, HappensLoading, HappensStep, Next, Runs}
+use Rattle.lock_world.specs.Happens.{HappensTaking, HappensPutting, HappensSharing, HappensUnsharing, HappensLoading, HappensStep, Next, RunsThrough, last_of, Runs}
 use Rattle.lock_world.specs.SafeWorld.{SafeWorld}
 use Rattle.lock_world.proofs.SafeWorld.Runs.{Next-safe}
 use Rattle.lock_world.proofs.Unique.Seats.{one_splitting, one_joining}
@@ -85,9 +85,15 @@ one_next w event u v safe (inr one) (inr two) = one.1 ∙ sym two.1
 one_next w event u v safe (inl one) (inr two) = absurd (two.0 (u, one))
 one_next w event u v safe (inr one) (inl two) = absurd (one.0 (v, two))
 
--- A list of events leads from a safe World to one World.
-pub one_run : (w w' : World) (events : List Event) (u v : World) → SafeWorld w → w ≡ w' → Runs w events u → Runs w' events v → u ≡ v
-one_run w w' [] u v safe same one two = one ∙ same ∙ sym two
-one_run w w' (event ∷ events) u v safe same one two =
-    one_run one.0 two.0 events u v (Next-safe w event one.0 safe one.1)
-    (one_next w event one.0 two.0 safe one.1 (subst (λ z. Next z event two.0) (sym same) two.1)) one.2 two.2
+-- A list of events leads from a safe World through one list of Worlds, and so to one World.
+one_way : (w w' : World) (events : List Event) (us vs : List World) → SafeWorld w → w ≡ w' → RunsThrough w events us → RunsThrough w' events vs → last_of w us ≡ last_of w' vs
+one_way w w' [] [] [] safe same one two = same
+one_way w w' [] [] (v ∷ vs) safe same one two = absurd two
+one_way w w' [] (u ∷ us) vs safe same one two = absurd one
+one_way w w' (event ∷ events) [] vs safe same one two = absurd one
+one_way w w' (event ∷ events) (u ∷ us) [] safe same one two = absurd two
+one_way w w' (event ∷ events) (u ∷ us) (v ∷ vs) safe same one two =
+    one_way u v events us vs (Next-safe w event u safe one.0) (one_next w event u v safe one.0 (subst (λ z. Next z event v) (sym same) two.0)) one.1 two.1
+
+pub one_run : (w : World) (events : List Event) (u v : World) → SafeWorld w → Runs w events u → Runs w events v → u ≡ v
+one_run w events u v safe one two = one.2 ∙ one_way w w events one.0 two.0 safe refl one.1 two.1 ∙ sym two.2

@@ -5,7 +5,8 @@ use Rattle.lock_world.specs.declared.events.Event.{Event}
 use Rattle.lock_world.specs.World.{World, opening}
 use Rattle.lock_world.specs.Happens.{Next, Runs}
 use Rattle.lock_model.specs.Shows.{Shows}
-use Rattle.lock_world.proofs.Safe.Runs.{opening-safe, Next-safe, Runs-push}
+use Rattle.lock_world.proofs.SafeWorld.Opening.{opening-safe}
+use Rattle.lock_world.proofs.SafeWorld.Runs.{Next-safe, Runs-none, Runs-push}
 use Rattle.lock_model.proofs.machine.run_events.Goals as goal
 
 pub loop-event-preserved : goal.loop-event-preserved
@@ -23,7 +24,7 @@ loop-event-preserved c =
     )
 
 pub loop-event-init : goal.loop-event-init
-loop-event-init c = (opening 64, refl, opening-safe 64 (omega arith), c.in_ok-machine.ensures)
+loop-event-init c = (opening 64, Runs-none (opening 64), opening-safe 64 (omega arith), c.in_ok-machine.ensures)
 
 pub step-requires : goal.step-requires
 step-requires c = let before = c.loop-event.invariant in record { shown = (before.0, before.2, before.3) }

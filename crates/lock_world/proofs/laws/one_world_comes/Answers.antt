@@ -1,4 +1,3 @@
-use Rattle.std.proofs.Common.{refl}
 use Rattle.lock_world.specs.World.{opening}
 use Rattle.lock_world.proofs.SafeWorld.Opening.{opening-safe}
 use Rattle.lock_world.proofs.Unique.Runs.{one_run}
@@ -6,4 +5,4 @@ use Rattle.lock_world.proofs.laws.one_world_comes.Goals as goal
 
 pub returns : goal.returns
 returns c =
-    λ limit events w v few one two. one_run (opening limit) (opening limit) events w v (opening-safe limit few) refl one two
+    λ limit events w v few one two. one_run (opening limit) events w v (opening-safe limit few) one two
