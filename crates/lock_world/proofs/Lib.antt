@@ -14,3 +14,4 @@ pub mod Accounts
 pub mod FromSafe
 pub mod SafeWorld
 pub mod FromSafeWorld
+pub mod Listing

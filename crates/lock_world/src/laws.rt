@@ -8,6 +8,8 @@ ghost use Rattle.modes_core.specs.declared.tags.Tag.{Tag};
 ghost use Rattle.modes_core.specs.Conflict.{conflict};
 ghost use Rattle.modes_core.specs.Tag.{index_of, partition_of, is_strong_on};
 ghost use Rattle.lock_world.specs.declared.events.Event.{Event};
+ghost use Rattle.lock_world.specs.declared.events.Step.{Step};
+ghost use Rattle.lock_world.specs.declared.events.Word.{Word};
 ghost use Rattle.lock_table.specs.Content.{Wait, Content};
 ghost use Rattle.lw_word.specs.LightweightWord.{IsHeldExclusively, shared_count};
 ghost use Rattle.lock_table.specs.OwnWait.{OwnWait, entry_of, is_for};
@@ -244,6 +246,24 @@ pub fn numbers_are_in_order()
     ensures new { (w : World) → SafeWorld w → (session : ℕ) → w.numbers.issued ≤ session → w.sessions.trace session ≡ [] }
     ensures kept_apart { (w : World) → SafeWorld w → (session joiner : ℕ) → w.numbers.kept_by session ≡ Some joiner →
         (w.numbers.live session ≡ true) × (w.numbers.live joiner ≡ true) }
+{}
+
+/// What a listing stands on that loads slots first and takes partitions later. Let a hold stand in a fast-path
+/// slot or in a content in each World of a run, and in the first one in a content, as where a load of its slot
+/// did not show it. Then it stands in the content of its object's partition in each of these Worlds; and whoever
+/// takes a partition takes just the content that is there.
+pub fn a_listing_misses_no_hold_that_stands()
+    ensures stays_in_content { (w : World) (events : List Event) (worlds : List World) (session : ℕ) (tag : Tag) (mode : Mode) →
+        SafeWorld w → RunsThrough w events worlds →
+        (w.contents.now (partition_of tag)).holds session tag mode ≡ true →
+        ((place : ℕ) (u : World) → slice_get worlds place ≡ Some u →
+            (slots_of u.words.database u.words.slot session tag mode ≡ true)
+            ⊎ ((u.contents.now (partition_of tag)).holds session tag mode ≡ true)) →
+        (place : ℕ) (u : World) → slice_get worlds place ≡ Some u →
+        (u.contents.now (partition_of tag)).holds session tag mode ≡ true }
+    ensures taken { (w v : World) (session p : ℕ) →
+        Happens w (record { session = session; step = Step.TakeExclusive (Word.Partition p) }) v →
+        v.sessions.trace session ≡ w.sessions.trace session ++ Took p (w.contents.now p) ∷ [] }
 {}
 
 /// Asking a session to cancel sets bit 2 of its wait word, whatever the word is: it is asked from then

@@ -33,8 +33,9 @@ module _ (w : World) (s i : ℕ) (t : Tag) (m : Mode) (safe : SafeWorld w) (may 
   abbrev words' : ℕ → ℕ
   words' = set_at (w.words.slot s) i (word_without (w.words.slot s i) m)
 
-  changed : slots_of w.words.database (set_at w.words.slot s words') ≡ set_hold slots s t m false
-  changed = slots_of-set w.words.database w.words.slot s words' t m false
+  -- What the slots show then.
+  pub clearing-slots : slots_of w.words.database (set_at w.words.slot s words') ≡ set_hold slots s t m false
+  clearing-slots = slots_of-set w.words.database w.words.slot s words' t m false
       (slot_holds-clear (w.words.database s) (w.words.slot s) t m i (safe.slots.one_each s) may.held_in)
 
   own_else : (k : ℕ) (o : Tag) (n : Mode) → k ≢ s → own' k o n ≡ own k o n
@@ -50,10 +51,10 @@ module _ (w : World) (s i : ℕ) (t : Tag) (m : Mode) (safe : SafeWorld w) (may 
   pub clearing_slot-safe_world : SafeWorld (after_clearing_slot w s i t m)
   clearing_slot-safe_world = record {
     but_slots = with_own-safe (after_clearing_slot w s i t m) _ _
-        (sym (own_but-both own slots s t m false in_slot) ∙ ap (own_but own') (sym changed))
+        (sym (own_but-both own slots s t m false in_slot) ∙ ap (own_but own') (sym clearing-slots))
         (with_fast_path-safe (tabled w) w.words.database (set_at w.words.slot s words') w.words.strong w.sessions.counted w.sessions.zero w.sessions.trace safe.but_slots safe.but_slots.traces);
     slots = record {
-      are_own = subst (λ shown. (k : ℕ) (o : Tag) (n : Mode) → shown k o n ≡ true → own' k o n ≡ true) (sym changed) (are_own-both own slots s t m false safe.slots.are_own);
+      are_own = subst (λ shown. (k : ℕ) (o : Tag) (n : Mode) → shown k o n ≡ true → own' k o n ≡ true) (sym clearing-slots) (are_own-both own slots s t m false safe.slots.are_own);
       one_each = set_at-each (λ k words. OneSlotEach words) w.words.slot s words'
           (OneSlotEach-clear (w.words.slot s) m i (eligible-is (w.words.database s) t m may.held_in.eligible).2 (safe.slots.one_each s)) (λ k _. safe.slots.one_each k);
       has_database = set_at-each (λ k words. InUseHasDatabase (w.words.database k) words) w.words.slot s words'
@@ -62,7 +63,7 @@ module _ (w : World) (s i : ℕ) (t : Tag) (m : Mode) (safe : SafeWorld w) (may 
     order = OwnIsInOrder-one own own' w.sessions.awaited w.sessions.awaited s own_else (λ _ _. refl) w.numbers.live w.sessions.counted may.steps.live safe.order
         (λ o n awaits. false_from_ne_true (own' s o n) (λ has. both_ways (own s o n) (safe.order.awaited_is_not_own s o n awaits) (set_hold-was own s t m o n has)));
     counters = safe.counters;
-    past = subst (PastHasNoSlot w.sessions.counted) (sym changed) (λ j k o n gone. none_more k o n (set_hold-at slots s t m false k o n) (safe.past j k o n gone));
+    past = subst (PastHasNoSlot w.sessions.counted) (sym clearing-slots) (λ j k o n gone. none_more k o n (set_hold-at slots s t m false k o n) (safe.past j k o n gone));
     done = StrongIsDone-one own own' w.sessions.awaited w.sessions.awaited s own_else (λ _ _. refl) w.numbers.limit w.sessions.counted safe.done
         (λ o n strong has. safe.done.held s o n strong (set_hold-was own s t m o n has)) (safe.done.awaits s);
     zero = safe.zero;

@@ -13,23 +13,9 @@ use Rattle.lock_world.proofs.Slots.Databases.{InUseHasDatabase-unused, slot_hold
 use Rattle.lock_world.proofs.SafeWorld.Tabled.{with_own-safe}
 use Rattle.lock_world.proofs.SafeWorld.Changes.{with_fast_path-safe}
 
--- Storing a database is safe where no slot is in use.
-pub storing_database-safe_world : (w : World) (s d : ℕ) → SafeWorld w → MayStoreDatabase w s → SafeWorld (after_storing_database w s d)
-storing_database-safe_world w s d safe may = record {
-  but_slots = with_own-safe (after_storing_database w s d) _ _ (ap (own_but w.sessions.own) (sym same))
-      (with_fast_path-safe (tabled w) databases w.words.slot w.words.strong w.sessions.counted w.sessions.zero w.sessions.trace safe.but_slots safe.but_slots.traces);
-  slots = record {
-    are_own = subst (λ shown. (k : ℕ) (o : Tag) (n : Mode) → shown k o n ≡ true → w.sessions.own k o n ≡ true) (sym same) safe.slots.are_own;
-    one_each = safe.slots.one_each;
-    has_database = set_at-each (λ k database. InUseHasDatabase database (w.words.slot k)) w.words.database s d
-        (InUseHasDatabase-unused d (w.words.slot s) may.unused) (λ k _. safe.slots.has_database k);
-  };
-  order = safe.order;
-  counters = safe.counters;
-  past = subst (PastHasNoSlot w.sessions.counted) (sym same) safe.past;
-  done = safe.done;
-  zero = safe.zero;
-} where
+-- With no slot in use, a database stored changes no hold that slots show.
+pub storing-slots : (w : World) (s d : ℕ) → MayStoreDatabase w s → slots_of (set_at w.words.database s d) w.words.slot ≡ slots_of w.words.database w.words.slot
+storing-slots w s d may = λ i k. at k i where
   databases : ℕ → ℕ
   databases = set_at w.words.database s d
 
@@ -44,5 +30,21 @@ storing_database-safe_world w s d safe may = record {
         | inr other ↦ ap (λ database. slot_holds database (w.words.slot k)) (set_at-else w.words.database s d k other)
       ]
 
-  same : slots_of databases w.words.slot ≡ slots_of w.words.database w.words.slot
-  same = λ i k. at k i
+
+-- Storing a database is safe where no slot is in use.
+pub storing_database-safe_world : (w : World) (s d : ℕ) → SafeWorld w → MayStoreDatabase w s → SafeWorld (after_storing_database w s d)
+storing_database-safe_world w s d safe may = record {
+  but_slots = with_own-safe (after_storing_database w s d) _ _ (ap (own_but w.sessions.own) (sym (storing-slots w s d may)))
+      (with_fast_path-safe (tabled w) (set_at w.words.database s d) w.words.slot w.words.strong w.sessions.counted w.sessions.zero w.sessions.trace safe.but_slots safe.but_slots.traces);
+  slots = record {
+    are_own = subst (λ shown. (k : ℕ) (o : Tag) (n : Mode) → shown k o n ≡ true → w.sessions.own k o n ≡ true) (sym (storing-slots w s d may)) safe.slots.are_own;
+    one_each = safe.slots.one_each;
+    has_database = set_at-each (λ k database. InUseHasDatabase database (w.words.slot k)) w.words.database s d
+        (InUseHasDatabase-unused d (w.words.slot s) may.unused) (λ k _. safe.slots.has_database k);
+  };
+  order = safe.order;
+  counters = safe.counters;
+  past = subst (PastHasNoSlot w.sessions.counted) (sym (storing-slots w s d may)) safe.past;
+  done = safe.done;
+  zero = safe.zero;
+}

@@ -45,8 +45,9 @@ module _ (w : World) (s i : ℕ) (t : Tag) (m : Mode) (safe : SafeWorld w) (may 
   abbrev words' : ℕ → ℕ
   words' = set_at (w.words.slot s) i (word_with (w.words.slot s i) (relation_of t) m)
 
-  changed : slots_of w.words.database (set_at w.words.slot s words') ≡ set_hold slots s t m true
-  changed = slots_of-set w.words.database w.words.slot s words' t m true
+  -- What the slots show then.
+  pub setting-slots : slots_of w.words.database (set_at w.words.slot s words') ≡ set_hold slots s t m true
+  setting-slots = slots_of-set w.words.database w.words.slot s words' t m true
       (slot_holds-set (w.words.database s) (w.words.slot s) t m i may.eligible may.fits may.takes)
 
   own_else : (k : ℕ) (o : Tag) (n : Mode) → k ≢ s → own' k o n ≡ own k o n
@@ -60,10 +61,10 @@ module _ (w : World) (s i : ℕ) (t : Tag) (m : Mode) (safe : SafeWorld w) (may 
   pub setting_slot-safe_world : SafeWorld (after_setting_slot w s i t m)
   setting_slot-safe_world = record {
     but_slots = with_own-safe (after_setting_slot w s i t m) _ _
-        (sym (own_but-both own slots s t m true (own_but-false own slots s t m may.new)) ∙ ap (own_but own') (sym changed))
+        (sym (own_but-both own slots s t m true (own_but-false own slots s t m may.new)) ∙ ap (own_but own') (sym setting-slots))
         (with_fast_path-safe (tabled w) w.words.database (set_at w.words.slot s words') w.words.strong w.sessions.counted w.sessions.zero w.sessions.trace safe.but_slots safe.but_slots.traces);
     slots = record {
-      are_own = subst (λ shown. (k : ℕ) (o : Tag) (n : Mode) → shown k o n ≡ true → own' k o n ≡ true) (sym changed) (are_own-both own slots s t m true safe.slots.are_own);
+      are_own = subst (λ shown. (k : ℕ) (o : Tag) (n : Mode) → shown k o n ≡ true → own' k o n ≡ true) (sym setting-slots) (are_own-both own slots s t m true safe.slots.are_own);
       one_each = set_at-each (λ k words. OneSlotEach words) w.words.slot s words'
           (OneSlotEach-set (w.words.slot s) (relation_of t) m i may.fits (eligible-is (w.words.database s) t m may.eligible).2 may.takes (safe.slots.one_each s))
           (λ k _. safe.slots.one_each k);
@@ -73,7 +74,7 @@ module _ (w : World) (s i : ℕ) (t : Tag) (m : Mode) (safe : SafeWorld w) (may 
     order = OwnIsInOrder-one own own' w.sessions.awaited w.sessions.awaited s own_else (λ _ _. refl) w.numbers.live w.sessions.counted may.steps.live safe.order
         (λ o n awaits. absurd (false≢true (ap (λ a. is_for a o n) (sym may.no_wait) ∙ awaits)));
     counters = safe.counters;
-    past = subst (PastHasNoSlot w.sessions.counted) (sym changed) (λ j k o n gone. past j k o n gone (set_hold-at slots s t m true k o n));
+    past = subst (PastHasNoSlot w.sessions.counted) (sym setting-slots) (λ j k o n gone. past j k o n gone (set_hold-at slots s t m true k o n));
     done = StrongIsDone-one own own' w.sessions.awaited w.sessions.awaited s own_else (λ _ _. refl) w.numbers.limit w.sessions.counted safe.done
         (λ o n strong has. elim (set_hold-new own s t m o n has) [
           | inl was ↦ safe.done.held s o n strong was

@@ -1,0 +1,16 @@
+use Rattle.std.proofs.Common.{◌≡◌, List, [], ◌∷◌, ◌++◌, refl, subst, sym}
+use Rattle.lock_table.proofs.PutLemmas.{set_at-here}
+use Rattle.lock_world.specs.World.{World, Took}
+use Rattle.lock_world.proofs.Listing.{stays-in_content}
+use Rattle.lock_world.proofs.laws.a_listing_misses_no_hold_that_stands.Goals as goal
+
+pub returns-clause-stays_in_content : goal.returns-clause-stays_in_content
+returns-clause-stays_in_content c =
+    λ w events worlds session tag mode safe run there stands place u at.
+    stays-in_content w events worlds session tag mode safe run there stands place u at
+
+pub returns-clause-taken : goal.returns-clause-taken
+returns-clause-taken c =
+    λ w v s p h.
+    subst (λ (z : World). z.sessions.trace s ≡ w.sessions.trace s ++ Took p (w.contents.now p) ∷ []) (sym h.1)
+    (set_at-here w.sessions.trace s (w.sessions.trace s ++ Took p (w.contents.now p) ∷ []) s refl)
