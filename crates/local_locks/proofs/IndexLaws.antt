@@ -6,7 +6,7 @@ use Rattle.modes_core.specs.declared.modes.Mode.{Mode}
 use Rattle.modes_core.specs.declared.tags.Tag.{Tag}
 use Rattle.place_index.specs.Notes.{Notes, times, once_at, IsOneMore}
 use Rattle.local_locks.specs.declared.records.Entry.{Entry}
-use Rattle.local_locks.specs.Owned.{is_of, entry_of}
+use Rattle.local_locks.specs.Owned.{is_of, entry_for}
 use Rattle.local_locks.specs.Slots.{Slots, slot_at, present, key_at, key_hash, times_of, IsIndexed}
 use Rattle.local_locks.proofs.SlotLaws.{NoneElse, if_some, is_of-same, entry_of-at, slot_at-set, slot_at-set_other, slot_at-within, slot_at-past, slot_at-push, slot_at-push_before}
 use Rattle.std.proofs.lemmas.List.{length-set, length_push}
@@ -43,7 +43,7 @@ none_else slots index indexed tag mode place e at own k apart = if_some _ (slot_
         | inr other ↦ other
       ]
 
-pub found_entry : (slots : Slots) (index : Notes) → IsIndexed slots index → (tag : Tag) (mode : Mode) (place : ℕ) (e : Entry) → slot_at slots place ≡ Some e → is_of tag mode e ≡ true → entry_of (present slots) tag mode ≡ Some e
+pub found_entry : (slots : Slots) (index : Notes) → IsIndexed slots index → (tag : Tag) (mode : Mode) (place : ℕ) (e : Entry) → slot_at slots place ≡ Some e → is_of tag mode e ≡ true → entry_for (present slots) tag mode ≡ Some e
 found_entry slots index indexed tag mode place e at own = entry_of-at tag mode slots place e at own (none_else slots index indexed tag mode place e at own)
 
 -- ---- an exact index stays so

@@ -8,3 +8,4 @@ pub mod KeptLaws
 pub mod TableSteps
 pub mod EndSteps
 pub mod OwnedLaws
+pub mod EntryLaws

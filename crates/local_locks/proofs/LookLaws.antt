@@ -9,7 +9,7 @@ use Rattle.modes_core.specs.declared.tags.Tag.{Tag}
 use Rattle.place_index.specs.Notes.{Notes, times}
 use Rattle.std.specs.Prelude.{List}
 use Rattle.local_locks.specs.declared.records.Entry.{Entry}
-use Rattle.local_locks.specs.Owned.{is_of, entry_of, new_entry}
+use Rattle.local_locks.specs.Owned.{is_of, entry_for, new_entry}
 use Rattle.local_locks.specs.Slots.{opened, present, slot_at, entry_at, key_at, key_hash, IsIndexed, IsPlaceOf, IsMissing}
 use Rattle.local_locks.proofs.SlotLaws.{is_of-same, is_of-own, entry_of-none, none_of, if_some}
 use Rattle.local_locks.proofs.IndexLaws.{found_entry, noted_some, some_key}
@@ -46,7 +46,7 @@ missing_of es index indexed tag mode hash hashed other =
           ]
 
 -- an object and mode with no entry has no slot
-pub absent_key : (es : List Entry) (tag : Tag) (mode : Mode) → entry_of (present (opened es)) tag mode ≡ None → (k : ℕ) → key_at (opened es) k ≢ Some (tag, mode)
+pub absent_key : (es : List Entry) (tag : Tag) (mode : Mode) → entry_for (present (opened es)) tag mode ≡ None → (k : ℕ) → key_at (opened es) k ≢ Some (tag, mode)
 absent_key es tag mode none k at =
     let found = some_key (opened es) k (tag, mode) at in
     let own : is_of tag mode found.0 ≡ true = sym (λ i. is_of (found.2 i).0 (found.2 i).1 found.0) ∙ is_of-own found.0 in
@@ -61,7 +61,7 @@ new_entry-key tag mode Transaction e is = (ap (λ (x : Entry). x.tag) is, ap (λ
 pub record IsEntryOf (es : List Entry) (tag : Tag) (mode : Mode) (place : ℕ) (e : Entry) : Type 0 where
   pub there : slot_at (opened es) place ≡ Some e
   pub own : is_of tag mode e ≡ true
-  pub found : entry_of (present (opened es)) tag mode ≡ Some e
+  pub found : entry_for (present (opened es)) tag mode ≡ Some e
 
 pub entry_of_place : (es seen : List Entry) (tag : Tag) (mode : Mode) (place : ℕ) (e : Entry) → seen ≡ es → IsPlaceOf seen tag mode place → e ≡ get_or es place e → IsEntryOf es tag mode place e
 entry_of_place es seen tag mode place e same at is =

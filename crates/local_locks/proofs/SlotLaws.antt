@@ -9,7 +9,7 @@ use Rattle.modes_core.specs.Mode.{mode_eq}
 use Rattle.modes_core.specs.Tag.{tag_eq}
 use Rattle.modes_core.proofs.Laws.{tag_eq-refl, tag_eq-same, mode_eq-refl, mode_eq-same}
 use Rattle.local_locks.specs.declared.records.Entry.{Entry}
-use Rattle.local_locks.specs.Owned.{is_of, entry_of, change, without}
+use Rattle.local_locks.specs.Owned.{is_of, entry_for, change, without}
 use Rattle.local_locks.specs.Slots.{Slots, slot_at, present, is_key}
 
 -- ---- options and tests
@@ -80,26 +80,26 @@ rest_else : (tag : Tag) (mode : Mode) (x : Option Entry) (slots : Slots) (place 
 rest_else tag mode x slots place none = λ k apart. none (suc k) (λ e. apart (omega arith))
 
 -- then the entry is not found, and changing or removing it changes nothing
-pub entry_of-none : (tag : Tag) (mode : Mode) (slots : Slots) → NoneOf tag mode slots → entry_of (present slots) tag mode ≡ None
+pub entry_of-none : (tag : Tag) (mode : Mode) (slots : Slots) → NoneOf tag mode slots → entry_for (present slots) tag mode ≡ None
 entry_of-none tag mode [] none = refl
 entry_of-none tag mode (None ∷ slots) none = entry_of-none tag mode slots (λ k. none (suc k))
 entry_of-none tag mode (Some e ∷ slots) none =
-    ap (λ b. cond b (Some e) (entry_of (present slots) tag mode)) (none zero) ∙ entry_of-none tag mode slots (λ k. none (suc k))
+    ap (λ b. cond b (Some e) (entry_for (present slots) tag mode)) (none zero) ∙ entry_of-none tag mode slots (λ k. none (suc k))
 
 -- and where it is not found, no slot has it
-pub none_of : (tag : Tag) (mode : Mode) (slots : Slots) → entry_of (present slots) tag mode ≡ None → (k : ℕ) (x : Entry) → slot_at slots k ≡ Some x → is_of tag mode x ≡ false
+pub none_of : (tag : Tag) (mode : Mode) (slots : Slots) → entry_for (present slots) tag mode ≡ None → (k : ℕ) (x : Entry) → slot_at slots k ≡ Some x → is_of tag mode x ≡ false
 none_of tag mode [] none k x at = absurd (let bad : None ≡ Some x = at in cc)
 none_of tag mode (None ∷ slots) none zero x at = absurd (let bad : None ≡ Some x = at in cc)
 none_of tag mode (None ∷ slots) none (suc k) x at = none_of tag mode slots none k x at
 none_of tag mode (Some e ∷ slots) none zero x at =
     elim (cases_Bool (is_of tag mode e)) [
-      | inl own ↦ absurd (let bad : Some e ≡ None = sym (ap (λ b. cond b (Some e) (entry_of (present slots) tag mode)) own) ∙ none in cc)
+      | inl own ↦ absurd (let bad : Some e ≡ None = sym (ap (λ b. cond b (Some e) (entry_for (present slots) tag mode)) own) ∙ none in cc)
       | inr other ↦ let same : x ≡ e = cc in ap (is_of tag mode) same ∙ other
     ]
 none_of tag mode (Some e ∷ slots) none (suc k) x at =
     elim (cases_Bool (is_of tag mode e)) [
-      | inl own ↦ absurd (let bad : Some e ≡ None = sym (ap (λ b. cond b (Some e) (entry_of (present slots) tag mode)) own) ∙ none in cc)
-      | inr other ↦ none_of tag mode slots (sym (ap (λ b. cond b (Some e) (entry_of (present slots) tag mode)) other) ∙ none) k x at
+      | inl own ↦ absurd (let bad : Some e ≡ None = sym (ap (λ b. cond b (Some e) (entry_for (present slots) tag mode)) own) ∙ none in cc)
+      | inr other ↦ none_of tag mode slots (sym (ap (λ b. cond b (Some e) (entry_for (present slots) tag mode)) other) ∙ none) k x at
     ]
 
 change-none : (f : Entry → Entry) (tag : Tag) (mode : Mode) (slots : Slots) → NoneOf tag mode slots → change f (present slots) tag mode ≡ present slots
@@ -116,15 +116,15 @@ without-none tag mode (Some e ∷ slots) none =
 
 -- ---- the entry at a place, where no other slot has its object and mode
 
-pub entry_of-at : (tag : Tag) (mode : Mode) (slots : Slots) (place : ℕ) (e : Entry) → slot_at slots place ≡ Some e → is_of tag mode e ≡ true → NoneElse tag mode slots place → entry_of (present slots) tag mode ≡ Some e
+pub entry_of-at : (tag : Tag) (mode : Mode) (slots : Slots) (place : ℕ) (e : Entry) → slot_at slots place ≡ Some e → is_of tag mode e ≡ true → NoneElse tag mode slots place → entry_for (present slots) tag mode ≡ Some e
 entry_of-at tag mode [] place e at own none = absurd (let no : None ≡ Some e = at in cc)
 entry_of-at tag mode (None ∷ slots) zero e at own none = absurd (let no : None ≡ Some e = at in cc)
 entry_of-at tag mode (None ∷ slots) (suc place) e at own none = entry_of-at tag mode slots place e at own (rest_else tag mode None slots place none)
 entry_of-at tag mode (Some x ∷ slots) zero e at own none =
     let same : x ≡ e = cc in
-    ap (λ b. cond b (Some x) (entry_of (present slots) tag mode)) (ap (is_of tag mode) same ∙ own) ∙ at
+    ap (λ b. cond b (Some x) (entry_for (present slots) tag mode)) (ap (is_of tag mode) same ∙ own) ∙ at
 entry_of-at tag mode (Some x ∷ slots) (suc place) e at own none =
-    ap (λ b. cond b (Some x) (entry_of (present slots) tag mode)) (none zero (λ q. omega arith))
+    ap (λ b. cond b (Some x) (entry_for (present slots) tag mode)) (none zero (λ q. omega arith))
     ∙ entry_of-at tag mode slots place e at own (rest_else tag mode (Some x) slots place none)
 
 pub change-at : (f : Entry → Entry) (tag : Tag) (mode : Mode) (slots : Slots) (place : ℕ) (e : Entry) → slot_at slots place ≡ Some e → is_of tag mode e ≡ true → NoneElse tag mode slots place → present (set slots place (Some (f e))) ≡ change f (present slots) tag mode

@@ -12,7 +12,7 @@ use Rattle.place_index.specs.Notes.{Notes}
 use Rattle.local_locks.specs.declared.records.Entry.{Entry}
 use Rattle.local_locks.specs.declared.ends.End.{End}
 use Rattle.local_locks.specs.declared.ends.Progress.{Progress}
-use Rattle.local_locks.specs.Owned.{IsCounted, count_for, count_in_all, raised, lowered, new_entry, max_count, is_of, entry_of, has_entry, owner_count_of, total_of, change, without, with_one_more, with_one_less}
+use Rattle.local_locks.specs.Owned.{IsCounted, count_for, count_in_all, raised, lowered, new_entry, max_count, is_of, entry_for, has_entry, owner_count_of, total_of, change, without, with_one_more, with_one_less}
 use Rattle.local_locks.specs.Slots.{Slots, slot_at, present, IsIndexed, IsPast, IsKept, reached, back_to}
 use Rattle.local_locks.proofs.SlotLaws.{is_of-same, change-at, length-present_set, slot_at-set, slot_at-set_other, slot_at-push_before, slot_at-past, slot_at-push, slot_at-within, present-push}
 use Rattle.local_locks.proofs.IndexLaws.{none_else, found_entry, indexed-change}
@@ -22,23 +22,23 @@ use Rattle.std.proofs.lemmas.List.{length_push}
 
 -- ---- counts read from the entries
 
-pub owner_count-at : (es : List Entry) (tag : Tag) (mode : Mode) (owner : Owner) (e : Entry) → entry_of es tag mode ≡ Some e → owner_count_of es tag mode owner ≡ count_for owner e
+pub owner_count-at : (es : List Entry) (tag : Tag) (mode : Mode) (owner : Owner) (e : Entry) → entry_for es tag mode ≡ Some e → owner_count_of es tag mode owner ≡ count_for owner e
 owner_count-at es tag mode owner e at = ap (λ o. option_map_or (count_for owner) o 0) at
 
-pub total-at : (es : List Entry) (tag : Tag) (mode : Mode) (e : Entry) → entry_of es tag mode ≡ Some e → total_of es tag mode ≡ count_in_all e
+pub total-at : (es : List Entry) (tag : Tag) (mode : Mode) (e : Entry) → entry_for es tag mode ≡ Some e → total_of es tag mode ≡ count_in_all e
 total-at es tag mode e at = ap (λ o. option_map_or count_in_all o 0) at
 
-pub total-none : (es : List Entry) (tag : Tag) (mode : Mode) → entry_of es tag mode ≡ None → total_of es tag mode ≡ 0
+pub total-none : (es : List Entry) (tag : Tag) (mode : Mode) → entry_for es tag mode ≡ None → total_of es tag mode ≡ 0
 total-none es tag mode none = ap (λ o. option_map_or count_in_all o 0) none
 
-pub entry_of-without : (es : List Entry) (tag : Tag) (mode : Mode) → entry_of (without es tag mode) tag mode ≡ None
+pub entry_of-without : (es : List Entry) (tag : Tag) (mode : Mode) → entry_for (without es tag mode) tag mode ≡ None
 entry_of-without [] tag mode = refl
 entry_of-without (e ∷ es) tag mode =
     elim (cases_Bool (is_of tag mode e)) [
-      | inl own ↦ ap (λ b. entry_of (cond (not b) (e ∷ without es tag mode) (without es tag mode)) tag mode) own ∙ entry_of-without es tag mode
+      | inl own ↦ ap (λ b. entry_for (cond (not b) (e ∷ without es tag mode) (without es tag mode)) tag mode) own ∙ entry_of-without es tag mode
       | inr other ↦
-          ap (λ b. entry_of (cond (not b) (e ∷ without es tag mode) (without es tag mode)) tag mode) other
-          ∙ (ap (λ b. cond b (Some e) (entry_of (without es tag mode) tag mode)) other ∙ entry_of-without es tag mode)
+          ap (λ b. entry_for (cond (not b) (e ∷ without es tag mode) (without es tag mode)) tag mode) other
+          ∙ (ap (λ b. cond b (Some e) (entry_for (without es tag mode) tag mode)) other ∙ entry_of-without es tag mode)
     ]
 
 -- ---- one count more or less
@@ -204,7 +204,7 @@ total-lowered slots index tag mode owner place e indexed at own counted =
 
 pub entries-released :
     (slots : Slots) (es : List Entry) (tag : Tag) (mode : Mode) (owner : Owner) (e : Entry) →
-    is_of tag mode e ≡ true → entry_of (present slots) tag mode ≡ Some e → count_in_all e ≡ 1 → es ≡ without (present slots) e.tag e.mode →
+    is_of tag mode e ≡ true → entry_for (present slots) tag mode ≡ Some e → count_in_all e ≡ 1 → es ≡ without (present slots) e.tag e.mode →
     es ≡ with_one_less (present slots) tag mode owner
 entries-released slots es tag mode owner e own found one is =
     let both = is_of-same tag mode e own in

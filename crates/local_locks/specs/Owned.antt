@@ -56,20 +56,20 @@ new_entry tag mode owner = raised owner (record { tag = tag; mode = mode; transa
 -- ---- what is owned
 
 -- the entry of an object and mode
-abbrev pub entry_of : List Entry → Tag → Mode → Option Entry
-entry_of entries tag mode = find (is_of tag mode) entries
+abbrev pub entry_for : List Entry → Tag → Mode → Option Entry
+entry_for entries tag mode = find (is_of tag mode) entries
 
 -- whether the session has the object in the mode
 abbrev pub has_entry : List Entry → Tag → Mode → Bool
-has_entry entries tag mode = is_some (entry_of entries tag mode)
+has_entry entries tag mode = is_some (entry_for entries tag mode)
 
 -- how often an owner has the object in the mode
 abbrev pub owner_count_of : List Entry → Tag → Mode → Owner → ℕ
-owner_count_of entries tag mode owner = option_map_or (count_for owner) (entry_of entries tag mode) 0
+owner_count_of entries tag mode owner = option_map_or (count_for owner) (entry_for entries tag mode) 0
 
 -- how often both owners together have it
 abbrev pub total_of : List Entry → Tag → Mode → ℕ
-total_of entries tag mode = option_map_or count_in_all (entry_of entries tag mode) 0
+total_of entries tag mode = option_map_or count_in_all (entry_for entries tag mode) 0
 
 -- ---- what changes
 

@@ -14,7 +14,7 @@ use Rattle.local_locks.specs.declared.looks.Missing.{Missing}
 use Rattle.local_locks.specs.declared.ends.Progress.{Progress}
 use Rattle.local_locks.specs.declared.ends.End.{End}
 use Rattle.local_locks.specs.declared.ends.End.TheVariants.{Commit, Abort, Close}
-use Rattle.local_locks.specs.Owned.{count_in_all, entry_of, is_of, is_ended, after_end, IsCounted}
+use Rattle.local_locks.specs.Owned.{count_in_all, entry_for, is_of, is_ended, after_end, IsCounted}
 
 -- How the entries are kept: in slots in the order of making, where a slot whose entry is gone is empty, with an index
 -- from the hash of object and mode to the slot's place. An empty slot has an entry with both counts 0.
@@ -67,11 +67,11 @@ pub record IsPlaceOf (slots : List Entry) (tag : Tag) (mode : Mode) (place : ℕ
   pub within : place < length slots
   pub there : slot_at (opened slots) place ≡ Some (entry_at slots place)
   pub own : is_of tag mode (entry_at slots place) ≡ true
-  pub found : entry_of (present (opened slots)) tag mode ≡ Some (entry_at slots place)
+  pub found : entry_for (present (opened slots)) tag mode ≡ Some (entry_at slots place)
 
 -- the object and mode has no entry, and this hash
 pub record IsMissing (slots : List Entry) (tag : Tag) (mode : Mode) (hash : ℕ) : Type 0 where
-  pub absent : entry_of (present (opened slots)) tag mode ≡ None
+  pub absent : entry_for (present (opened slots)) tag mode ≡ None
   pub hashed : hash ≡ key_hash tag mode
 
 -- what a look finds

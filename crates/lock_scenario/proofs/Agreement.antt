@@ -22,8 +22,8 @@ use Rattle.lock_table.proofs.ListLemmas.{any_found, any_weaker, any-counted, cou
 use Rattle.lock_table.proofs.PutLemmas.{put_else, set_at-here, set_at-else}
 use Rattle.lock_table.proofs.HoldLemmas.{SetHoldAt, IsTheHold, here, elsewhere, set_hold-at}
 use Rattle.lock_table.proofs.QueueLaws.{woken-split}
-use Rattle.lock_scenario.specs.declared.sessions.OwnWait.{OwnWait}
-use Rattle.lock_scenario.specs.Sessions.{as_granted, marked, is_pending, is_awaiting}
+use Rattle.lock_scenario.specs.declared.sessions.DeskWait.{DeskWait}
+use Rattle.lock_scenario.specs.Sessions.{as_granted, marked, has_grant, is_awaiting}
 use Rattle.lock_scenario.specs.Waiting.{is_wait_of, AgreesOn, Agrees}
 
 -- ---- counts
@@ -91,16 +91,16 @@ hold_all-other_object (w ∷ granted) holds t k o n other =
 
 -- ---- a session told that it was granted
 
-abbrev told_as : Bool → Option OwnWait → Option OwnWait
+abbrev told_as : Bool → Option DeskWait → Option DeskWait
 told_as b own = if b then option_map as_granted own else own
 
-record ToldAs (own : Option OwnWait) (t : Tag) (m n : Mode) : Type 0 where
+record ToldAs (own : Option DeskWait) (t : Tag) (m n : Mode) : Type 0 where
   pub waits_no_more : is_awaiting (option_map as_granted own) t m ≡ false
-  pub was_not_pending : is_pending own t m ≡ false
-  pub is_pending_now : is_pending (option_map as_granted own) t m ≡ mode_eq m n
+  pub was_not_pending : has_grant own t m ≡ false
+  pub is_pending_now : has_grant (option_map as_granted own) t m ≡ mode_eq m n
   pub awaited : is_awaiting own t m ≡ mode_eq m n
 
-told_awaited : (own : Option OwnWait) (t : Tag) (m n : Mode) → is_awaiting own t n ≡ true → ToldAs own t m n
+told_awaited : (own : Option DeskWait) (t : Tag) (m n : Mode) → is_awaiting own t n ≡ true → ToldAs own t m n
 told_awaited None t m n e = absurd (false≢true e)
 told_awaited (Some own) t m n e =
     let parts = both_true (not own.is_granted) (tag_eq t own.tag && mode_eq n own.mode) e in
@@ -119,12 +119,12 @@ told_awaited (Some own) t m n e =
 
 -- What is so of a session after a wakeup of the object's queue: it stands there as often as it still waits, and has pending
 -- what it had and what it was granted.
-record IsTold (own after : Option OwnWait) (t : Tag) (granted left : List Wait) (s : ℕ) (m : Mode) : Type 0 where
+record IsAfterWakeup (own after : Option DeskWait) (t : Tag) (granted left : List Wait) (s : ℕ) (m : Mode) : Type 0 where
   pub awaited : count_by (is_wait_of s m) left ≡ (if is_awaiting after t m then 1 else 0)
-  pub pending : is_pending after t m ≡ (is_pending own t m || list_any (is_wait_of s m) granted)
+  pub pending : has_grant after t m ≡ (has_grant own t m || list_any (is_wait_of s m) granted)
 
 -- Who was granted awaited the object.
-pub granted-awaits : (own : Option OwnWait) (t : Tag) (queue granted left : List Wait) (s : ℕ) → IsSplitOf queue granted left →
+pub granted-awaits : (own : Option DeskWait) (t : Tag) (queue granted left : List Wait) (s : ℕ) → IsSplitOf queue granted left →
     ((m : Mode) → count_by (is_wait_of s m) queue ≡ (if is_awaiting own t m then 1 else 0)) →
     waits_there granted s ≡ true → (n : Mode) × (0 < count_by (is_wait_of s n) granted) × (is_awaiting own t n ≡ true)
 granted-awaits own t queue granted left s split counts some =
@@ -143,18 +143,18 @@ granted-awaits own t queue granted left s split counts some =
                 absurd (omega arith)
           ]
 
-told : (own : Option OwnWait) (t : Tag) (queue granted left : List Wait) (s : ℕ) → IsSplitOf queue granted left →
+told : (own : Option DeskWait) (t : Tag) (queue granted left : List Wait) (s : ℕ) → IsSplitOf queue granted left →
     ((m : Mode) → count_by (is_wait_of s m) queue ≡ (if is_awaiting own t m then 1 else 0)) →
-    (m : Mode) → IsTold own (told_as (waits_there granted s) own) t granted left s m
+    (m : Mode) → IsAfterWakeup own (told_as (waits_there granted s) own) t granted left s m
 told own t queue granted left s split counts m =
     elim (cases_Bool (waits_there granted s)) [
-      | inl some ↦ subst (λ b. IsTold own (told_as b own) t granted left s m) (sym some) (woken some)
-      | inr none ↦ subst (λ b. IsTold own (told_as b own) t granted left s m) (sym none) (not_woken none)
+      | inl some ↦ subst (λ b. IsAfterWakeup own (told_as b own) t granted left s m) (sym some) (woken some)
+      | inr none ↦ subst (λ b. IsAfterWakeup own (told_as b own) t granted left s m) (sym none) (not_woken none)
     ] where
       sum : (n : Mode) → count_by (is_wait_of s n) queue ≡ count_by (is_wait_of s n) granted + count_by (is_wait_of s n) left
       sum n = count-split (is_wait_of s n) queue granted left split
 
-      not_woken : waits_there granted s ≡ false → IsTold own own t granted left s m
+      not_woken : waits_there granted s ≡ false → IsAfterWakeup own own t granted left s m
       not_woken none =
           let nowhere : list_any (is_wait_of s m) granted ≡ false =
           false_from_ne_true (list_any (is_wait_of s m) granted) (λ any. both_ways (waits_there granted s) none
@@ -164,10 +164,10 @@ told own t queue granted left s split counts m =
           let same : count_by (is_wait_of s m) left ≡ count_by (is_wait_of s m) queue = omega arith in
           record {
             awaited = same ∙ counts m;
-            pending = sym (ap (λ b. is_pending own t m || b) nowhere ∙ or-false (is_pending own t m));
+            pending = sym (ap (λ b. has_grant own t m || b) nowhere ∙ or-false (has_grant own t m));
           }
 
-      at_mode : (n : Mode) → 0 < count_by (is_wait_of s n) granted → is_awaiting own t n ≡ true → IsTold own (option_map as_granted own) t granted left s m
+      at_mode : (n : Mode) → 0 < count_by (is_wait_of s n) granted → is_awaiting own t n ≡ true → IsAfterWakeup own (option_map as_granted own) t granted left s m
       at_mode n some awaits =
           let it_is = told_awaited own t m n awaits in
           let all = sum m in
@@ -190,13 +190,13 @@ told own t queue granted left s split counts m =
                 }
           ]
 
-      woken : waits_there granted s ≡ true → IsTold own (option_map as_granted own) t granted left s m
+      woken : waits_there granted s ≡ true → IsAfterWakeup own (option_map as_granted own) t granted left s m
       woken some = let it = granted-awaits own t queue granted left s split counts some in at_mode it.0 it.1 it.2
 
 -- ---- the object of a change
 
 -- After a wakeup the object's content and the sessions told of it agree.
-pub AgreesOn-wakes : (before after : Content) (t : Tag) (granted : List Wait) (entries : ℕ → List Entry) (waits : ℕ → Option OwnWait) →
+pub AgreesOn-wakes : (before after : Content) (t : Tag) (granted : List Wait) (entries : ℕ → List Entry) (waits : ℕ → Option DeskWait) →
     AgreesOn before t entries waits → Wakes before t granted after → AgreesOn after t entries (marked granted waits)
 AgreesOn-wakes before after t granted entries waits agrees wakes =
     let split = woken-split before t granted after wakes in
@@ -204,7 +204,7 @@ AgreesOn-wakes before after t granted entries waits agrees wakes =
       held = λ s m.
           let it = told (waits s) t (before.waits t) granted (after.waits t) s split (agrees.awaited s) m in
           ap (λ (holds : Holds). holds s t m) wakes.holds ∙ hold_all-at granted before.holds t s m ∙ ap (λ b. b || list_any (is_wait_of s m) granted) (agrees.held s m) ∙
-          regroup (has_entry (entries s) t m) (is_pending (waits s) t m) (list_any (is_wait_of s m) granted) ∙ ap (λ b. has_entry (entries s) t m || b) (sym it.pending);
+          regroup (has_entry (entries s) t m) (has_grant (waits s) t m) (list_any (is_wait_of s m) granted) ∙ ap (λ b. has_entry (entries s) t m || b) (sym it.pending);
       awaited = λ s m. (told (waits s) t (before.waits t) granted (after.waits t) s split (agrees.awaited s) m).awaited;
     } where
       regroup : (a b c : Bool) → ((a || b) || c) ≡ (a || (b || c))
@@ -212,9 +212,9 @@ AgreesOn-wakes before after t granted entries waits agrees wakes =
       regroup false b c = refl
 
 -- One hold set or gone, together with the session's entry.
-pub AgreesOn-set : (before after : Content) (t : Tag) (entries : ℕ → List Entry) (waits : ℕ → Option OwnWait) (s : ℕ) (m : Mode) (there : Bool) (es : List Entry) →
+pub AgreesOn-set : (before after : Content) (t : Tag) (entries : ℕ → List Entry) (waits : ℕ → Option DeskWait) (s : ℕ) (m : Mode) (there : Bool) (es : List Entry) →
     AgreesOn before t entries waits → after.holds ≡ set_hold before.holds s t m there → after.waits ≡ before.waits →
-    ((n : Mode) → has_entry es t n ≡ (if mode_eq n m then there else has_entry (entries s) t n)) → is_pending (waits s) t m ≡ false →
+    ((n : Mode) → has_entry es t n ≡ (if mode_eq n m then there else has_entry (entries s) t n)) → has_grant (waits s) t m ≡ false →
     AgreesOn after t (set_at entries s es) waits
 AgreesOn-set before after t entries waits s m there es agrees holds queues keys not_pending =
     record {
@@ -224,15 +224,15 @@ AgreesOn-set before after t entries waits s m there es agrees holds queues keys 
       other_mode : (k : ℕ) (n : Mode) → k ≡ s → (IsTheHold s t m k t n → ⊥) → mode_eq n m ≡ false
       other_mode k n same not_it = false_from_ne_true (mode_eq n m) (λ e. not_it (record { session = same; tag = refl; mode = mode_eq-same n m e }))
 
-      at : (k : ℕ) (n : Mode) → SetHoldAt before.holds s t m there k t n → set_hold before.holds s t m there k t n ≡ (has_entry (set_at entries s es k) t n || is_pending (waits k) t n)
+      at : (k : ℕ) (n : Mode) → SetHoldAt before.holds s t m there k t n → set_hold before.holds s t m there k t n ≡ (has_entry (set_at entries s es k) t n || has_grant (waits k) t n)
       at k n (here it is) =
           is ∙ sym (
-          ap (λ (own : List Entry). has_entry own t n || is_pending (waits k) t n) (set_at-here entries s es k it.session) ∙
-          ap (λ b. b || is_pending (waits k) t n) (keys n ∙ cond-true (mode_eq n m) there (has_entry (entries s) t n) (ap (λ x. mode_eq x m) it.mode ∙ mode_eq-refl m)) ∙
-          ap (λ b. there || b) (ap (λ j. is_pending (waits j) t n) it.session ∙ ap (λ x. is_pending (waits s) t x) it.mode ∙ not_pending) ∙ or-false there
+          ap (λ (own : List Entry). has_entry own t n || has_grant (waits k) t n) (set_at-here entries s es k it.session) ∙
+          ap (λ b. b || has_grant (waits k) t n) (keys n ∙ cond-true (mode_eq n m) there (has_entry (entries s) t n) (ap (λ x. mode_eq x m) it.mode ∙ mode_eq-refl m)) ∙
+          ap (λ b. there || b) (ap (λ j. has_grant (waits j) t n) it.session ∙ ap (λ x. has_grant (waits s) t x) it.mode ∙ not_pending) ∙ or-false there
           )
       at k n (elsewhere not_it is) =
-          is ∙ agrees.held k n ∙ ap (λ b. b || is_pending (waits k) t n) (elim (cases_eq k s) [
+          is ∙ agrees.held k n ∙ ap (λ b. b || has_grant (waits k) t n) (elim (cases_eq k s) [
             | inl same ↦ ap (λ j. has_entry (entries j) t n) same ∙ sym (ap (λ (own : List Entry). has_entry own t n) (set_at-here entries s es k same) ∙
                 keys n ∙ cond-false (mode_eq n m) there (has_entry (entries s) t n) (other_mode k n same not_it))
             | inr other ↦ ap (λ (own : List Entry). has_entry own t n) (sym (set_at-else entries s es k other))
@@ -264,12 +264,12 @@ ChangesOnly-both before between after t one two = record {
 }
 
 -- The sessions have the same of other objects.
-pub record SameElsewhere (entries entries_after : ℕ → List Entry) (waits waits_after : ℕ → Option OwnWait) (t : Tag) : Type 0 where
-  pub held : (s : ℕ) (o : Tag) (m : Mode) → tag_eq o t ≡ false → (has_entry (entries_after s) o m || is_pending (waits_after s) o m) ≡ (has_entry (entries s) o m || is_pending (waits s) o m)
+pub record SameElsewhere (entries entries_after : ℕ → List Entry) (waits waits_after : ℕ → Option DeskWait) (t : Tag) : Type 0 where
+  pub held : (s : ℕ) (o : Tag) (m : Mode) → tag_eq o t ≡ false → (has_entry (entries_after s) o m || has_grant (waits_after s) o m) ≡ (has_entry (entries s) o m || has_grant (waits s) o m)
   pub awaited : (s : ℕ) (o : Tag) (m : Mode) → tag_eq o t ≡ false → is_awaiting (waits_after s) o m ≡ is_awaiting (waits s) o m
 
 -- Where they agree after a change of one object on that object, they agree on all.
-pub Agrees-change : (contents : ℕ → Content) (entries entries_after : ℕ → List Entry) (waits waits_after : ℕ → Option OwnWait) (p : ℕ) (t : Tag) (after : Content) →
+pub Agrees-change : (contents : ℕ → Content) (entries entries_after : ℕ → List Entry) (waits waits_after : ℕ → Option DeskWait) (p : ℕ) (t : Tag) (after : Content) →
     Agrees contents entries waits → p ≡ partition_of t → ChangesOnly (contents p) after t → SameElsewhere entries entries_after waits waits_after t →
     AgreesOn after t entries_after waits_after → Agrees (set_at contents p after) entries_after waits_after
 Agrees-change contents entries entries_after waits waits_after p t after agrees partition only same on_it =
@@ -324,9 +324,9 @@ Agrees-change contents entries entries_after waits waits_after p t after agrees 
             queue_at o other (inr other_part) = ap (λ (c : Content). c.waits o) (set_at-else contents p after (partition_of o) other_part)
 
 -- They agree where the sessions have the same of each object in other words.
-pub Agrees-same : (contents : ℕ → Content) (entries entries_after : ℕ → List Entry) (waits waits_after : ℕ → Option OwnWait) →
+pub Agrees-same : (contents : ℕ → Content) (entries entries_after : ℕ → List Entry) (waits waits_after : ℕ → Option DeskWait) →
     Agrees contents entries waits →
-    ((s : ℕ) (o : Tag) (m : Mode) → (has_entry (entries_after s) o m || is_pending (waits_after s) o m) ≡ (has_entry (entries s) o m || is_pending (waits s) o m)) →
+    ((s : ℕ) (o : Tag) (m : Mode) → (has_entry (entries_after s) o m || has_grant (waits_after s) o m) ≡ (has_entry (entries s) o m || has_grant (waits s) o m)) →
     ((s : ℕ) (o : Tag) (m : Mode) → is_awaiting (waits_after s) o m ≡ is_awaiting (waits s) o m) →
     Agrees contents entries_after waits_after
 Agrees-same contents entries entries_after waits waits_after agrees held awaited = record {
@@ -341,11 +341,11 @@ Agrees-same contents entries entries_after waits waits_after agrees held awaited
 -- ---- a release
 
 -- Who was granted on one object awaited no other.
-pub record SameOn (own after : Option OwnWait) (o : Tag) (m : Mode) : Type 0 where
-  pub pending : is_pending after o m ≡ is_pending own o m
+pub record SameOn (own after : Option DeskWait) (o : Tag) (m : Mode) : Type 0 where
+  pub pending : has_grant after o m ≡ has_grant own o m
   pub awaiting : is_awaiting after o m ≡ is_awaiting own o m
 
-told_elsewhere : (own : Option OwnWait) (t o : Tag) (n m : Mode) → tag_eq o t ≡ false → is_awaiting own t n ≡ true → SameOn own (option_map as_granted own) o m
+told_elsewhere : (own : Option DeskWait) (t o : Tag) (n m : Mode) → tag_eq o t ≡ false → is_awaiting own t n ≡ true → SameOn own (option_map as_granted own) o m
 told_elsewhere None t o n m other e = absurd (false≢true e)
 told_elsewhere (Some own) t o n m other e =
     let key = both_true (tag_eq t own.tag) (mode_eq n own.mode) (both_true (not own.is_granted) (tag_eq t own.tag && mode_eq n own.mode) e).1 in
@@ -359,7 +359,7 @@ told_elsewhere (Some own) t o n m other e =
       and-false true = refl
       and-false false = refl
 
-pub marked_elsewhere : (before after : Content) (t : Tag) (granted : List Wait) (entries : ℕ → List Entry) (waits : ℕ → Option OwnWait) →
+pub marked_elsewhere : (before after : Content) (t : Tag) (granted : List Wait) (entries : ℕ → List Entry) (waits : ℕ → Option DeskWait) →
     AgreesOn before t entries waits → Wakes before t granted after → (s : ℕ) (o : Tag) (m : Mode) → tag_eq o t ≡ false → SameOn (waits s) (marked granted waits s) o m
 marked_elsewhere before after t granted entries waits agrees wakes s o m other =
     elim (cases_Bool (waits_there granted s)) [
@@ -369,11 +369,11 @@ marked_elsewhere before after t granted entries waits agrees wakes s o m other =
       | inr none ↦ subst (λ b. SameOn (waits s) (told_as b (waits s)) o m) (sym none) (record { pending = refl; awaiting = refl })
     ]
 
-pub marked-none : (waits : ℕ → Option OwnWait) (granted : List Wait) → granted ≡ [] → marked granted waits ≡ waits
+pub marked-none : (waits : ℕ → Option DeskWait) (granted : List Wait) → granted ≡ [] → marked granted waits ≡ waits
 marked-none waits granted none = ap (λ (some : List Wait). marked some waits) none
 
 -- A wakeup after a change of the object that keeps them in agreement on it.
-pub Agrees-wakes : (contents : ℕ → Content) (entries entries_after : ℕ → List Entry) (waits waits_between : ℕ → Option OwnWait) (p : ℕ) (t : Tag) (between after : Content) (granted : List Wait) →
+pub Agrees-wakes : (contents : ℕ → Content) (entries entries_after : ℕ → List Entry) (waits waits_between : ℕ → Option DeskWait) (p : ℕ) (t : Tag) (between after : Content) (granted : List Wait) →
     Agrees contents entries waits → p ≡ partition_of t → ChangesOnly (contents p) between t → SameElsewhere entries entries_after waits waits_between t →
     AgreesOn between t entries_after waits_between → Wakes between t granted after →
     Agrees (set_at contents p after) entries_after (marked granted waits_between)
@@ -406,17 +406,17 @@ keys_elsewhere entries s after t m there gone k o n other =
       | inr apart ↦ ap (λ (es : List Entry). has_entry es o n) (set_at-else entries s after k apart)
     ]
 
-SameElsewhere-set : (entries : ℕ → List Entry) (waits : ℕ → Option OwnWait) (s : ℕ) (after : List Entry) (t : Tag) (m : Mode) (there : Bool) → GoneAt (entries s) after t m there →
+SameElsewhere-set : (entries : ℕ → List Entry) (waits : ℕ → Option DeskWait) (s : ℕ) (after : List Entry) (t : Tag) (m : Mode) (there : Bool) → GoneAt (entries s) after t m there →
     SameElsewhere entries (set_at entries s after) waits waits t
 SameElsewhere-set entries waits s after t m there gone = record {
-  held = λ k o n other. ap (λ b. b || is_pending (waits k) o n) (keys_elsewhere entries s after t m there gone k o n other);
+  held = λ k o n other. ap (λ b. b || has_grant (waits k) o n) (keys_elsewhere entries s after t m there gone k o n other);
   awaited = λ k o n other. refl;
 }
 
 -- One hold of a session set or gone, with its entry: they agree again.
-pub Agrees-set : (contents : ℕ → Content) (entries : ℕ → List Entry) (waits : ℕ → Option OwnWait) (p s : ℕ) (t : Tag) (m : Mode) (there : Bool) (es : List Entry) (after : Content) →
+pub Agrees-set : (contents : ℕ → Content) (entries : ℕ → List Entry) (waits : ℕ → Option DeskWait) (p s : ℕ) (t : Tag) (m : Mode) (there : Bool) (es : List Entry) (after : Content) →
     Agrees contents entries waits → p ≡ partition_of t → after.holds ≡ set_hold (contents p).holds s t m there → after.waits ≡ (contents p).waits →
-    GoneAt (entries s) es t m there → is_pending (waits s) t m ≡ false →
+    GoneAt (entries s) es t m there → has_grant (waits s) t m ≡ false →
     Agrees (set_at contents p after) (set_at entries s es) waits
 Agrees-set contents entries waits p s t m there es after agrees partition holds queues gone not_pending =
     Agrees-change contents entries (set_at entries s es) waits waits p t after agrees partition
@@ -429,9 +429,9 @@ either true P Q is = inl is
 either false P Q is = inr is
 
 -- A hold of a session that does not wait released, with its entry: they agree again.
-pub Agrees-released : (contents : ℕ → Content) (entries : ℕ → List Entry) (waits : ℕ → Option OwnWait) (p s : ℕ) (t : Tag) (m : Mode) (es : List Entry) (granted : List Wait) (after : Content) →
+pub Agrees-released : (contents : ℕ → Content) (entries : ℕ → List Entry) (waits : ℕ → Option DeskWait) (p s : ℕ) (t : Tag) (m : Mode) (es : List Entry) (granted : List Wait) (after : Content) →
     Agrees contents entries waits → p ≡ partition_of t → Moves (contents p) s (Release t m) granted after →
-    GoneAt (entries s) es t m false → is_pending (waits s) t m ≡ false →
+    GoneAt (entries s) es t m false → has_grant (waits s) t m ≡ false →
     Agrees (set_at contents p after) (set_at entries s es) (marked granted waits)
 Agrees-released contents entries waits p s t m es granted after agrees partition moved gone not_pending =
     at (either (some_awaits_conflict ((contents p).waits t) m) (Wakes (remove_hold (contents p) s t m) t granted after) ((granted ≡ []) × (after ≡ remove_hold (contents p) s t m)) moved.1) where
@@ -444,7 +444,7 @@ Agrees-released contents entries waits p s t m es granted after agrees partition
           wakes
       at (inr none) =
           subst (λ (c : Content). Agrees (set_at contents p c) (set_at entries s es) (marked granted waits)) (sym none.1)
-          (subst (λ (own : ℕ → Option OwnWait). Agrees (set_at contents p (remove_hold (contents p) s t m)) (set_at entries s es) own) (sym (marked-none waits granted none.0))
+          (subst (λ (own : ℕ → Option DeskWait). Agrees (set_at contents p (remove_hold (contents p) s t m)) (set_at entries s es) own) (sym (marked-none waits granted none.0))
           (Agrees-set contents entries waits p s t m false es (remove_hold (contents p) s t m) agrees partition refl refl gone not_pending))
 
 -- A session that does not wait is in no queue.

@@ -18,10 +18,10 @@ use Rattle.lock_table.specs.Waiter.{whose_and_mode}
 use Rattle.lock_table.specs.Put.{set_at}
 use Rattle.lock_table.proofs.PutLemmas.{set_at-same, set_at-here, set_at-else, written-at}
 use Rattle.lock_table.proofs.Same.{same_triple, SameTriple-from, set_hold-here, set_hold-else}
-use Rattle.lock_scenario.specs.declared.sessions.OwnWait.{OwnWait}
+use Rattle.lock_scenario.specs.declared.sessions.DeskWait.{DeskWait}
 use Rattle.lock_scenario.specs.declared.sessions.DeskSession.{DeskSession}
 use Rattle.lock_table.specs.Parts.{no_part, contents_in, AreEmpty}
-use Rattle.lock_scenario.specs.Sessions.{no_session, session_at, entries_in, waits_in, as_granted, with_granted, marked_all, marked, is_pending, is_awaiting}
+use Rattle.lock_scenario.specs.Sessions.{no_session, session_at, entries_in, waits_in, as_granted, with_granted, marked_all, marked, has_grant, is_awaiting}
 use Rattle.lock_scenario.specs.Waiting.{is_wait_of, Agrees, Releases, ChangesPart}
 use Rattle.lock_scenario.specs.Desk.{DeskView, IsReadyFor, IsInOrder, IsDesk}
 use Rattle.lock_scenario.proofs.Agreement.{or-false, waits_there-none, Agrees-same, GoneAt, Agrees-set, Agrees-released}
@@ -51,7 +51,7 @@ in_order-set sessions max_local s it opened before now k within =
 in_order-granted : (max_local : ℕ) (b : Bool) (it : DeskSession) → IsInOrder max_local it → IsInOrder max_local (if b then with_granted it else it)
 in_order-granted max_local false it is = is
 in_order-granted max_local true it is = record { well_owned = is.well_owned; same_limit = is.same_limit; ready = ready it.wait is.ready } where
-  ready : (own : Option OwnWait) → IfSome own (IsReadyFor it.locals) → IfSome (option_map as_granted own) (IsReadyFor it.locals)
+  ready : (own : Option DeskWait) → IfSome own (IsReadyFor it.locals) → IfSome (option_map as_granted own) (IsReadyFor it.locals)
   ready None nothing = nothing
   ready (Some wait) ready_for = record { reserved = ready_for.reserved; new = ready_for.new }
 
@@ -89,7 +89,7 @@ IsDesk-session parts sessions limit max_local s it is opened in_order agrees = r
   in_order = in_order-set sessions max_local s it opened is.in_order in_order;
   agrees =
       subst (λ (entries : ℕ → List Entry). Agrees (contents_in parts) entries (waits_in (slice_set sessions s it))) (sym (entries-set sessions s it opened))
-      (subst (λ (waits : ℕ → Option OwnWait). Agrees (contents_in parts) (set_at (entries_in sessions) s it.locals.entries) waits) (sym (waits-set sessions s it opened)) agrees);
+      (subst (λ (waits : ℕ → Option DeskWait). Agrees (contents_in parts) (set_at (entries_in sessions) s it.locals.entries) waits) (sym (waits-set sessions s it opened)) agrees);
 }
 
 -- A desk stays one after a partition changed, and with it a session, and those whose waits were granted were told.
@@ -113,7 +113,7 @@ IsDesk-told parts sessions limit max_local p s part it granted is partition open
   agrees =
       subst (λ (contents : ℕ → Content). Agrees contents (entries_in (marked_all (map whose_and_mode granted) (slice_set sessions s it))) (waits_in (marked_all (map whose_and_mode granted) (slice_set sessions s it)))) (sym (changed_at content_of parts p part no_part in_range))
       (subst (λ (entries : ℕ → List Entry). Agrees (set_at (contents_in parts) p (content_of part)) entries (waits_in (marked_all (map whose_and_mode granted) (slice_set sessions s it)))) (sym (entries-marked_all (map whose_and_mode granted) (slice_set sessions s it) ∙ entries-set sessions s it opened))
-      (subst (λ (waits : ℕ → Option OwnWait). Agrees (set_at (contents_in parts) p (content_of part)) (set_at (entries_in sessions) s it.locals.entries) waits)
+      (subst (λ (waits : ℕ → Option DeskWait). Agrees (set_at (contents_in parts) p (content_of part)) (set_at (entries_in sessions) s it.locals.entries) waits)
       (sym (waits-marked_all granted (slice_set sessions s it) ∙ ap (marked granted) (waits-set sessions s it opened))) agrees));
 } where
   in_range : p < length parts
@@ -127,7 +127,7 @@ IsDesk-told parts sessions limit max_local p s part it granted is partition open
       ]
 
 -- Who does not wait has no wait to be ready for.
-pub none_ready : (own : Option OwnWait) (P : OwnWait → Type 0) → own ≡ None → IfSome own P
+pub none_ready : (own : Option DeskWait) (P : DeskWait → Type 0) → own ≡ None → IfSome own P
 none_ready None P none = tt
 none_ready (Some wait) P none = absurd (cc)
 
@@ -188,7 +188,7 @@ pub held_there :
 held_there parts sessions limit max_local p s session tag part it found none mode =
     ap (λ (view : PartView). (content_of view).holds session tag mode) (in_parts parts sessions limit max_local p s session tag part it found) ∙
     ap (λ (q : ℕ). (contents_in parts q).holds session tag mode) found.partition ∙ (found.desk.agrees.on_object tag).held session mode ∙
-    ap (λ (own : Option OwnWait). has_entry (entries_in sessions session) tag mode || is_pending own tag mode) none ∙ or-false (has_entry (entries_in sessions session) tag mode) ∙
+    ap (λ (own : Option DeskWait). has_entry (entries_in sessions session) tag mode || has_grant own tag mode) none ∙ or-false (has_entry (entries_in sessions session) tag mode) ∙
     ap (λ (k : ℕ). has_entry (entries_in sessions k) tag mode) (sym found.number) ∙
     ap (λ (one : DeskSession). has_entry one.locals.entries tag mode) (sym (in_sessions parts sessions limit max_local p s session tag part it found))
 
@@ -199,7 +199,7 @@ no_wait_there parts sessions limit max_local p s session tag part it found none 
     waits_there-none ((content_of part).waits tag) session (λ mode.
     ap (λ (view : PartView). count_by (is_wait_of session mode) ((content_of view).waits tag)) (in_parts parts sessions limit max_local p s session tag part it found) ∙
     ap (λ (q : ℕ). count_by (is_wait_of session mode) ((contents_in parts q).waits tag)) found.partition ∙ (found.desk.agrees.on_object tag).awaited session mode ∙
-    ap (λ (own : Option OwnWait). if is_awaiting own tag mode then 1 else 0) none)
+    ap (λ (own : Option DeskWait). if is_awaiting own tag mode then 1 else 0) none)
 
 -- The session's wait and limit are those found.
 pub wait_there :
@@ -227,13 +227,13 @@ IsDesk-after parts sessions limit max_local p s session tag part it found none m
     let it_is = in_sessions parts sessions limit max_local p s session tag part it found in
     let same : waits_in sessions ≡ set_at (waits_in sessions) s after.wait = sym (set_at-same (waits_in sessions) s after.wait (same_wait ∙ ap (λ (one : DeskSession). one.wait) it_is)) in
     IsDesk-told parts sessions limit max_local p s part_after after [] found.desk (rw found.partition (omega arith)) found.opened none_begun in_order
-    (subst (λ (waits : ℕ → Option OwnWait). Agrees (set_at (contents_in parts) p (content_of part_after)) (set_at (entries_in sessions) s after.locals.entries) waits) same
+    (subst (λ (waits : ℕ → Option DeskWait). Agrees (set_at (contents_in parts) p (content_of part_after)) (set_at (entries_in sessions) s after.locals.entries) waits) same
     (Agrees-set (contents_in parts) (entries_in sessions) (waits_in sessions) p s tag mode there after.locals.entries (content_of part_after) found.desk.agrees found.partition
     (holds ∙ ap (λ (view : PartView). set_hold (content_of view).holds session tag mode there) part_is ∙
     ap (λ (k : ℕ). set_hold (contents_in parts p).holds k tag mode there) (sym found.number))
     (queues ∙ ap (λ (view : PartView). (content_of view).waits) part_is)
     (subst (λ (one : DeskSession). GoneAt one.locals.entries after.locals.entries tag mode there) it_is gone)
-    (ap (λ (own : Option OwnWait). is_pending own tag mode) (ap (waits_in sessions) found.number ∙ none))))
+    (ap (λ (own : Option DeskWait). has_grant own tag mode) (ap (waits_in sessions) found.number ∙ none))))
 
 -- The session is there, in order.
 pub record Finds_session (parts : List PartView) (sessions : List DeskSession) (limit max_local : ℕ) (s session : ℕ) (it : DeskSession) : Type 0 where
@@ -286,7 +286,7 @@ pub held_as_owned :
     (contents_in parts (partition_of tag)).holds session tag mode ≡ has_entry it.locals.entries tag mode
 held_as_owned parts sessions limit max_local s session it found none tag mode =
     (found.desk.agrees.on_object tag).held session mode ∙
-    ap (λ (own : Option OwnWait). has_entry (entries_in sessions session) tag mode || is_pending own tag mode) none ∙ or-false (has_entry (entries_in sessions session) tag mode) ∙
+    ap (λ (own : Option DeskWait). has_entry (entries_in sessions session) tag mode || has_grant own tag mode) none ∙ or-false (has_entry (entries_in sessions session) tag mode) ∙
     ap (λ (k : ℕ). has_entry (entries_in sessions k) tag mode) (sym found.number) ∙
     ap (λ (one : DeskSession). has_entry one.locals.entries tag mode) (sym (session_found parts sessions limit max_local s session it found))
 
@@ -300,9 +300,9 @@ IsDesk-same_keys parts sessions limit max_local s session it after found in_orde
     let it_is = session_found parts sessions limit max_local s session it found in
     let same : waits_in sessions ≡ set_at (waits_in sessions) s after.wait = sym (set_at-same (waits_in sessions) s after.wait (same_wait ∙ ap (λ (one : DeskSession). one.wait) it_is)) in
     IsDesk-session parts sessions limit max_local s after found.desk found.opened in_order
-    (subst (λ (waits : ℕ → Option OwnWait). Agrees (contents_in parts) (set_at (entries_in sessions) s after.locals.entries) waits) same
+    (subst (λ (waits : ℕ → Option DeskWait). Agrees (contents_in parts) (set_at (entries_in sessions) s after.locals.entries) waits) same
     (Agrees-same (contents_in parts) (entries_in sessions) (set_at (entries_in sessions) s after.locals.entries) (waits_in sessions) (waits_in sessions) found.desk.agrees
-    (λ k o m. ap (λ b. b || is_pending (waits_in sessions k) o m) (elim (cases_eq k s) [
+    (λ k o m. ap (λ b. b || has_grant (waits_in sessions k) o m) (elim (cases_eq k s) [
       | inl same_one ↦ ap (λ (es : List Entry). has_entry es o m) (set_at-here (entries_in sessions) s after.locals.entries k same_one) ∙ keys o m ∙
           ap (λ (one : DeskSession). has_entry one.locals.entries o m) it_is ∙ ap (λ j. has_entry (entries_in sessions j) o m) (sym same_one)
       | inr other ↦ ap (λ (es : List Entry). has_entry es o m) (set_at-else (entries_in sessions) s after.locals.entries k other)
@@ -321,11 +321,11 @@ IsDesk-released parts sessions limit max_local s session it after tag mode parts
     let same : waits_in sessions ≡ set_at (waits_in sessions) s after.wait = sym (set_at-same (waits_in sessions) s after.wait (same_wait ∙ ap (λ (one : DeskSession). one.wait) it_is)) in
     rw (change.in_place, change.told)
     (IsDesk-told parts sessions limit max_local (partition_of tag) s change.part after change.granted found.desk (omega arith) found.opened (change.begun ∙ found.desk.none_begun (partition_of tag)) in_order
-    (subst (λ (waits : ℕ → Option OwnWait). Agrees (set_at (contents_in parts) (partition_of tag) (content_of change.part)) (set_at (entries_in sessions) s after.locals.entries) (marked change.granted waits)) same
+    (subst (λ (waits : ℕ → Option DeskWait). Agrees (set_at (contents_in parts) (partition_of tag) (content_of change.part)) (set_at (entries_in sessions) s after.locals.entries) (marked change.granted waits)) same
     (Agrees-released (contents_in parts) (entries_in sessions) (waits_in sessions) (partition_of tag) s tag mode after.locals.entries change.granted (content_of change.part) found.desk.agrees refl
     (subst (λ (k : ℕ). Moves (contents_in parts (partition_of tag)) k (Release tag mode) change.granted (content_of change.part)) (sym found.number) change.changed)
     (subst (λ (one : DeskSession). GoneAt one.locals.entries after.locals.entries tag mode false) it_is gone)
-    (ap (λ (own : Option OwnWait). is_pending own tag mode) (ap (waits_in sessions) found.number ∙ none)))))
+    (ap (λ (own : Option DeskWait). has_grant own tag mode) (ap (waits_in sessions) found.number ∙ none)))))
 
 -- and what it does to what the sessions share.
 pub Releases-after :
@@ -375,9 +375,9 @@ number-changed parts sessions s after p Change parts_after sessions_after change
     ap length change.told ∙ length-marked_all (map whose_and_mode change.granted) (slice_set sessions s after) ∙ length-set sessions s after
 
 -- Who did not wait does not wait after another's wait was granted.
-pub none_told : (granted : List Wait) (waits : ℕ → Option OwnWait) (session : ℕ) → waits session ≡ None → marked granted waits session ≡ None
-none_told granted waits session none = ap (λ (own : Option OwnWait). if waits_there granted session then option_map as_granted own else own) none ∙ both (waits_there granted session) where
-  both : (b : Bool) → (if b then option_map as_granted (let none : Option OwnWait = None in none) else None) ≡ (let none : Option OwnWait = None in none)
+pub none_told : (granted : List Wait) (waits : ℕ → Option DeskWait) (session : ℕ) → waits session ≡ None → marked granted waits session ≡ None
+none_told granted waits session none = ap (λ (own : Option DeskWait). if waits_there granted session then option_map as_granted own else own) none ∙ both (waits_there granted session) where
+  both : (b : Bool) → (if b then option_map as_granted (let none : Option DeskWait = None in none) else None) ≡ (let none : Option DeskWait = None in none)
   both true = refl
   both false = refl
 
@@ -456,5 +456,5 @@ IsDesk-open parts sessions limit max_local it is room empty none in_order =
       most_local = is.most_local;
       in_order = within-push (IsInOrder max_local) sessions it no_session in_order is.in_order;
       agrees = subst (λ (entries : ℕ → List Entry). Agrees (contents_in parts) entries (waits_in (sessions ++ it ∷ []))) (sym (entries_in-push sessions it empty))
-          (subst (λ (waits : ℕ → Option OwnWait). Agrees (contents_in parts) (entries_in sessions) waits) (sym (waits_in-push sessions it none)) is.agrees);
+          (subst (λ (waits : ℕ → Option DeskWait). Agrees (contents_in parts) (entries_in sessions) waits) (sym (waits_in-push sessions it none)) is.agrees);
     }

@@ -1,15 +1,12 @@
-mod AcquireLemmas
 mod Agreement
 mod AloneLemmas
 mod AskLemmas
 mod CancelLemmas
 mod DeskLemmas
 mod EndLemmas
-mod Entries
 mod Gathering
 mod JoinLemmas
 mod Known
-mod ListLemmas
 mod Marking
 mod NameOrder
 mod NameLemmas

@@ -7,23 +7,23 @@ use Rattle.modes_core.specs.declared.modes.Mode.{Mode}
 use Rattle.lock_table.specs.Content.{Wait}
 use Rattle.lock_table.specs.Queue.{waits_there}
 use Rattle.lock_table.specs.Waiter.{whose_and_mode}
-use Rattle.lock_scenario.specs.declared.sessions.OwnWait.{OwnWait}
+use Rattle.lock_scenario.specs.declared.sessions.DeskWait.{DeskWait}
 use Rattle.lock_scenario.specs.declared.sessions.DeskSession.{DeskSession}
 use Rattle.lock_scenario.specs.Sessions.{session_at, entries_in, waits_in, as_granted, with_granted, marked_at, marked_all, marked}
 
 -- ---- one session told
 
-pub marked_at-some : (sessions : List DeskSession) (n : ℕ) (it : DeskSession) (wait : OwnWait) → n < length sessions → it ≡ get_or sessions n it → it.wait ≡ Some wait →
+pub marked_at-some : (sessions : List DeskSession) (n : ℕ) (it : DeskSession) (wait : DeskWait) → n < length sessions → it ≡ get_or sessions n it → it.wait ≡ Some wait →
     slice_set sessions n (record it { wait = Some (as_granted wait) }) ≡ marked_at n sessions
 marked_at-some [] n it wait within at is = absurd (omega arith)
 marked_at-some (x ∷ xs) zero it wait within at is =
-    ap (λ (one : DeskSession). one ∷ xs) (ap (λ (own : Option OwnWait). record it { wait = option_map as_granted own }) (sym is) ∙ ap with_granted at)
+    ap (λ (one : DeskSession). one ∷ xs) (ap (λ (own : Option DeskWait). record it { wait = option_map as_granted own }) (sym is) ∙ ap with_granted at)
 marked_at-some (x ∷ xs) (suc n) it wait within at is = ap (λ (rest : List DeskSession). x ∷ rest) (marked_at-some xs n it wait (omega arith) at is)
 
 pub marked_at-none : (sessions : List DeskSession) (n : ℕ) (it : DeskSession) → n < length sessions → it ≡ get_or sessions n it → it.wait ≡ None → sessions ≡ marked_at n sessions
 marked_at-none [] n it within at is = refl
 marked_at-none (x ∷ xs) zero it within at is =
-    ap (λ (one : DeskSession). one ∷ xs) (sym at ∙ ap (λ (own : Option OwnWait). record it { wait = own }) is ∙ ap (λ (own : Option OwnWait). record it { wait = option_map as_granted own }) (sym is) ∙ ap with_granted at)
+    ap (λ (one : DeskSession). one ∷ xs) (sym at ∙ ap (λ (own : Option DeskWait). record it { wait = own }) is ∙ ap (λ (own : Option DeskWait). record it { wait = option_map as_granted own }) (sym is) ∙ ap with_granted at)
 marked_at-none (x ∷ xs) (suc n) it within at is = ap (λ (rest : List DeskSession). x ∷ rest) (marked_at-none xs n it (omega arith) at is)
 
 pub marked_at-past : (sessions : List DeskSession) (n : ℕ) → length sessions ≤ n → sessions ≡ marked_at n sessions
@@ -64,8 +64,8 @@ length-marked_all [] sessions = refl
 length-marked_all (one ∷ others) sessions = length-marked_all others (marked_at one.0 sessions) ∙ length-marked_at sessions one.0
 
 granted_again : (it : DeskSession) → with_granted (with_granted it) ≡ with_granted it
-granted_again it = ap (λ (own : Option OwnWait). record it { wait = own }) (again it.wait) where
-  again : (own : Option OwnWait) → option_map as_granted (option_map as_granted own) ≡ option_map as_granted own
+granted_again it = ap (λ (own : Option DeskWait). record it { wait = own }) (again it.wait) where
+  again : (own : Option DeskWait) → option_map as_granted (option_map as_granted own) ≡ option_map as_granted own
   again None = refl
   again (Some wait) = refl
 

@@ -14,7 +14,7 @@ use Rattle.lock_table.specs.Content.{Wait}
 use Rattle.lock_table.specs.Queue.{waits_there}
 use Rattle.lock_table.specs.Put.{set_at}
 use Rattle.lock_table.proofs.PutLemmas.{set_at-here, set_at-else}
-use Rattle.lock_scenario.specs.declared.sessions.OwnWait.{OwnWait}
+use Rattle.lock_scenario.specs.declared.sessions.DeskWait.{DeskWait}
 use Rattle.lock_scenario.specs.declared.sessions.DeskSession.{DeskSession}
 use Rattle.lock_scenario.specs.declared.acquire.Started.{Started}
 use Rattle.lock_scenario.specs.declared.acquire.Started.TheVariants.{Granted, AlreadyHeld, Queued}
@@ -27,9 +27,9 @@ use Rattle.lock_scenario.specs.Sessions.{as_granted, marked, no_session, waits_i
 use Rattle.lock_scenario.specs.Waiting.{Shared, Releases, ReleasesAll, Leaves}
 
 -- One who is said not to wait has no wait.
-pub not-waiting : (waits : ℕ → Bool) (recorded : ℕ → Option OwnWait) (session : ℕ) → Tells waits recorded → waits session ≡ false → recorded session ≡ None
+pub not-waiting : (waits : ℕ → Bool) (recorded : ℕ → Option DeskWait) (session : ℕ) → Tells waits recorded → waits session ≡ false → recorded session ≡ None
 not-waiting waits recorded session told not_said = none (recorded session) (sym (told session) ∙ not_said) where
-  none : (wait : Option OwnWait) → is_some wait ≡ false → wait ≡ None
+  none : (wait : Option DeskWait) → is_some wait ≡ false → wait ≡ None
   none None e = refl
   none (Some wait) e = absurd (cc)
 
@@ -43,23 +43,23 @@ waiting-opened sessions session e =
           absurd (cc)
     ]
 
-pub Tells-kept : (waits : ℕ → Bool) (before after : ℕ → Option OwnWait) → Tells waits before → after ≡ before → Tells waits after
-Tells-kept waits before after told same = subst (λ (recorded : ℕ → Option OwnWait). Tells waits recorded) (sym same) told
+pub Tells-kept : (waits : ℕ → Bool) (before after : ℕ → Option DeskWait) → Tells waits before → after ≡ before → Tells waits after
+Tells-kept waits before after told same = subst (λ (recorded : ℕ → Option DeskWait). Tells waits recorded) (sym same) told
 
 -- One more is told of, as it is recorded.
 pub Tells-set :
-    (waits : ℕ → Bool) (recorded : ℕ → Option OwnWait) (session : ℕ) (waits_now : Bool) (wait : Option OwnWait) →
+    (waits : ℕ → Bool) (recorded : ℕ → Option DeskWait) (session : ℕ) (waits_now : Bool) (wait : Option DeskWait) →
     Tells waits recorded → waits_now ≡ is_some wait → Tells (set_at waits session waits_now) (set_at recorded session wait)
 Tells-set waits recorded session waits_now wait told here j =
     elim (cases_eq j session) [
-      | inl e ↦ set_at-here waits session waits_now j e ∙ here ∙ ap (λ (w : Option OwnWait). is_some w) (sym (set_at-here recorded session wait j e))
-      | inr n ↦ set_at-else waits session waits_now j n ∙ told j ∙ ap (λ (w : Option OwnWait). is_some w) (sym (set_at-else recorded session wait j n))
+      | inl e ↦ set_at-here waits session waits_now j e ∙ here ∙ ap (λ (w : Option DeskWait). is_some w) (sym (set_at-here recorded session wait j e))
+      | inr n ↦ set_at-else waits session waits_now j n ∙ told j ∙ ap (λ (w : Option DeskWait). is_some w) (sym (set_at-else recorded session wait j n))
     ]
 
 -- A wait that is granted is a wait still.
-pub Tells-marked : (waits : ℕ → Bool) (recorded : ℕ → Option OwnWait) (granted : List Wait) → Tells waits recorded → Tells waits (marked granted recorded)
+pub Tells-marked : (waits : ℕ → Bool) (recorded : ℕ → Option DeskWait) (granted : List Wait) → Tells waits recorded → Tells waits (marked granted recorded)
 Tells-marked waits recorded granted told j = told j ∙ go (waits_there granted j) (recorded j) where
-  go : (b : Bool) (wait : Option OwnWait) → is_some wait ≡ is_some (if b then option_map as_granted wait else wait)
+  go : (b : Bool) (wait : Option DeskWait) → is_some wait ≡ is_some (if b then option_map as_granted wait else wait)
   go false wait = refl
   go true None = refl
   go true (Some wait) = refl
@@ -80,7 +80,7 @@ Tells-Leaves waits before after session tag told left =
 
 -- What is said and what is recorded of one session change together.
 pub Tells-both :
-    (waits waits' : ℕ → Bool) (recorded recorded' : ℕ → Option OwnWait) (session : ℕ) (waits_now : Bool) (wait : Option OwnWait) →
+    (waits waits' : ℕ → Bool) (recorded recorded' : ℕ → Option DeskWait) (session : ℕ) (waits_now : Bool) (wait : Option DeskWait) →
     Tells waits recorded → waits' ≡ set_at waits session waits_now → recorded' ≡ set_at recorded session wait → waits_now ≡ is_some wait → Tells waits' recorded'
 Tells-both waits waits' recorded recorded' session waits_now wait told e f here =
     subst (λ (w : ℕ → Bool). Tells w recorded') (sym e) (Tells-kept (set_at waits session waits_now) (set_at recorded session wait) recorded' (Tells-set waits recorded session waits_now wait told here) f)
@@ -95,7 +95,7 @@ Tells-unlocked waits before after session tag mode StillHeld told released same 
 
 -- A wait that was cancelled.
 pub Tells-cancelled :
-    (waits waits' : ℕ → Bool) (before after : Shared) (session : ℕ) (own : Option OwnWait) (cancelled : Cancelled) → Tells waits before.waits → waits' ≡ set_at waits session false →
+    (waits waits' : ℕ → Bool) (before after : Shared) (session : ℕ) (own : Option DeskWait) (cancelled : Cancelled) → Tells waits before.waits → waits' ≡ set_at waits session false →
     is_some own ≡ true → (cancelled ≡ Removed → IfSome own (λ wait. Leaves before session wait.tag after)) →
     (cancelled ≡ WasGranted → after.waits ≡ set_at before.waits session None) → Tells waits' after.waits
 Tells-cancelled waits waits' before after session None cancelled told e some removed kept = absurd (cc)
@@ -105,17 +105,17 @@ Tells-cancelled waits waits' before after session (Some wait) WasGranted told e 
 
 -- A session that is asked to cancel waits still.
 pub Tells-asked :
-    (waits : ℕ → Bool) (recorded recorded' : ℕ → Option OwnWait) (session : ℕ) → Tells waits recorded → recorded' ≡ set_at recorded session (after_asking (recorded session)) → Tells waits recorded'
-Tells-asked waits recorded recorded' session told e j = told j ∙ sym (ap (λ (r : ℕ → Option OwnWait). is_some (r j)) e ∙ same) where
-  asked : (wait : Option OwnWait) → is_some (after_asking wait) ≡ is_some wait
+    (waits : ℕ → Bool) (recorded recorded' : ℕ → Option DeskWait) (session : ℕ) → Tells waits recorded → recorded' ≡ set_at recorded session (after_asking (recorded session)) → Tells waits recorded'
+Tells-asked waits recorded recorded' session told e j = told j ∙ sym (ap (λ (r : ℕ → Option DeskWait). is_some (r j)) e ∙ same) where
+  asked : (wait : Option DeskWait) → is_some (after_asking wait) ≡ is_some wait
   asked None = refl
   asked (Some wait) = refl
 
   same : is_some (set_at recorded session (after_asking (recorded session)) j) ≡ is_some (recorded j)
   same =
       elim (cases_eq j session) [
-        | inl here ↦ ap (λ (w : Option OwnWait). is_some w) (set_at-here recorded session (after_asking (recorded session)) j here) ∙ asked (recorded session) ∙ ap (λ (k : ℕ). is_some (recorded k)) (sym here)
-        | inr there ↦ ap (λ (w : Option OwnWait). is_some w) (set_at-else recorded session (after_asking (recorded session)) j there)
+        | inl here ↦ ap (λ (w : Option DeskWait). is_some w) (set_at-here recorded session (after_asking (recorded session)) j here) ∙ asked (recorded session) ∙ ap (λ (k : ℕ). is_some (recorded k)) (sym here)
+        | inr there ↦ ap (λ (w : Option DeskWait). is_some w) (set_at-else recorded session (after_asking (recorded session)) j there)
       ]
 
 -- whether one waits whose request was answered

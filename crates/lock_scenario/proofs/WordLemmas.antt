@@ -11,7 +11,7 @@ use Rattle.std.proofs.lemmas.List.Sums.{fails_before_first}
 use Rattle.std.proofs.lemmas.Bool.Decides.{nat_tests}
 use Rattle.std.proofs.lemmas.List.Quantifiers.{position-Some}
 use Rattle.std.proofs.lemmas.Grind.{common_steps}
-use Rattle.lock_scenario.specs.Words.{number_of, is_slash, is_blank, is_word, words_of, tag_of_numbers}
+use Rattle.lock_scenario.specs.Words.{number_in, is_slash, is_blank, is_word, words_of, tag_of_numbers}
 
 -- a word of digits is a numeral
 pub numerals : IsNumeralModel (λ word. list_all is_ascii_digit word ≡ true) (digits_value 10)
@@ -41,9 +41,9 @@ no_tag-five (Some a) (Some b) None d e others = refl
 no_tag-five (Some a) (Some b) (Some c) None e others = refl
 no_tag-five (Some a) (Some b) (Some c) (Some d) e others = refl
 
-pub no_tag-more : (a b c d : Option ℕ) (parts : List (List ℕ)) → 0 < length parts → tag_of_numbers (a ∷ b ∷ c ∷ d ∷ map number_of parts) ≡ None
+pub no_tag-more : (a b c d : Option ℕ) (parts : List (List ℕ)) → 0 < length parts → tag_of_numbers (a ∷ b ∷ c ∷ d ∷ map number_in parts) ≡ None
 no_tag-more a b c d [] h = absurd (omega arith)
-no_tag-more a b c d (e ∷ parts) h = no_tag-five a b c d (number_of e) (map number_of parts)
+no_tag-more a b c d (e ∷ parts) h = no_tag-five a b c d (number_in e) (map number_in parts)
 
 -- there is at least one part
 pub some_part : (word : List ℕ) → 0 < length (slice_split is_slash word)
@@ -58,8 +58,8 @@ parts-at p word (Some x) h = slice_split_first p word 0 h.0 ∙ sym (ap (λ l. l
 no_number : (n v : ℕ) (digits : Bool) → ¬ ((0 < n) × (v < 2 ^ 32)) → None ≡ (if (nat_le 1 n && (nat_le n 10 && digits)) && nat_le v 4294967295 then Some v else None)
 no_number n v digits h = grind (arith, nat_tests)
 
-pub number_of-None : (word : List ℕ) → ¬ ((0 < length word) × (digits_value 10 word < 2 ^ 32)) → None ≡ number_of word
-number_of-None word h = no_number (length word) (digits_value 10 word) (list_all is_ascii_digit word) h
+pub number_in-None : (word : List ℕ) → ¬ ((0 < length word) × (digits_value 10 word < 2 ^ 32)) → None ≡ number_in word
+number_in-None word h = no_number (length word) (digits_value 10 word) (list_all is_ascii_digit word) h
 
 -- what is taken of what was taken before
 take_again : (n : ℕ) (xs ys : List (List ℕ)) → take n (take n xs ++ ys) ≡ take n (xs ++ ys)

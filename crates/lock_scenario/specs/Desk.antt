@@ -1,4 +1,5 @@
-use Rattle.std.specs.Prelude.{◌≡◌, ℕ, ◌<◌, ◌≤◌, ◌&&◌, nat_le, Bool, false, List, [], length, map, Option, None, Some, IfSome, slice_index_or, if◌then◌else◌}
+use Rattle.std.specs.Prelude.{◌≡◌, ◌≢◌, ℕ, ◌<◌, ◌≤◌, ◌&&◌, nat_le, Bool, false, List, [], length, map, Option, None, Some, IfSome, slice_index_or, if◌then◌else◌}
+use Rattle.modes_core.specs.declared.tags.Tag.{Tag}
 use Rattle.modes_core.specs.Tag.{partition_of}
 use Rattle.local_locks.specs.declared.records.Entry.{Entry}
 use Rattle.local_locks.specs.Owned.{Owned, has_entry, IsWellOwned, IsReserved}
@@ -6,8 +7,9 @@ use Rattle.lock_table.specs.Content.{Content, empty_content}
 use Rattle.lock_table.specs.PartView.{PartView}
 use Rattle.lock_table.specs.Parts.{no_part, contents_in}
 use Rattle.lock_scenario.specs.Sessions.{session_at, entries_in, waits_in, as_asked}
+use Rattle.lock_scenario.specs.Started.{PartAndEntries}
 use Rattle.lock_scenario.specs.Waiting.{Agrees, Shared}
-use Rattle.lock_scenario.specs.declared.sessions.OwnWait.{OwnWait}
+use Rattle.lock_scenario.specs.declared.sessions.DeskWait.{DeskWait}
 use Rattle.lock_scenario.specs.declared.sessions.DeskSession.{DeskSession}
 use Rattle.lock_scenario.specs.declared.desk.Config.{Config}
 use Rattle.lock_scenario.specs.declared.desk.Cancelled.{Cancelled}
@@ -42,7 +44,7 @@ abbrev pub entries_of : DeskView → ℕ → List Entry
 entries_of desk = entries_in desk.sessions
 
 -- the wait of each session, if it waits
-abbrev pub wait_of : DeskView → ℕ → Option OwnWait
+abbrev pub wait_of : DeskView → ℕ → Option DeskWait
 wait_of desk = waits_in desk.sessions
 
 -- what the sessions share
@@ -50,29 +52,22 @@ abbrev pub shared_of : DeskView → Shared
 shared_of desk = record { contents = contents_of desk; waits = wait_of desk }
 
 -- what a session finds when it looks at its wait
-abbrev pub polled_as : OwnWait → Polled
+abbrev pub polled_as : DeskWait → Polled
 polled_as wait = if wait.is_granted then Granted else (if wait.cancel_asked then CancelAsked else Still)
 
 -- what a session that is asked to cancel was doing
-abbrev pub asked_as : Option OwnWait → Asked
+abbrev pub asked_as : Option DeskWait → Asked
 asked_as None = NotWaiting
 asked_as (Some wait) = if wait.is_granted then NotWaiting else Waiting
 
 -- its wait after it was asked
-abbrev pub after_asking : Option OwnWait → Option OwnWait
+abbrev pub after_asking : Option DeskWait → Option DeskWait
 after_asking None = None
 after_asking (Some wait) = Some (if wait.is_granted then wait else as_asked wait)
 
 -- what becomes of a wait that is cancelled
-abbrev pub cancelled_as : OwnWait → Cancelled
+abbrev pub cancelled_as : DeskWait → Cancelled
 cancelled_as wait = if wait.is_granted then WasGranted else Removed
-
--- all partitions as one content: what each object's partition has on it
-abbrev pub whole_of : (ℕ → Content) → Content
-whole_of contents = record {
-  holds = λ session tag mode. (contents (partition_of tag)).holds session tag mode;
-  waits = λ tag. (contents (partition_of tag)).waits tag;
-}
 
 -- whether a desk can have this many sessions and local entries
 abbrev pub is_in_range : Config → Bool
@@ -93,6 +88,15 @@ pub record IsUnchanged (old new : DeskView) : Type 0 where
   pub waits : wait_of new ≡ wait_of old
   pub contents : contents_of new ≡ contents_of old
 
+-- what an acquire of the session on the object can change
+abbrev pub part_and_entries : DeskView → ℕ → Tag → PartAndEntries
+part_and_entries desk session tag = record { content = contents_of desk (partition_of tag); entries = entries_of desk session }
+
+-- The other sessions' entries and the other partitions are as before.
+pub record LeavesOthers (old new : DeskView) (session : ℕ) (tag : Tag) : Type 0 where
+  pub entries : (other : ℕ) → other ≢ session → entries_of new other ≡ entries_of old other
+  pub contents : (p : ℕ) → p ≢ partition_of tag → contents_of new p ≡ contents_of old p
+
 -- What a call leaves alone: which sessions there are, with their databases, and how many sessions and entries there may be.
 pub record LeavesAlone (old new : DeskView) : Type 0 where
   pub sessions : issued_of new ≡ issued_of old
@@ -101,7 +105,7 @@ pub record LeavesAlone (old new : DeskView) : Type 0 where
   pub max_local : new.max_local ≡ old.max_local
 
 -- There is room for the entry that the wait is for, and none is there yet.
-pub record IsReadyFor (locals : Owned) (wait : OwnWait) : Type 0 where
+pub record IsReadyFor (locals : Owned) (wait : DeskWait) : Type 0 where
   pub reserved : IsReserved locals wait.tag wait.mode wait.owner
   pub new : has_entry locals.entries wait.tag wait.mode ≡ false
 

@@ -7,7 +7,7 @@ use Rattle.modes_core.specs.Tag.{tag_eq}
 use Rattle.local_locks.specs.declared.records.Entry.{Entry}
 use Rattle.lock_table.specs.Content.{Wait}
 use Rattle.lock_table.specs.Queue.{waits_there}
-use Rattle.lock_scenario.specs.declared.sessions.OwnWait.{OwnWait}
+use Rattle.lock_scenario.specs.declared.sessions.DeskWait.{DeskWait}
 use Rattle.lock_scenario.specs.declared.sessions.DeskSession.{DeskSession}
 
 -- a session with nothing
@@ -23,15 +23,15 @@ abbrev pub entries_in : List DeskSession → ℕ → List Entry
 entries_in sessions session = (session_at sessions session).locals.entries
 
 -- the wait of each session
-abbrev pub waits_in : List DeskSession → ℕ → Option OwnWait
+abbrev pub waits_in : List DeskSession → ℕ → Option DeskWait
 waits_in sessions session = (session_at sessions session).wait
 
 -- the same wait, granted
-abbrev pub as_granted : OwnWait → OwnWait
+abbrev pub as_granted : DeskWait → DeskWait
 as_granted wait = record wait { is_granted = true }
 
 -- the same wait, asked to cancel
-abbrev pub as_asked : OwnWait → OwnWait
+abbrev pub as_asked : DeskWait → DeskWait
 as_asked wait = record wait { cancel_asked = true }
 
 -- the same session, its wait granted
@@ -50,15 +50,15 @@ marked_all [] sessions = sessions
 marked_all (woken ∷ others) sessions = marked_all others (marked_at woken.0 sessions)
 
 -- the waits of all sessions after these waits were granted
-abbrev pub marked : List Wait → (ℕ → Option OwnWait) → ℕ → Option OwnWait
+abbrev pub marked : List Wait → (ℕ → Option DeskWait) → ℕ → Option DeskWait
 marked granted waits session = if waits_there granted session then option_map as_granted (waits session) else waits session
 
 -- whether the session's wait was granted this mode on this object, with the entry still to be made
-abbrev pub is_pending : Option OwnWait → Tag → Mode → Bool
-is_pending None tag mode = false
-is_pending (Some wait) tag mode = wait.is_granted && (tag_eq tag wait.tag && mode_eq mode wait.mode)
+abbrev pub has_grant : Option DeskWait → Tag → Mode → Bool
+has_grant None tag mode = false
+has_grant (Some wait) tag mode = wait.is_granted && (tag_eq tag wait.tag && mode_eq mode wait.mode)
 
 -- whether the session's wait is for this mode on this object, and not granted
-abbrev pub is_awaiting : Option OwnWait → Tag → Mode → Bool
+abbrev pub is_awaiting : Option DeskWait → Tag → Mode → Bool
 is_awaiting None tag mode = false
 is_awaiting (Some wait) tag mode = not wait.is_granted && (tag_eq tag wait.tag && mode_eq mode wait.mode)

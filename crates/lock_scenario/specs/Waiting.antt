@@ -13,9 +13,9 @@ use Rattle.lock_table.specs.Put.{set_at}
 use Rattle.lock_table.specs.PartView.{PartView, content_of}
 use Rattle.lock_table.specs.Waiter.{whose_and_mode}
 use Rattle.lock_table.specs.Parts.{no_part}
-use Rattle.lock_scenario.specs.declared.sessions.OwnWait.{OwnWait}
+use Rattle.lock_scenario.specs.declared.sessions.DeskWait.{DeskWait}
 use Rattle.lock_scenario.specs.declared.sessions.DeskSession.{DeskSession}
-use Rattle.lock_scenario.specs.Sessions.{is_pending, is_awaiting, marked, marked_all}
+use Rattle.lock_scenario.specs.Sessions.{has_grant, is_awaiting, marked, marked_all}
 
 -- whether this is a wait of the session for the mode
 abbrev pub is_wait_of : ℕ → Mode → Wait → Bool
@@ -23,12 +23,12 @@ is_wait_of session mode wait = (wait.session == session) && mode_eq wait.mode mo
 
 -- On one object the content and the sessions agree: a session holds what it has entries for or was granted and has not
 -- taken over yet, and the queue has just the recorded waits that are not granted, each once.
-pub record AgreesOn (content : Content) (tag : Tag) (entries : ℕ → List Entry) (waits : ℕ → Option OwnWait) : Type 0 where
-  pub held : (session : ℕ) (mode : Mode) → content.holds session tag mode ≡ (has_entry (entries session) tag mode || is_pending (waits session) tag mode)
+pub record AgreesOn (content : Content) (tag : Tag) (entries : ℕ → List Entry) (waits : ℕ → Option DeskWait) : Type 0 where
+  pub held : (session : ℕ) (mode : Mode) → content.holds session tag mode ≡ (has_entry (entries session) tag mode || has_grant (waits session) tag mode)
   pub awaited : (session : ℕ) (mode : Mode) → count_by (is_wait_of session mode) (content.waits tag) ≡ (if is_awaiting (waits session) tag mode then 1 else 0)
 
 -- The contents and the sessions agree on each object, and each object has its holds and its queue in its own partition alone.
-pub record Agrees (contents : ℕ → Content) (entries : ℕ → List Entry) (waits : ℕ → Option OwnWait) : Type 0 where
+pub record Agrees (contents : ℕ → Content) (entries : ℕ → List Entry) (waits : ℕ → Option DeskWait) : Type 0 where
   pub own_holds : (p session : ℕ) (tag : Tag) (mode : Mode) → (contents p).holds session tag mode ≡ true → partition_of tag ≡ p
   pub own_waits : (p : ℕ) (tag : Tag) → partition_of tag ≢ p → (contents p).waits tag ≡ []
   pub on_object : (tag : Tag) → AgreesOn (contents (partition_of tag)) tag entries waits
@@ -36,7 +36,7 @@ pub record Agrees (contents : ℕ → Content) (entries : ℕ → List Entry) (w
 -- What the sessions share: the content of each partition, and whose wait was granted.
 pub record Shared : Type 0 where
   pub contents : ℕ → Content
-  pub waits : ℕ → Option OwnWait
+  pub waits : ℕ → Option DeskWait
 
 -- The session's hold is released, the object's queue is woken where that lets somebody go, and those granted are told.
 pub record Releases (before : Shared) (session : ℕ) (tag : Tag) (mode : Mode) (after : Shared) : Type 0 where

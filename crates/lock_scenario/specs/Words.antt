@@ -33,8 +33,8 @@ abbrev pub is_short_numeral : List ℕ → Bool
 is_short_numeral word = nat_le 1 (length word) && (nat_le (length word) 10 && list_all is_ascii_digit word)
 
 -- the number that a word is, where it is 1 to 10 decimal digits and at most 4294967295
-abbrev pub number_of : List ℕ → Option ℕ
-number_of word = if is_short_numeral word && nat_le (digits_value 10 word) 4294967295 then Some (digits_value 10 word) else None
+abbrev pub number_in : List ℕ → Option ℕ
+number_in word = if is_short_numeral word && nat_le (digits_value 10 word) 4294967295 then Some (digits_value 10 word) else None
 
 -- the byte between the numbers of a tag
 abbrev pub is_slash : ℕ → Bool
@@ -48,7 +48,7 @@ tag_of_numbers _ = None
 
 -- the tag that a word is, by the numbers between its slashes
 abbrev pub tag_of : List ℕ → Option Tag
-tag_of word = tag_of_numbers (map number_of (slice_split is_slash word))
+tag_of word = tag_of_numbers (map number_in (slice_split is_slash word))
 
 -- the owner that a word names
 abbrev pub owner_of : List ℕ → Option Owner

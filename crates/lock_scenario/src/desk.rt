@@ -1,23 +1,21 @@
-ghost use Rattle.std.specs.Prelude.{◌≡◌, ◌≢◌, ◌+◌, ◌<◌, ◌≤◌, ◌↔◌, ◌||◌, ℕ, [], ◌∷◌, ◌++◌, Some, None, true, false, length, is_some, IsSome, IfSome, IfNone, IsErrOf, IsOkUnless, IfOk, IfErr, OnOk, OnErr};
-ghost use Rattle.local_locks.specs.Owned.{has_entry, owner_count_of, total_of, with_one_more, with_one_less, with_next_ended, ended_by, left_by, max_count};
+ghost use Rattle.std.specs.Prelude.{◌≡◌, ◌≢◌, ◌+◌, ◌<◌, ◌≤◌, ◌↔◌, ◌||◌, [], ◌∷◌, ◌++◌, Some, None, true, false, is_some, IsSome, IfSome, IfNone, IsErrOf, IsOkUnless, IfOk, OnOk, OnErr};
+ghost use Rattle.local_locks.specs.Owned.{has_entry, owner_count_of, total_of, with_one_more, with_one_less, with_next_ended, ended_by, left_by};
 ghost use Rattle.modes_core.specs.ModeSet.{set_has};
 ghost use Rattle.modes_core.specs.Tag.{partition_of};
-ghost use Rattle.lock_table.specs.Content.{add_hold};
-ghost use Rattle.lock_table.specs.Clash.{ClashIs};
 ghost use Rattle.lock_table.specs.Listing.{IsListing};
+ghost use Rattle.lock_table.specs.WholeContent.{whole_of};
 ghost use Rattle.lock_table.specs.Queue.{some_awaits_conflict};
 ghost use Rattle.lock_table.specs.Put.{set_at};
-ghost use Rattle.lock_scenario.specs.Sessions.{is_pending};
-ghost use Rattle.lock_scenario.specs.Started.{IsStarted, entries_started, wait_started};
+ghost use Rattle.lock_scenario.specs.Sessions.{has_grant};
+ghost use Rattle.lock_scenario.specs.Started.{Acquires, wait_started};
 ghost use Rattle.lock_scenario.specs.Waiting.{Releases, ReleasesAll, Leaves};
 
 pub use crate::acquire::Started;
-use crate::acquire::{acquire, request};
+use crate::acquire::acquire;
 use crate::give_up::{leave_queue, release_hold};
-pub use crate::sessions::{DeskSession, OwnWait};
-use local_locks::{Acquired, End, LocalTable, Unlocked};
-use lock_table::rows::sort_rows;
-use lock_table::{PartTable, PlainPart, SlotRow, TableRow, empty_parts};
+pub use crate::sessions::{DeskSession, DeskWait};
+use local_locks::{End, LocalTable, Unlocked};
+use lock_table::{PartTable, PlainPart, SlotRow, TableRow, empty_parts, list_parts};
 use modes_core::sessions::SESSIONS;
 use modes_core::{Mode, ModeSet, Owner, Refusal, SessionId, Tag};
 use std::alloc::Global;
@@ -97,8 +95,7 @@ impl Model for Desk {
 }
 
 impl Desk {
-    ghost use Rattle.lock_scenario.specs.Desk.{issued_of, databases_of, entries_of, wait_of, contents_of, shared_of, polled_as, cancelled_as, asked_as, after_asking, whole_of, is_in_range, IsNew, IsUnchanged, LeavesAlone};
-    ghost use Rattle.wait_queue.specs.Decide.{RefusedFor};
+    ghost use Rattle.lock_scenario.specs.Desk.{issued_of, databases_of, entries_of, wait_of, contents_of, shared_of, polled_as, cancelled_as, asked_as, after_asking, is_in_range, part_and_entries, IsNew, IsUnchanged, LeavesAlone, LeavesOthers};
 
     /// Takes a mode on an object for an owner, or refuses at once where it clashes (`LockAcquire` in
     /// lock.c with `dontWait`). After a refusal nothing has changed.
@@ -108,30 +105,17 @@ impl Desk {
         tag: Tag,
         mode: Mode,
         owner: Owner,
-    ) -> Result<Acquired, Refusal>
+    ) -> Result<Started, Refusal>
         requires issued { session < issued_of self.old }
         requires not_waiting { wait_of self.old session ≡ None }
-
-        // What the session has already is counted once more, whatever others hold.
-        ensures already_held { (result ≡ Ok Acquired.AlreadyHeld) ↔ ((has_entry (entries_of self.old session) tag mode ≡ true) × (owner_count_of (entries_of self.old session) tag mode owner < max_count)) }
-        ensures count_full { IsErrOf result Refusal.CountFull ↔ (owner_count_of (entries_of self.old session) tag mode owner ≡ max_count) }
-
-        // A new mode: by its clash in the object's partition.
-        ensures local_full { IsErrOf result Refusal.LocalFull ↔ ((has_entry (entries_of self.old session) tag mode ≡ false) × (length (entries_of self.old session) ≡ self.old.max_local)) }
-        ensures granted { result ≡ Ok Acquired.Granted → ClashIs (contents_of self.old (partition_of tag)) session tag mode None }
-        ensures refused { IfErr result (λ refusal. refusal ≢ Refusal.CountFull → refusal ≢ Refusal.LocalFull → RefusedFor Kind.Conditional (contents_of self.old (partition_of tag)) session tag mode refusal) }
-
-        // What stands after it.
-        ensures entries { OnOk result (entries_of self.new ≡ set_at (entries_of self.old) session (with_one_more (entries_of self.old session) tag mode owner)) }
-        ensures hold { result ≡ Ok Acquired.Granted → contents_of self.new ≡ set_at (contents_of self.old) (partition_of tag) (add_hold (contents_of self.old (partition_of tag)) session tag mode) }
-        ensures same_contents { result ≡ Ok Acquired.AlreadyHeld → contents_of self.new ≡ contents_of self.old }
+        ensures outcome { Acquires Kind.Conditional session tag mode owner self.old.max_local
+            (part_and_entries self.old session tag) result (part_and_entries self.new session tag) }
+        ensures others { LeavesOthers self.old self.new session tag }
         ensures waits { wait_of self.new ≡ wait_of self.old }
         ensures unchanged { OnErr result (IsUnchanged self.old self.new) }
         ensures alone { LeavesAlone self.old self.new }
     {
-        let part = &mut self.parts[usize::from(tag.partition())];
-        let locals = &mut self.sessions[usize::from(session.number())].locals;
-        acquire(part, locals, session, tag, mode, owner)
+        self.acquire(session, tag, mode, owner, Kind::Conditional)
     }
 
     /// Takes a mode on an object for an owner as `try_lock` does, but where something is in the way the
@@ -146,26 +130,37 @@ impl Desk {
     ) -> Result<Started, Refusal>
         requires issued { session < issued_of self.old }
         requires not_waiting { wait_of self.old session ≡ None }
+        ensures outcome { Acquires Kind.Waiting session tag mode owner self.old.max_local
+            (part_and_entries self.old session tag) result (part_and_entries self.new session tag) }
+        ensures others { LeavesOthers self.old self.new session tag }
+        ensures waits { IfOk result (λ started. wait_of self.new ≡ set_at (wait_of self.old) session (wait_started started tag mode owner)) }
+        ensures unchanged { OnErr result (IsUnchanged self.old self.new) }
+        ensures alone { LeavesAlone self.old self.new }
+    {
+        self.acquire(session, tag, mode, owner, Kind::Waiting)
+    }
 
-        // What the session has already is counted once more, whatever others hold.
-        ensures already_held { (result ≡ Ok Started.AlreadyHeld) ↔ ((has_entry (entries_of self.old session) tag mode ≡ true) × (owner_count_of (entries_of self.old session) tag mode owner < max_count)) }
-        ensures count_full { IsErrOf result Refusal.CountFull ↔ (owner_count_of (entries_of self.old session) tag mode owner ≡ max_count) }
-
-        // A new mode: by its clash in the object's partition, and its place there.
-        ensures local_full { IsErrOf result Refusal.LocalFull ↔ ((has_entry (entries_of self.old session) tag mode ≡ false) × (length (entries_of self.old session) ≡ self.old.max_local)) }
-        ensures decided { IfOk result (IsStarted (contents_of self.old (partition_of tag)) session tag mode (contents_of self.new (partition_of tag))) }
-        ensures refused { IfErr result (λ refusal. refusal ≢ Refusal.CountFull → refusal ≢ Refusal.LocalFull → RefusedFor Kind.Waiting (contents_of self.old (partition_of tag)) session tag mode refusal) }
-
-        // What stands after it.
-        ensures other_contents { (p : ℕ) → p ≢ partition_of tag → contents_of self.new p ≡ contents_of self.old p }
-        ensures entries { IfOk result (λ started. entries_of self.new ≡ set_at (entries_of self.old) session (entries_started started (entries_of self.old session) tag mode owner)) }
+    /// Takes a mode on an object for an owner; where something is in the way the kind says whether the session waits.
+    fn acquire(
+        &mut self,
+        session: SessionId,
+        tag: Tag,
+        mode: Mode,
+        owner: Owner,
+        kind: Kind,
+    ) -> Result<Started, Refusal>
+        requires issued { session < issued_of self.old }
+        requires not_waiting { wait_of self.old session ≡ None }
+        ensures outcome { Acquires kind session tag mode owner self.old.max_local
+            (part_and_entries self.old session tag) result (part_and_entries self.new session tag) }
+        ensures others { LeavesOthers self.old self.new session tag }
         ensures waits { IfOk result (λ started. wait_of self.new ≡ set_at (wait_of self.old) session (wait_started started tag mode owner)) }
         ensures unchanged { OnErr result (IsUnchanged self.old self.new) }
         ensures alone { LeavesAlone self.old self.new }
     {
         let part = &mut self.parts[usize::from(tag.partition())];
         let own = &mut self.sessions[usize::from(session.number())];
-        let started = request(part, &mut own.locals, session, tag, mode, owner)?;
+        let started = acquire(part, &mut own.locals, session, tag, mode, owner, kind)?;
         own.wait = started.wait_for(tag, mode, owner);
         Ok(started)
     }
@@ -301,15 +296,15 @@ impl Desk {
             return Err(Refusal::NotHeld);
         }
         let part = &self.parts[usize::from(tag.partition())];
-        Ok(awaited_in_conflict(part, tag, mode))
+        Ok(awaited_in_conflict(part, &tag, mode))
     }
 
     /// The modes that the session has the object in (`holdMask` of `PROCLOCK` in lock.h).
     pub fn held(&self, session: SessionId, tag: Tag) -> ModeSet
         requires issued { session < issued_of self.now }
-        ensures { set_has result ≡ (λ mode. has_entry (entries_of self.now session) tag mode || is_pending (wait_of self.now session) tag mode) }
+        ensures { set_has result ≡ (λ mode. has_entry (entries_of self.now session) tag mode || has_grant (wait_of self.now session) tag mode) }
     {
-        self.parts[usize::from(tag.partition())].held(session, tag)
+        self.parts[usize::from(tag.partition())].held(session, &tag)
     }
 
     /// How often the owner has the object in the mode (`LOCALLOCKOWNER` in lock.h).
@@ -459,13 +454,9 @@ impl Desk {
         ensures no_slots { IfOk result (λ listing. listing.fast.items ≡ []) }
         ensures no_memory { IsOkUnless result Refusal.NoMemory }
     {
-        let mut table = Vec::new(self.alloc);
-        for part in &self.parts {
-            let Ok(()) = part.rows(&mut table) else {
-                return Err(Refusal::NoMemory);
-            };
-        }
-        sort_rows(&mut table);
+        let Ok(table) = list_parts(self.alloc, &self.parts) else {
+            return Err(Refusal::NoMemory);
+        };
         Ok(Listing {
             fast: Vec::new(self.alloc),
             table,

@@ -28,7 +28,7 @@ pub fn release_hold(
     ensures capacity { vec_capacity sessions.new ≡ vec_capacity sessions.old }
 {
     let part = &mut parts[usize::from(tag.partition())];
-    let woken = release(part, session, tag, mode);
+    let woken = release(part, session, &tag, mode);
     mark_all(sessions, &woken);
 }
 
@@ -48,6 +48,6 @@ pub fn leave_queue(
     ensures capacity { vec_capacity sessions.new ≡ vec_capacity sessions.old }
 {
     let part = &mut parts[usize::from(tag.partition())];
-    let removed = remove_waiter(part, session, tag);
+    let removed = remove_waiter(part, session, &tag);
     mark_all(sessions, &removed.woken);
 }

@@ -2,7 +2,7 @@
 use crate::desk::{Asked, Cancelled, Listing, Started};
 use crate::faults::Fault;
 use crate::names::{Name, Names};
-use local_locks::{Acquired, End, Unlocked};
+use local_locks::{End, Unlocked};
 use lock_table::{SlotRow, TableRow};
 use modes_core::{How, Mode, Refusal, SessionId, Tag};
 use std::io::{self, Write};
@@ -58,16 +58,7 @@ impl<W: Write + Drop> Output<W> {
         written(writeln!(self.writer, "{name}: session {session} database {database}"))
     }
 
-    /// A lock was acquired.
-    pub fn acquired(&mut self, name: &Name, acquired: Acquired) -> Result<(), Fault> {
-        let text = match acquired {
-            Acquired::Granted => "granted",
-            Acquired::AlreadyHeld => "already held",
-        };
-        written(writeln!(self.writer, "{name}: {text}"))
-    }
-
-    /// A request that may wait was answered.
+    /// A lock was asked for, and not refused.
     pub fn started(&mut self, name: &Name, started: Started) -> Result<(), Fault> {
         let text = match started {
             Started::Granted => "granted",

@@ -215,7 +215,7 @@ impl<W: Write + Drop> Scene<W> {
     {
         let Speaker { name, session } = target.speaker;
         match self.desk.try_lock(session, target.tag, target.mode, owner) {
-            Ok(acquired) => self.output.acquired(&name, acquired),
+            Ok(started) => self.output.started(&name, started),
             Err(refusal) => self.output.refused(&self.names, &name, refusal),
         }
     }

@@ -8,7 +8,7 @@ use modes_core::{Mode, Owner, SessionId, Tag};
 /// The wait of a session (`waitLock` and `waitLockMode` of `PGPROC` in proc.h): what it awaits and for
 /// which owner, whether it was granted, and whether it was asked to cancel.
 #[derive(Clone, Copy, Debug, PartialEq, Eq)]
-pub struct OwnWait {
+pub struct DeskWait {
     pub tag: Tag,
     pub mode: Mode,
     pub owner: Owner,
@@ -17,14 +17,14 @@ pub struct OwnWait {
     pub cancel_asked: bool,
 }
 
-impl OwnWait {
+impl DeskWait {
     ghost use Rattle.lock_scenario.specs.Sessions.{as_granted, as_asked};
 
     /// The same wait, granted.
     fn granted(self) -> Self
         ensures { result ≡ as_granted self }
     {
-        OwnWait {
+        DeskWait {
             is_granted: true,
             ..self
         }
@@ -34,7 +34,7 @@ impl OwnWait {
     pub fn asked_to_cancel(self) -> Self
         ensures { result ≡ as_asked self }
     {
-        OwnWait {
+        DeskWait {
             cancel_asked: true,
             ..self
         }
@@ -46,7 +46,7 @@ impl OwnWait {
 pub struct DeskSession {
     pub database: u32,
     pub locals: LocalTable,
-    pub wait: Option<OwnWait>,
+    pub wait: Option<DeskWait>,
 }
 
 /// Tells a session that its wait was granted (the wakeup of `ProcWakeup` in proc.c).

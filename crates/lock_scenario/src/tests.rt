@@ -3,10 +3,10 @@ ghost use Rattle.std.specs.Prelude.{◌≡◌, ◌<◌};
 ghost use Rattle.lock_scenario.specs.Desk.{issued_of};
 
 use crate::arguments::parse_arguments;
-use crate::desk::{Config, Desk};
+use crate::desk::{Config, Desk, Started};
 use crate::faults::{Defect, Fault};
 use crate::script::run_script;
-use local_locks::{Acquired, Unlocked};
+use local_locks::Unlocked;
 use modes_core::{Mode, Owner, Refusal, SessionId, Tag};
 use std::alloc::Global;
 use std::io::{self, ErrorKind, Read, Write};
@@ -342,7 +342,7 @@ fn taken(
     desk: &mut Desk,
     session: SessionId,
     owner: Owner,
-) -> Result<Acquired, Refusal>
+) -> Result<Started, Refusal>
     requires issued { session < issued_of desk.old }
     ensures issued { issued_of desk.new ≡ issued_of desk.old }
 {
@@ -360,16 +360,16 @@ fn bounds_an_owners_count(rt: HostRuntime) -> Result<(), Fail> {
     for count in 0..u16::MAX {
         let acquired = taken(&rt, &mut desk, session, Owner::Transaction);
         let as_it_should_be = if count == 0 {
-            Acquired::Granted
+            Started::Granted
         } else {
-            Acquired::AlreadyHeld
+            Started::AlreadyHeld
         };
         assert!(rt; acquired == Ok(as_it_should_be), "acquire {count}");
     }
     let one_more = taken(&rt, &mut desk, session, Owner::Transaction);
     assert!(rt; one_more == Err(Refusal::CountFull));
     let for_the_session = taken(&rt, &mut desk, session, Owner::Session);
-    assert!(rt; for_the_session == Ok(Acquired::AlreadyHeld));
+    assert!(rt; for_the_session == Ok(Started::AlreadyHeld));
     let count = desk.owner_count(session, tag, Mode::Share, Owner::Transaction);
     assert_eq!(rt; count, u16::MAX);
     assert!(rt; desk.held(session, tag).has(Mode::Share));

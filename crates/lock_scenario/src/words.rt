@@ -2,7 +2,7 @@
 ghost use Rattle.std.specs.Prelude.{◌≡◌, ◌<◌, [], ◌∷◌, ◌++◌, length, take, map, filter, position, IfSome, MatchOption, is_some, IsUtf8};
 ghost use Rattle.std.specs.List.{list_all, slice_split};
 ghost use Rattle.std.specs.Char.{is_ascii_digit};
-ghost use Rattle.lock_scenario.specs.Words.{is_blank, is_word, words_of, is_name_byte, is_name, number_of, is_slash, tag_of_numbers, tag_of, owner_of};
+ghost use Rattle.lock_scenario.specs.Words.{is_blank, is_word, words_of, is_name_byte, is_name, number_in, is_slash, tag_of_numbers, tag_of, owner_of};
 
 use crate::names::Name;
 use arrayvec::ArrayVec;
@@ -83,7 +83,7 @@ fn has_name_bytes(word: &str) -> bool
 
 /// A number: 1 to 10 decimal digits, at most 4294967295.
 pub fn parse_number(word: &str) -> Option<u32>
-    ensures { result ≡ number_of word.now }
+    ensures { result ≡ number_in word.now }
 {
     if word.len() > 10 || !has_digits(word) {
         return None;

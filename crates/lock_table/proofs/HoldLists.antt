@@ -1,7 +1,7 @@
 use Rattle.std.proofs.Common.{◌≡◌, ℕ, ◌+◌, ◌<◌, ◌≤◌, Bool, true, false, not, ◌&&◌, ◌||◌, List, [], ◌∷◌, ◌++◌, take, length, get_or, ◌==◌, arith, refl, sym, ap, ◌∙◌, inl, inr}
 use Rattle.std.specs.Prelude.{filter, count_by, if◌then◌else◌}
 use Rattle.std.specs.List.{list_any}
-use Rattle.std.proofs.lemmas.Bool.{cases_Bool, false≢true, eqb-true}
+use Rattle.std.proofs.lemmas.Bool.{cases_Bool, false≢true}
 use Rattle.std.proofs.lemmas.List.Folds.{list_any-append}
 use Rattle.std.proofs.lemmas.List.Sums.{sum_by-cons, sum_by-append}
 use Rattle.std.proofs.Math.Bool.{or-true, or-false, or_comm}
@@ -16,7 +16,7 @@ use Rattle.modes_core.specs.Mode.{mode_eq}
 use Rattle.modes_core.specs.Tag.{tag_eq}
 use Rattle.modes_core.proofs.Laws.{both_true}
 use Rattle.std.proofs.lemmas.List.{take_more}
-use Rattle.lock_table.proofs.Same.{same_triple, SameTriple-from, same_triple-comm, same_triple-refl, set_hold-here, set_hold-else}
+use Rattle.lock_table.proofs.Same.{same_triple, SameTriple-from, same_triple-comm, set_hold-here, set_hold-else}
 
 -- A list with one hold more at its end has one hold more.
 push_at :
@@ -116,18 +116,3 @@ held-skip xs r s o is_not = λ i m. at_mode m i where
   at_mode : (m : Mode) → holds_in xs s o m ≡ holds_in (xs ++ r ∷ []) s o m
   at_mode m =
       rw (list_any-append (λ hold. is_request_of hold s o m) xs (r ∷ []), not_it (s == r.session) (tag_eq o r.tag) (mode_eq m r.mode) is_not) (sym (or-false (holds_in xs s o m)))
-
--- A session with a hold in the list holds some object in some mode.
-pub session_has-some :
-    (hs : List Request) (s : ℕ) → list_any (λ hold. hold.session == s) hs ≡ true → (o : Tag) × (m : Mode) × (holds_in hs s o m ≡ true)
-session_has-some [] s some = absurd (false≢true some)
-session_has-some (hold ∷ hs) s some =
-    elim (cases_Bool (hold.session == s)) [
-      | inl its ↦
-          let same : hold.session ≡ s = eqb-true hold.session s its in
-          let found : is_request_of hold s hold.tag hold.mode ≡ true = rw (← same) (same_triple-refl hold.session hold.tag hold.mode) in
-          (hold.tag, hold.mode, ap (λ b. b || holds_in hs s hold.tag hold.mode) found)
-      | inr other ↦
-          let rest = session_has-some hs s (ap (λ b. b || list_any (λ h. h.session == s) hs) (sym other) ∙ some) in
-          (rest.0, rest.1, ap (λ b. is_request_of hold s rest.0 rest.1 || b) rest.2 ∙ or-true (is_request_of hold s rest.0 rest.1))
-    ]

@@ -13,9 +13,9 @@ pub mod OneAnswer
 pub mod ListLemmas
 pub mod OneMove
 pub mod MoveTests
-pub mod MovedLemmas
 pub mod QueueLaws
 pub mod FindLemmas
 pub mod WalkLemmas
 pub mod PlaceLemmas
 pub mod PartLemmas
+pub mod WholeLemmas

@@ -1,11 +1,13 @@
-use Rattle.std.proofs.Common.{◌≡◌, ℕ, ◌≤◌, ◌∷◌, length, length-append, Option, Some, None, ap, ◌∙◌, refl, inl, inr, arith}
+use Rattle.std.proofs.Common.{◌≡◌, ℕ, ◌≤◌, List, ◌∷◌, length, length-append, Option, Some, None, ap, ◌∙◌, refl, inl, inr, arith}
+use Rattle.std.specs.Prelude.{◌==◌, is_some, option_map}
 use Rattle.modes_core.specs.declared.modes.Mode.{Mode}
 use Rattle.modes_core.specs.declared.tags.Tag.{Tag}
 use Rattle.lock_table.specs.declared.answering.Answer.TheVariants.{Granted, Queued}
 use Rattle.lock_table.specs.declared.answering.Clash.{Clash}
 use Rattle.lock_table.specs.Content.{Wait, Content}
 use Rattle.lock_table.specs.Clash.{NoConflictingHolder, ClashIs, ClashAfterWaiters, first_waiter}
-use Rattle.lock_table.specs.Queue.{AnswerByPlace, WaitingAnswer, WaitingAnswerAt}
+use Rattle.lock_table.specs.Queue.{AnswerByPlace, WaitingAnswer, WaitingAnswerAt, waits_there, wait_in}
+use Rattle.lock_table.proofs.FindLemmas.{is_some-find, is_some-option_map}
 
 -- Where a request clashes with nothing, no holder is in its way.
 no_clash-no_holder : (waiter : Option Wait) (c : Content) (s : ℕ) (t : Tag) (m : Mode) → ClashAfterWaiters waiter c s t m None → NoConflictingHolder c.holds s t m
@@ -41,3 +43,8 @@ queued-within c s t m n answer = at answer.0 answer.2 where
   at : (clash : Option Clash) → WaitingAnswerAt clash c s t m (Queued n) → n ≤ length (c.waits t)
   at None e = absurd (cc)
   at (Some clash) found = by_place-within c s t m n found
+
+-- A session waits in a queue exactly where its wait there has a mode.
+pub waits_there-mode : (queue : List Wait) (session : ℕ) (mode : Option Mode) → mode ≡ option_map (λ wait. wait.mode) (wait_in queue session) → is_some mode ≡ waits_there queue session
+waits_there-mode queue session mode is =
+    ap is_some is ∙ is_some-option_map (λ wait. wait.mode) (wait_in queue session) ∙ is_some-find (λ wait. wait.session == session) queue

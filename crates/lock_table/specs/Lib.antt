@@ -13,3 +13,4 @@ pub mod Waiter
 pub mod OwnWait
 pub mod MoveTests
 pub mod Parts
+pub mod WholeContent

@@ -23,8 +23,13 @@ pub struct Clash {
 /// What a request for the mode clashes with, if anything: the first waiter that awaits a conflicting
 /// mode, else the lowest-numbered session that holds one (`LockCheckConflicts` in lock.c, after the
 /// look at `waitMask`).
-pub fn clash_with<P: PartTable>(part: &P, session: SessionId, tag: Tag, mode: Mode) -> Option<Clash>
-    ensures { ClashIs (P.content part.now) session tag mode result }
+pub fn clash_with<P: PartTable>(
+    part: &P,
+    session: SessionId,
+    tag: &Tag,
+    mode: Mode,
+) -> Option<Clash>
+    ensures { ClashIs (P.content part.now) session tag.now mode result }
 {
     if let Some(waiter) = first_against(part, tag, mode) {
         return Some(Clash {
@@ -55,8 +60,8 @@ pub enum Answer {
 
 /// The answer to a request for the mode that may wait: granted where it clashes with nothing, and else
 /// by its place in the queue (`LockAcquireExtended` in lock.c, with `ProcSleep` in proc.c).
-pub fn waiting_answer<P: PartTable>(part: &P, session: SessionId, tag: Tag, mode: Mode) -> Answer
-    ensures { WaitingAnswer (P.content part.now) session tag mode result }
+pub fn waiting_answer<P: PartTable>(part: &P, session: SessionId, tag: &Tag, mode: Mode) -> Answer
+    ensures { WaitingAnswer (P.content part.now) session tag.now mode result }
 {
     match clash_with(part, session, tag, mode) {
         None => Answer::Granted,

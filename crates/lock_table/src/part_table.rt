@@ -25,66 +25,68 @@ pub trait PartTable {
 
     /// Makes room and records for one request (`SetupLockInTable` in lock.c). After a refusal the part
     /// is as before.
-    fn begin(&mut self, session: SessionId, tag: Tag, mode: Mode) -> Result<(), NoMemory>
-        requires new { (content self.old).holds session tag mode ≡ false }
-        requires not_awaited { awaits_mode ((content self.old).waits tag) session mode ≡ false }
+    fn begin(&mut self, session: SessionId, tag: &Tag, mode: Mode) -> Result<(), NoMemory>
+        requires new { (content self.old).holds session tag.now mode ≡ false }
+        requires not_awaited { awaits_mode ((content self.old).waits tag.now) session mode ≡ false }
         requires none_begun { begun self.old ≡ None }
         ensures content { content self.new ≡ content self.old }
-        ensures ok { OnOk result (begun self.new ≡ Some (record { session = session; tag = tag; mode = mode })) }
+        ensures ok { OnOk result (begun self.new ≡ Some (record { session = session; tag = tag.now; mode = mode })) }
         ensures err { OnErr result (begun self.new ≡ None) };
 
     /// Gives the begun request up (`CleanUpLock` in lock.c).
-    fn withdraw(&mut self, session: SessionId, tag: Tag, mode: Mode)
-        requires begun { begun self.old ≡ Some (record { session = session; tag = tag; mode = mode }) }
+    fn withdraw(&mut self, session: SessionId, tag: &Tag, mode: Mode)
+        requires begun { begun self.old ≡ Some (record { session = session; tag = tag.now; mode = mode }) }
         ensures content { content self.new ≡ content self.old }
         ensures ended { begun self.new ≡ None };
 
     /// Makes the begun request a hold (`GrantLock` in lock.c).
-    fn grant(&mut self, session: SessionId, tag: Tag, mode: Mode)
-        requires begun { begun self.old ≡ Some (record { session = session; tag = tag; mode = mode }) }
-        ensures content { content self.new ≡ add_hold (content self.old) session tag mode }
+    fn grant(&mut self, session: SessionId, tag: &Tag, mode: Mode)
+        requires begun { begun self.old ≡ Some (record { session = session; tag = tag.now; mode = mode }) }
+        ensures content { content self.new ≡ add_hold (content self.old) session tag.now mode }
         ensures ended { begun self.new ≡ None };
 
     /// Takes a hold out (`UnGrantLock` in lock.c).
-    fn ungrant(&mut self, session: SessionId, tag: Tag, mode: Mode)
-        requires held { (content self.old).holds session tag mode ≡ true }
-        ensures content { content self.new ≡ remove_hold (content self.old) session tag mode }
+    fn ungrant(&mut self, session: SessionId, tag: &Tag, mode: Mode)
+        requires held { (content self.old).holds session tag.now mode ≡ true }
+        ensures content { content self.new ≡ remove_hold (content self.old) session tag.now mode }
         ensures begun { begun self.new ≡ begun self.old };
 
     /// The modes that the session holds the object in (`holdMask` of `PROCLOCK` in lock.h).
-    fn held(&self, session: SessionId, tag: Tag) -> ModeSet
-        ensures { set_has result ≡ (content self.now).holds session tag };
+    fn held(&self, session: SessionId, tag: &Tag) -> ModeSet
+        ensures { set_has result ≡ (content self.now).holds session tag.now };
 
     /// The lowest-numbered other session that holds the object in a conflicting mode, with its lowest
     /// such mode (`LockCheckConflicts` in lock.c).
-    fn conflict_of(&self, session: SessionId, tag: Tag, mode: Mode) -> Option<(SessionId, Mode)>
-        ensures { HolderInTheWay (content self.now).holds session tag mode result };
+    fn conflict_of(&self, session: SessionId, tag: &Tag, mode: Mode) -> Option<(SessionId, Mode)>
+        ensures { HolderInTheWay (content self.now).holds session tag.now mode result };
 
     /// The wait at this place of the object's queue, counted from the front.
-    fn waiter(&self, tag: Tag, place: usize) -> Option<Waiter>
-        ensures wait { option_map shown_wait result ≡ slice_get ((content self.now).waits tag) place }
-        ensures countable { length ((content self.now).waits tag) ≤ usize.MAX };
+    fn waiter(&self, tag: &Tag, place: usize) -> Option<Waiter>
+        ensures wait { option_map shown_wait result ≡ slice_get ((content self.now).waits tag.now) place }
+        ensures countable { length ((content self.now).waits tag.now) ≤ usize.MAX };
 
     /// Makes the begun request a wait before the one at this place, with the modes that the session holds
     /// now (`JoinWaitQueue`, in version 16 a part of `ProcSleep` in proc.c).
-    fn join(&mut self, session: SessionId, tag: Tag, mode: Mode, place: usize)
-        requires begun { begun self.old ≡ Some (record { session = session; tag = tag; mode = mode }) }
-        requires no_wait { waits_there ((content self.old).waits tag) session ≡ false }
-        requires place { place ≤ length ((content self.old).waits tag) }
-        ensures content { content self.new ≡ add_wait (content self.old) session tag mode place }
+    fn join(&mut self, session: SessionId, tag: &Tag, mode: Mode, place: usize)
+        requires begun { begun self.old ≡ Some (record { session = session; tag = tag.now; mode = mode }) }
+        requires no_wait { waits_there ((content self.old).waits tag.now) session ≡ false }
+        requires place { place ≤ length ((content self.old).waits tag.now) }
+        ensures content { content self.new ≡ add_wait (content self.old) session tag.now mode place }
         ensures ended { begun self.new ≡ None };
 
     /// Takes the session's wait out of the object's queue (`RemoveFromWaitQueue` in lock.c), and says for
     /// which mode it was.
-    fn leave(&mut self, session: SessionId, tag: Tag) -> Option<Mode>
-        ensures mode { result ≡ option_map (λ wait. wait.mode) (wait_in ((content self.old).waits tag) session) }
-        ensures content { content self.new ≡ remove_wait (content self.old) session tag }
+    fn leave(&mut self, session: SessionId, tag: &Tag) -> Option<Mode>
+        ensures mode { result ≡ option_map (λ wait. wait.mode) (wait_in ((content self.old).waits tag.now) session) }
+        ensures content { content self.new ≡ remove_wait (content self.old) session tag.now }
         ensures begun { begun self.new ≡ begun self.old };
 
     /// Grants each wait of the object's queue that is free to go, and says whose they are
     /// (`ProcLockWakeup` in proc.c).
-    fn wake(&mut self, tag: Tag) -> Woken
-        ensures woken { (granted : List Wait) × Wakes (content self.old) tag granted (content self.new) × (result.items ≡ map whose_and_mode granted) }
+    fn wake(&mut self, tag: &Tag) -> Woken
+        ensures woken { (granted : List Wait)
+            × Wakes (content self.old) tag.now granted (content self.new)
+            × (result.items ≡ map whose_and_mode granted) }
         ensures begun { begun self.new ≡ begun self.old };
 
     /// Appends the content's rows in the listing's order (`GetLockStatusData` in lock.c). After a

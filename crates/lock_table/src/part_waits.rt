@@ -60,8 +60,8 @@ impl PartWait {
     }
 
     /// Whether this is the session's wait on the object.
-    pub fn is_on(&self, session: SessionId, tag: Tag) -> bool
-        ensures { result ≡ is_request_on (request_of self.now) session tag }
+    pub fn is_on(&self, session: SessionId, tag: &Tag) -> bool
+        ensures { result ≡ is_request_on (request_of self.now) session tag.now }
     {
         if self.waiter.session != session {
             return false;
@@ -70,8 +70,8 @@ impl PartWait {
     }
 
     /// Whether it waits on the object for one of these modes.
-    pub fn awaits_one(&self, tag: Tag, modes: ModeSet) -> bool
-        ensures { result ≡ awaits_one_of self.now tag (set_has modes) }
+    pub fn awaits_one(&self, tag: &Tag, modes: ModeSet) -> bool
+        ensures { result ≡ awaits_one_of self.now tag.now (set_has modes) }
     {
         if !tag.is_same(self.tag) {
             return false;
@@ -81,8 +81,8 @@ impl PartWait {
 }
 
 /// The wait at this place of the object's queue, counted from the front.
-pub fn waiter_at(waits: &[PartWait], tag: Tag, place: usize) -> Option<Waiter>
-    ensures { option_map shown_wait result ≡ slice_get (queues_in waits.now tag) place }
+pub fn waiter_at(waits: &[PartWait], tag: &Tag, place: usize) -> Option<Waiter>
+    ensures { option_map shown_wait result ≡ slice_get (queues_in waits.now tag.now) place }
 {
     let mut before = place;
     for wait in waits {
@@ -97,8 +97,9 @@ pub fn waiter_at(waits: &[PartWait], tag: Tag, place: usize) -> Option<Waiter>
 }
 
 /// For which mode the session waits on the object, if it does.
-pub fn awaited_mode(waits: &[PartWait], session: SessionId, tag: Tag) -> Option<Mode>
-    ensures { result ≡ option_map (λ wait. wait.waiter.mode) (find (λ wait. is_request_on (request_of wait) session tag) waits.now) }
+pub fn awaited_mode(waits: &[PartWait], session: SessionId, tag: &Tag) -> Option<Mode>
+    ensures { result ≡ option_map (λ wait. wait.waiter.mode)
+        (find (λ wait. is_request_on (request_of wait) session tag.now) waits.now) }
 {
     waits
         .iter()
@@ -107,8 +108,9 @@ pub fn awaited_mode(waits: &[PartWait], session: SessionId, tag: Tag) -> Option<
 }
 
 /// Takes the session's wait on the object out.
-pub fn take_wait_out(waits: &mut Vec<PartWait>, session: SessionId, tag: Tag)
-    ensures items { waits.new.items ≡ filter (λ wait. not (is_request_on (request_of wait) session tag)) waits.old.items }
+pub fn take_wait_out(waits: &mut Vec<PartWait>, session: SessionId, tag: &Tag)
+    ensures items { waits.new.items
+        ≡ filter (λ wait. not (is_request_on (request_of wait) session tag.now)) waits.old.items }
     ensures len { vec_len waits.new ≤ vec_len waits.old }
     ensures capacity { vec_capacity waits.new ≡ vec_capacity waits.old }
 {
@@ -116,10 +118,10 @@ pub fn take_wait_out(waits: &mut Vec<PartWait>, session: SessionId, tag: Tag)
 }
 
 /// The index in the list before which a new wait stands at this place of the object's queue.
-pub fn index_of_place(waits: &[PartWait], tag: Tag, place: usize) -> usize
-    requires { place ≤ length (queues_in waits.now tag) }
+pub fn index_of_place(waits: &[PartWait], tag: &Tag, place: usize) -> usize
+    requires { place ≤ length (queues_in waits.now tag.now) }
     ensures within { result ≤ length waits.now }
-    ensures before { length (queues_in (take result waits.now) tag) ≡ place }
+    ensures before { length (queues_in (take result waits.now) tag.now) ≡ place }
 {
     let mut before = place;
     for (index, wait) in waits.iter().enumerate() {
@@ -134,8 +136,8 @@ pub fn index_of_place(waits: &[PartWait], tag: Tag, place: usize) -> usize
 }
 
 /// Whether another session holds the object in one of these modes.
-fn is_held_by_another(holds: &[Request], session: SessionId, tag: Tag, modes: ModeSet) -> bool
-    ensures { result ≡ list_any (λ hold. is_in_the_way_of hold session tag (set_has modes)) holds.now }
+fn is_held_by_another(holds: &[Request], session: SessionId, tag: &Tag, modes: ModeSet) -> bool
+    ensures { result ≡ list_any (λ hold. is_in_the_way_of hold session tag.now (set_has modes)) holds.now }
 {
     holds
         .iter()
@@ -143,15 +145,15 @@ fn is_held_by_another(holds: &[Request], session: SessionId, tag: Tag, modes: Mo
 }
 
 /// Whether the object is awaited in one of these modes.
-fn is_awaited(waits: &[PartWait], tag: Tag, modes: ModeSet) -> bool
-    ensures { result ≡ list_any (λ wait. awaits_one_of wait tag (set_has modes)) waits.now }
+fn is_awaited(waits: &[PartWait], tag: &Tag, modes: ModeSet) -> bool
+    ensures { result ≡ list_any (λ wait. awaits_one_of wait tag.now (set_has modes)) waits.now }
 {
     waits.iter().any(|wait| wait.awaits_one(tag, modes))
 }
 
 /// Whether the wait is on the object and free to go, beside these holds and behind these waits.
-fn goes(holds: &[Request], ahead: &[PartWait], wait: PartWait, tag: Tag) -> bool
-    ensures { result ≡ goes_now holds.now ahead.now wait tag }
+fn goes(holds: &[Request], ahead: &[PartWait], wait: PartWait, tag: &Tag) -> bool
+    ensures { result ≡ goes_now holds.now ahead.now wait tag.now }
 {
     if !tag.is_same(wait.tag) {
         return false;
@@ -165,15 +167,21 @@ fn goes(holds: &[Request], ahead: &[PartWait], wait: PartWait, tag: Tag) -> bool
 
 /// Makes holds of the object's waits that are free to go, from the front, each beside those granted before
 /// it and behind those left before it. The two lists together keep their length.
-pub fn wake_queue(holds: &mut Vec<Request>, waits: &mut Vec<PartWait>, tag: Tag) -> Woken
+pub fn wake_queue(holds: &mut Vec<Request>, waits: &mut Vec<PartWait>, tag: &Tag) -> Woken
     requires one_wait_each { OneWaitEach waits.old.items }
     requires room { vec_len holds.old + vec_len waits.old ≤ vec_capacity holds.old }
-    ensures woken { (granted : List Wait) × Wakes (content_in holds.old.items waits.old.items) tag granted (content_in holds.new.items waits.new.items) × (result.items ≡ map whose_and_mode granted) }
-    ensures same_requests { (session : ℕ) (tag : Tag) (mode : Mode) → times_in holds.new.items waits.new.items session tag mode ≡ times_in holds.old.items waits.old.items session tag mode }
+    ensures woken { (granted : List Wait)
+        × Wakes (content_in holds.old.items waits.old.items) tag.now granted
+        (content_in holds.new.items waits.new.items)
+        × (result.items ≡ map whose_and_mode granted) }
+    ensures same_requests { (session : ℕ) (tag : Tag) (mode : Mode) →
+        times_in holds.new.items waits.new.items session tag mode
+        ≡ times_in holds.old.items waits.old.items session tag mode }
     ensures one_wait_each { OneWaitEach waits.new.items }
     ensures len { vec_len holds.new + vec_len waits.new ≡ vec_len holds.old + vec_len waits.old }
     ensures fewer { vec_len waits.new ≤ vec_len waits.old }
-    ensures capacity { (vec_capacity holds.new ≡ vec_capacity holds.old) × (vec_capacity waits.new ≡ vec_capacity waits.old) }
+    ensures capacity { (vec_capacity holds.new ≡ vec_capacity holds.old)
+        × (vec_capacity waits.new ≡ vec_capacity waits.old) }
 {
     let mut woken = Woken::new();
     let mut place = 0;

@@ -66,8 +66,8 @@ impl PlainPart {
     }
 
     /// Whether the session waits in the object's queue.
-    pub fn has_wait_of(&self, session: SessionId, tag: Tag) -> bool
-        ensures { result ≡ waits_there ((content_of self.now).waits tag) session }
+    pub fn has_wait_of(&self, session: SessionId, tag: &Tag) -> bool
+        ensures { result ≡ waits_there ((content_of self.now).waits tag.now) session }
     {
         awaited_mode(self.waits.as_slice(), session, tag).is_some()
     }
@@ -113,27 +113,35 @@ impl PartTable for PlainPart {
 
     ghost begun = { λ part. part.begun };
 
-    fn begin(&mut self, session: SessionId, tag: Tag, mode: Mode) -> Result<(), NoMemory> {
+    fn begin(&mut self, session: SessionId, tag: &Tag, mode: Mode) -> Result<(), NoMemory> {
         self.holds.reserve(self.waits.len() + 1)?;
         self.waits.reserve(1)?;
-        self.begun = Some(Request { session, tag, mode });
+        self.begun = Some(Request {
+            session,
+            tag: *tag,
+            mode,
+        });
         Ok(())
     }
 
-    fn withdraw(&mut self, _session: SessionId, _tag: Tag, _mode: Mode) {
+    fn withdraw(&mut self, _session: SessionId, _tag: &Tag, _mode: Mode) {
         self.begun = None;
     }
 
-    fn grant(&mut self, session: SessionId, tag: Tag, mode: Mode) {
+    fn grant(&mut self, session: SessionId, tag: &Tag, mode: Mode) {
         self.begun = None;
-        self.holds.push_reserved(Request { session, tag, mode });
+        self.holds.push_reserved(Request {
+            session,
+            tag: *tag,
+            mode,
+        });
     }
 
-    fn ungrant(&mut self, session: SessionId, tag: Tag, mode: Mode) {
+    fn ungrant(&mut self, session: SessionId, tag: &Tag, mode: Mode) {
         self.holds.retain(|hold| !hold.is_of(session, tag, mode));
     }
 
-    fn held(&self, session: SessionId, tag: Tag) -> ModeSet {
+    fn held(&self, session: SessionId, tag: &Tag) -> ModeSet {
         let mut modes = ModeSet::empty();
         for hold in &self.holds {
             if hold.is_on(session, tag) {
@@ -143,7 +151,7 @@ impl PartTable for PlainPart {
         modes
     }
 
-    fn conflict_of(&self, session: SessionId, tag: Tag, mode: Mode) -> Option<(SessionId, Mode)> {
+    fn conflict_of(&self, session: SessionId, tag: &Tag, mode: Mode) -> Option<(SessionId, Mode)> {
         let conflicting = conflicts(mode);
         let mut lowest = None;
         for hold in &self.holds {
@@ -154,13 +162,13 @@ impl PartTable for PlainPart {
         lowest
     }
 
-    fn waiter(&self, tag: Tag, place: usize) -> Option<Waiter> {
+    fn waiter(&self, tag: &Tag, place: usize) -> Option<Waiter> {
         // No list is longer than a number of its length can say.
         let _len = self.waits.len();
         waiter_at(self.waits.as_slice(), tag, place)
     }
 
-    fn join(&mut self, session: SessionId, tag: Tag, mode: Mode, place: usize) {
+    fn join(&mut self, session: SessionId, tag: &Tag, mode: Mode, place: usize) {
         let held = self.held(session, tag);
         let index = index_of_place(self.waits.as_slice(), tag, place);
         self.begun = None;
@@ -169,19 +177,19 @@ impl PartTable for PlainPart {
             mode,
             held,
         };
-        match self.waits.insert(index, PartWait { tag, waiter }) {
+        match self.waits.insert(index, PartWait { tag: *tag, waiter }) {
             Ok(()) => {}
             Err(_) => unreachable!(),
         }
     }
 
-    fn leave(&mut self, session: SessionId, tag: Tag) -> Option<Mode> {
+    fn leave(&mut self, session: SessionId, tag: &Tag) -> Option<Mode> {
         let mode = awaited_mode(self.waits.as_slice(), session, tag);
         take_wait_out(&mut self.waits, session, tag);
         mode
     }
 
-    fn wake(&mut self, tag: Tag) -> Woken {
+    fn wake(&mut self, tag: &Tag) -> Woken {
         wake_queue(&mut self.holds, &mut self.waits, tag)
     }
 

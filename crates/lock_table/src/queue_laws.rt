@@ -72,7 +72,8 @@ pub fn joining_leaves_none_free()
     ensures { (content : Content) (session : ℕ) (tag : Tag) (mode : Mode) (place : ℕ) →
         WaitingAnswer content session tag mode (Queued place) → NoneFree content tag →
         NoneFreeBehind [] content.holds tag
-        (joined place (record { session = session; mode = mode; held = content.holds session tag }) (content.waits tag)) }
+        (joined place (record { session = session; mode = mode; held = content.holds session tag })
+        (content.waits tag)) }
 {}
 
 /// A release wakes no wait of the session that makes it: what was in its way is still there.

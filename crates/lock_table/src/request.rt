@@ -14,8 +14,8 @@ pub struct Request {
 
 impl Request {
     /// Whether this is the session's request for the mode on the object.
-    pub fn is_of(&self, session: SessionId, tag: Tag, mode: Mode) -> bool
-        ensures { result ≡ is_request_of self.now session tag mode }
+    pub fn is_of(&self, session: SessionId, tag: &Tag, mode: Mode) -> bool
+        ensures { result ≡ is_request_of self.now session tag.now mode }
     {
         if self.session != session {
             return false;
@@ -27,8 +27,8 @@ impl Request {
     }
 
     /// Whether this is a request of the session on the object.
-    pub fn is_on(&self, session: SessionId, tag: Tag) -> bool
-        ensures { result ≡ is_request_on self.now session tag }
+    pub fn is_on(&self, session: SessionId, tag: &Tag) -> bool
+        ensures { result ≡ is_request_on self.now session tag.now }
     {
         if self.session != session {
             return false;
@@ -37,8 +37,8 @@ impl Request {
     }
 
     /// Whether this is another session's request on the object for one of these modes.
-    pub fn is_in_the_way(&self, session: SessionId, tag: Tag, modes: ModeSet) -> bool
-        ensures { result ≡ is_in_the_way_of self.now session tag (set_has modes) }
+    pub fn is_in_the_way(&self, session: SessionId, tag: &Tag, modes: ModeSet) -> bool
+        ensures { result ≡ is_in_the_way_of self.now session tag.now (set_has modes) }
     {
         if self.session == session {
             return false;

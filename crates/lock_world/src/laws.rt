@@ -46,7 +46,8 @@ pub fn one_world_comes()
 pub fn no_two_conflicting_holds()
     ensures in_contents { (w : World) → Safe w →
         (p session other : ℕ) (tag : Tag) (mode its : Mode) → session ≢ other →
-        (w.contents.now p).holds session tag mode ≡ true → (w.contents.now p).holds other tag its ≡ true → conflict mode its ≡ false }
+        (w.contents.now p).holds session tag mode ≡ true → (w.contents.now p).holds other tag its ≡ true →
+        conflict mode its ≡ false }
     ensures own { (w : World) → Safe w →
         (session other : ℕ) (tag : Tag) (mode its : Mode) → session ≢ other →
         w.sessions.own session tag mode ≡ true → w.sessions.own other tag its ≡ true → conflict mode its ≡ false }
@@ -65,7 +66,8 @@ pub fn each_hold_in_one_place()
         ⊎ ((is_for (w.sessions.awaited session) tag mode ≡ true)
         × ((wait_state (w.words.wait session) ≡ 2) ⊎ (is_unmarked (w.contents.hand p) session ≡ true))))) }
     ensures never_both { (w : World) → Safe w →
-        (session : ℕ) (tag : Tag) (mode : Mode) → is_for (w.sessions.awaited session) tag mode ≡ true → w.sessions.own session tag mode ≡ false }
+        (session : ℕ) (tag : Tag) (mode : Mode) → is_for (w.sessions.awaited session) tag mode ≡ true →
+        w.sessions.own session tag mode ≡ false }
 {}
 
 /// In a safe World nobody who waits is free to go: each waits for a holder in its way, or for somebody
@@ -81,12 +83,14 @@ pub fn a_session_waits_once()
     ensures recorded { (w : World) → Safe w →
         (p place : ℕ) (tag : Tag) (entry : Wait) → slice_get ((w.contents.now p).waits tag) place ≡ Some entry →
         (partition_of tag ≡ p)
-        × ((wait : OwnWait) × (w.sessions.awaited entry.session ≡ Some wait) × (wait.tag ≡ tag) × (entry ≡ entry_of entry.session wait)) }
+        × ((wait : OwnWait) × (w.sessions.awaited entry.session ≡ Some wait) × (wait.tag ≡ tag)
+        × (entry ≡ entry_of entry.session wait)) }
     ensures once { (w : World) → Safe w →
         (p session : ℕ) (tag : Tag) → count_by (λ wait. wait.session == session) ((w.contents.now p).waits tag) ≤ 1 }
     ensures in_one_queue { (w : World) → Safe w →
         (p q session : ℕ) (tag other : Tag) →
-        waits_there ((w.contents.now p).waits tag) session ≡ true → waits_there ((w.contents.now q).waits other) session ≡ true →
+        waits_there ((w.contents.now p).waits tag) session ≡ true →
+        waits_there ((w.contents.now q).waits other) session ≡ true →
         (p ≡ q) × (tag ≡ other) }
 {}
 
@@ -98,10 +102,13 @@ pub fn wait_words_tell()
     ensures idle { (w : World) → Safe w →
         (session : ℕ) → (wait_state (w.words.wait session) ≡ 0) ↔ (w.sessions.awaited session ≡ None) }
     ensures queued { (w : World) → Safe w →
-        (p session : ℕ) (tag : Tag) → waits_there ((w.contents.now p).waits tag) session ≡ true → wait_state (w.words.wait session) ≡ 1 }
+        (p session : ℕ) (tag : Tag) → waits_there ((w.contents.now p).waits tag) session ≡ true →
+        wait_state (w.words.wait session) ≡ 1 }
     ensures waiting { (w : World) → Safe w →
-        (session : ℕ) (wait : OwnWait) → w.sessions.awaited session ≡ Some wait → w.contents.hand (partition_of wait.tag) ≡ None →
-        wait_state (w.words.wait session) ≡ 1 → waits_there ((w.contents.now (partition_of wait.tag)).waits wait.tag) session ≡ true }
+        (session : ℕ) (wait : OwnWait) → w.sessions.awaited session ≡ Some wait →
+        w.contents.hand (partition_of wait.tag) ≡ None →
+        wait_state (w.words.wait session) ≡ 1 →
+        waits_there ((w.contents.now (partition_of wait.tag)).waits wait.tag) session ≡ true }
     ensures granted { (w : World) → Safe w →
         (session : ℕ) → wait_state (w.words.wait session) ≡ 2 →
         (wait : OwnWait) × (w.sessions.awaited session ≡ Some wait)
@@ -113,15 +120,17 @@ pub fn wait_words_tell()
 /// in hand.
 pub fn partition_words_show_the_hand()
     ensures { (w : World) → Safe w →
-        (p : ℕ) → IsHeldExclusively (w.words.partition p) ↔ ((session : ℕ) × (w.sessions.holds_partition session p ≡ true)) }
+        (p : ℕ) → IsHeldExclusively (w.words.partition p)
+        ↔ ((session : ℕ) × (w.sessions.holds_partition session p ≡ true)) }
 {}
 
-/// In a safe World the word of a lightweight lock, a partition's or that of a session's fast-path slots, counts those who share
-/// it, and nobody shares it while somebody holds it exclusively; the word of a session's fast-path slots shows an exclusive holder
-/// exactly where there is one, and there is one at most.
+/// In a safe World the word of a lightweight lock, a partition's or that of a session's fast-path slots,
+/// counts those who share it, and nobody shares it while somebody holds it exclusively; the word of a
+/// session's fast-path slots shows an exclusive holder exactly where there is one, and there is one at most.
 pub fn lightweight_words_show_who_holds_them()
     ensures partition_shared { (w : World) → Safe w → (p : ℕ) →
-        shared_count (w.words.partition p) ≡ how_many w.numbers.limit (λ session. w.sessions.shares_partition session p) }
+        shared_count (w.words.partition p)
+        ≡ how_many w.numbers.limit (λ session. w.sessions.shares_partition session p) }
     ensures partition_never_both { (w : World) → Safe w → (p session other : ℕ) →
         w.sessions.holds_partition session p ≡ true → w.sessions.shares_partition other p ≡ false }
     ensures fast_exclusive { (w : World) → Safe w → (owner : ℕ) →
@@ -137,7 +146,8 @@ pub fn lightweight_words_show_who_holds_them()
 /// In a safe World no two sessions have one partition in hand.
 pub fn one_hand_at_a_time()
     ensures { (w : World) → Safe w →
-        (p session other : ℕ) → w.sessions.holds_partition session p ≡ true → w.sessions.holds_partition other p ≡ true → session ≡ other }
+        (p session other : ℕ) →
+        w.sessions.holds_partition session p ≡ true → w.sessions.holds_partition other p ≡ true → session ≡ other }
 {}
 
 /// In a safe World a session number that is not live has no hold, by its own account and in each content,
@@ -157,25 +167,27 @@ pub fn spent_sessions_have_nothing()
         × (w.sessions.shares_fast session lock ≡ false) }
 {}
 
-/// In a safe World each episode of a trace put what one move of its session makes of the content that it took: an earlier
-/// entry took just that content, and the session had it in hand until then.
+/// In a safe World each episode of a trace put what one move of its session makes of the content that it
+/// took: an earlier entry took just that content, and the session had it in hand until then.
 pub fn each_episode_is_one_move()
     ensures moved { (w : World) → Safe w →
         (session p : ℕ) (taken put_back : Content) (before after : List TraceEntry) →
         w.sessions.trace session ≡ before ++ Episode p taken put_back ∷ after →
         (taken_by (λ _. None) before p ≡ Some taken) × IsOneMove taken session put_back }
-    ensures was_taken { (p : ℕ) (taken : Content) (before : List TraceEntry) → taken_by (λ _. None) before p ≡ Some taken →
+    ensures was_taken { (p : ℕ) (taken : Content) (before : List TraceEntry) →
+        taken_by (λ _. None) before p ≡ Some taken →
         (first : List TraceEntry) × (since : List TraceEntry) × (before ≡ first ++ Took p taken ∷ since) }
 {}
 
-/// In a safe World a trace tells what its session has in hand: of each partition the content as it took it, and nothing where
-/// the partition is at home or in another's hand.
+/// In a safe World a trace tells what its session has in hand: of each partition the content as it took it,
+/// and nothing where the partition is at home or in another's hand.
 pub fn traces_tell_what_is_in_hand()
     ensures { (w : World) → Safe w → (session p : ℕ) →
         taken_by (λ _. None) (w.sessions.trace session) p ≡ taken_in (w.contents.hand p) session }
 {}
 
-/// In a safe World a number that was not given out has no trace; whoever is kept apart is live, and so is who keeps it apart.
+/// In a safe World a number that was not given out has no trace; whoever is kept apart is live, and so is
+/// who keeps it apart.
 pub fn numbers_are_in_order()
     ensures new { (w : World) → Safe w → (session : ℕ) → w.numbers.issued ≤ session → w.sessions.trace session ≡ [] }
     ensures kept_apart { (w : World) → Safe w → (session joiner : ℕ) → w.numbers.kept_by session ≡ Some joiner →
@@ -190,11 +202,13 @@ pub fn asking_sets_one_bit()
     ensures sum { (word : ℕ) → asked_word word ≡ (if is_asked word then word else word + 4) }
 {}
 
-/// An event leaves every session alone that does not make it: its account, that is its own holds, its wait and what it has
-/// seen of that, what it has in hand with its contents, and its trace; the words that it holds; and whether its number is
-/// live and kept apart. Its wait word the event leaves, or asks it there to cancel, or turns waiting into granted.
+/// An event leaves every session alone that does not make it: its account, that is its own holds, its wait
+/// and what it has seen of that, what it has in hand with its contents, and its trace; the words that it
+/// holds; and whether its number is live and kept apart. Its wait word the event leaves, or asks it there to
+/// cancel, or turns waiting into granted.
 pub fn others_are_untouched()
-    ensures account { (w v : World) (event : Event) (other : ℕ) → Safe w → Happens w event v → other ≢ event.session → IsLeftAlone w v other }
+    ensures account { (w v : World) (event : Event) (other : ℕ) →
+        Safe w → Happens w event v → other ≢ event.session → IsLeftAlone w v other }
     ensures wait_word { (w v : World) (event : Event) (other : ℕ) → Happens w event v → other ≢ event.session →
         (v.words.wait other ≡ w.words.wait other)
         ⊎ ((v.words.wait other ≡ asked_word (w.words.wait other))

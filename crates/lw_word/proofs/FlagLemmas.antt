@@ -1,8 +1,8 @@
-use Rattle.std.proofs.Common.{◌≡◌, ℕ, ◌-◌, ◌/◌, ◌%◌, ◌^◌, ◌<◌, ◌≤◌, Bool, true, false, bit_and, bit_or, arith, lit<, refl, ap, ◌∙◌, min}
+use Rattle.std.proofs.Common.{◌≡◌, ℕ, ◌-◌, ◌/◌, ◌%◌, ◌^◌, ◌<◌, ◌≤◌, Bool, true, false, bit_and, bit_or, arith, refl, ap, ◌∙◌, min}
 use Rattle.std.specs.Int.{bit_at}
 use Rattle.std.proofs.lemmas.Nat.{and_mask, and_mod, and_shr, or_shr, or_lt, and_le_l}
 use Rattle.std.proofs.lemmas.Nat.Bits.{bit_at_and, bit_at-lt}
-use Rattle.lw_word.specs.LightweightWord.{IsLightweightWord, free_word, IsListLocked, IsReleaseOk, HasWaiters, list_locked_word, release_ok_word, has_waiters_word, list_unlocked_word, kept_bits, flag_bits, HoldersStay}
+use Rattle.lw_word.specs.LightweightWord.{IsLightweightWord, IsListLocked, IsReleaseOk, HasWaiters, list_locked_word, release_ok_word, has_waiters_word, list_unlocked_word, kept_bits, flag_bits, HoldersStay}
 use Rattle.lw_word.proofs.Bits.{or_bit-same, or_bit-other, or-below}
 
 -- What setting and clearing a flag does to that flag, and that it touches nothing else.
@@ -101,12 +101,7 @@ pub list_unlocked_word-no_waiters : (word : ℕ) (release : Bool) → list_unloc
 list_unlocked_word-no_waiters word true = masked_zero word (kept_bits false true) 30 refl
 list_unlocked_word-no_waiters word false = masked_zero word (kept_bits false false) 30 refl
 
--- A lightweight word stays one.
-
-pub IsLightweightWord-free_word : IsLightweightWord free_word
-IsLightweightWord-free_word = record { below = lit< tt; none_between = refl }
-
--- also where any flags are set
+-- A lightweight word stays one where any flags are set,
 pub IsLightweightWord-or : (word flags : ℕ) → flags < 2 ^ 31 → flags / 2 ^ 25 % 2 ^ 3 ≡ 0 → IsLightweightWord word → IsLightweightWord (bit_or word flags)
 IsLightweightWord-or word flags fits apart is = record {
   below = or_lt 31 word flags is.below fits;
@@ -132,9 +127,6 @@ IsLightweightWord-and word mask is = record {
       let none : bit_and (word / 2 ^ 25 % 2 ^ 3) (mask / 2 ^ 25 % 2 ^ 3) ≤ word / 2 ^ 25 % 2 ^ 3 = and_le_l (word / 2 ^ 25 % 2 ^ 3) (mask / 2 ^ 25 % 2 ^ 3) in
       ap (λ n. n % 2 ^ 3) high ∙ (omega (arith, low, none, is.none_between));
 }
-
-pub IsLightweightWord-list_unlocked : (word : ℕ) (waiters release : Bool) → IsLightweightWord word → IsLightweightWord (list_unlocked_word word waiters release)
-IsLightweightWord-list_unlocked word waiters release is = IsLightweightWord-and word (kept_bits waiters release) is
 
 -- the flags to be set were set before
 pub IsLightweightWord-unlocked : (word : ℕ) (waiters release : Bool) → IsLightweightWord word → IsLightweightWord (list_unlocked_word (bit_or word (flag_bits waiters release)) waiters release)

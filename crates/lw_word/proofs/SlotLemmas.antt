@@ -214,24 +214,6 @@ not-false : (b : Bool) → not b ≡ false → b ≡ true
 not-false true is = refl
 not-false false is = absurd (false≢true (sym is))
 
--- an emptied slot's word is 0
-pub word_without-emptied : (word : ℕ) (mode : Mode) → in_use (word_without word mode) ≡ false → word_without word mode ≡ 0
-word_without-emptied word mode empty = elim (cases_eq (bits_without word mode) 0) [
-  | inl none ↦ word_without-last word mode none
-  | inr some ↦
-      let bits : mode_bits (word_without word mode) ≡ bits_without word mode =
-      ap mode_bits (word_without-more word mode some) ∙ mode_bits-slot_word (relation_in word) (bits_without word mode) (omega arith) (bits_without-lt word mode) in
-      let none : nat_eq (mode_bits (word_without word mode)) 0 ≡ true = not-false (nat_eq (mode_bits (word_without word mode)) 0) empty in
-      absurd (some (sym bits ∙ eqb-true (mode_bits (word_without word mode)) 0 none))
-]
-
--- a slot that stays in use keeps its relation
-pub relation_in-word_without : (word : ℕ) (mode : Mode) → in_use (word_without word mode) ≡ true → relation_in (word_without word mode) ≡ relation_in word
-relation_in-word_without word mode used = elim (cases_eq (bits_without word mode) 0) [
-  | inl none ↦ absurd (false≢true (sym (ap in_use (word_without-last word mode none)) ∙ used))
-  | inr some ↦ ap relation_in (word_without-more word mode some) ∙ relation_in-slot_word (relation_in word) (bits_without word mode) (omega arith) (bits_without-lt word mode)
-]
-
 -- A slot in use shows some mode.
 
 pub in_use-shows : (word : ℕ) → in_use word ≡ true → (mode : Mode) × (number_of mode ≤ 3) × (shows word (relation_in word) mode ≡ true)

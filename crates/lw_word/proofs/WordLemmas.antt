@@ -9,9 +9,6 @@ use Rattle.lw_word.proofs.Bits.{bit-lt, test-bit}
 pub nobody-not_exclusive : (word : ℕ) → IsHeldByNobody word → IsHeldExclusively word → ⊥
 nobody-not_exclusive word free held = omega arith
 
-pub nobody-free_to_share : (word : ℕ) → IsHeldByNobody word → IsFreeToShare word
-nobody-free_to_share word free = omega arith
-
 pub nobody-shared : (word : ℕ) → IsHeldByNobody word → shared_count word ≡ 0
 nobody-shared word free = omega arith
 

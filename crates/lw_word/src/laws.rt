@@ -41,7 +41,8 @@ pub fn taking_turns_one_bit()
 
 /// Sharing a word and sharing it no more change the count by one, and nothing else.
 pub fn sharing_counts_alone()
-    ensures shared { (word : ℕ) → shared_count word + 1 < 2 ^ 24 → shared_count (shared_word word) ≡ shared_count word + 1 }
+    ensures shared { (word : ℕ) → shared_count word + 1 < 2 ^ 24 →
+        shared_count (shared_word word) ≡ shared_count word + 1 }
     ensures shared_rest { (word : ℕ) → shared_count word + 1 < 2 ^ 24 → shared_word word / 2 ^ 24 ≡ word / 2 ^ 24 }
     ensures unshared { (word : ℕ) → 0 < shared_count word → shared_count (unshared_word word) + 1 ≡ shared_count word }
     ensures unshared_rest { (word : ℕ) → 0 < shared_count word → unshared_word word / 2 ^ 24 ≡ word / 2 ^ 24 }
@@ -64,9 +65,11 @@ pub fn setting_a_flag_sets_it_alone()
 pub fn unlocking_clears_what_is_told()
     ensures list { (word : ℕ) (waiters release : Bool) → list_unlocked_word word waiters release / 2 ^ 28 % 2 ≡ 0 }
     ensures holders { (word : ℕ) (waiters release : Bool) → HoldersStay word (list_unlocked_word word waiters release) }
-    ensures release_stays { (word : ℕ) (waiters : Bool) → list_unlocked_word word waiters true / 2 ^ 29 % 2 ≡ word / 2 ^ 29 % 2 }
+    ensures release_stays { (word : ℕ) (waiters : Bool) →
+        list_unlocked_word word waiters true / 2 ^ 29 % 2 ≡ word / 2 ^ 29 % 2 }
     ensures release_goes { (word : ℕ) (waiters : Bool) → list_unlocked_word word waiters false / 2 ^ 29 % 2 ≡ 0 }
-    ensures waiters_stay { (word : ℕ) (release : Bool) → list_unlocked_word word true release / 2 ^ 30 % 2 ≡ word / 2 ^ 30 % 2 }
+    ensures waiters_stay { (word : ℕ) (release : Bool) →
+        list_unlocked_word word true release / 2 ^ 30 % 2 ≡ word / 2 ^ 30 % 2 }
     ensures waiters_go { (word : ℕ) (release : Bool) → list_unlocked_word word false release / 2 ^ 30 % 2 ≡ 0 }
 {}
 
@@ -79,9 +82,12 @@ pub fn a_wakeup_splits_the_list()
 /// A slot word of a relation has just that relation and these mode bits; a slot in use shows a mode of its
 /// relation, and one that is not shows nothing.
 pub fn a_slot_shows_one_relation()
-    ensures relation { (relation bits : ℕ) → relation < 2 ^ 32 → bits < 2 ^ 3 → relation_in (slot_word relation bits) ≡ relation }
-    ensures modes { (relation bits : ℕ) → relation < 2 ^ 32 → bits < 2 ^ 3 → mode_bits (slot_word relation bits) ≡ bits }
-    ensures used { (word : ℕ) → in_use word ≡ true → (mode : Mode) × (number_of mode ≤ 3) × (shows word (relation_in word) mode ≡ true) }
+    ensures relation { (relation bits : ℕ) → relation < 2 ^ 32 → bits < 2 ^ 3 →
+        relation_in (slot_word relation bits) ≡ relation }
+    ensures modes { (relation bits : ℕ) → relation < 2 ^ 32 → bits < 2 ^ 3 →
+        mode_bits (slot_word relation bits) ≡ bits }
+    ensures used { (word : ℕ) → in_use word ≡ true →
+        (mode : Mode) × (number_of mode ≤ 3) × (shows word (relation_in word) mode ≡ true) }
     ensures shown { (word relation : ℕ) (mode : Mode) → shows word relation mode ≡ true → relation_in word ≡ relation }
     ensures shown_used { (word relation : ℕ) (mode : Mode) → shows word relation mode ≡ true → in_use word ≡ true }
     ensures empty { (word relation : ℕ) (mode : Mode) → in_use word ≡ false → shows word relation mode ≡ false }

@@ -207,7 +207,8 @@ impl LwWord {
     /// of `LWLockWakeup`). The flags to be set are set first, and then one fetch-and clears the others and
     /// unlocks.
     pub fn unlock_list(self, has_waiters: bool, release_ok: bool) -> Self
-        ensures after { result ≡ record self { list_locked = false; has_waiters = has_waiters; release_ok = release_ok } }
+        ensures after { result
+            ≡ record self { list_locked = false; has_waiters = has_waiters; release_ok = release_ok } }
         ensures number { word_of result ≡ flagged_and_unlocked_word (word_of self) has_waiters release_ok }
     {
         LwWord {

@@ -1,10 +1,10 @@
-ghost use Rattle.std.specs.Prelude.{◌≡◌, ◌<◌, ◌%◌, ◌^◌, ℕ, refl};
+ghost use Rattle.std.specs.Prelude.{◌≡◌, ◌<◌, refl};
 ghost use Rattle.std.proofs.Common.{rules};
 ghost use Rattle.std.specs.Cmp.{partial_order_from_agreeing_total};
 ghost use Rattle.std.specs.Cmp.Rules.{comparing};
 ghost use Rattle.std.specs.Ordering.{nat_cmp, on, as_partial_cmp};
 ghost use Rattle.std.specs.Cmp.Lexicographic.{slice_cmp, on_texts};
-ghost use Rattle.modes_core.specs.Tag.{numbers_of, hash_of, is_eligible_for, is_strong_on, tag_eq};
+ghost use Rattle.modes_core.specs.Tag.{numbers_of, hash_of, partition_of, index_of, is_eligible_for, is_strong_on, tag_eq};
 ghost use Rattle.modes_core.specs.TagOrder.{same_tag-by_numbers};
 
 use crate::Mode;
@@ -103,7 +103,7 @@ impl Tag {
 
     /// The partition of the lock table that the object lies in, 0 to 15 (`LockHashPartition` in lock.h).
     pub fn partition(self) -> u8
-        ensures value { result ≡ hash_of self % 16 }
+        ensures value { result ≡ partition_of self }
         ensures within { result < 16 }
     {
         (self.hash() % PARTITIONS) as u8
@@ -111,7 +111,7 @@ impl Tag {
 
     /// The strong lock counter of the object, 0 to 1023 (`FastPathStrongLockHashPartition` in lock.c).
     pub fn strong_index(self) -> u16
-        ensures value { result ≡ hash_of self % 1024 }
+        ensures value { result ≡ index_of self }
         ensures within { result < 1024 }
     {
         (self.hash() % STRONG_COUNTERS) as u16
@@ -126,7 +126,8 @@ impl Ord for Tag {
 
     ghost matches_partial_cmp = { Prim.search (comparing, rules) };
 
-    ghost matches_eq = { same_tag-by_numbers _ (λ _ _ _ _. refl) (λ _ _ _ _ _ _ _ _. refl) (λ _ _ _ _ _ _. refl) (λ _ _ _ _ _ _. refl) };
+    ghost matches_eq = { same_tag-by_numbers _ (λ _ _ _ _. refl) (λ _ _ _ _ _ _ _ _. refl)
+        (λ _ _ _ _ _ _. refl) (λ _ _ _ _ _ _. refl) };
 
     fn cmp(&self, other: &Tag) -> Ordering {
         self.numbers().cmp(&other.numbers())
@@ -136,7 +137,10 @@ impl Ord for Tag {
 impl PartialOrd for Tag {
     ghost partial_cmp = { as_partial_cmp (on numbers_of (slice_cmp nat_cmp)) };
 
-    ghost laws = { partial_order_from_agreeing_total (on numbers_of (slice_cmp nat_cmp)) (on_texts numbers_of) (λ _ _. refl) (same_tag-by_numbers _ (λ _ _ _ _. refl) (λ _ _ _ _ _ _ _ _. refl) (λ _ _ _ _ _ _. refl) (λ _ _ _ _ _ _. refl)) };
+    ghost laws = { partial_order_from_agreeing_total (on numbers_of (slice_cmp nat_cmp)) (on_texts numbers_of)
+        (λ _ _. refl)
+        (same_tag-by_numbers _ (λ _ _ _ _. refl) (λ _ _ _ _ _ _ _ _. refl)
+        (λ _ _ _ _ _ _. refl) (λ _ _ _ _ _ _. refl)) };
 
     fn partial_cmp(&self, other: &Tag) -> Option<Ordering> {
         Some(self.cmp(other))

@@ -10,8 +10,8 @@ use modes_core::{Mode, SessionId, Tag};
 
 /// Whether somebody awaits the object in a mode that conflicts with this one (`LockHasWaiters` in
 /// lock.c).
-pub fn awaited_in_conflict<P: PartTable>(part: &P, tag: Tag, mode: Mode) -> bool
-    ensures { result ≡ some_awaits_conflict ((P.content part.now).waits tag) mode }
+pub fn awaited_in_conflict<P: PartTable>(part: &P, tag: &Tag, mode: Mode) -> bool
+    ensures { result ≡ some_awaits_conflict ((P.content part.now).waits tag.now) mode }
 {
     first_against(part, tag, mode).is_some()
 }
@@ -19,10 +19,10 @@ pub fn awaited_in_conflict<P: PartTable>(part: &P, tag: Tag, mode: Mode) -> bool
 /// Takes a hold of the session out, and grants the waits that are free to go then, where somebody
 /// awaits a mode in conflict with the one released (`LockRelease` with `UnGrantLock` and `CleanUpLock`
 /// in lock.c). It says whom it granted, in order.
-pub fn release<P: PartTable>(part: &mut P, session: SessionId, tag: Tag, mode: Mode) -> Woken
-    requires { (P.content part.old).holds session tag mode ≡ true }
+pub fn release<P: PartTable>(part: &mut P, session: SessionId, tag: &Tag, mode: Mode) -> Woken
+    requires { (P.content part.old).holds session tag.now mode ≡ true }
     ensures woken { (granted : List Wait)
-        × Moves (P.content part.old) session (Release tag mode) granted (P.content part.new)
+        × Moves (P.content part.old) session (Release tag.now mode) granted (P.content part.new)
         × (result.items ≡ map whose_and_mode granted) }
     ensures begun { P.begun part.new ≡ P.begun part.old }
 {

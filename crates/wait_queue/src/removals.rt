@@ -18,10 +18,10 @@ pub struct Removed {
 
 /// Takes the session's wait out of the object's queue, if it is still there, and grants the waits that
 /// are free to go then (`RemoveFromWaitQueue` in lock.c, for `LockErrorCleanup` in proc.c).
-pub fn remove_waiter<P: PartTable>(part: &mut P, session: SessionId, tag: Tag) -> Removed
-    ensures found { result.was_granted ≡ not (waits_there ((P.content part.old).waits tag) session) }
+pub fn remove_waiter<P: PartTable>(part: &mut P, session: SessionId, tag: &Tag) -> Removed
+    ensures found { result.was_granted ≡ not (waits_there ((P.content part.old).waits tag.now) session) }
     ensures removed { OnFalse result.was_granted ((granted : List Wait)
-        × Wakes (remove_wait (P.content part.old) session tag) tag granted (P.content part.new)
+        × Wakes (remove_wait (P.content part.old) session tag.now) tag.now granted (P.content part.new)
         × (result.woken.items ≡ map whose_and_mode granted)) }
     ensures unchanged { OnTrue result.was_granted (P.content part.new ≡ P.content part.old) }
     ensures nobody_woken { OnTrue result.was_granted (result.woken.items ≡ []) }

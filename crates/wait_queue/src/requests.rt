@@ -31,17 +31,17 @@ pub enum Decision {
 pub fn decide<P: PartTable>(
     part: &mut P,
     session: SessionId,
-    tag: Tag,
+    tag: &Tag,
     mode: Mode,
     kind: Kind,
 ) -> Result<Decision, Refusal>
-    requires new { (P.content part.old).holds session tag mode ≡ false }
-    requires no_wait { waits_there ((P.content part.old).waits tag) session ≡ false }
+    requires new { (P.content part.old).holds session tag.now mode ≡ false }
+    requires no_wait { waits_there ((P.content part.old).waits tag.now) session ≡ false }
     requires none_begun { P.begun part.old ≡ None }
 
     ensures decided { IfOk result (λ decision.
-        IsDecided kind (P.content part.old) session tag mode decision (P.content part.new)) }
-    ensures refused { IfErr result (RefusedFor kind (P.content part.old) session tag mode) }
+        IsDecided kind (P.content part.old) session tag.now mode decision (P.content part.new)) }
+    ensures refused { IfErr result (RefusedFor kind (P.content part.old) session tag.now mode) }
     ensures unchanged { OnErr result (P.content part.new ≡ P.content part.old) }
     ensures at_once { kind ≡ Kind.Conditional → result ≢ Ok Decision.Queued }
     ensures ended { P.begun part.new ≡ None }
@@ -56,17 +56,17 @@ pub fn decide<P: PartTable>(
 fn decide_begun<P: PartTable>(
     part: &mut P,
     session: SessionId,
-    tag: Tag,
+    tag: &Tag,
     mode: Mode,
     kind: Kind,
 ) -> Result<Decision, Refusal>
-    requires new { (P.content part.old).holds session tag mode ≡ false }
-    requires no_wait { waits_there ((P.content part.old).waits tag) session ≡ false }
-    requires begun { P.begun part.old ≡ Some (record { session = session; tag = tag; mode = mode }) }
+    requires new { (P.content part.old).holds session tag.now mode ≡ false }
+    requires no_wait { waits_there ((P.content part.old).waits tag.now) session ≡ false }
+    requires begun { P.begun part.old ≡ Some (record { session = session; tag = tag.now; mode = mode }) }
 
     ensures decided { IfOk result (λ decision.
-        IsDecided kind (P.content part.old) session tag mode decision (P.content part.new)) }
-    ensures refused { IfErr result (RefusedFor kind (P.content part.old) session tag mode) }
+        IsDecided kind (P.content part.old) session tag.now mode decision (P.content part.new)) }
+    ensures refused { IfErr result (RefusedFor kind (P.content part.old) session tag.now mode) }
     ensures no_memory_taken { result ≢ Err Refusal.NoMemory }
     ensures unchanged { OnErr result (P.content part.new ≡ P.content part.old) }
     ensures at_once { kind ≡ Kind.Conditional → result ≢ Ok Decision.Queued }
@@ -98,16 +98,17 @@ fn decide_begun<P: PartTable>(
 fn end_by_place<P: PartTable>(
     part: &mut P,
     session: SessionId,
-    tag: Tag,
+    tag: &Tag,
     mode: Mode,
 ) -> Result<Decision, SessionId>
-    requires clashes { Clashes (P.content part.old) session tag mode }
-    requires no_wait { waits_there ((P.content part.old).waits tag) session ≡ false }
-    requires begun { P.begun part.old ≡ Some (record { session = session; tag = tag; mode = mode }) }
+    requires clashes { Clashes (P.content part.old) session tag.now mode }
+    requires no_wait { waits_there ((P.content part.old).waits tag.now) session ≡ false }
+    requires begun { P.begun part.old ≡ Some (record { session = session; tag = tag.now; mode = mode }) }
 
     ensures decided { IfOk result (λ decision.
-        IsDecided Kind.Waiting (P.content part.old) session tag mode decision (P.content part.new)) }
-    ensures refused { IfErr result (λ other. WaitingAnswer (P.content part.old) session tag mode (Answer.SimpleDeadlock other)) }
+        IsDecided Kind.Waiting (P.content part.old) session tag.now mode decision (P.content part.new)) }
+    ensures refused { IfErr result (λ other.
+        WaitingAnswer (P.content part.old) session tag.now mode (Answer.SimpleDeadlock other)) }
     ensures unchanged { OnErr result (P.content part.new ≡ P.content part.old) }
     ensures ended { P.begun part.new ≡ None }
 {

@@ -29,13 +29,13 @@ fn asked(
 {
     let session = session(rt, number);
     let tag = object();
-    if part.held(session, tag).has(mode) {
+    if part.held(session, &tag).has(mode) {
         panic!(rt; "session {number} holds it already");
     }
-    if part.leave(session, tag).is_some() {
+    if part.leave(session, &tag).is_some() {
         panic!(rt; "session {number} waits already");
     }
-    decide(part, session, tag, mode, kind)
+    decide(part, session, &tag, mode, kind)
 }
 
 /// The refusal that names this session's wait.
@@ -80,10 +80,10 @@ fn expect_released(
 {
     let session = session(rt, number);
     let tag = object();
-    if !part.held(session, tag).has(mode) {
+    if !part.held(session, &tag).has(mode) {
         panic!(rt; "session {number} doesn't hold it");
     }
-    let woken = release(part, session, tag, mode);
+    let woken = release(part, session, &tag, mode);
     expect_woken(rt, &woken, expected);
 }
 
@@ -101,8 +101,8 @@ fn a_waiter_goes_behind_those_left_before_it(rt: HostRuntime) -> Result<(), Fail
             (4, Mode::Share, Decision::Queued),
         ],
     );
-    assert!(rt; awaited_in_conflict(&part, object(), Mode::RowExclusive));
-    assert!(rt; !awaited_in_conflict(&part, object(), Mode::AccessShare));
+    assert!(rt; awaited_in_conflict(&part, &object(), Mode::RowExclusive));
+    assert!(rt; !awaited_in_conflict(&part, &object(), Mode::AccessShare));
     let first = [(1, Mode::Share), (3, Mode::RowShare)];
     expect_released(&rt, &mut part, 0, Mode::AccessExclusive, &first);
     expect_released(&rt, &mut part, 1, Mode::Share, &[(2, Mode::RowExclusive)]);
@@ -228,10 +228,10 @@ fn a_waiter_that_leaves_lets_others_go(rt: HostRuntime) -> Result<(), Fail> {
             (2, Mode::AccessShare, Decision::Queued),
         ],
     );
-    let first = remove_waiter(&mut part, session(&rt, 1), object());
+    let first = remove_waiter(&mut part, session(&rt, 1), &object());
     assert!(rt; !first.was_granted);
     expect_woken(&rt, &first.woken, &[(2, Mode::AccessShare)]);
-    let granted = remove_waiter(&mut part, session(&rt, 2), object());
+    let granted = remove_waiter(&mut part, session(&rt, 2), &object());
     assert!(rt; granted.was_granted);
     expect_woken(&rt, &granted.woken, &[]);
     Ok(())

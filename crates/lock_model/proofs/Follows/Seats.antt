@@ -19,8 +19,8 @@ use Rattle.lock_world.specs.Happens.Seats.{MayBeIssued, after_issuing, after_goi
 use Rattle.lock_world.specs.Safe.{Safe}
 use Rattle.lock_table.specs.OwnWait.{is_for}
 use Rattle.lock_model.specs.Shows.{Shows, is_number, is_holder, has_a_mark, makes_steps, awaits}
-use Rattle.lock_model.proofs.Shows.Changes.{get_or-set_at}
 use Rattle.lock_model.proofs.Shows.Locks.{no_mark, some_mark}
+use Rattle.lock_table.proofs.PutLemmas.{written-at}
 use Rattle.lock_table.proofs.ListLemmas.{any_found, any_weaker, found_within}
 use Rattle.lock_table.proofs.Same.{same_triple-refl}
 use Rattle.lock_model.proofs.Shows.Looks.{hand_kept, kept_hand, steps_from, own_from, content_from, awaits_from, no_wait_from}
@@ -67,7 +67,7 @@ module _ (m : Machine) (w : World) (safe : Safe w) (shows : Shows m w) where
           numbers = record {
             limit = shows.numbers.limit;
             issued = ap (λ n. n + 1) (sym next);
-            live = get_or-set_at m.numbers.live s true false w.numbers.live in_live shows.numbers.live;
+            live = λ j. written-at (λ own its. own ≡ its) m.numbers.live s true false w.numbers.live true in_live refl j (shows.numbers.live j);
             kept_by = shows.numbers.kept_by;
           };
           words = shows.words;
@@ -87,7 +87,7 @@ module _ (m : Machine) (w : World) (safe : Safe w) (shows : Shows m w) where
         limit = shows.numbers.limit;
         issued = shows.numbers.issued;
         live = shows.numbers.live;
-        kept_by = get_or-set_at m.numbers.kept_by s None None w.numbers.kept_by in_kept_by shows.numbers.kept_by;
+        kept_by = λ j. written-at (λ own its. own ≡ its) m.numbers.kept_by s None None w.numbers.kept_by None in_kept_by refl j (shows.numbers.kept_by j);
       };
       words = shows.words;
       locks = shows.locks;
@@ -169,7 +169,7 @@ module _ (m : Machine) (w : World) (safe : Safe w) (shows : Shows m w) where
             limit = shows.numbers.limit;
             issued = shows.numbers.issued;
             live = shows.numbers.live;
-            kept_by = get_or-set_at m.numbers.kept_by s (Some joiner) None w.numbers.kept_by in_kept_by shows.numbers.kept_by;
+            kept_by = λ j. written-at (λ own its. own ≡ its) m.numbers.kept_by s (Some joiner) None w.numbers.kept_by (Some joiner) in_kept_by refl j (shows.numbers.kept_by j);
           };
           words = shows.words;
           locks = shows.locks;
@@ -199,7 +199,7 @@ module _ (m : Machine) (w : World) (safe : Safe w) (shows : Shows m w) where
           numbers = record {
             limit = shows.numbers.limit;
             issued = shows.numbers.issued;
-            live = get_or-set_at m.numbers.live s false false w.numbers.live in_live shows.numbers.live;
+            live = λ j. written-at (λ own its. own ≡ its) m.numbers.live s false false w.numbers.live false in_live refl j (shows.numbers.live j);
             kept_by = shows.numbers.kept_by;
           };
           words = shows.words;

@@ -1,4 +1,4 @@
-use Rattle.std.proofs.Common.{◌≡◌, ◌≢◌, ℕ, ◌<◌, Bool, false, List, length, get_or, Option, None, option_map, refl, sym, ap, ◌∙◌, subst, inl, inr}
+use Rattle.std.proofs.Common.{get_or, ◌≡◌, ◌≢◌, ℕ, ◌<◌, Bool, false, List, length, Option, None, option_map, refl, sym, ap, ◌∙◌, subst, inl, inr}
 use Rattle.std.specs.Vec.{with_item}
 use Rattle.std.proofs.Math.ListN.{set, length-set}
 use Rattle.std.proofs.lemmas.Bool.{cases_eq}
@@ -16,17 +16,13 @@ use Rattle.lock_table.specs.Put.{set_at}
 use Rattle.lw_word.specs.LightweightWord.{free_word}
 use Rattle.lock_world.specs.World as world
 use Rattle.lock_model.specs.Shows.{ShowsHandIfAny, ShowsWords, ShowsContents, ShowsWaits, awaited_of}
-use Rattle.lock_table.proofs.PutLemmas.{set_at-here, set_at-else}
+use Rattle.lock_table.proofs.PutLemmas.{set_at-here, set_at-else, written-at}
 
 -- What the machine shows once one place of it was written, for each record of `Shows`.
 
 -- A list with one place written reads as the function changed there.
 pub get_or-set_at : {A : Type 0} (xs : List A) (k : ℕ) (a d : A) (f : ℕ → A) → k < length xs → ((j : ℕ) → get_or xs j d ≡ f j) → (j : ℕ) → get_or (set xs k a) j d ≡ set_at f k a j
-get_or-set_at xs k a d f within reads j =
-    elim (cases_eq j k) [
-      | inl same ↦ ap (λ i. get_or (set xs k a) i d) same ∙ get_or-set_same xs k a d within ∙ sym (set_at-here f k a j same)
-      | inr other ↦ get_or-set_other xs k j a d other ∙ reads j ∙ sym (set_at-else f k a j other)
-    ]
+get_or-set_at xs k a d f within reads j = written-at (λ own its. own ≡ its) xs k a d f a within refl j (reads j)
 
 -- A partition's word, that of a session's fast-path slots, and a session's wait word.
 pub partition_word-set : (shown : Words) (words : world.Words) (p a b : ℕ) → ShowsWords shown words → p < length shown.partitions → a ≡ b
@@ -60,23 +56,11 @@ wait_word-set shown words s a b shows below same = record {
 }
 
 -- A hand.
-hands-set : (xs : List (Option InHand)) (p : ℕ) (mine : Option InHand) (hand : Option world.Hand) (f : ℕ → Option world.Hand) → p < length xs → ShowsHandIfAny mine hand
-    → ((q : ℕ) → ShowsHandIfAny (get_or xs q None) (f q)) → (q : ℕ) → ShowsHandIfAny (get_or (set xs p mine) q None) (set_at f p hand q)
-hands-set xs p mine hand f within is reads q =
-    elim (cases_eq q p) [
-      | inl same ↦
-          subst (λ h. ShowsHandIfAny (get_or (set xs p mine) q None) h) (sym (set_at-here f p hand q same))
-          (subst (λ x. ShowsHandIfAny x hand) (sym (ap (λ i. get_or (set xs p mine) i None) same ∙ get_or-set_same xs p mine None within)) is)
-      | inr other ↦
-          subst (λ h. ShowsHandIfAny (get_or (set xs p mine) q None) h) (sym (set_at-else f p hand q other))
-          (subst (λ x. ShowsHandIfAny x (f q)) (sym (get_or-set_other xs p q mine None other)) (reads q))
-    ]
-
 pub hand-set : (shown : Contents) (contents : world.Contents) (p : ℕ) (mine : Option InHand) (hand : Option world.Hand) → ShowsContents shown contents → p < 16 → ShowsHandIfAny mine hand
     → ShowsContents (record shown { hands = set shown.hands p mine }) (record contents { hand = set_at contents.hand p hand })
 hand-set shown contents p mine hand shows exists is = record {
   sixteen_hands = length-set shown.hands p mine ∙ shows.sixteen_hands;
-  hand = hands-set shown.hands p mine hand contents.hand (subst (λ n. p < n) (sym shows.sixteen_hands) exists) is shows.hand;
+  hand = λ q. written-at ShowsHandIfAny shown.hands p mine None contents.hand hand (subst (λ n. p < n) (sym shows.sixteen_hands) exists) is q (shows.hand q);
   sixteen = shows.sixteen;
   now = shows.now;
   none_begun = shows.none_begun;
@@ -125,20 +109,12 @@ part-set shown contents p part content shows exists is none =
     (changed_there shown.parts.items p p part content refl (subst (λ n. p < n) (sym shows.sixteen) exists) is none)
 
 -- A session's own wait, which has not seen a grant then.
-own_waits-set : (xs : List (Option Awaited)) (s : ℕ) (mine : Option Awaited) (its : Option OwnWait) (f : ℕ → Option OwnWait) → s < length xs → mine ≡ option_map awaited_of its
-    → ((k : ℕ) → get_or xs k None ≡ option_map awaited_of (f k)) → (k : ℕ) → get_or (set xs s mine) k None ≡ option_map awaited_of (set_at f s its k)
-own_waits-set xs s mine its f within is reads k =
-    elim (cases_eq k s) [
-      | inl same ↦ ap (λ i. get_or (set xs s mine) i None) same ∙ get_or-set_same xs s mine None within ∙ is ∙ sym (ap (option_map awaited_of) (set_at-here f s its k same))
-      | inr other ↦ get_or-set_other xs s k mine None other ∙ reads k ∙ sym (ap (option_map awaited_of) (set_at-else f s its k other))
-    ]
-
 pub own_wait-set : (shown : OwnWaits) (wait : ℕ → Option OwnWait) (has_seen : ℕ → Bool) (s : ℕ) (mine : Option Awaited) (its : Option OwnWait) → ShowsWaits shown wait has_seen
     → s < 64 → mine ≡ option_map awaited_of its
     → ShowsWaits (record { awaited = set shown.awaited s mine; seen = set shown.seen s false }) (set_at wait s its) (set_at has_seen s false)
 own_wait-set shown wait has_seen s mine its shows below is = record {
   sixty_four = length-set shown.awaited s mine ∙ shows.sixty_four;
   sixty_four_seen = length-set shown.seen s false ∙ shows.sixty_four_seen;
-  awaited = own_waits-set shown.awaited s mine its wait (subst (λ n. s < n) (sym shows.sixty_four) below) is shows.awaited;
-  seen = get_or-set_at shown.seen s false false has_seen (subst (λ n. s < n) (sym shows.sixty_four_seen) below) shows.seen;
+  awaited = λ k. written-at (λ own its. own ≡ option_map awaited_of its) shown.awaited s mine None wait its (subst (λ n. s < n) (sym shows.sixty_four) below) is k (shows.awaited k);
+  seen = λ k. written-at (λ own its. own ≡ its) shown.seen s false false has_seen false (subst (λ n. s < n) (sym shows.sixty_four_seen) below) refl k (shows.seen k);
 }

@@ -65,8 +65,14 @@ impl Machine {
         requires exists { partition < 16 }
         requires free { IsHeldByNobody (slice_index_or self.old.words.partitions partition free_word) }
         ensures { self.new ≡ record self.old {
-          words = record (self.old.words) { partitions = slice_set self.old.words.partitions partition (taken_word (slice_index_or self.old.words.partitions partition free_word)) };
-          contents = record (self.old.contents) { hands = slice_set self.old.contents.hands partition (Some (record { holder = session; recorded = None; unmarked = replicate 64 false })) };
+          words = record (self.old.words) {
+            partitions = slice_set self.old.words.partitions partition
+                (taken_word (slice_index_or self.old.words.partitions partition free_word));
+          };
+          contents = record (self.old.contents) {
+            hands = slice_set self.old.contents.hands partition
+                (Some (record { holder = session; recorded = None; unmarked = replicate 64 false }));
+          };
         } }
     {
         let index = usize::from(partition);
@@ -82,7 +88,10 @@ impl Machine {
     pub fn record(&mut self, partition: u8, hand: InHand, done: Move, unmarked: [bool; 64])
         requires { partition < 16 }
         ensures { self.new ≡ record self.old {
-          contents = record (self.old.contents) { hands = slice_set self.old.contents.hands partition (Some (record { holder = hand.holder; recorded = Some done; unmarked = unmarked })) };
+          contents = record (self.old.contents) {
+            hands = slice_set self.old.contents.hands partition
+                (Some (record { holder = hand.holder; recorded = Some done; unmarked = unmarked }));
+          };
         } }
     {
         self.contents.hands[usize::from(partition)] = Some(InHand {
@@ -105,8 +114,18 @@ impl Machine {
         requires exists { partition < 16 }
         requires waiting { wait_state (slice_index_or self.old.words.waits other 0) ≡ 1 }
         ensures { self.new ≡ record self.old {
-          words = record (self.old.words) { waits = slice_set self.old.words.waits other (granted_word (slice_index_or self.old.words.waits other 0)) };
-          contents = record (self.old.contents) { hands = slice_set self.old.contents.hands partition (Some (record { holder = hand.holder; recorded = Some done; unmarked = slice_set unmarked other false })) };
+          words = record (self.old.words) {
+            waits = slice_set self.old.words.waits other
+                (granted_word (slice_index_or self.old.words.waits other 0));
+          };
+          contents = record (self.old.contents) {
+            hands = slice_set self.old.contents.hands partition
+                (Some (record {
+                  holder = hand.holder;
+                  recorded = Some done;
+                  unmarked = slice_set unmarked other false;
+                }));
+          };
         } }
     {
         let index = usize::from(other.number());
@@ -120,7 +139,10 @@ impl Machine {
     pub fn set_free(&mut self, partition: u8)
         requires { partition < 16 }
         ensures { self.new ≡ record self.old {
-          words = record (self.old.words) { partitions = slice_set self.old.words.partitions partition (put_word (slice_index_or self.old.words.partitions partition free_word)) };
+          words = record (self.old.words) {
+            partitions = slice_set self.old.words.partitions partition
+                (put_word (slice_index_or self.old.words.partitions partition free_word));
+          };
           contents = record (self.old.contents) { hands = slice_set self.old.contents.hands partition None };
         } }
     {

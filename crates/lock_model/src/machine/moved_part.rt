@@ -34,11 +34,11 @@ pub fn after_release(
     ensures moved { IfOk result (λ found. IfSome found (IsMoved part.now session (Release tag mode))) }
     ensures no_hold { IfOk result (λ found. found ≡ None → (content_of part.now).holds session tag mode ≡ false) }
 {
-    if !part.held(session, tag).has(mode) {
+    if !part.held(session, &tag).has(mode) {
         return Ok(None);
     }
     let mut after = part.clone()?;
-    let woken = release(&mut after, session, tag, mode);
+    let woken = release(&mut after, session, &tag, mode);
     Ok(Some(MovedPart { part: after, woken }))
 }
 
@@ -50,10 +50,11 @@ pub fn after_leaving(
     tag: Tag,
 ) -> Result<Option<MovedPart>, NoMemory>
     ensures moved { IfOk result (λ found. IfSome found (IsMoved part.now session (Leave tag))) }
-    ensures no_wait { IfOk result (λ found. found ≡ None → waits_there ((content_of part.now).waits tag) session ≡ false) }
+    ensures no_wait { IfOk result (λ found. found ≡ None →
+        waits_there ((content_of part.now).waits tag) session ≡ false) }
 {
     let mut after = part.clone()?;
-    let removed = remove_waiter(&mut after, session, tag);
+    let removed = remove_waiter(&mut after, session, &tag);
     if removed.was_granted {
         return Ok(None);
     }
@@ -78,9 +79,13 @@ impl Machine {
     ) -> Result<Option<MovedPart>, NoMemory>
         requires exists { partition < 16 }
         requires sixteen { length self.now.contents.parts.items ≡ 16 }
-        ensures moved { IfOk result (λ found. IfSome found (IsMoved (part_at self.now.contents.parts.items partition) session done)) }
-        ensures own { IfOk result (λ found. IfSome found (λ _. IsOwnFor (slice_index_or self.now.waits.awaited session None) done)) }
-        ensures cannot { IfOk result (λ found. found ≡ None → CannotMake (slice_index_or self.now.waits.awaited session None) (contents_in self.now.contents.parts.items partition) session done) }
+        ensures moved { IfOk result (λ found.
+            IfSome found (IsMoved (part_at self.now.contents.parts.items partition) session done)) }
+        ensures own { IfOk result (λ found.
+            IfSome found (λ _. IsOwnFor (slice_index_or self.now.waits.awaited session None) done)) }
+        ensures cannot { IfOk result (λ found. found ≡ None →
+            CannotMake (slice_index_or self.now.waits.awaited session None)
+            (contents_in self.now.contents.parts.items partition) session done) }
     {
         let part = &self.contents.parts[usize::from(partition)];
         match done {

@@ -30,18 +30,22 @@ impl Machine {
     /// Whether the session may ask for the mode on the object: it waits for nothing, and hasn't the hold.
     pub fn may_ask(&self, session: SessionId, tag: Tag, mode: Mode) -> bool
         requires shown { ShowsSafe self.now }
-        ensures { result ≡ (is_none (slice_index_or self.now.waits.awaited session None) && not ((contents_in self.now.contents.parts.items (partition_of tag)).holds session tag mode)) }
+        ensures { result ≡ (is_none (slice_index_or self.now.waits.awaited session None)
+            && not ((contents_in self.now.contents.parts.items (partition_of tag)).holds session tag mode)) }
     {
         let part = &self.contents.parts[usize::from(tag.partition())];
         self.waits.awaited[usize::from(session.number())].is_none()
-            && !part.held(session, tag).has(mode)
+            && !part.held(session, &tag).has(mode)
     }
 
     /// The session waits from now on, by its own account and by its wait word.
     pub fn begin_wait(&mut self, session: SessionId, tag: Tag, mode: Mode)
         ensures { self.new ≡ record self.old {
           words = record (self.old.words) { waits = slice_set self.old.words.waits session 1 };
-          waits = record { awaited = slice_set self.old.waits.awaited session (Some (record { tag = tag; mode = mode })); seen = slice_set self.old.waits.seen session false };
+          waits = record {
+            awaited = slice_set self.old.waits.awaited session (Some (record { tag = tag; mode = mode }));
+            seen = slice_set self.old.waits.seen session false;
+          };
         } }
     {
         let index = usize::from(session.number());
@@ -54,7 +58,10 @@ impl Machine {
     pub fn end_wait(&mut self, session: SessionId)
         ensures { self.new ≡ record self.old {
           words = record (self.old.words) { waits = slice_set self.old.words.waits session 0 };
-          waits = record { awaited = slice_set self.old.waits.awaited session None; seen = slice_set self.old.waits.seen session false };
+          waits = record {
+            awaited = slice_set self.old.waits.awaited session None;
+            seen = slice_set self.old.waits.seen session false;
+          };
         } }
     {
         let index = usize::from(session.number());

@@ -132,18 +132,20 @@ impl Machine {
     ) -> Result<(), NoMemory>
         requires shown { ShowsSafe self.old }
         requires in_hand { HasUnmoved self.old session partition }
-        ensures { OnOk result (Follows self.old session (Step.PutExclusive (Word.Partition partition) (Move.Grant tag mode)) self.new) }
+        ensures { OnOk result
+            (Follows self.old session (Step.PutExclusive (Word.Partition partition) (Move.Grant tag mode)) self.new) }
     {
         if tag.partition() != partition || !self.may_ask(session, tag, mode) {
             return Ok(());
         }
         let index = usize::from(partition);
-        let Answer::Granted = waiting_answer(&self.contents.parts[index], session, tag, mode) else {
+        let Answer::Granted = waiting_answer(&self.contents.parts[index], session, &tag, mode)
+        else {
             return Ok(());
         };
         let part = &mut self.contents.parts[index];
-        part.begin(session, tag, mode)?;
-        part.grant(session, tag, mode);
+        part.begin(session, &tag, mode)?;
+        part.grant(session, &tag, mode);
         self.set_free(partition);
         Ok(())
     }
@@ -158,7 +160,8 @@ impl Machine {
     ) -> Result<(), NoMemory>
         requires shown { ShowsSafe self.old }
         requires in_hand { HasUnmoved self.old session partition }
-        ensures { OnOk result (Follows self.old session (Step.PutExclusive (Word.Partition partition) (Move.Release tag mode)) self.new) }
+        ensures { OnOk result
+            (Follows self.old session (Step.PutExclusive (Word.Partition partition) (Move.Release tag mode)) self.new) }
     {
         if tag.partition() != partition {
             return Ok(());

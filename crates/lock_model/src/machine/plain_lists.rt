@@ -22,7 +22,8 @@ mod tests;
 /// The holds of all parts, in the order of holds. Where each object's holds stand in the partition that it
 /// lies in, the list has each of them once.
 pub fn gather_holds(alloc: Global, parts: &[PlainPart]) -> Result<Vec<Hold>, NoMemory>
-    ensures all { IfOk result (λ list. AreAtHome parts.now → ListsHolds list.items (λ session tag mode. (contents_in parts.now (partition_of tag)).holds session tag mode)) }
+    ensures all { IfOk result (λ list. AreAtHome parts.now →
+        ListsHolds list.items (λ session tag mode. (contents_in parts.now (partition_of tag)).holds session tag mode)) }
     ensures in_table { IfOk result (λ list. AreInTable list.items) }
     ensures in_order { IfOk result (λ list. IsSorted hold_cmp list.items) }
 {
@@ -37,8 +38,11 @@ pub fn gather_holds(alloc: Global, parts: &[PlainPart]) -> Result<Vec<Hold>, NoM
 /// The waits of all parts, by tag. Where each object's waits stand in the partition that it lies in, those of
 /// one object are its queue, in its order.
 pub fn gather_waits(alloc: Global, parts: &[PlainPart]) -> Result<Vec<QueuedWait>, NoMemory>
-    ensures all { IfOk result (λ list. AreAtHome parts.now → (tag : Tag) → map wait_of (filter (λ queued. tag_eq queued.tag tag) list.items) ≡ (contents_in parts.now (partition_of tag)).waits tag) }
-    ensures by_tag { IfOk result (λ list. IsSortedByKey (λ queued. queued.tag) (on numbers_of (slice_cmp nat_cmp)) list.items) }
+    ensures all { IfOk result (λ list. AreAtHome parts.now → (tag : Tag) →
+        map wait_of (filter (λ queued. tag_eq queued.tag tag) list.items)
+        ≡ (contents_in parts.now (partition_of tag)).waits tag) }
+    ensures by_tag { IfOk result (λ list.
+        IsSortedByKey (λ queued. queued.tag) (on numbers_of (slice_cmp nat_cmp)) list.items) }
 {
     let mut waits = Vec::new(alloc);
     for part in parts {

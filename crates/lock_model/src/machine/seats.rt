@@ -86,7 +86,8 @@ impl Machine {
 
     /// Whether the session has a hold.
     fn has_a_hold(&self, session: SessionId) -> bool
-        ensures { result ≡ list_any (λ part. list_any (λ hold. hold.session == session) part.holds) self.now.contents.parts.items }
+        ensures { result
+            ≡ list_any (λ part. list_any (λ hold. hold.session == session) part.holds) self.now.contents.parts.items }
     {
         self.contents
             .parts

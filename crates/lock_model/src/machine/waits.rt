@@ -52,7 +52,7 @@ impl Machine {
             return Ok(());
         }
         let part = &self.contents.parts[usize::from(partition)];
-        let Answer::Queued(place) = waiting_answer(part, session, tag, mode) else {
+        let Answer::Queued(place) = waiting_answer(part, session, &tag, mode) else {
             return Ok(());
         };
         self.join_now(session, tag, mode, hand, place)
@@ -114,14 +114,16 @@ impl Machine {
         requires in_hand { hand_of self.old session (partition_of tag) ≡ Some hand }
         requires unmoved { hand.recorded ≡ None }
         requires no_wait { is_none (slice_index_or self.old.waits.awaited session None) ≡ true }
-        requires not_held { (contents_in self.old.contents.parts.items (partition_of tag)).holds session tag mode ≡ false }
-        requires answer { WaitingAnswer (contents_in self.old.contents.parts.items (partition_of tag)) session tag mode (Queued place) }
+        requires not_held { (contents_in self.old.contents.parts.items (partition_of tag)).holds session tag mode
+            ≡ false }
+        requires answer { WaitingAnswer (contents_in self.old.contents.parts.items (partition_of tag))
+            session tag mode (Queued place) }
         ensures { OnOk result (Follows self.old session (Step.SetWaiting tag mode) self.new) }
     {
         let partition = tag.partition();
         let part = &mut self.contents.parts[usize::from(partition)];
-        part.begin(session, tag, mode)?;
-        part.join(session, tag, mode, place);
+        part.begin(session, &tag, mode)?;
+        part.join(session, &tag, mode, place);
         self.record(partition, hand, Move::Join { tag, mode }, [false; 64]);
         self.begin_wait(session, tag, mode);
         Ok(())
@@ -186,11 +188,12 @@ impl Machine {
     /// Whether the session has the object's partition in hand, and no wait in the object's queue.
     fn is_gone(&self, session: SessionId, tag: Tag) -> bool
         requires shown { ShowsSafe self.now }
-        ensures { result ≡ (is_some (hand_of self.now session (partition_of tag)) && not (waits_there ((contents_in self.now.contents.parts.items (partition_of tag)).waits tag) session)) }
+        ensures { result ≡ (is_some (hand_of self.now session (partition_of tag))
+            && not (waits_there ((contents_in self.now.contents.parts.items (partition_of tag)).waits tag) session)) }
     {
         let partition = tag.partition();
         match self.hand_of(session, partition) {
-            Some(_) => !self.contents.parts[usize::from(partition)].has_wait_of(session, tag),
+            Some(_) => !self.contents.parts[usize::from(partition)].has_wait_of(session, &tag),
             None => false,
         }
     }
@@ -200,14 +203,15 @@ impl Machine {
     fn leave_queue(&mut self, session: SessionId, tag: Tag)
         requires shown { ShowsSafe self.old }
         requires steps { makes_steps self.old session ≡ true }
-        requires awaited { (wait : Awaited) × (slice_index_or self.old.waits.awaited session None ≡ Some wait) × (wait.tag ≡ tag) }
+        requires awaited { (wait : Awaited)
+            × (slice_index_or self.old.waits.awaited session None ≡ Some wait) × (wait.tag ≡ tag) }
         ensures { Follows self.old session (Step.ClearWait true) self.new }
     {
         let partition = tag.partition();
         let Some(hand) = self.hand_of(session, partition) else {
             return;
         };
-        let waits = self.contents.parts[usize::from(partition)].has_wait_of(session, tag);
+        let waits = self.contents.parts[usize::from(partition)].has_wait_of(session, &tag);
         let Some(recorded) = hand.recorded else {
             if waits {
                 self.leave_now(session, tag, hand);
@@ -222,15 +226,17 @@ impl Machine {
     /// Makes the leave: takes the session's wait out of the object's queue, and clears its wait word.
     fn leave_now(&mut self, session: SessionId, tag: Tag, hand: InHand)
         requires shown { ShowsSafe self.old }
-        requires awaited { (wait : Awaited) × (slice_index_or self.old.waits.awaited session None ≡ Some wait) × (wait.tag ≡ tag) }
+        requires awaited { (wait : Awaited)
+            × (slice_index_or self.old.waits.awaited session None ≡ Some wait) × (wait.tag ≡ tag) }
         requires in_hand { hand_of self.old session (partition_of tag) ≡ Some hand }
         requires unmoved { hand.recorded ≡ None }
-        requires in_queue { waits_there ((contents_in self.old.contents.parts.items (partition_of tag)).waits tag) session ≡ true }
+        requires in_queue { waits_there
+            ((contents_in self.old.contents.parts.items (partition_of tag)).waits tag) session ≡ true }
         ensures { Follows self.old session (Step.ClearWait true) self.new }
     {
         let partition = tag.partition();
         let part = &mut self.contents.parts[usize::from(partition)];
-        let removed = remove_waiter(part, session, tag);
+        let removed = remove_waiter(part, session, &tag);
         self.record(
             partition,
             hand,

@@ -3,7 +3,7 @@ use crate::desk::{Asked, Cancelled, Listing, Started};
 use crate::faults::{Defect, Fault};
 use crate::names::{Name, Names};
 use crate::output::Output;
-use local_locks::{Acquired, End, Unlocked};
+use local_locks::{End, Unlocked};
 use lock_table::{SlotRow, TableRow};
 use modes_core::{How, Mode, Refusal, SessionId, Tag};
 use std::process::Abort;
@@ -112,9 +112,6 @@ fn a_refusal_has_its_number_and_text(rt: HostRuntime) -> Result<(), Fail> {
 /// Prints an answer of each variant.
 fn print_answers(rt: &impl Abort, output: &mut Output<&mut Vec<u8>>) -> Result<(), Fault> {
     let (a, b) = (name(rt, "a"), name(rt, "b"));
-    for acquired in [Acquired::Granted, Acquired::AlreadyHeld] {
-        output.acquired(&a, acquired)?;
-    }
     for started in [Started::Granted, Started::AlreadyHeld, Started::Queued] {
         output.started(&b, started)?;
     }
@@ -145,7 +142,7 @@ fn an_answer_has_its_text(rt: HostRuntime) -> Result<(), Fail> {
     let mut output = Output::new(&mut printed);
     assert!(rt; print_answers(&rt, &mut output) == Ok(()));
     drop(output);
-    let text = "a: granted\na: already held\nb: granted\nb: already held\nb: waits\n\
+    let text = "b: granted\nb: already held\nb: waits\n\
                 b: granted after waiting\nb: cancelled\nb: granted after waiting\na: asked b\nb isn't waiting\n\
                 a: waiters yes\na: waiters no\na: released\na: still held\na: committed\na: aborted\n\
                 a: closed\na: transaction 12 session 65535\n\

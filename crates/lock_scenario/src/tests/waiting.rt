@@ -4,7 +4,7 @@ ghost use Rattle.lock_scenario.specs.Desk.{issued_of, wait_of};
 
 use super::{EIGHT, expect_run};
 use crate::desk::{Asked, Cancelled, Desk, Started};
-use local_locks::{Acquired, Unlocked};
+use local_locks::Unlocked;
 use modes_core::{How, Mode, Owner, Refusal, SessionId, Tag};
 use std::alloc::Global;
 use std::process::Abort;
@@ -239,7 +239,7 @@ fn keeps_what_was_granted_before_a_cancel(rt: HostRuntime) -> Result<(), Fail> {
     let (mode, owner) = (Mode::AccessExclusive, Owner::Transaction);
     expect_no_wait(&rt, &desk, holder);
     let taken = desk.try_lock(holder, tag, mode, owner);
-    assert!(rt; taken == Ok(Acquired::Granted));
+    assert!(rt; taken == Ok(Started::Granted));
     expect_no_wait(&rt, &desk, waiter);
     let started = desk.start(waiter, tag, mode, owner);
     assert!(rt; started == Ok(Started::Queued));

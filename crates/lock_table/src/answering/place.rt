@@ -7,8 +7,8 @@ use modes_core::{Mode, SessionId, Tag};
 
 /// The answer to a request for the mode that something is in the way of, by the modes of the object that
 /// its session holds (the early insertion of `ProcSleep` in proc.c).
-pub fn answer_by_place<P: PartTable>(part: &P, session: SessionId, tag: Tag, mode: Mode) -> Answer
-    ensures { AnswerByPlace (P.content part.now) session tag mode result }
+pub fn answer_by_place<P: PartTable>(part: &P, session: SessionId, tag: &Tag, mode: Mode) -> Answer
+    ensures { AnswerByPlace (P.content part.now) session tag.now mode result }
 {
     let held = part.held(session, tag);
     let Walk { met, place, ahead } = walk_until(part, tag, held);

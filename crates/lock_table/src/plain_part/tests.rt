@@ -34,16 +34,16 @@ fn begins(
     ensures none_begun { OnErr result (part.new.begun ≡ None) }
     ensures no_wait { waits_there ((content_of part.new).waits tag) session ≡ false }
 {
-    if part.held(session, tag).has(mode) {
+    if part.held(session, &tag).has(mode) {
         panic!(rt; "it is held already");
     }
-    if part.leave(session, tag).is_some() {
+    if part.leave(session, &tag).is_some() {
         panic!(rt; "it is awaited already");
     }
-    if part.begin(session, tag, mode).is_ok() {
+    if part.begin(session, &tag, mode).is_ok() {
         return Ok(());
     }
-    part.begin(session, tag, mode)
+    part.begin(session, &tag, mode)
 }
 
 /// Makes the session hold the object.
@@ -58,7 +58,7 @@ pub fn holds(
     ensures none_begun { part.new.begun ≡ None }
 {
     begins(rt, part, session, tag, mode)?;
-    part.grant(session, tag, mode);
+    part.grant(session, &tag, mode);
     Ok(())
 }
 
@@ -76,10 +76,10 @@ pub fn waits(
 {
     begins(rt, part, session, tag, mode)?;
     if place > 0 {
-        let ahead = part.waiter(tag, place - 1);
+        let ahead = part.waiter(&tag, place - 1);
         assert!(rt; ahead.is_some());
     }
-    part.join(session, tag, mode, place);
+    part.join(session, &tag, mode, place);
     Ok(())
 }
 
@@ -87,19 +87,19 @@ pub fn waits(
 fn releases(rt: &impl Abort, part: &mut PlainPart, session: SessionId, tag: Tag, mode: Mode)
     ensures begun { part.new.begun ≡ part.old.begun }
 {
-    if !part.held(session, tag).has(mode) {
+    if !part.held(session, &tag).has(mode) {
         panic!(rt; "it is not held");
     }
-    part.ungrant(session, tag, mode);
+    part.ungrant(session, &tag, mode);
 }
 
 /// Looks at whose waits the object's queue has, from the front.
 fn queue_is(rt: &impl Abort, part: &PlainPart, tag: Tag, numbers: &[u8]) {
     for (place, number) in numbers.iter().enumerate() {
-        let waiter = part.waiter(tag, place).expect(rt, "a wait");
+        let waiter = part.waiter(&tag, place).expect(rt, "a wait");
         assert_eq!(rt; waiter.session.number(), *number);
     }
-    assert!(rt; part.waiter(tag, numbers.len()).is_none());
+    assert!(rt; part.waiter(&tag, numbers.len()).is_none());
 }
 
 #[test]
@@ -116,24 +116,24 @@ fn the_middle_one_of_three_goes_first(rt: HostRuntime) -> Result<(), Fail> {
     waits(&rt, &mut part, c, object(), Mode::AccessShare, 1)?;
     waits(&rt, &mut part, d, object(), Mode::Share, 2)?;
     // RowExclusiveLock conflicts with the hold, and the ShareLock behind it with the RowExclusiveLock.
-    let woken = part.wake(object());
+    let woken = part.wake(&object());
     assert_eq!(rt; woken.as_slice(), [(c, Mode::AccessShare)].as_slice());
-    assert!(rt; part.held(c, object()).has(Mode::AccessShare));
+    assert!(rt; part.held(c, &object()).has(Mode::AccessShare));
     queue_is(&rt, &part, object(), &[1, 3]);
     // Nothing has changed since.
-    assert!(rt; part.wake(object()).is_empty());
+    assert!(rt; part.wake(&object()).is_empty());
     queue_is(&rt, &part, object(), &[1, 3]);
     // The one granted first is a holder when the next is judged.
     releases(&rt, &mut part, a, object(), Mode::Share);
-    let woken = part.wake(object());
+    let woken = part.wake(&object());
     assert_eq!(rt; woken.as_slice(), [(b, Mode::RowExclusive)].as_slice());
     queue_is(&rt, &part, object(), &[3]);
     assert_eq!(rt;
-        part.conflict_of(d, object(), Mode::Share),
+        part.conflict_of(d, &object(), Mode::Share),
         Some((b, Mode::RowExclusive))
     );
     releases(&rt, &mut part, b, object(), Mode::RowExclusive);
-    let woken = part.wake(object());
+    let woken = part.wake(&object());
     assert_eq!(rt; woken.as_slice(), [(d, Mode::Share)].as_slice());
     queue_is(&rt, &part, object(), &[]);
     Ok(())
@@ -153,7 +153,7 @@ fn several_go_in_the_queues_order(rt: HostRuntime) -> Result<(), Fail> {
             place,
         )?;
     }
-    let woken = part.wake(object());
+    let woken = part.wake(&object());
     assert_eq!(rt; woken.len(), 40);
     for (place, (waiter, mode)) in woken.iter().enumerate() {
         assert_eq!(rt; usize::from(waiter.number()), place);
@@ -227,10 +227,10 @@ fn who_leaves_is_out_of_one_queue(rt: HostRuntime) -> Result<(), Fail> {
         2,
     )?;
     assert_eq!(rt;
-        part.leave(session(&rt, 2), object()),
+        part.leave(session(&rt, 2), &object()),
         Some(Mode::Exclusive)
     );
-    assert_eq!(rt; part.leave(session(&rt, 2), object()), None);
+    assert_eq!(rt; part.leave(session(&rt, 2), &object()), None);
     queue_is(&rt, &part, object(), &[1, 3]);
     queue_is(&rt, &part, another_object(), &[2]);
     Ok(())
@@ -244,7 +244,7 @@ fn a_waiter_has_the_modes_of_its_joining(rt: HostRuntime) -> Result<(), Fail> {
     holds(&rt, &mut part, a, another_object(), Mode::RowShare)?;
     waits(&rt, &mut part, a, object(), Mode::Exclusive, 0)?;
     releases(&rt, &mut part, a, object(), Mode::AccessShare);
-    let waiter = part.waiter(object(), 0).expect(&rt, "a wait");
+    let waiter = part.waiter(&object(), 0).expect(&rt, "a wait");
     assert_eq!(rt; waiter.mode, Mode::Exclusive);
     assert!(rt; waiter.held.has(Mode::AccessShare));
     assert!(rt; !waiter.held.has(Mode::RowShare));
@@ -284,21 +284,21 @@ fn waits_are_listed_behind_holds(rt: HostRuntime) -> Result<(), Fail> {
 fn a_request_is_told_where_it_stands(rt: HostRuntime) -> Result<(), Fail> {
     let (a, b, c) = (session(&rt, 0), session(&rt, 1), session(&rt, 2));
     let mut part = PlainPart::new(rt.alloc());
-    let first = waiting_answer(&part, a, object(), Mode::Share);
+    let first = waiting_answer(&part, a, &object(), Mode::Share);
     assert_eq!(rt; first, Answer::Granted);
     holds(&rt, &mut part, a, object(), Mode::Share)?;
-    let behind_the_holder = waiting_answer(&part, b, object(), Mode::RowExclusive);
+    let behind_the_holder = waiting_answer(&part, b, &object(), Mode::RowExclusive);
     assert_eq!(rt; behind_the_holder, Answer::Queued(0));
     waits(&rt, &mut part, b, object(), Mode::RowExclusive, 0)?;
-    let behind_the_waiter = waiting_answer(&part, c, object(), Mode::Share);
+    let behind_the_waiter = waiting_answer(&part, c, &object(), Mode::Share);
     assert_eq!(rt; behind_the_waiter, Answer::Queued(1));
     // The holder stands before the one that it keeps waiting, and nothing else is in its way.
-    let before_the_waiter = waiting_answer(&part, a, object(), Mode::Exclusive);
+    let before_the_waiter = waiting_answer(&part, a, &object(), Mode::Exclusive);
     assert_eq!(rt; before_the_waiter, Answer::Granted);
     holds(&rt, &mut part, a, another_object(), Mode::Share)?;
     holds(&rt, &mut part, b, another_object(), Mode::Share)?;
     waits(&rt, &mut part, a, another_object(), Mode::Exclusive, 0)?;
-    let against_one_another = waiting_answer(&part, b, another_object(), Mode::Exclusive);
+    let against_one_another = waiting_answer(&part, b, &another_object(), Mode::Exclusive);
     assert_eq!(rt; against_one_another, Answer::SimpleDeadlock(a));
     Ok(())
 }
@@ -316,7 +316,7 @@ fn a_copy_is_a_part_of_its_own(rt: HostRuntime) -> Result<(), Fail> {
     assert!(rt; !copy.has_hold_of(a));
     assert!(rt; part.has_hold_of(a));
     // There is room in it for the hold that its wait becomes.
-    let woken = copy.wake(object());
+    let woken = copy.wake(&object());
     assert_eq!(rt; woken.as_slice(), [(b, Mode::Exclusive)].as_slice());
     assert!(rt; copy.has_hold_of(b));
     assert!(rt; !part.has_hold_of(b));

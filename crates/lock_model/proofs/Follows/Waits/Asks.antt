@@ -7,14 +7,13 @@ use Rattle.lock_world.specs.declared.events.Step.TheVariants.{AskCancel, LoadWai
 use Rattle.lock_model.specs.declared.machine.state.Machine.{Machine}
 use Rattle.lock_world.specs.WaitWord.{wait_state, asked_word}
 use Rattle.lock_world.specs.World.{World}
-use Rattle.lock_table.specs.Put.{set_at}
 use Rattle.lock_world.specs.Happens.{Next}
 use Rattle.lock_world.specs.Happens.Waits.{after_asking, after_loading_wait}
 use Rattle.lock_world.specs.Safe.{Safe}
 use Rattle.lock_model.specs.Shows.{Shows, makes_steps}
 use Rattle.lock_model.proofs.Follows.Skipped.{skipped}
-use Rattle.lock_model.proofs.Shows.Changes.{get_or-set_at, wait_word-set}
-use Rattle.lock_table.proofs.PutLemmas.{set_at-same}
+use Rattle.lock_model.proofs.Shows.Changes.{wait_word-set}
+use Rattle.lock_table.proofs.PutLemmas.{set_at-same, written-at}
 use Rattle.lock_model.proofs.Shows.Looks.{steps_from, steps_not}
 
 -- Asking to cancel, and loading the own wait word.
@@ -52,7 +51,7 @@ module _ (m : Machine) (w : World) (safe : Safe w) (shows : Shows m w) where
         sixty_four = shows.waits.sixty_four;
         sixty_four_seen = length-set m.waits.seen s true ∙ shows.waits.sixty_four_seen;
         awaited = shows.waits.awaited;
-        seen = λ j. get_or-set_at m.waits.seen s true false w.sessions.seen in_seen shows.waits.seen j ∙ ap (λ b. set_at w.sessions.seen s b j) (sym sees);
+        seen = λ j. written-at (λ own its. own ≡ its) m.waits.seen s true false w.sessions.seen _ in_seen (sym sees) j (shows.waits.seen j);
       };
     },
   ) where

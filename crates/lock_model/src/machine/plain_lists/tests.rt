@@ -34,13 +34,13 @@ fn asks(
     ensures { part.new.begun ≡ None }
 {
     let session = session(rt, number);
-    if part.held(session, tag).has(mode) {
+    if part.held(session, &tag).has(mode) {
         panic!(rt; "session {number} holds it already");
     }
-    if part.has_wait_of(session, tag) {
+    if part.has_wait_of(session, &tag) {
         panic!(rt; "session {number} waits already");
     }
-    let decision = decide(part, session, tag, mode, Kind::Waiting)?;
+    let decision = decide(part, session, &tag, mode, Kind::Waiting)?;
     assert_eq!(rt; decision, expected);
     Ok(())
 }

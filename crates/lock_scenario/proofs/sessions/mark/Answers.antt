@@ -1,6 +1,6 @@
 use Rattle.std.proofs.Common.{◌≡◌, ◌<◌, ◌≤◌, ◌∙◌, ℕ, Some, length, sym, ap, arith, slice_set}
 use Rattle.std.proofs.lemmas.List.{get_or_default}
-use Rattle.lock_scenario.specs.declared.sessions.OwnWait.{OwnWait}
+use Rattle.lock_scenario.specs.declared.sessions.DeskWait.{DeskWait}
 use Rattle.lock_scenario.specs.declared.sessions.DeskSession.{DeskSession}
 use Rattle.lock_scenario.specs.Sessions.{no_session, marked_at}
 use Rattle.lock_scenario.proofs.Marking.{marked_at-some, marked_at-none, marked_at-past}
@@ -13,7 +13,7 @@ returns-in-Some-clause-marked c =
     let same : c.index_mut.result.now ≡ c.index.result.now =
     c.index_mut.ensures.value ∙ get_or_default c.args.sessions.now.items c.from-number.result c.index_mut.result.now no_session within ∙
     sym (c.index.ensures ∙ get_or_default c.args.sessions.now.items c.from-number.result c.index.result.now no_session within) in
-    ap (λ (own : OwnWait). slice_set c.args.sessions.now.items c.from-number.result (record (c.index_mut.result.now) { wait = Some own })) c.granted.ensures ∙
+    ap (λ (own : DeskWait). slice_set c.args.sessions.now.items c.from-number.result (record (c.index_mut.result.now) { wait = Some own })) c.granted.ensures ∙
     marked_at-some c.args.sessions.now.items c.from-number.result c.index_mut.result.now c.in-Some.wait within c.index_mut.ensures.value (ap (λ (it : DeskSession). it.wait) same ∙ c.in-Some.is) ∙
     ap (λ (n : ℕ). marked_at n c.args.sessions.now.items) number
 

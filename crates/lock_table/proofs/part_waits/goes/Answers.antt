@@ -29,11 +29,11 @@ not_held-goes holds ahead wait tag on is = rw (← on, is) refl
 
 pub returns-then-is_held_by_another : goal.returns-then-is_held_by_another
 returns-then-is_held_by_another c =
-    held-stays c.args.holds.now c.args.ahead.now c.args.wait c.args.tag
-    (ap (held c.args.holds.now c.args.wait c.args.tag) (sym c.conflicts-conflicting.ensures) ∙ sym c.is_held_by_another.ensures ∙ c.if-is_held_by_another.true)
+    held-stays c.args.holds.now c.args.ahead.now c.args.wait c.args.tag.now
+    (ap (held c.args.holds.now c.args.wait c.args.tag.now) (sym c.conflicts-conflicting.ensures) ∙ sym c.is_held_by_another.ensures ∙ c.if-is_held_by_another.true)
 
 pub returns : goal.returns
 returns c =
-    ap not (c.is_awaited.ensures ∙ ap (awaited c.args.ahead.now c.args.tag) c.conflicts-conflicting.ensures)
-    ∙ not_held-goes c.args.holds.now c.args.ahead.now c.args.wait c.args.tag c.if-not-is_same.ensures
-    (ap (held c.args.holds.now c.args.wait c.args.tag) (sym c.conflicts-conflicting.ensures) ∙ sym c.is_held_by_another.ensures ∙ c.if-is_held_by_another.false)
+    ap not (c.is_awaited.ensures ∙ ap (awaited c.args.ahead.now c.args.tag.now) c.conflicts-conflicting.ensures)
+    ∙ not_held-goes c.args.holds.now c.args.ahead.now c.args.wait c.args.tag.now c.if-not-is_same.ensures
+    (ap (held c.args.holds.now c.args.wait c.args.tag.now) (sym c.conflicts-conflicting.ensures) ∙ sym c.is_held_by_another.ensures ∙ c.if-is_held_by_another.false)

@@ -6,7 +6,7 @@ use Rattle.lock_table.proofs.part_waits.wake_queue.Goals as goal
 pub loop-place-init : goal.loop-place-init
 loop-place-init c =
     record {
-      waking = rw c.new-woken.ensures (Waking-start c.args.holds.now.items c.args.waits.now.items c.args.tag c.requires.one_wait_each);
+      waking = rw c.new-woken.ensures (Waking-start c.args.holds.now.items c.args.waits.now.items c.args.tag.now c.requires.one_wait_each);
       within = omega arith;
       len = search rules;
       fewer = omega arith;
@@ -17,7 +17,7 @@ pub push-requires : goal.push-requires
 push-requires c =
     let within : c.loop-place.place < length c.loop-place.waits.items = omega (arith, c.len.ensures, c.deref.ensures.len, ap length c.deref.ensures.value) in
     let next =
-    Waking-go_at c.args.holds.now.items c.args.waits.now.items c.args.tag c.loop-place.holds.items c.loop-place.waits.items c.loop-place.place c.index.result.now c.loop-place.woken.items
+    Waking-go_at c.args.holds.now.items c.args.waits.now.items c.args.tag.now c.loop-place.holds.items c.loop-place.waits.items c.loop-place.place c.index.result.now c.loop-place.woken.items
     within c.index.ensures (rw (← c.as_slice.ensures.value, ← c.deref.ensures.value) (sym c.goes.ensures ∙ c.if-goes.true)) c.whose.ensures.within c.loop-place.invariant.waking in
     let all = woken_fit _ _ _ _ _ _ _ next in
     let fits : length c.loop-place.woken.items < 64 = omega (arith, all, length_push c.loop-place.woken.items (c.index.result.now.waiter.session, c.index.result.now.waiter.mode)) in
@@ -27,7 +27,7 @@ pub loop-place-preserved-then-goes : goal.loop-place-preserved-then-goes
 loop-place-preserved-then-goes c =
     let within : c.loop-place.place < length c.loop-place.waits.items = omega (arith, c.len.ensures, c.deref.ensures.len, ap length c.deref.ensures.value) in
     let next =
-    Waking-go_at c.args.holds.now.items c.args.waits.now.items c.args.tag c.loop-place.holds.items c.loop-place.waits.items c.loop-place.place c.index.result.now c.loop-place.woken.items
+    Waking-go_at c.args.holds.now.items c.args.waits.now.items c.args.tag.now c.loop-place.holds.items c.loop-place.waits.items c.loop-place.place c.index.result.now c.loop-place.woken.items
     within c.index.ensures (rw (← c.as_slice.ensures.value, ← c.deref.ensures.value) (sym c.goes.ensures ∙ c.if-goes.true)) c.whose.ensures.within c.loop-place.invariant.waking in
     record {
       waking = rw (c.push_reserved.ensures.items, c.request.ensures, c.remove.ensures.items, c.push.ensures.items, c.whose.ensures.value) next;
@@ -42,7 +42,7 @@ loop-place-preserved c =
     let within : c.loop-place.place < length c.loop-place.waits.items = omega (arith, c.len.ensures, c.deref.ensures.len, ap length c.deref.ensures.value) in
     record {
       waking =
-          Waking-stay_at c.args.holds.now.items c.args.waits.now.items c.args.tag c.loop-place.holds.items c.loop-place.waits.items c.loop-place.place c.index.result.now c.loop-place.woken.items
+          Waking-stay_at c.args.holds.now.items c.args.waits.now.items c.args.tag.now c.loop-place.holds.items c.loop-place.waits.items c.loop-place.place c.index.result.now c.loop-place.woken.items
           within c.index.ensures (rw (← c.as_slice.ensures.value, ← c.deref.ensures.value) (sym c.goes.ensures ∙ c.if-goes.false)) c.loop-place.invariant.waking;
       within = omega arith;
       len = c.loop-place.invariant.len;
@@ -53,7 +53,7 @@ loop-place-preserved c =
 pub returns-clause-woken : goal.returns-clause-woken
 returns-clause-woken c =
     let past : length c.loop-place.waits.items ≤ c.loop-place.place = omega (arith, c.len.ensures, c.loop-place.waits.ok) in
-    Waking-end c.args.holds.now.items c.args.waits.now.items c.args.tag c.loop-place.holds.items c.loop-place.waits.items c.loop-place.woken.items
+    Waking-end c.args.holds.now.items c.args.waits.now.items c.args.tag.now c.loop-place.holds.items c.loop-place.waits.items c.loop-place.woken.items
     (Waking-end_at _ _ _ _ _ _ _ past c.loop-place.invariant.waking)
 
 pub returns-clause-same_requests : goal.returns-clause-same_requests

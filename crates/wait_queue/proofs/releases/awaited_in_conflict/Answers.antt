@@ -4,4 +4,4 @@ use Rattle.wait_queue.proofs.releases.awaited_in_conflict.Goals as goal
 
 pub returns : goal.returns
 returns g c =
-    c.is_some.ensures ∙ awaited-first c.args.mode ((g.P.PartTable.content c.args.part.now).waits c.args.tag) c.first_against.result c.first_against.ensures
+    c.is_some.ensures ∙ awaited-first c.args.mode ((g.P.PartTable.content c.args.part.now).waits c.args.tag.now) c.first_against.result c.first_against.ensures

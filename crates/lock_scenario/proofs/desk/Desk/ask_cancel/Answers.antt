@@ -1,5 +1,5 @@
 use Rattle.std.proofs.Common.{◌<◌, length, refl, sym, subst, Some, slice_set, arith}
-use Rattle.lock_scenario.specs.declared.sessions.OwnWait.{OwnWait}
+use Rattle.lock_scenario.specs.declared.sessions.DeskWait.{DeskWait}
 use Rattle.lock_scenario.specs.declared.sessions.DeskSession.{DeskSession}
 use Rattle.lock_scenario.specs.Desk.{IsDesk}
 use Rattle.lock_scenario.proofs.DeskLemmas.{Finds_session}
@@ -16,7 +16,7 @@ invariant_of-self-2 c =
       opened = omega (arith, c.if-number-len.false, c.len.ensures);
       it_is = c.index_mut-asked.ensures.value;
     } in (
-      subst (λ (wait : OwnWait). IsDesk c.self.inside.parts.items
+      subst (λ (wait : DeskWait). IsDesk c.self.inside.parts.items
           (slice_set c.self.inside.sessions.items c.from-number.result (record { database = it.database; locals = it.locals; wait = Some wait })) c.self.inside.limit c.self.inside.max_local)
           (sym c.asked_to_cancel.ensures)
           (IsDesk-asked c.self.inside.parts.items c.self.inside.sessions.items c.self.inside.limit c.self.inside.max_local c.from-number.result it c.in-Some.wait found c.in-Some.is),

@@ -3,7 +3,7 @@ use Rattle.local_locks.specs.Owned.{with_one_more}
 use Rattle.std.specs.Prelude.{IfSome}
 use Rattle.lock_table.specs.Put.{set_at}
 use Rattle.lock_table.proofs.PutLemmas.{set_at-here, set_at-same}
-use Rattle.lock_scenario.specs.declared.sessions.OwnWait.{OwnWait}
+use Rattle.lock_scenario.specs.declared.sessions.DeskWait.{DeskWait}
 use Rattle.lock_scenario.specs.declared.sessions.DeskSession.{DeskSession}
 use Rattle.lock_scenario.specs.Sessions.{entries_in, waits_in}
 use Rattle.lock_scenario.specs.Desk.{DeskView, wait_of, entries_of, shared_of}
@@ -74,7 +74,7 @@ returns-clause-removed c is =
     let after : DeskSession = record { database = c.index_mut-own.result.now.database; locals = c.index_mut-own.result.now.locals; wait = None } in
     let at : wait_of c.args.self.now c.args.session ≡ Some c.unwrap-wait.result =
     sym (ap (λ (desk : DeskView). wait_of desk c.args.session) c.self.view_is) ∙ ap (waits_in c.self.inside.sessions.items) (sym found.number) ∙ sym (ap (λ (one : DeskSession). one.wait) (session_found _ _ _ _ _ _ _ found)) ∙ own in
-    subst (λ (w : Option OwnWait). IfSome w (λ wait. Leaves (shared_of c.args.self.now) c.args.session wait.tag (record { contents = contents_in c.leave_queue.new.parts.items; waits = waits_in c.leave_queue.new.sessions.items }))) (sym at)
+    subst (λ (w : Option DeskWait). IfSome w (λ wait. Leaves (shared_of c.args.self.now) c.args.session wait.tag (record { contents = contents_in c.leave_queue.new.parts.items; waits = waits_in c.leave_queue.new.sessions.items }))) (sym at)
     (subst (λ (desk : DeskView). Leaves (shared_of desk) c.args.session c.unwrap-wait.result.tag (record { contents = contents_in c.leave_queue.new.parts.items; waits = waits_in c.leave_queue.new.sessions.items })) c.self.view_is
     (Leaves-after _ _ _ _ _ _ c.index_mut-own.result.now after c.unwrap-wait.result.tag c.leave_queue.new.parts.items c.leave_queue.new.sessions.items found refl c.leave_queue.ensures.changed))
 

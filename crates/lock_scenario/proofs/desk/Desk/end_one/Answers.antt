@@ -10,7 +10,7 @@ use Rattle.lock_scenario.specs.Sessions.{waits_in}
 use Rattle.lock_scenario.specs.Waiting.{Releases}
 use Rattle.lock_scenario.specs.Desk.{DeskView, entries_of, wait_of, shared_of}
 use Rattle.lock_scenario.proofs.DeskLemmas.{Finds_session, find_session, order_there, order_after, held_as_owned, IsDesk-same_keys, IsDesk-released, Releases-after, entries-changed, none_told}
-use Rattle.lock_scenario.proofs.EndLemmas.{has_entry-ended, has_entry-after, others-after, has_entry-last}
+use Rattle.local_locks.proofs.EntryLaws.{has_entry-ended, has_entry-after, others-after, has_entry-last}
 use Rattle.lock_scenario.proofs.AloneLemmas.{databases-changed, databases-set, LeavesAlone-after}
 use Rattle.lock_scenario.proofs.desk.Desk.end_one.Goals as goal
 

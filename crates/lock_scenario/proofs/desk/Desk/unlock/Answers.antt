@@ -1,5 +1,10 @@
-use Rattle.std.proofs.Common.{◌≡◌, ◌<◌, ◌∙◌, List, sym, ap, subst, length, arith, refl, None}
+use Rattle.std.proofs.Common.{◌≡◌, ◌≢◌, ◌<◌, ◌∙◌, List, sym, ap, subst, length, arith, refl, None}
+use Rattle.std.specs.Prelude.{Result, Ok, Err}
+use Rattle.modes_core.specs.declared.refusals.Refusal.{Refusal}
+use Rattle.modes_core.specs.declared.refusals.Refusal.TheVariants.{NotHeld}
 use Rattle.modes_core.specs.Tag.{partition_of}
+use Rattle.local_locks.specs.declared.answers.Unlocked.{Unlocked}
+use Rattle.local_locks.specs.declared.answers.Unlocked.TheVariants.{Released, StillHeld}
 use Rattle.local_locks.specs.declared.records.Entry.{Entry}
 use Rattle.local_locks.specs.Owned.{total_of, with_one_less}
 use Rattle.lock_table.specs.Put.{set_at}
@@ -9,9 +14,15 @@ use Rattle.lock_scenario.specs.Sessions.{waits_in}
 use Rattle.lock_scenario.specs.Waiting.{Releases}
 use Rattle.lock_scenario.specs.Desk.{DeskView, entries_of, wait_of, shared_of}
 use Rattle.lock_scenario.proofs.DeskLemmas.{Finds_session, find_session, order_after, held_as_owned, IsDesk-same_keys, IsDesk-released, Releases-after, entries-changed, own-changed}
-use Rattle.lock_scenario.proofs.AcquireLemmas.{others-give_up, keys-still_held, owned-entry, gone-released, none-released, still_not_released, ok_not_refused}
+use Rattle.local_locks.proofs.EntryLaws.{others-give_up, keys-still_held, owned-entry, gone-released, none-released}
 use Rattle.lock_scenario.proofs.AloneLemmas.{databases-changed, databases-set, LeavesAlone-after}
 use Rattle.lock_scenario.proofs.desk.Desk.unlock.Goals as goal
+
+still_not_released : (let it : Result Unlocked Refusal = Ok Released in it) ≢ Ok StillHeld
+still_not_released e = cc
+
+ok_not_refused : (answer : Unlocked) → (let it : Result Unlocked Refusal = Ok answer in it) ≢ Err NotHeld
+ok_not_refused answer e = cc
 
 pub invariant_of-self-in-StillHeld : goal.invariant_of-self-in-StillHeld
 invariant_of-self-in-StillHeld c =

@@ -16,19 +16,19 @@ loop-waiter-init g c = record {
 
 pub overflow_add-place : goal.overflow_add-place
 overflow_add-place g c =
-    let queue = (g.P.PartTable.content c.args.part.now).waits c.args.tag in
+    let queue = (g.P.PartTable.content c.args.part.now).waits c.args.tag.now in
     let within : c.loop-waiter.place < length queue = slice_get_within queue c.loop-waiter.place (shown_wait c.in-Some.waiter) (sym c.in-Some.ensures.wait) in
     omega (arith, c.in-Some.ensures.countable)
 
 pub loop-waiter-smaller : goal.loop-waiter-smaller
 loop-waiter-smaller g c =
-    let queue = (g.P.PartTable.content c.args.part.now).waits c.args.tag in
+    let queue = (g.P.PartTable.content c.args.part.now).waits c.args.tag.now in
     let within : c.loop-waiter.place < length queue = slice_get_within queue c.loop-waiter.place (shown_wait c.in-Some.waiter) (sym c.in-Some.ensures.wait) in
     omega arith
 
 pub loop-waiter-preserved : goal.loop-waiter-preserved
 loop-waiter-preserved g c =
-    let queue = (g.P.PartTable.content c.args.part.now).waits c.args.tag in
+    let queue = (g.P.PartTable.content c.args.part.now).waits c.args.tag.now in
     let place = c.loop-waiter.place in
     let wait = shown_wait c.in-Some.waiter in
     let within : place < length queue = slice_get_within queue place wait (sym c.in-Some.ensures.wait) in

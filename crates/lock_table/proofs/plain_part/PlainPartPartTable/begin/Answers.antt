@@ -28,8 +28,8 @@ invariant_of-self-in_err-reserve-2 c =
 
 pub invariant_of-self-2 : goal.invariant_of-self-2
 invariant_of-self-2 c =
-    let is_new : times_in c.self.inside.holds.items c.self.inside.waits.items c.args.session c.args.tag c.args.mode ≡ 0 =
-    times_in-none c.self.inside.holds.items c.self.inside.waits.items c.args.session c.args.tag c.args.mode
+    let is_new : times_in c.self.inside.holds.items c.self.inside.waits.items c.args.session c.args.tag.now c.args.mode ≡ 0 =
+    times_in-none c.self.inside.holds.items c.self.inside.waits.items c.args.session c.args.tag.now c.args.mode
     (rw (ap (λ part. part.holds) c.self.view_is) c.requires.new) (rw (ap (λ part. part.waits) c.self.view_is) c.requires.not_awaited) in
     record {
       each_once = rw (c.reserve.ensures.items, c.reserve-2.ensures.items) c.self.invariant.each_once;

@@ -14,17 +14,17 @@ loop-hold-preserved c =
     let hold = c.hold-item.result in
     let xs = take c.loop-hold.hold-index c.deref-hold-items.result.now in
     let more = take_one_more c.deref-hold-items.result.now c.loop-hold.hold-index hold c.loop-hold-test.true c.hold-item.is in
-    let tested = ap (is_in_the_way_of hold c.args.session c.args.tag) (sym c.conflicts-conflicting.ensures) ∙ sym c.is_in_the_way.ensures in
+    let tested = ap (is_in_the_way_of hold c.args.session c.args.tag.now) (sym c.conflicts-conflicting.ensures) ∙ sym c.is_in_the_way.ensures in
     elim c.if-is_in_the_way.branch [
       | then-is_in_the_way w ↦
           rw (more, w.lowest-is, w.lower_holder.ensures)
-          (HolderInTheWay-take xs hold c.args.session c.args.tag c.args.mode c.loop-hold.lowest (tested ∙ w.if-is_in_the_way.true) c.loop-hold.invariant)
+          (HolderInTheWay-take xs hold c.args.session c.args.tag.now c.args.mode c.loop-hold.lowest (tested ∙ w.if-is_in_the_way.true) c.loop-hold.invariant)
       | else-is_in_the_way w ↦
           rw (more, w.lowest-is)
-          (HolderInTheWay-skip xs hold c.args.session c.args.tag c.args.mode c.loop-hold.lowest (tested ∙ w.if-is_in_the_way.false) c.loop-hold.invariant)
+          (HolderInTheWay-skip xs hold c.args.session c.args.tag.now c.args.mode c.loop-hold.lowest (tested ∙ w.if-is_in_the_way.false) c.loop-hold.invariant)
     ]
 
 pub returns : goal.returns
 returns c =
     let all : take c.loop-hold.hold-index c.deref-hold-items.result.now ≡ c.args.self.now.holds = grind (arith, common_steps) in
-    subst (λ (xs : List Request). HolderInTheWay (holds_in xs) c.args.session c.args.tag c.args.mode c.loop-hold.lowest) all c.loop-hold.invariant
+    subst (λ (xs : List Request). HolderInTheWay (holds_in xs) c.args.session c.args.tag.now c.args.mode c.loop-hold.lowest) all c.loop-hold.invariant

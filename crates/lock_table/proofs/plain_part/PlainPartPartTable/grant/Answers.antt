@@ -8,7 +8,7 @@ use Rattle.lock_table.proofs.plain_part.PlainPartPartTable.grant.Goals as goal
 
 pub invariant_of-self : goal.invariant_of-self
 invariant_of-self c =
-    let request : Request = record { session = c.args.session; tag = c.args.tag; mode = c.args.mode } in
+    let request : Request = record { session = c.args.session; tag = c.args.tag.now; mode = c.args.mode } in
     let begun = ap (λ part. part.begun) c.self.view_is ∙ c.requires.begun in
     record {
       each_once =
@@ -26,4 +26,4 @@ invariant_of-self c =
 pub returns-clause-content : goal.returns-clause-content
 returns-clause-content c =
     rw (c.push_reserved.ensures.items, ← c.self.view_is)
-    (λ i. record { holds = add_hold-push c.self.inside.holds.items c.args.session c.args.tag c.args.mode i; waits = queues_in c.self.inside.waits.items })
+    (λ i. record { holds = add_hold-push c.self.inside.holds.items c.args.session c.args.tag.now c.args.mode i; waits = queues_in c.self.inside.waits.items })

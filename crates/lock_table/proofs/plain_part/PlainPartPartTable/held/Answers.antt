@@ -12,8 +12,8 @@ loop-hold-preserved c =
       | then-is_on w ↦
           rw (more, w.modes-is) (
           w.with-modes.ensures ∙
-          held-take xs hold c.args.session c.args.tag _ c.loop-hold.invariant (sym c.is_on.ensures ∙ w.if-is_on.true)
+          held-take xs hold c.args.session c.args.tag.now _ c.loop-hold.invariant (sym c.is_on.ensures ∙ w.if-is_on.true)
           )
       | else-is_on w ↦
-          rw (more, w.modes-is) (c.loop-hold.invariant ∙ held-skip xs hold c.args.session c.args.tag (sym c.is_on.ensures ∙ w.if-is_on.false))
+          rw (more, w.modes-is) (c.loop-hold.invariant ∙ held-skip xs hold c.args.session c.args.tag.now (sym c.is_on.ensures ∙ w.if-is_on.false))
     ]

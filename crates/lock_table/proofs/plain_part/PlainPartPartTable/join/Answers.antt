@@ -12,7 +12,7 @@ use Rattle.lock_table.proofs.plain_part.PlainPartPartTable.join.Goals as goal
 
 pub invariant_of-self : goal.invariant_of-self
 invariant_of-self c =
-    let wait : PartWait = record { tag = c.args.tag; waiter = record { session = c.args.session; mode = c.args.mode; held = c.held-held.result } } in
+    let wait : PartWait = record { tag = c.args.tag.now; waiter = record { session = c.args.session; mode = c.args.mode; held = c.held-held.result } } in
     let begun = ap (λ part. part.begun) c.self.view_is ∙ c.requires.begun in
     record {
       each_once =
@@ -30,12 +30,12 @@ invariant_of-self c =
 
 pub returns-clause-content : goal.returns-clause-content
 returns-clause-content c =
-    let wait : PartWait = record { tag = c.args.tag; waiter = record { session = c.args.session; mode = c.args.mode; held = c.held-held.result } } in
+    let wait : PartWait = record { tag = c.args.tag.now; waiter = record { session = c.args.session; mode = c.args.mode; held = c.held-held.result } } in
     let ws = c.self.inside.waits.items in
-    let place : length (queues_in (take c.index_of_place-index.result ws) c.args.tag) ≡ c.args.place =
-    ap (λ (xs : List PartWait). length (queues_in (take c.index_of_place-index.result xs) c.args.tag)) (sym c.as_slice.ensures.value) ∙ c.index_of_place-index.ensures.before in
-    let held : set_has c.held-held.result ≡ holds_in c.self.inside.holds.items c.args.session c.args.tag =
-    c.held-held.ensures ∙ ap (λ (part : PartView). holds_in part.holds c.args.session c.args.tag) (sym c.self.view_is) in
+    let place : length (queues_in (take c.index_of_place-index.result ws) c.args.tag.now) ≡ c.args.place =
+    ap (λ (xs : List PartWait). length (queues_in (take c.index_of_place-index.result xs) c.args.tag.now)) (sym c.as_slice.ensures.value) ∙ c.index_of_place-index.ensures.before in
+    let held : set_has c.held-held.result ≡ holds_in c.self.inside.holds.items c.args.session c.args.tag.now =
+    c.held-held.ensures ∙ ap (λ (part : PartView). holds_in part.holds c.args.session c.args.tag.now) (sym c.self.view_is) in
     let waits = waits-inserted ws c.index_of_place-index.result wait c.args.place place ∙
-    ap (λ (its : Mode → Bool). put tag_eq (queues_in ws) c.args.tag (take c.args.place (queues_in ws c.args.tag) ++ record { session = c.args.session; mode = c.args.mode; held = its } ∷ drop c.args.place (queues_in ws c.args.tag))) held in
+    ap (λ (its : Mode → Bool). put tag_eq (queues_in ws) c.args.tag.now (take c.args.place (queues_in ws c.args.tag.now) ++ record { session = c.args.session; mode = c.args.mode; held = its } ∷ drop c.args.place (queues_in ws c.args.tag.now))) held in
     rw (c.in-Ok.ensures.items, ← c.self.view_is) (λ i. record { holds = holds_in c.self.inside.holds.items; waits = waits i })

@@ -9,7 +9,7 @@ use Rattle.lock_table.proofs.plain_part.PlainPartPartTable.leave.Goals as goal
 
 pub invariant_of-self : goal.invariant_of-self
 invariant_of-self c =
-    let stays : PartWait → Bool = λ wait. not (is_request_on (request_of wait) c.args.session c.args.tag) in
+    let stays : PartWait → Bool = λ wait. not (is_request_on (request_of wait) c.args.session c.args.tag.now) in
     let fewer = times_in-fewer_waits stays c.self.inside.holds.items c.self.inside.waits.items in
     record {
       each_once = rw c.take_wait_out.ensures.items (λ s o m. omega (arith, fewer s o m, c.self.invariant.each_once s o m));
@@ -25,9 +25,9 @@ invariant_of-self c =
 pub returns-clause-mode : goal.returns-clause-mode
 returns-clause-mode c =
     c.awaited_mode-mode.ensures
-    ∙ rw (c.as_slice.ensures.value, ← c.self.view_is) (awaited-mode c.self.inside.waits.items c.args.session c.args.tag)
+    ∙ rw (c.as_slice.ensures.value, ← c.self.view_is) (awaited-mode c.self.inside.waits.items c.args.session c.args.tag.now)
 
 pub returns-clause-content : goal.returns-clause-content
 returns-clause-content c =
     rw (c.take_wait_out.ensures.items, ← c.self.view_is)
-    (λ i. record { holds = holds_in c.self.inside.holds.items; waits = waits-left c.self.inside.waits.items c.args.session c.args.tag i })
+    (λ i. record { holds = holds_in c.self.inside.holds.items; waits = waits-left c.self.inside.waits.items c.args.session c.args.tag.now i })

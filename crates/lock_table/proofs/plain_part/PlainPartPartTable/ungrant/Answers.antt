@@ -10,7 +10,7 @@ use Rattle.lock_table.proofs.plain_part.PlainPartPartTable.ungrant.Goals as goal
 
 pub invariant_of-self : goal.invariant_of-self
 invariant_of-self c =
-    let stays : Request → Bool = λ hold. not (is_request_of hold c.args.session c.args.tag c.args.mode) in
+    let stays : Request → Bool = λ hold. not (is_request_of hold c.args.session c.args.tag.now c.args.mode) in
     let kept : c.retain.new.self.items ≡ filter stays c.self.inside.holds.items =
     filter_same _ stays _ (λ x b q called. (search rules, search rules)) _ _ c.retain.ensures.filtered in
     let fewer = times_in-fewer_holds stays c.self.inside.holds.items c.self.inside.waits.items in
@@ -25,8 +25,8 @@ invariant_of-self c =
 
 pub returns-clause-content : goal.returns-clause-content
 returns-clause-content c =
-    let stays : Request → Bool = λ hold. not (is_request_of hold c.args.session c.args.tag c.args.mode) in
+    let stays : Request → Bool = λ hold. not (is_request_of hold c.args.session c.args.tag.now c.args.mode) in
     let kept : c.retain.new.self.items ≡ filter stays c.self.inside.holds.items =
     filter_same _ stays _ (λ x b q called. (search rules, search rules)) _ _ c.retain.ensures.filtered in
     rw (kept, ← c.self.view_is)
-    (λ i. record { holds = remove_hold-filter c.self.inside.holds.items c.args.session c.args.tag c.args.mode i; waits = queues_in c.self.inside.waits.items })
+    (λ i. record { holds = remove_hold-filter c.self.inside.holds.items c.args.session c.args.tag.now c.args.mode i; waits = queues_in c.self.inside.waits.items })

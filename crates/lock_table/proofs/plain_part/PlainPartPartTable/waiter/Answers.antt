@@ -14,4 +14,4 @@ no_longer ws t = simp (length-map, length-filter) (count_by-le-length (λ (w : P
 pub returns-clause-countable : goal.returns-clause-countable
 returns-clause-countable c =
     let e : c.args.self.now.waits ≡ c.self.inside.waits.items = sym (ap (λ (v : PartView). v.waits) c.self.view_is) in
-    rw e (omega (arith, no_longer c.self.inside.waits.items c.args.tag))
+    rw e (omega (arith, no_longer c.self.inside.waits.items c.args.tag.now))

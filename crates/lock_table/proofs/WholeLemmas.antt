@@ -1,3 +1,4 @@
+-- The rows of the first partitions, partition by partition, to those of all.
 use Rattle.std.proofs.Common.{◌≡◌, ◌≢◌, ℕ, ◌+◌, ◌<◌, Bool, true, false, nat_lt, ◌&&◌, ◌==◌, List, [], length, get_or, subst, arith, refl, sym, ap, ◌∙◌, inl, inr}
 use Rattle.std.specs.Prelude.{count_by, if◌then◌else◌, IsSorted, IsPermutation}
 use Rattle.std.specs.List.{list_any}
@@ -14,35 +15,30 @@ use Rattle.lock_table.specs.declared.rows.TableRow.{TableRow}
 use Rattle.lock_table.specs.Content.{Content}
 use Rattle.lock_table.specs.PartView.{PartView, content_of}
 use Rattle.lock_table.specs.Listing.{row_eq, has_row, row_cmp, IsListing, AppendsListing}
-use Rattle.lock_table.specs.Parts.{no_part, contents_in}
-use Rattle.lock_scenario.specs.Desk.{whole_of}
+use Rattle.lock_table.specs.Parts.{no_part, contents_in, AreAtHome}
+use Rattle.lock_table.specs.WholeContent.{whole_of}
 
 -- The rows list what the first partitions have, each row once.
 abbrev pub Lists : List PartView → ℕ → List TableRow → Type 0
 Lists parts past rows =
     (row : TableRow) → count_by (row_eq row) rows ≡ (if nat_lt (partition_of row.tag) past then (if has_row (contents_in parts (partition_of row.tag)) row then 1 else 0) else 0)
 
--- A partition has rows of its own objects alone.
-pub record OwnObjects (parts : List PartView) : Type 0 where
-  pub own_holds : (p session : ℕ) (tag : Tag) (mode : Mode) → (contents_in parts p).holds session tag mode ≡ true → partition_of tag ≡ p
-  pub own_waits : (p : ℕ) (tag : Tag) → partition_of tag ≢ p → (contents_in parts p).waits tag ≡ []
-
-no_foreign : (parts : List PartView) → OwnObjects parts → (p : ℕ) (row : TableRow) → partition_of row.tag ≢ p → has_row (contents_in parts p) row ≡ false
+no_foreign : (parts : List PartView) → AreAtHome parts → (p : ℕ) (row : TableRow) → partition_of row.tag ≢ p → has_row (contents_in parts p) row ≡ false
 no_foreign parts own p row other =
     elim (cases_Bool (has_row (contents_in parts p) row)) [
       | inl has ↦ absurd (by_kind row.granted refl has)
       | inr not ↦ not
     ] where
       by_kind : (granted : Bool) → row.granted ≡ granted → has_row (contents_in parts p) row ≡ true → ⊥
-      by_kind true is has = other (own.own_holds p row.session row.tag row.mode (sym (rw is refl) ∙ has))
+      by_kind true is has = other (own.holds p row.session row.tag row.mode (sym (rw is refl) ∙ has))
       by_kind false is has =
           let nowhere : list_any (λ w. (w.session == row.session) && mode_eq w.mode row.mode) ((contents_in parts p).waits row.tag) ≡ false =
-          ap (list_any (λ w. (w.session == row.session) && mode_eq w.mode row.mode)) (own.own_waits p row.tag other) in
+          ap (list_any (λ w. (w.session == row.session) && mode_eq w.mode row.mode)) (own.waits p row.tag other) in
           false≢true (sym nowhere ∙ (sym (rw is refl) ∙ has))
 
 -- One more partition is listed.
 pub Lists-more :
-    (parts : List PartView) → OwnObjects parts → (past : ℕ) (old new : List TableRow) →
+    (parts : List PartView) → AreAtHome parts → (past : ℕ) (old new : List TableRow) →
     Lists parts past old → AppendsListing (contents_in parts past) old new → Lists parts (past + 1) new
 Lists-more parts own past old new so_far appends row =
     ap (count_by (row_eq row)) appends.behind ∙ sum_by-append (λ other. if row_eq row other then 1 else 0) old appends.added ∙
@@ -94,7 +90,7 @@ IsListing-sorted parts rows sorted all in_order moved =
 
 -- The same where the partition listed is the element of a loop.
 pub Lists-step :
-    (parts : List PartView) → OwnObjects parts → (past : ℕ) (part : PartView) (old new : List TableRow) →
+    (parts : List PartView) → AreAtHome parts → (past : ℕ) (part : PartView) (old new : List TableRow) →
     past < length parts → part ≡ get_or parts past part → Lists parts past old → AppendsListing (content_of part) old new → Lists parts (past + 1) new
 Lists-step parts own past part old new within is so_far appends =
     let there : content_of part ≡ contents_in parts past = ap content_of (is ∙ get_or_default parts past part no_part within) in

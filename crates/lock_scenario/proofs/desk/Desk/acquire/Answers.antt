@@ -1,22 +1,20 @@
-use Rattle.std.proofs.Common.{◌≡◌, ◌<◌, ◌∙◌, ℕ, List, sym, ap, subst, length, slice_set, arith, refl, None, Ok}
-use Rattle.modes_core.specs.Tag.{partition_of}
+use Rattle.std.proofs.Common.{◌≡◌, ◌<◌, ◌∙◌, List, ap, subst, length, slice_set, arith, refl, None, Ok}
 use Rattle.local_locks.specs.Owned.{has_entry}
 use Rattle.local_locks.specs.declared.records.Entry.{Entry}
 use Rattle.lock_table.specs.Content.{Content}
 use Rattle.lock_table.specs.PartView.{content_of}
 use Rattle.lock_table.specs.Put.{set_at}
-use Rattle.lock_table.proofs.PutLemmas.{set_at-here}
-use Rattle.lock_table.specs.Parts.{contents_in}
 use Rattle.lock_scenario.specs.Sessions.{waits_in}
-use Rattle.lock_scenario.specs.Started.{IsStarted, wait_started}
-use Rattle.lock_scenario.specs.Desk.{DeskView, wait_of, contents_of, IsReadyFor}
-use Rattle.lock_scenario.proofs.DeskLemmas.{Finds, held_there, no_wait_there, wait_there, limit_there, none_ready, waits-set, set_hold-same, IsDesk-after, contents_after, in_parts}
-use Rattle.lock_scenario.proofs.StartLemmas.{IsDesk-started, started_ready}
+use Rattle.lock_scenario.specs.declared.sessions.DeskSession.{DeskSession}
+use Rattle.lock_scenario.specs.Started.{Acquires, wait_started}
+use Rattle.lock_scenario.specs.Desk.{DeskView, wait_of, part_and_entries, IsReadyFor}
+use Rattle.lock_scenario.proofs.DeskLemmas.{Finds, held_there, no_wait_there, wait_there, limit_there, none_ready, waits-set, set_hold-same, IsDesk-after}
+use Rattle.lock_scenario.proofs.StartLemmas.{IsDesk-started, Acquires-there, stands_in, started_ready}
 use Rattle.lock_scenario.proofs.AloneLemmas.{databases-set, LeavesAlone-after}
-use Rattle.lock_scenario.proofs.desk.Desk.start.Goals as goal
+use Rattle.lock_scenario.proofs.desk.Desk.acquire.Goals as goal
 
 asked :
-    (c : goal.After-request-arg-1) →
+    (c : goal.After-acquire-arg-1) →
     Finds c.self.inside.parts.items c.self.inside.sessions.items c.self.inside.limit c.self.inside.max_local c.from.result c.from-2.result c.args.session c.args.tag
     c.index_mut-part.result.now c.index_mut-own.result.now
 asked c =
@@ -32,14 +30,14 @@ asked c =
       it_is = c.index_mut-own.ensures.value;
     }
 
-none_yet : (c : goal.After-request-arg-1) → waits_in c.self.inside.sessions.items c.args.session ≡ None
+none_yet : (c : goal.After-acquire-arg-1) → waits_in c.self.inside.sessions.items c.args.session ≡ None
 none_yet c = ap (λ (desk : DeskView). wait_of desk c.args.session) c.self.view_is ∙ c.requires.not_waiting
 
-pub request-requires-clause-held : goal.request-requires-clause-held
-request-requires-clause-held c = held_there _ _ _ _ _ _ _ _ _ _ (asked c) (none_yet c) c.args.mode
+pub acquire-requires-clause-held : goal.acquire-requires-clause-held
+acquire-requires-clause-held c = held_there _ _ _ _ _ _ _ _ _ _ (asked c) (none_yet c) c.args.mode
 
-pub request-requires-clause-no_wait : goal.request-requires-clause-no_wait
-request-requires-clause-no_wait c = no_wait_there _ _ _ _ _ _ _ _ _ _ (asked c) (none_yet c)
+pub acquire-requires-clause-no_wait : goal.acquire-requires-clause-no_wait
+acquire-requires-clause-no_wait c = no_wait_there _ _ _ _ _ _ _ _ _ _ (asked c) (none_yet c)
 
 failed :
     (c : goal.After-from_residual) →
@@ -63,15 +61,15 @@ none_failed c = ap (λ (desk : DeskView). wait_of desk c.args.session) c.self.vi
 
 pub invariant_of-self : goal.invariant_of-self
 invariant_of-self c =
-    let same = c.in_err-started.ensures.same_entries in
-    let content = c.in_err-started.ensures.unchanged in (
-      IsDesk-after _ _ _ _ _ _ _ _ _ _ (failed c) (none_failed c) c.args.mode (has_entry c.index_mut-own.result.now.locals.entries c.args.tag c.args.mode) c.request.new.part
-          (record { database = c.index_mut-own.result.now.database; locals = c.request.new.locals; wait = c.index_mut-own.result.now.wait })
+    let same = c.in_err-started.ensures.outcome.same_entries in
+    let content = c.in_err-started.ensures.outcome.same_content in (
+      IsDesk-after _ _ _ _ _ _ _ _ _ _ (failed c) (none_failed c) c.args.mode (has_entry c.index_mut-own.result.now.locals.entries c.args.tag c.args.mode) c.acquire.new.part
+          (record { database = c.index_mut-own.result.now.database; locals = c.acquire.new.locals; wait = c.index_mut-own.result.now.wait })
           c.in_err-started.ensures.none_begun
           (record {
             well_owned = c.in_err-started.ensures.well_owned;
             same_limit = c.in_err-started.ensures.max_local ∙ limit_there _ _ _ _ _ _ _ _ _ _ (failed c);
-            ready = none_ready c.index_mut-own.result.now.wait (IsReadyFor c.request.new.locals) (wait_there _ _ _ _ _ _ _ _ _ _ (failed c) ∙ ap (waits_in c.self.inside.sessions.items) (failed c).number ∙ none_failed c);
+            ready = none_ready c.index_mut-own.result.now.wait (IsReadyFor c.acquire.new.locals) (wait_there _ _ _ _ _ _ _ _ _ _ (failed c) ∙ ap (waits_in c.self.inside.sessions.items) (failed c).number ∙ none_failed c);
           }) refl
           (record {
             here = ap (λ (es : List Entry). has_entry es c.args.tag c.args.mode) same;
@@ -105,34 +103,32 @@ none c = ap (λ (desk : DeskView). wait_of desk c.args.session) c.self.view_is �
 
 pub invariant_of-self-2 : goal.invariant_of-self-2
 invariant_of-self-2 c = (
-  IsDesk-started c.in_ok-started.started _ _ _ _ _ _ _ _ _ _ (found c) (none c) c.args.mode c.args.owner c.request.new.part (record { database = c.index_mut-own.result.now.database; locals = c.request.new.locals; wait = c.wait_for-own.result })
+  IsDesk-started c.args.kind c.in_ok-started.started _ _ _ _ _ _ _ _ _ _ (found c) (none c) c.args.mode c.args.owner c.acquire.new.part (record { database = c.index_mut-own.result.now.database; locals = c.acquire.new.locals; wait = c.wait_for-own.result })
       c.in_ok-started.ensures.none_begun
       (record {
         well_owned = c.in_ok-started.ensures.well_owned;
         same_limit = c.in_ok-started.ensures.max_local ∙ limit_there _ _ _ _ _ _ _ _ _ _ (found c);
-        ready = started_ready c.in_ok-started.started c.args.tag c.args.mode c.args.owner c.wait_for-own.result (IsReadyFor c.request.new.locals) c.wait_for-own.ensures
+        ready = started_ready c.in_ok-started.started c.args.tag c.args.mode c.args.owner c.wait_for-own.result (IsReadyFor c.acquire.new.locals) c.wait_for-own.ensures
             (λ queued. let is_ready = c.in_ok-started.ensures.ready (ap Ok queued) in record { reserved = is_ready.0; new = is_ready.1 });
       })
-      c.in_ok-started.ensures.decided c.in_ok-started.ensures.entries c.wait_for-own.ensures (λ already. (c.in_ok-started.ensures.already_held.0 (ap Ok already)).0),
+      c.in_ok-started.ensures.outcome.decided c.in_ok-started.ensures.outcome.entries c.wait_for-own.ensures (λ already. (c.in_ok-started.ensures.outcome.already_held.0 (ap Ok already)).0),
   c.self.invariant.1,
 )
 
 pub returns-clause-waits : goal.returns-clause-waits
 returns-clause-waits c =
-    waits-set c.self.inside.sessions.items c.from-2.result (record { database = c.index_mut-own.result.now.database; locals = c.request.new.locals; wait = c.wait_for-own.result }) (found c).opened ∙
+    waits-set c.self.inside.sessions.items c.from-2.result (record { database = c.index_mut-own.result.now.database; locals = c.acquire.new.locals; wait = c.wait_for-own.result }) (found c).opened ∙
     ap (λ own. set_at (waits_in c.self.inside.sessions.items) c.from-2.result own) c.wait_for-own.ensures ∙
     ap (λ k. set_at (waits_in c.self.inside.sessions.items) k (wait_started c.in_ok-started.started c.args.tag c.args.mode c.args.owner)) (found c).number ∙
     ap (λ (desk : DeskView). set_at (wait_of desk) c.args.session (wait_started c.in_ok-started.started c.args.tag c.args.mode c.args.owner)) c.self.view_is
 
-pub returns-clause-decided : goal.returns-clause-decided
-returns-clause-decided c =
-    let now : contents_in (slice_set c.self.inside.parts.items c.from.result c.request.new.part) (partition_of c.args.tag) ≡ content_of c.request.new.part =
-    ap (λ (all : ℕ → Content). all (partition_of c.args.tag)) (contents_after _ _ _ _ _ _ _ _ _ _ (found c) (λ _. content_of c.request.new.part) c.request.new.part refl) ∙
-    set_at-here (contents_in c.self.inside.parts.items) (partition_of c.args.tag) (content_of c.request.new.part) (partition_of c.args.tag) refl in
-    let before : content_of c.index_mut-part.result.now ≡ contents_of c.args.self.now (partition_of c.args.tag) =
-    ap content_of (in_parts _ _ _ _ _ _ _ _ _ _ (found c)) ∙ ap (contents_in c.self.inside.parts.items) (found c).partition ∙ ap (λ (desk : DeskView). contents_of desk (partition_of c.args.tag)) c.self.view_is in
-    subst (λ (content : Content). IsStarted (contents_of c.args.self.now (partition_of c.args.tag)) c.args.session c.args.tag c.args.mode content c.in_ok-started.started) (sym now)
-    (subst (λ (content : Content). IsStarted content c.args.session c.args.tag c.args.mode (content_of c.request.new.part) c.in_ok-started.started) before c.in_ok-started.ensures.decided)
+pub returns-clause-outcome : goal.returns-clause-outcome
+returns-clause-outcome c =
+    let after : DeskSession = record { database = c.index_mut-own.result.now.database; locals = c.acquire.new.locals; wait = c.wait_for-own.result } in
+    subst (λ (desk : DeskView). Acquires c.args.kind c.args.session c.args.tag c.args.mode c.args.owner desk.max_local (part_and_entries desk c.args.session c.args.tag)
+    (Ok c.in_ok-started.started) (stands_in (slice_set c.self.inside.parts.items c.from.result c.acquire.new.part) (slice_set c.self.inside.sessions.items c.from-2.result after) c.args.session c.args.tag))
+    c.self.view_is
+    (Acquires-there c.args.kind c.args.mode c.args.owner (Ok c.in_ok-started.started) _ _ _ _ _ _ _ _ _ _ (found c) c.acquire.new.part after c.in_ok-started.ensures.outcome)
 
 pub returns-in_err-started-clause-alone : goal.returns-in_err-started-clause-alone
 returns-in_err-started-clause-alone c =
@@ -141,7 +137,7 @@ returns-in_err-started-clause-alone c =
     let same : length c.self.inside.sessions.items ≡ length c.args.self.now.sessions = ap (λ (desk : DeskView). length desk.sessions) c.self.view_is in
     let within : c.from-2.result < length c.self.inside.sessions.items = omega arith in
     LeavesAlone-after c.self.inside.parts.items _ c.self.inside.sessions.items _ c.self.inside.limit c.self.inside.max_local c.args.self.now c.self.view_is
-    (databases-set c.self.inside.sessions.items c.from-2.result c.index_mut-own.result.now (record { database = c.index_mut-own.result.now.database; locals = c.request.new.locals; wait = c.index_mut-own.result.now.wait })
+    (databases-set c.self.inside.sessions.items c.from-2.result c.index_mut-own.result.now (record { database = c.index_mut-own.result.now.database; locals = c.acquire.new.locals; wait = c.index_mut-own.result.now.wait })
     within c.index_mut-own.ensures.value refl)
 
 pub returns-clause-alone : goal.returns-clause-alone
@@ -151,5 +147,5 @@ returns-clause-alone c =
     let same : length c.self.inside.sessions.items ≡ length c.args.self.now.sessions = ap (λ (desk : DeskView). length desk.sessions) c.self.view_is in
     let within : c.from-2.result < length c.self.inside.sessions.items = omega arith in
     LeavesAlone-after c.self.inside.parts.items _ c.self.inside.sessions.items _ c.self.inside.limit c.self.inside.max_local c.args.self.now c.self.view_is
-    (databases-set c.self.inside.sessions.items c.from-2.result c.index_mut-own.result.now (record { database = c.index_mut-own.result.now.database; locals = c.request.new.locals; wait = c.wait_for-own.result })
+    (databases-set c.self.inside.sessions.items c.from-2.result c.index_mut-own.result.now (record { database = c.index_mut-own.result.now.database; locals = c.acquire.new.locals; wait = c.wait_for-own.result })
     within c.index_mut-own.ensures.value refl)
