@@ -128,11 +128,9 @@ fn refusals_have_their_numbers_and_texts(rt: HostRuntime) -> Result<(), Fail> {
         (Refusal::NoMoreSessions, 12, "no more sessions"),
         (Refusal::BadConfig, 13, "the configuration is out of range"),
     ] {
-        assert_eq!(rt; refusal.number(), number, "the number of {text:?}");
-        assert!(rt;
-            refusal.to_string(rt.alloc())?.as_str() == text,
-            "the text {text:?}"
-        );
+        assert_eq!(rt; refusal.number(), number);
+        let printed = refusal.to_string(rt.alloc())?;
+        assert!(rt; printed.as_str() == text, "the text of refusal {number}");
     }
     Ok(())
 }
