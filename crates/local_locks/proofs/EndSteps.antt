@@ -12,7 +12,7 @@ use Rattle.local_locks.specs.declared.ends.End.{End}
 use Rattle.local_locks.specs.declared.ends.End.TheVariants.{Commit, Abort, Close}
 use Rattle.local_locks.specs.declared.ends.Progress.{Progress}
 use Rattle.local_locks.specs.declared.looks.Missing.{Missing}
-use Rattle.local_locks.specs.Owned.{IsCounted, is_of, is_ended, after_end, with_next_ended}
+use Rattle.local_locks.specs.Owned.{IsCounted, is_ended, after_end, with_next_ended}
 use Rattle.local_locks.specs.Slots.{Slots, opened, entry_at, slot_at, present, key_at, IsIndexed, IsPast, IsKept, IsTable, reached, with_reached, at_start}
 use Rattle.local_locks.proofs.SlotLaws.{and_some, slot_at-set, slot_at-set_other, slot_at-within}
 use Rattle.local_locks.proofs.EndLaws.{Stopped, Passed, present-same, present-stopped, find-stopped}

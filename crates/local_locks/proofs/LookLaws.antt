@@ -1,7 +1,6 @@
-use Rattle.std.proofs.Common.{◌≡◌, ◌≢◌, ℕ, ◌+◌, ◌<◌, true, false, length, get_or, subst, refl, sym, ap, ◌∙◌, inl, inr, arith}
+use Rattle.std.proofs.Common.{◌≡◌, ◌≢◌, ℕ, ◌<◌, true, false, sym, ap, ◌∙◌, inl, inr}
 use Rattle.std.specs.Prelude.{Some, None}
 use Rattle.std.proofs.lemmas.Bool.{false≢true, cases_Bool}
-use Rattle.std.proofs.lemmas.List.{get_or_default}
 use Rattle.modes_core.specs.declared.sessions.Owner.{Owner}
 use Rattle.modes_core.specs.declared.sessions.Owner.TheVariants.{Session, Transaction}
 use Rattle.modes_core.specs.declared.modes.Mode.{Mode}
@@ -56,19 +55,3 @@ absent_key es tag mode none k at =
 pub new_entry-key : (tag : Tag) (mode : Mode) (owner : Owner) (e : Entry) → e ≡ new_entry tag mode owner → (e.tag ≡ tag) × (e.mode ≡ mode)
 new_entry-key tag mode Session e is = (ap (λ (x : Entry). x.tag) is, ap (λ (x : Entry). x.mode) is)
 new_entry-key tag mode Transaction e is = (ap (λ (x : Entry). x.tag) is, ap (λ (x : Entry). x.mode) is)
-
--- what was read at the place of an entry
-pub record IsEntryOf (es : List Entry) (tag : Tag) (mode : Mode) (place : ℕ) (e : Entry) : Type 0 where
-  pub there : slot_at (opened es) place ≡ Some e
-  pub own : is_of tag mode e ≡ true
-  pub found : entry_for (present (opened es)) tag mode ≡ Some e
-
-pub entry_of_place : (es seen : List Entry) (tag : Tag) (mode : Mode) (place : ℕ) (e : Entry) → seen ≡ es → IsPlaceOf seen tag mode place → e ≡ get_or es place e → IsEntryOf es tag mode place e
-entry_of_place es seen tag mode place e same at is =
-    let here = subst (λ (l : List Entry). IsPlaceOf l tag mode place) same at in
-    let read : entry_at es place ≡ e = sym (is ∙ get_or_default es place e _ here.within) in
-    record {
-      there = here.there ∙ ap (λ (x : Entry). Some x) read;
-      own = ap (is_of tag mode) (sym read) ∙ here.own;
-      found = here.found ∙ ap (λ (x : Entry). Some x) read;
-    }

@@ -1,10 +1,10 @@
-use Rattle.std.proofs.Common.{◌≡◌, ◌≢◌, ℕ, ◌+◌, ◌<◌, ◌≤◌, true, false, cond, [], ◌∷◌, ◌++◌, length, set, take, suc, sym, ap, ◌∙◌, ◌⊎◌, inl, inr, arith, add-one}
-use Rattle.std.specs.Prelude.{Some, None, IsSomeAnd}
-use Rattle.std.proofs.lemmas.Bool.{false≢true, cases_eq, cases_lt}
-use Rattle.std.proofs.lemmas.List.{length-set, length_push}
+use Rattle.std.proofs.Common.{◌≡◌, ◌≢◌, ℕ, ◌+◌, ◌<◌, ◌≤◌, length, set, take, suc, sym, ap, ◌∙◌, ◌⊎◌, inl, inr, arith, add-one}
+use Rattle.std.specs.Prelude.{Some, None}
+use Rattle.std.proofs.lemmas.Bool.{cases_eq}
+use Rattle.std.proofs.lemmas.List.{length-set}
 use Rattle.place_index.specs.Notes.{Notes}
 use Rattle.local_locks.specs.declared.records.Entry.{Entry}
-use Rattle.local_locks.specs.Owned.{is_of, without}
+use Rattle.local_locks.specs.Owned.{without}
 use Rattle.local_locks.specs.Slots.{Slots, slot_at, present, IsIndexed}
 use Rattle.local_locks.proofs.SlotLaws.{is_of-own, without-at, length-present_clear, present-take, slot_at-take, slot_at-past, slot_at-within, slot_at-set, slot_at-set_other}
 use Rattle.local_locks.proofs.IndexLaws.{none_else}

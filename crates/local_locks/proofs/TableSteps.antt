@@ -1,7 +1,7 @@
 use Rattle.std.proofs.Common.{◌≡◌, ◌≢◌, ℕ, ◌+◌, ◌-◌, ◌<◌, true, not, ◌&&◌, cond, List, [], ◌∷◌, ◌++◌, length, set, refl, sym, ap, subst, ◌∙◌, inl, inr, arith}
 use Rattle.std.specs.Prelude.{Some, None, IfSome, is_some}
 use Rattle.std.specs.Option.{option_map_or}
-use Rattle.std.proofs.lemmas.Bool.{cases_Bool, cases_eq, cases_lt, eq-eqb, ne_eqb}
+use Rattle.std.proofs.lemmas.Bool.{cases_Bool, cases_eq, cases_lt, ne_eqb}
 use Rattle.modes_core.specs.declared.modes.Mode.{Mode}
 use Rattle.modes_core.specs.Mode.{mode_eq}
 use Rattle.modes_core.specs.Tag.{tag_eq}
@@ -14,7 +14,7 @@ use Rattle.local_locks.specs.declared.ends.End.{End}
 use Rattle.local_locks.specs.declared.ends.Progress.{Progress}
 use Rattle.local_locks.specs.Owned.{IsCounted, count_for, count_in_all, raised, lowered, new_entry, max_count, is_of, entry_for, has_entry, owner_count_of, total_of, change, without, with_one_more, with_one_less}
 use Rattle.local_locks.specs.Slots.{Slots, slot_at, present, IsIndexed, IsPast, IsKept, reached, back_to}
-use Rattle.local_locks.proofs.SlotLaws.{is_of-same, change-at, length-present_set, slot_at-set, slot_at-set_other, slot_at-push_before, slot_at-past, slot_at-push, slot_at-within, present-push}
+use Rattle.local_locks.proofs.SlotLaws.{change-at, length-present_set, slot_at-set, slot_at-set_other, slot_at-push_before, slot_at-past, slot_at-push, slot_at-within, present-push}
 use Rattle.local_locks.proofs.IndexLaws.{none_else, found_entry, indexed-change}
 use Rattle.local_locks.proofs.EndLaws.{Keeps, Keeps-lowered}
 use Rattle.local_locks.proofs.KeptLaws.{past-back_to, past-fewer}
@@ -201,13 +201,3 @@ total-lowered slots index tag mode owner place e indexed at own counted =
     let total = total-at (present (set slots place (Some (lowered owner e)))) tag mode (lowered owner e) found in
     let some = counted.some in
     omega (arith, total, some)
-
-pub entries-released :
-    (slots : Slots) (es : List Entry) (tag : Tag) (mode : Mode) (owner : Owner) (e : Entry) →
-    is_of tag mode e ≡ true → entry_for (present slots) tag mode ≡ Some e → count_in_all e ≡ 1 → es ≡ without (present slots) e.tag e.mode →
-    es ≡ with_one_less (present slots) tag mode owner
-entries-released slots es tag mode owner e own found one is =
-    let both = is_of-same tag mode e own in
-    let total = total-at (present slots) tag mode e found in
-    is ∙ ((λ i. without (present slots) (both.0 i) (both.1 i))
-    ∙ sym (ap (λ b. cond b (without (present slots) tag mode) (change (lowered owner) (present slots) tag mode)) (eq-eqb (total_of (present slots) tag mode) 1 (total ∙ one))))

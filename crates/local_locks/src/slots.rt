@@ -14,7 +14,8 @@ use place_index::PlaceIndex;
 pub(crate) fn raise(slots: &mut Vec<Entry>, place: usize, owner: Owner)
     requires within { place < length slots.old.items }
     requires below { count_for owner (entry_at slots.old.items place) < max_count }
-    ensures slots { opened slots.new.items ≡ slice_set (opened slots.old.items) place (Some (raised owner (entry_at slots.old.items place))) }
+    ensures slots { opened slots.new.items
+        ≡ slice_set (opened slots.old.items) place (Some (raised owner (entry_at slots.old.items place))) }
     ensures room { vec_capacity slots.new - length slots.new.items ≡ vec_capacity slots.old - length slots.old.items }
     ensures number { length slots.new.items ≡ length slots.old.items }
 {
@@ -27,7 +28,8 @@ pub(crate) fn lower(slots: &mut Vec<Entry>, place: usize, owner: Owner)
     requires within { place < length slots.old.items }
     requires some { 0 < count_for owner (entry_at slots.old.items place) }
     requires more { count_in_all (entry_at slots.old.items place) ≢ 1 }
-    ensures slots { opened slots.new.items ≡ slice_set (opened slots.old.items) place (Some (lowered owner (entry_at slots.old.items place))) }
+    ensures slots { opened slots.new.items
+        ≡ slice_set (opened slots.old.items) place (Some (lowered owner (entry_at slots.old.items place))) }
     ensures room { vec_capacity slots.new - length slots.new.items ≡ vec_capacity slots.old - length slots.old.items }
     ensures number { length slots.new.items ≡ length slots.old.items }
 {
@@ -59,13 +61,16 @@ pub(crate) fn take_out(slots: &mut Vec<Entry>, index: &mut PlaceIndex, place: us
     requires indexed { IsIndexed (opened slots.old.items) index.old }
     requires there { slot_at (opened slots.old.items) place ≡ Some (entry_at slots.old.items place) }
     requires few { length slots.old.items ≤ no_place }
-    ensures entries { present (opened slots.new.items) ≡ without (present (opened slots.old.items)) (entry_at slots.old.items place).tag (entry_at slots.old.items place).mode }
+    ensures entries { present (opened slots.new.items)
+        ≡ without (present (opened slots.old.items))
+        (entry_at slots.old.items place).tag (entry_at slots.old.items place).mode }
     ensures number { length (present (opened slots.old.items)) ≡ length (present (opened slots.new.items)) + 1 }
     ensures gone { slot_at (opened slots.new.items) place ≡ None }
     ensures others { (k : ℕ) → k ≢ place → slot_at (opened slots.new.items) k ≡ slot_at (opened slots.old.items) k }
     ensures indexed { IsIndexed (opened slots.new.items) index.new }
     ensures shorter { length slots.new.items ≤ length slots.old.items }
-    ensures slot_room { vec_capacity slots.old - length slots.old.items ≤ vec_capacity slots.new - length slots.new.items }
+    ensures slot_room { vec_capacity slots.old - length slots.old.items
+        ≤ vec_capacity slots.new - length slots.new.items }
     ensures capacity { vec_capacity slots.new ≡ vec_capacity slots.old }
     ensures index_room { index.new.room ≡ index.old.room + 1 }
 {
@@ -87,9 +92,11 @@ pub(crate) fn settle(slots: &mut [Entry], end: End, from: usize) -> usize
     requires past { IsPast end (opened slots.old) from }
     ensures within { result ≤ length slots.old }
     ensures kept { (k : ℕ) → k < result → IfSome (slot_at (opened slots.old) k) (λ entry. is_ended end entry ≡ false) }
-    ensures settled { (k : ℕ) → k < result → slot_at (opened slots.new) k ≡ option_map (after_end end) (slot_at (opened slots.old) k) }
+    ensures settled { (k : ℕ) → k < result →
+        slot_at (opened slots.new) k ≡ option_map (after_end end) (slot_at (opened slots.old) k) }
     ensures others { (k : ℕ) → result ≤ k → slot_at (opened slots.new) k ≡ slot_at (opened slots.old) k }
-    ensures ended { result < length slots.old → IsSomeAnd (slot_at (opened slots.old) result) (λ entry. is_ended end entry ≡ true) }
+    ensures ended { result < length slots.old →
+        IsSomeAnd (slot_at (opened slots.old) result) (λ entry. is_ended end entry ≡ true) }
 {
     for place in from..slots.len() {
         let entry = slots[place];

@@ -36,7 +36,11 @@ impl Model for LocalTable {
 
     ghost Value = { Owned };
 
-    ghost view = { λ t. record { entries = present (opened t.slots.items); room = min (min (vec_capacity t.slots) no_place - length t.slots.items) t.index.room; max_local = t.max_local } };
+    ghost view = { λ t. record {
+      entries = present (opened t.slots.items);
+      room = min (min (vec_capacity t.slots) no_place - length t.slots.items) t.index.room;
+      max_local = t.max_local;
+    } };
 
     ghost invariant = { λ t. IsTable t.slots.items t.index t.len t.max_local t.progress t.missing };
 }
@@ -105,10 +109,14 @@ impl LocalTable {
         ensures ok { OnOk result (IsReserved self.new tag mode owner) }
 
         // The refusals, in this order.
-        ensures count_full { IsErrOf result Refusal.CountFull ↔ (owner_count_of self.old.entries tag mode owner ≡ max_count) }
-        ensures local_full { IsErrOf result Refusal.LocalFull ↔ ((has_entry self.old.entries tag mode ≡ false) × (length self.old.entries ≡ self.old.max_local)) }
-        ensures no_memory { IsErrOf result Refusal.NoMemory → (has_entry self.old.entries tag mode ≡ false) × (self.old.room ≡ 0) }
-        ensures no_other { IfErr result (λ refusal. (refusal ≡ Refusal.CountFull) ⊎ ((refusal ≡ Refusal.LocalFull) ⊎ (refusal ≡ Refusal.NoMemory))) }
+        ensures count_full { IsErrOf result Refusal.CountFull
+            ↔ (owner_count_of self.old.entries tag mode owner ≡ max_count) }
+        ensures local_full { IsErrOf result Refusal.LocalFull
+            ↔ ((has_entry self.old.entries tag mode ≡ false) × (length self.old.entries ≡ self.old.max_local)) }
+        ensures no_memory { IsErrOf result Refusal.NoMemory →
+            (has_entry self.old.entries tag mode ≡ false) × (self.old.room ≡ 0) }
+        ensures no_other { IfErr result (λ refusal.
+            (refusal ≡ Refusal.CountFull) ⊎ ((refusal ≡ Refusal.LocalFull) ⊎ (refusal ≡ Refusal.NoMemory))) }
 
         // What stands after it, whatever the answer.
         ensures entries { self.new.entries ≡ self.old.entries }
@@ -216,7 +224,8 @@ impl LocalTable {
     pub fn drop_one(&mut self, tag: Tag, mode: Mode, owner: Owner) -> Result<Unlocked, Refusal>
         ensures not_held { IsErrOf result Refusal.NotHeld ↔ (owner_count_of self.old.entries tag mode owner ≡ 0) }
         ensures no_other { IsOkUnless result Refusal.NotHeld }
-        ensures answer { IfOk result (λ answer. (answer ≡ Unlocked.StillHeld) ↔ (0 < total_of self.new.entries tag mode)) }
+        ensures answer { IfOk result (λ answer.
+            (answer ≡ Unlocked.StillHeld) ↔ (0 < total_of self.new.entries tag mode)) }
         ensures entries { OnOk result (self.new.entries ≡ with_one_less self.old.entries tag mode owner) }
         ensures refused { OnErr result (self.new ≡ self.old) }
         ensures room { self.old.room ≤ self.new.room }

@@ -86,7 +86,7 @@ pub record ShowsWords (shown : Words) (words : world.Words) : Type 0 where
   pub fast : (session : ℕ) → slice_index_or shown.fast session free_word ≡ words.fast session
   pub wait : (session : ℕ) → slice_index_or shown.waits session 0 ≡ words.wait session
 
--- The marks of so many locks, of each 64 of them, tell which sessions have it in the World.
+-- The marks of so many locks, 64 of each, tell which sessions have which of them in the World.
 pub record ShowsMarks (shown : List (List Bool)) (locks : ℕ) (has : ℕ → ℕ → Bool) : Type 0 where
   pub as_many : length shown ≡ locks
   pub sixty_four : (lock : ℕ) → lock < locks → length (slice_index_or shown lock []) ≡ 64

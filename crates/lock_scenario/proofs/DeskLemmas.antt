@@ -168,12 +168,6 @@ pub in_sessions :
     Finds parts sessions limit max_local p s session tag part it → it ≡ slice_index_or sessions s no_session
 in_sessions parts sessions limit max_local p s session tag part it found = found.it_is ∙ get_or_default sessions s it no_session found.opened
 
-pub none_begun_there :
-    (parts : List PartView) (sessions : List DeskSession) (limit max_local : ℕ) (p s session : ℕ) (tag : Tag) (part : PartView) (it : DeskSession) →
-    Finds parts sessions limit max_local p s session tag part it → part.begun ≡ None
-none_begun_there parts sessions limit max_local p s session tag part it found =
-    ap (λ (view : PartView). view.begun) (in_parts parts sessions limit max_local p s session tag part it found) ∙ found.desk.none_begun p
-
 -- The partition of an object is the one at its number.
 pub part_here : (parts : List PartView) (p : ℕ) (tag : Tag) (part : PartView) → length parts ≡ 16 → p ≡ partition_of tag → part ≡ get_or parts p part → part ≡ slice_index_or parts (partition_of tag) no_part
 part_here parts p tag part sixteen partition part_is =
@@ -367,12 +361,6 @@ pub own-changed :
 own-changed parts sessions limit max_local s session it after p Change parts_after sessions_after found change =
     ap (λ (all : ℕ → List Entry). all session) (entries-changed parts sessions limit max_local s session it after p Change parts_after sessions_after found change (λ _. after.locals.entries) refl) ∙
     set_at-here (entries_in sessions) session after.locals.entries session refl
-
-pub number-changed :
-    (parts : List PartView) (sessions : List DeskSession) (s : ℕ) (after : DeskSession) (p : ℕ) (Change : List Wait → Content → Type 0) (parts_after : List PartView) (sessions_after : List DeskSession) →
-    ChangesPart parts (slice_set sessions s after) p Change parts_after sessions_after → length sessions_after ≡ length sessions
-number-changed parts sessions s after p Change parts_after sessions_after change =
-    ap length change.told ∙ length-marked_all (map whose_and_mode change.granted) (slice_set sessions s after) ∙ length-set sessions s after
 
 -- Who did not wait does not wait after another's wait was granted.
 pub none_told : (granted : List Wait) (waits : ℕ → Option DeskWait) (session : ℕ) → waits session ≡ None → marked granted waits session ≡ None

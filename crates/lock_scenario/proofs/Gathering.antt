@@ -18,34 +18,8 @@ pub record Gathers (unread left : Option (List ℕ)) (line : List ℕ) (next : O
 is_not : (n x : ℕ) → x ≢ n → (x == n) ≡ false
 is_not n x h = grind (arith, nat_tests)
 
--- at the start the first byte was taken
-pub Gathers-start : (left : Option (List ℕ)) (first : ℕ) → Gathers (prepend_known (first ∷ []) left) left [] (Some first)
-Gathers-start left first = record {
-  taken = go left;
-  ended = λ e. cc;
-  lacks = λ i h. absurd (omega arith);
-} where
-  go : (left : Option (List ℕ)) → Consumes (prepend_known (first ∷ []) left) left ([] ++ first ∷ [])
-  go None = tt
-  go (Some xs) = refl
-
--- bytes that are consumed after others
-Consumes-append : (a b c : Option (List ℕ)) (xs ys : List ℕ) → Consumes a b xs → Consumes b c ys → Consumes a c (xs ++ ys)
-Consumes-append None b c xs ys h k = tt
-Consumes-append (Some ws) None c xs ys h k = absurd h
-Consumes-append (Some ws) (Some bs) None xs ys h k = absurd k
-Consumes-append (Some ws) (Some bs) (Some cs) xs ys h k = h ∙ ap (λ l. xs ++ l) k ∙ sym (append_assoc xs ys cs)
-
 Lacks-push : (line : List ℕ) (byte : ℕ) → Lacks 10 line → byte ≢ 10 → Lacks 10 (line ++ byte ∷ [])
 Lacks-push line byte h other i within = grind (arith, common_steps, h i)
-
--- a byte that is no line feed is pushed, and the next one is read
-pub Gathers-more : (unread left left' : Option (List ℕ)) (line line' : List ℕ) (byte : ℕ) (next : Option ℕ) → Gathers unread left line (Some byte) → byte ≢ 10 → line' ≡ line ++ byte ∷ [] → Consumes left left' (option_to_list next) → (next ≡ None → IsAtEnd left) → (next ≡ None → IsAtEnd left') → Gathers unread left' line' next
-Gathers-more unread left left' line line' byte next h other e k _ at_end = record {
-  taken = rw e (Consumes-append unread left left' (line ++ byte ∷ []) (option_to_list next) h.taken k);
-  ended = at_end;
-  lacks = rw e (Lacks-push line byte h.lacks other);
-}
 
 -- at the end of the input the line is all that was left
 pub CutsLine-at_end : (unread left : Option (List ℕ)) (line : List ℕ) → Gathers unread left line None → CutsLine unread left line

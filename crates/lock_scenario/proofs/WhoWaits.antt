@@ -1,9 +1,8 @@
 -- Who is said to wait, and whose wait is recorded.
-use Rattle.std.proofs.Common.{◌≡◌, ℕ, ◌<◌, inl, inr, ◌∙◌, refl, ap, Bool, true, false, List, [], ◌∷◌, length, sym, subst}
+use Rattle.std.proofs.Common.{◌≡◌, ℕ, inl, inr, ◌∙◌, refl, ap, Bool, true, false, List, [], ◌∷◌, sym, subst}
 use Rattle.std.specs.Prelude.{Option, None, Some, is_some, IfSome, Result, Ok, if◌then◌else◌}
 use Rattle.std.specs.Option.{option_map}
-use Rattle.std.proofs.lemmas.Bool.{cases_eq, cases_lt}
-use Rattle.std.proofs.lemmas.List.{get_or_past}
+use Rattle.std.proofs.lemmas.Bool.{cases_eq}
 use Rattle.modes_core.specs.declared.modes.Mode.{Mode}
 use Rattle.modes_core.specs.declared.tags.Tag.{Tag}
 use Rattle.modes_core.specs.declared.sessions.Owner.{Owner}
@@ -15,7 +14,6 @@ use Rattle.lock_table.specs.Queue.{waits_there}
 use Rattle.lock_table.specs.Put.{set_at}
 use Rattle.lock_table.proofs.PutLemmas.{set_at-here, set_at-else}
 use Rattle.lock_scenario.specs.declared.sessions.DeskWait.{DeskWait}
-use Rattle.lock_scenario.specs.declared.sessions.DeskSession.{DeskSession}
 use Rattle.lock_scenario.specs.declared.acquire.Started.{Started}
 use Rattle.lock_scenario.specs.declared.acquire.Started.TheVariants.{Granted, AlreadyHeld, Queued}
 use Rattle.lock_scenario.specs.declared.desk.Cancelled.{Cancelled}
@@ -23,25 +21,8 @@ use Rattle.lock_scenario.specs.declared.desk.Cancelled.TheVariants.{Removed, Was
 use Rattle.lock_scenario.specs.Desk.{after_asking}
 use Rattle.lock_scenario.specs.Scene.{Tells}
 use Rattle.lock_scenario.specs.Started.{is_queued, wait_started}
-use Rattle.lock_scenario.specs.Sessions.{as_granted, marked, no_session, waits_in}
+use Rattle.lock_scenario.specs.Sessions.{as_granted, marked}
 use Rattle.lock_scenario.specs.Waiting.{Shared, Releases, ReleasesAll, Leaves}
-
--- One who is said not to wait has no wait.
-pub not-waiting : (waits : ℕ → Bool) (recorded : ℕ → Option DeskWait) (session : ℕ) → Tells waits recorded → waits session ≡ false → recorded session ≡ None
-not-waiting waits recorded session told not_said = none (recorded session) (sym (told session) ∙ not_said) where
-  none : (wait : Option DeskWait) → is_some wait ≡ false → wait ≡ None
-  none None e = refl
-  none (Some wait) e = absurd (cc)
-
--- One who waits was opened.
-pub waiting-opened : (sessions : List DeskSession) (session : ℕ) → is_some (waits_in sessions session) ≡ true → session < length sessions
-waiting-opened sessions session e =
-    elim (cases_lt session (length sessions)) [
-      | inl h ↦ h
-      | inr h ↦
-          let past : is_some (waits_in sessions session) ≡ false = ap (λ (one : DeskSession). is_some one.wait) (get_or_past sessions session no_session h) in
-          absurd (cc)
-    ]
 
 pub Tells-kept : (waits : ℕ → Bool) (before after : ℕ → Option DeskWait) → Tells waits before → after ≡ before → Tells waits after
 Tells-kept waits before after told same = subst (λ (recorded : ℕ → Option DeskWait). Tells waits recorded) (sym same) told

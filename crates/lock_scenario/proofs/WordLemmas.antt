@@ -21,18 +21,6 @@ numerals = numerals_by_value (λ word. list_all is_ascii_digit word ≡ true) (s
 pub one_part : (p : ℕ → Bool) (word : List ℕ) → position_or_len p word ≡ length word → slice_split p word ≡ word ∷ []
 one_part p word e = slice_split_none p word (λ k d h. fails_before_first p word k d (omega arith))
 
--- one number is no tag
-pub no_tag-one : (a : Option ℕ) → tag_of_numbers (a ∷ []) ≡ None
-no_tag-one None = refl
-no_tag-one (Some a) = refl
-
--- nor are three
-pub no_tag-three : (a b c : Option ℕ) → tag_of_numbers (a ∷ b ∷ c ∷ []) ≡ None
-no_tag-three None b c = refl
-no_tag-three (Some a) None c = refl
-no_tag-three (Some a) (Some b) None = refl
-no_tag-three (Some a) (Some b) (Some c) = refl
-
 -- nor are more than four
 no_tag-five : (a b c d e : Option ℕ) (others : List (Option ℕ)) → tag_of_numbers (a ∷ b ∷ c ∷ d ∷ e ∷ others) ≡ None
 no_tag-five None b c d e others = refl

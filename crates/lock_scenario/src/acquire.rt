@@ -64,7 +64,8 @@ pub fn acquire<P: PartTable>(
     ensures outcome { Acquires kind session tag mode owner locals.old.max_local
         (record { content = P.content part.old; entries = locals.old.entries }) result
         (record { content = P.content part.new; entries = locals.new.entries }) }
-    ensures ready { result ≡ Ok Started.Queued → IsReserved locals.new tag mode owner × (has_entry locals.new.entries tag mode ≡ false) }
+    ensures ready { result ≡ Ok Started.Queued →
+        IsReserved locals.new tag mode owner × (has_entry locals.new.entries tag mode ≡ false) }
     ensures none_begun { P.begun part.new ≡ None }
     ensures max_local { locals.new.max_local ≡ locals.old.max_local }
     ensures well_owned { IsWellOwned locals.new }

@@ -174,13 +174,15 @@ fn parse_hash(words: &[&str]) -> Result<Tag, Defect> {
 
 /// The words behind `cancel`: who asks, and the session that is asked, which may wait.
 fn parse_cancel(words: &[&str], names: &Names) -> Result<(Speaker, Speaker), Defect>
-    ensures addressed { IfOk result (λ parsed. MayAct names.now parsed.0.session × (parsed.1.session < length names.now.issued)) }
+    ensures addressed { IfOk result (λ parsed.
+        MayAct names.now parsed.0.session × (parsed.1.session < length names.now.issued)) }
     ensures by { IfOk result (λ parsed. HoldsAt (λ word. IsNamed names.now word.now parsed.0) words.now 0) }
     ensures other { IfOk result (λ parsed. HoldsAt (λ word. IsNamed names.now word.now parsed.1) words.now 1) }
     ensures wrong_number { IsErrOf result Defect.WrongNumberOfWords ↔ (length words.now ≢ 2) }
     ensures refused { IfErr result (λ defect. defect ≢ Defect.WrongNumberOfWords →
         HoldsAt (λ word. IsBarred names.now word.now defect) words.now 0
-        ⊎ (HoldsAt (λ word. NamesOneThatMayAct names.now word.now) words.now 0 × HoldsAt (λ word. IsUnnamed names.now word.now defect) words.now 1)) }
+        ⊎ (HoldsAt (λ word. NamesOneThatMayAct names.now word.now) words.now 0
+        × HoldsAt (λ word. IsUnnamed names.now word.now defect) words.now 1)) }
 {
     let [by, other] = words else {
         return Err(Defect::WrongNumberOfWords);

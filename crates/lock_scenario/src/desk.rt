@@ -89,9 +89,15 @@ impl Model for Desk {
 
     ghost Value = { DeskView };
 
-    ghost view = { λ d. record { parts = d.parts.items; sessions = d.sessions.items; limit = d.limit; max_local = d.max_local } };
+    ghost view = { λ d. record {
+      parts = d.parts.items;
+      sessions = d.sessions.items;
+      limit = d.limit;
+      max_local = d.max_local;
+    } };
 
-    ghost invariant = { λ d. IsDesk d.parts.items d.sessions.items d.limit d.max_local × (d.limit ≤ vec_capacity d.sessions) };
+    ghost invariant = { λ d. IsDesk d.parts.items d.sessions.items d.limit d.max_local
+        × (d.limit ≤ vec_capacity d.sessions) };
 }
 
 impl Desk {
@@ -133,7 +139,8 @@ impl Desk {
         ensures outcome { Acquires Kind.Waiting session tag mode owner self.old.max_local
             (part_and_entries self.old session tag) result (part_and_entries self.new session tag) }
         ensures others { LeavesOthers self.old self.new session tag }
-        ensures waits { IfOk result (λ started. wait_of self.new ≡ set_at (wait_of self.old) session (wait_started started tag mode owner)) }
+        ensures waits { IfOk result (λ started.
+            wait_of self.new ≡ set_at (wait_of self.old) session (wait_started started tag mode owner)) }
         ensures unchanged { OnErr result (IsUnchanged self.old self.new) }
         ensures alone { LeavesAlone self.old self.new }
     {
@@ -154,7 +161,8 @@ impl Desk {
         ensures outcome { Acquires kind session tag mode owner self.old.max_local
             (part_and_entries self.old session tag) result (part_and_entries self.new session tag) }
         ensures others { LeavesOthers self.old self.new session tag }
-        ensures waits { IfOk result (λ started. wait_of self.new ≡ set_at (wait_of self.old) session (wait_started started tag mode owner)) }
+        ensures waits { IfOk result (λ started.
+            wait_of self.new ≡ set_at (wait_of self.old) session (wait_started started tag mode owner)) }
         ensures unchanged { OnErr result (IsUnchanged self.old self.new) }
         ensures alone { LeavesAlone self.old self.new }
     {
@@ -174,7 +182,8 @@ impl Desk {
         ensures answer { IfSome (wait_of self.old session) (λ wait. result ≡ polled_as wait) }
         ensures ended { result ≡ Polled.Granted → wait_of self.new ≡ set_at (wait_of self.old) session None }
         ensures entered { result ≡ Polled.Granted → IfSome (wait_of self.old session) (λ wait.
-            entries_of self.new ≡ set_at (entries_of self.old) session (with_one_more (entries_of self.old session) wait.tag wait.mode wait.owner)) }
+            entries_of self.new ≡ set_at (entries_of self.old) session
+            (with_one_more (entries_of self.old session) wait.tag wait.mode wait.owner)) }
         ensures same_waits { result ≢ Polled.Granted → wait_of self.new ≡ wait_of self.old }
         ensures same_entries { result ≢ Polled.Granted → entries_of self.new ≡ entries_of self.old }
         ensures contents { contents_of self.new ≡ contents_of self.old }
@@ -202,10 +211,13 @@ impl Desk {
 
         ensures answer { IfSome (wait_of self.old session) (λ wait. result ≡ cancelled_as wait) }
         ensures ended { wait_of self.new session ≡ None }
-        ensures removed { result ≡ Cancelled.Removed → IfSome (wait_of self.old session) (λ wait. Leaves (shared_of self.old) session wait.tag (shared_of self.new)) }
+        ensures removed { result ≡ Cancelled.Removed →
+            IfSome (wait_of self.old session)
+            (λ wait. Leaves (shared_of self.old) session wait.tag (shared_of self.new)) }
         ensures same_entries { result ≡ Cancelled.Removed → entries_of self.new ≡ entries_of self.old }
         ensures kept { result ≡ Cancelled.WasGranted → IfSome (wait_of self.old session) (λ wait.
-            entries_of self.new ≡ set_at (entries_of self.old) session (with_one_more (entries_of self.old session) wait.tag wait.mode wait.owner)) }
+            entries_of self.new ≡ set_at (entries_of self.old) session
+            (with_one_more (entries_of self.old session) wait.tag wait.mode wait.owner)) }
         ensures same_contents { result ≡ Cancelled.WasGranted → contents_of self.new ≡ contents_of self.old }
         ensures same_waits { result ≡ Cancelled.WasGranted → wait_of self.new ≡ set_at (wait_of self.old) session None }
         ensures alone { LeavesAlone self.old self.new }
@@ -233,13 +245,18 @@ impl Desk {
         requires issued { session < issued_of self.old }
         requires not_waiting { wait_of self.old session ≡ None }
 
-        ensures not_held { IsErrOf result Refusal.NotHeld ↔ (owner_count_of (entries_of self.old session) tag mode owner ≡ 0) }
+        ensures not_held { IsErrOf result Refusal.NotHeld
+            ↔ (owner_count_of (entries_of self.old session) tag mode owner ≡ 0) }
         ensures no_other { IsOkUnless result Refusal.NotHeld }
-        ensures still_held { (result ≡ Ok Unlocked.StillHeld) ↔ ((0 < owner_count_of (entries_of self.old session) tag mode owner) × (0 < total_of (entries_of self.new session) tag mode)) }
+        ensures still_held { (result ≡ Ok Unlocked.StillHeld)
+            ↔ ((0 < owner_count_of (entries_of self.old session) tag mode owner)
+            × (0 < total_of (entries_of self.new session) tag mode)) }
 
         // What stands after it.
-        ensures entries { OnOk result (entries_of self.new ≡ set_at (entries_of self.old) session (with_one_less (entries_of self.old session) tag mode owner)) }
-        ensures released { result ≡ Ok Unlocked.Released → Releases (shared_of self.old) session tag mode (shared_of self.new) }
+        ensures entries { OnOk result (entries_of self.new
+            ≡ set_at (entries_of self.old) session (with_one_less (entries_of self.old session) tag mode owner)) }
+        ensures released { result ≡ Ok Unlocked.Released →
+            Releases (shared_of self.old) session tag mode (shared_of self.new) }
         ensures same_shared { result ≡ Ok Unlocked.StillHeld → shared_of self.new ≡ shared_of self.old }
         ensures unchanged { OnErr result (IsUnchanged self.old self.new) }
         ensures alone { LeavesAlone self.old self.new }
@@ -287,7 +304,8 @@ impl Desk {
     pub fn has_waiters(&self, session: SessionId, tag: Tag, mode: Mode) -> Result<bool, Refusal>
         requires issued { session < issued_of self.now }
         requires not_waiting { wait_of self.now session ≡ None }
-        ensures answer { IfOk result (λ is_awaited. is_awaited ≡ some_awaits_conflict ((contents_of self.now (partition_of tag)).waits tag) mode) }
+        ensures answer { IfOk result (λ is_awaited.
+            is_awaited ≡ some_awaits_conflict ((contents_of self.now (partition_of tag)).waits tag) mode) }
         ensures not_held { IsErrOf result Refusal.NotHeld ↔ (total_of (entries_of self.now session) tag mode ≡ 0) }
         ensures no_other { IsOkUnless result Refusal.NotHeld }
     {
@@ -302,7 +320,9 @@ impl Desk {
     /// The modes that the session has the object in (`holdMask` of `PROCLOCK` in lock.h).
     pub fn held(&self, session: SessionId, tag: Tag) -> ModeSet
         requires issued { session < issued_of self.now }
-        ensures { set_has result ≡ (λ mode. has_entry (entries_of self.now session) tag mode || has_grant (wait_of self.now session) tag mode) }
+        ensures { set_has result ≡
+            (λ mode. has_entry (entries_of self.now session) tag mode
+            || has_grant (wait_of self.now session) tag mode) }
     {
         self.parts[usize::from(tag.partition())].held(session, &tag)
     }
@@ -323,8 +343,10 @@ impl Desk {
     pub fn commit(&mut self, session: SessionId)
         requires issued { session < issued_of self.old }
         requires not_waiting { wait_of self.old session ≡ None }
-        ensures entries { entries_of self.new ≡ set_at (entries_of self.old) session (left_by End.Commit (entries_of self.old session)) }
-        ensures released { ReleasesAll (shared_of self.old) session (ended_by End.Commit (entries_of self.old session)) (shared_of self.new) }
+        ensures entries { entries_of self.new
+            ≡ set_at (entries_of self.old) session (left_by End.Commit (entries_of self.old session)) }
+        ensures released { ReleasesAll (shared_of self.old) session (ended_by End.Commit (entries_of self.old session))
+            (shared_of self.new) }
         ensures alone { LeavesAlone self.old self.new }
     {
         self.end_all(session, End::Commit);
@@ -335,8 +357,10 @@ impl Desk {
     pub fn abort(&mut self, session: SessionId)
         requires issued { session < issued_of self.old }
         requires not_waiting { wait_of self.old session ≡ None }
-        ensures entries { entries_of self.new ≡ set_at (entries_of self.old) session (left_by End.Abort (entries_of self.old session)) }
-        ensures released { ReleasesAll (shared_of self.old) session (ended_by End.Abort (entries_of self.old session)) (shared_of self.new) }
+        ensures entries { entries_of self.new
+            ≡ set_at (entries_of self.old) session (left_by End.Abort (entries_of self.old session)) }
+        ensures released { ReleasesAll (shared_of self.old) session (ended_by End.Abort (entries_of self.old session))
+            (shared_of self.new) }
         ensures alone { LeavesAlone self.old self.new }
     {
         self.end_all(session, End::Abort);
@@ -347,8 +371,10 @@ impl Desk {
     pub fn close(&mut self, session: SessionId)
         requires issued { session < issued_of self.old }
         requires not_waiting { wait_of self.old session ≡ None }
-        ensures entries { entries_of self.new ≡ set_at (entries_of self.old) session (left_by End.Close (entries_of self.old session)) }
-        ensures released { ReleasesAll (shared_of self.old) session (ended_by End.Close (entries_of self.old session)) (shared_of self.new) }
+        ensures entries { entries_of self.new
+            ≡ set_at (entries_of self.old) session (left_by End.Close (entries_of self.old session)) }
+        ensures released { ReleasesAll (shared_of self.old) session (ended_by End.Close (entries_of self.old session))
+            (shared_of self.new) }
         ensures alone { LeavesAlone self.old self.new }
     {
         self.end_all(session, End::Close);
@@ -366,8 +392,10 @@ impl Desk {
     fn end_all(&mut self, session: SessionId, end: End)
         requires issued { session < issued_of self.old }
         requires not_waiting { wait_of self.old session ≡ None }
-        ensures entries { entries_of self.new ≡ set_at (entries_of self.old) session (left_by end (entries_of self.old session)) }
-        ensures released { ReleasesAll (shared_of self.old) session (ended_by end (entries_of self.old session)) (shared_of self.new) }
+        ensures entries { entries_of self.new
+            ≡ set_at (entries_of self.old) session (left_by end (entries_of self.old session)) }
+        ensures released { ReleasesAll (shared_of self.old) session (ended_by end (entries_of self.old session))
+            (shared_of self.new) }
         ensures alone { LeavesAlone self.old self.new }
     {
         'entries: while let Some(_released) = self.end_one(session, end) {}
@@ -377,11 +405,15 @@ impl Desk {
     fn end_one(&mut self, session: SessionId, end: End) -> Option<(Tag, Mode)>
         requires issued { session < issued_of self.old }
         requires not_waiting { wait_of self.old session ≡ None }
-        ensures entries { entries_of self.new ≡ set_at (entries_of self.old) session (with_next_ended end (entries_of self.old session)) }
-        ensures next { IfSome result (λ key. ended_by end (entries_of self.old session) ≡ key ∷ ended_by end (with_next_ended end (entries_of self.old session))) }
-        ensures released { IfSome result (λ key. Releases (shared_of self.old) session key.0 key.1 (shared_of self.new)) }
+        ensures entries { entries_of self.new
+            ≡ set_at (entries_of self.old) session (with_next_ended end (entries_of self.old session)) }
+        ensures next { IfSome result (λ key. ended_by end (entries_of self.old session)
+            ≡ key ∷ ended_by end (with_next_ended end (entries_of self.old session))) }
+        ensures released { IfSome result (λ key.
+            Releases (shared_of self.old) session key.0 key.1 (shared_of self.new)) }
         ensures last { IfNone result (ended_by end (entries_of self.old session) ≡ []) }
-        ensures left { IfNone result (with_next_ended end (entries_of self.old session) ≡ left_by end (entries_of self.old session)) }
+        ensures left { IfNone result (with_next_ended end (entries_of self.old session)
+            ≡ left_by end (entries_of self.old session)) }
         ensures same_shared { IfNone result (shared_of self.new ≡ shared_of self.old) }
         ensures not_waiting { wait_of self.new session ≡ None }
         ensures alone { LeavesAlone self.old self.new }

@@ -23,7 +23,8 @@ pub fn release_hold(
     requires sixteen { length parts.old.items ≡ 16 }
     requires held { (contents_in parts.old.items (partition_of tag)).holds session tag mode ≡ true }
     ensures changed { ChangesPart parts.old.items sessions.old.items (partition_of tag)
-        (λ granted after. Moves (contents_in parts.old.items (partition_of tag)) session (Release tag mode) granted after)
+        (λ granted after.
+        Moves (contents_in parts.old.items (partition_of tag)) session (Release tag mode) granted after)
         parts.new.items sessions.new.items }
     ensures capacity { vec_capacity sessions.new ≡ vec_capacity sessions.old }
 {
@@ -43,7 +44,8 @@ pub fn leave_queue(
     requires sixteen { length parts.old.items ≡ 16 }
     requires waits { waits_there ((contents_in parts.old.items (partition_of tag)).waits tag) session ≡ true }
     ensures changed { ChangesPart parts.old.items sessions.old.items (partition_of tag)
-        (λ granted after. Wakes (remove_wait (contents_in parts.old.items (partition_of tag)) session tag) tag granted after)
+        (λ granted after.
+        Wakes (remove_wait (contents_in parts.old.items (partition_of tag)) session tag) tag granted after)
         parts.new.items sessions.new.items }
     ensures capacity { vec_capacity sessions.new ≡ vec_capacity sessions.old }
 {

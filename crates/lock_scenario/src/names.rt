@@ -107,7 +107,9 @@ impl Names {
     pub fn push(&mut self, name: Name)
         requires { length self.old.issued < 64 }
         ensures issued { self.new.issued ≡ self.old.issued ++ name ∷ [] }
-        ensures by_name { (place : ℕ) × (self.new.by_name ≡ insert self.old.by_name place (record { name = name; session = length self.old.issued })) }
+        ensures by_name { (place : ℕ)
+            × (self.new.by_name ≡ insert self.old.by_name place
+            (record { name = name; session = length self.old.issued })) }
         ensures waiting { self.new.waiting ≡ self.old.waiting }
     {
         let session = SessionId::new(self.issued.len() as u8).unwrap();
@@ -119,8 +121,10 @@ impl Names {
     /// How many open sessions have a name that does not come after this one.
     fn place_of(&self, name: &Name) -> usize
         ensures within { result ≤ length self.now.by_name }
-        ensures before { (k : ℕ) (d : Speaker) → k < result → NotAfter (slice_index_or self.now.by_name k d).name.bytes name.now.bytes }
-        ensures after { (k : ℕ) (d : Speaker) → result ≤ k → k < length self.now.by_name → NotAfter name.now.bytes (slice_index_or self.now.by_name k d).name.bytes }
+        ensures before { (k : ℕ) (d : Speaker) → k < result →
+            NotAfter (slice_index_or self.now.by_name k d).name.bytes name.now.bytes }
+        ensures after { (k : ℕ) (d : Speaker) → result ≤ k → k < length self.now.by_name →
+            NotAfter name.now.bytes (slice_index_or self.now.by_name k d).name.bytes }
     {
         for (place, other) in self.by_name.as_slice().iter().enumerate() {
             if *name < other.name {
@@ -143,7 +147,8 @@ impl Names {
 
     /// Takes the open session whose name comes first off the open ones, if any is open.
     pub fn take_first(&mut self) -> Option<Speaker>
-        ensures by_name { MatchOption result (self.old.by_name ≡ []) (λ first. self.old.by_name ≡ first ∷ self.new.by_name) }
+        ensures by_name { MatchOption result (self.old.by_name ≡ [])
+            (λ first. self.old.by_name ≡ first ∷ self.new.by_name) }
         ensures none { IfNone result (self.new.by_name ≡ []) }
         ensures in_order { IsByName self.old.by_name }
         ensures session { IfSome result (λ first. first.session < length self.new.issued) }

@@ -18,7 +18,15 @@ fn written(outcome: io::Result<()>) -> Result<(), Fault> {
     outcome.map_err(|_| Fault::WriteFailed)
 }
 
-/// The text of a refusal that names nothing.
+/// What a conflicting session does with the mode.
+fn how_text(how: How) -> &'static str {
+    match how {
+        How::Held => "held",
+        How::Awaited => "awaited",
+    }
+}
+
+/// The text of a refusal, before what it names.
 fn refusal_text(refusal: Refusal) -> &'static str {
     match refusal {
         Refusal::Conflict { .. } => "conflict",
@@ -130,35 +138,22 @@ impl<W: Write + Drop> Output<W> {
     /// A call was refused.
     pub fn refused(&mut self, names: &Names, name: &Name, refusal: Refusal) -> Result<(), Fault> {
         let number = refusal.number();
+        let text = refusal_text(refusal);
         match &refusal {
             Refusal::Conflict { session, mode, how } => {
                 let other = name_of(names, *session);
-                self.conflict(name, &other, *mode, *how)
+                let how = how_text(*how);
+                written(writeln!(
+                    self.writer,
+                    "{name}: refused {number} {text} {other} {mode} {how}"
+                ))
             }
             Refusal::SimpleDeadlock { session } => {
                 let other = name_of(names, *session);
-                written(writeln!(
-                    self.writer,
-                    "{name}: refused {number} simple deadlock {other}"
-                ))
+                written(writeln!(self.writer, "{name}: refused {number} {text} {other}"))
             }
-            _ => {
-                let text = refusal_text(refusal);
-                written(writeln!(self.writer, "{name}: refused {number} {text}"))
-            }
+            _ => written(writeln!(self.writer, "{name}: refused {number} {text}")),
         }
-    }
-
-    /// A request met a hold or a wait of another session.
-    fn conflict(&mut self, name: &Name, other: &Name, mode: Mode, how: How) -> Result<(), Fault> {
-        let how = match how {
-            How::Held => "held",
-            How::Awaited => "awaited",
-        };
-        written(writeln!(
-            self.writer,
-            "{name}: refused 1 conflict {other} {mode} {how}"
-        ))
     }
 
     /// All locks: a line for each row, and then their number.

@@ -116,11 +116,8 @@ impl PartTable for PlainPart {
     fn begin(&mut self, session: SessionId, tag: &Tag, mode: Mode) -> Result<(), NoMemory> {
         self.holds.reserve(self.waits.len() + 1)?;
         self.waits.reserve(1)?;
-        self.begun = Some(Request {
-            session,
-            tag: *tag,
-            mode,
-        });
+        let tag = *tag;
+        self.begun = Some(Request { session, tag, mode });
         Ok(())
     }
 
@@ -130,11 +127,8 @@ impl PartTable for PlainPart {
 
     fn grant(&mut self, session: SessionId, tag: &Tag, mode: Mode) {
         self.begun = None;
-        self.holds.push_reserved(Request {
-            session,
-            tag: *tag,
-            mode,
-        });
+        let tag = *tag;
+        self.holds.push_reserved(Request { session, tag, mode });
     }
 
     fn ungrant(&mut self, session: SessionId, tag: &Tag, mode: Mode) {

@@ -89,17 +89,48 @@ fn the_fast_path_has_its_modes(rt: HostRuntime) {
 }
 
 #[test]
-fn sessions_and_refusals_have_numbers(rt: HostRuntime) -> Result<(), Fail> {
+fn sessions_have_numbers(rt: HostRuntime) -> Result<(), Fail> {
     let session = SessionId::new(63).ok_or("no session 63")?;
     assert_eq!(rt; session.number(), 63);
     assert_eq!(rt; SessionId::new(64), None);
-    let conflict = Refusal::Conflict {
+    Ok(())
+}
+
+#[test]
+fn refusals_have_their_numbers_and_texts(rt: HostRuntime) -> Result<(), Fail> {
+    let session = SessionId::new(63).ok_or("no session 63")?;
+    let conflict = |how| Refusal::Conflict {
         session,
         mode: Mode::Share,
-        how: How::Held,
+        how,
     };
-    assert_eq!(rt; conflict.number(), 1);
-    assert_eq!(rt; Refusal::BadConfig.number(), 13);
-    assert!(rt; conflict.to_string(rt.alloc())?.as_str() == "conflict: session 63 has ShareLock");
+    for (refusal, number, text) in [
+        (conflict(How::Held), 1, "conflict: session 63 has ShareLock"),
+        (
+            conflict(How::Awaited),
+            1,
+            "conflict: session 63 has ShareLock",
+        ),
+        (Refusal::NoMemory, 2, "out of memory"),
+        (Refusal::LocalFull, 3, "the local lock table is full"),
+        (Refusal::CountFull, 4, "the count of this lock is full"),
+        (
+            Refusal::SimpleDeadlock { session },
+            5,
+            "simple deadlock with session 63",
+        ),
+        (Refusal::Cancelled, 6, "the wait was cancelled"),
+        (Refusal::NotHeld, 7, "you don't own this lock"),
+        (Refusal::Busy, 8, "the fast-path lock is busy"),
+        (Refusal::SlotsFull, 9, "the fast-path slots are full"),
+        (Refusal::StrongCounted, 10, "a strong lock is counted"),
+        (Refusal::NotEligible, 11, "not eligible for the fast path"),
+        (Refusal::NoMoreSessions, 12, "no more sessions"),
+        (Refusal::BadConfig, 13, "the configuration is out of range"),
+    ] {
+        assert_eq!(rt; refusal.number(), number);
+        let printed = refusal.to_string(rt.alloc())?;
+        assert!(rt; printed.as_str() == text, "the text of refusal {number}");
+    }
     Ok(())
 }

@@ -1,8 +1,8 @@
 use Rattle.std.proofs.Common.{◌≡◌, ℕ, ◌+◌, ◌<◌, ◌≤◌, Bool, true, false, ◌&&◌, cond, eqb, List, [], ◌∷◌, length, get_or, set, count_by, suc, zero, refl, sym, ap, ◌∙◌, inl, inr, arith, zero-add, Some, None}
 use Rattle.std.specs.List.{cons_option}
-use Rattle.std.proofs.lemmas.Bool.{false≢true, cases_Bool, cases_eq, cases_lt, and_parts, and_from, eqb-true, eq-eqb, ne_eqb, not_from_false, cond-true, cond-false}
+use Rattle.std.proofs.lemmas.Bool.{false≢true, cases_Bool, cases_eq, cases_lt, and_parts, eqb-true, ne_eqb, not_from_false, cond-true, cond-false}
 use Rattle.std.proofs.lemmas.List.{get_or_past, get_or_default}
-use Rattle.std.proofs.lemmas.List.Sums.{sum_by-cons, sum_by-set, get_or-le-sum_by}
+use Rattle.std.proofs.lemmas.List.Sums.{sum_by-cons, sum_by-set}
 use Rattle.std.proofs.lemmas.Nat.{and_le_r}
 use Rattle.place_index.specs.declared.cells.Cell.{Cell}
 use Rattle.place_index.specs.Notes.{no_place, is_at}
@@ -18,13 +18,6 @@ pub start_of-le : (mask hash : ℕ) → start_of mask hash ≤ mask
 unfolding start_of
 start_of-le mask hash = and_le_r _ mask
 
-pub full_within : (cells : List Cell) (k : ℕ) → is_full (cell_at cells k) ≡ true → k < length cells
-full_within cells k full =
-    elim (cases_lt k (length cells)) [
-      | inl within ↦ within
-      | inr past ↦ absurd (false≢true (ap is_full (sym (get_or_past cells k empty_cell past)) ∙ full))
-    ]
-
 pub full_below : (hash place : ℕ) → place < no_place → is_full (record { hash = hash; place = place }) ≡ true
 full_below hash place below = not_from_false _ (ne_eqb place no_place (λ same. omega arith))
 
@@ -34,9 +27,6 @@ note_parts hash place cell is =
     let both = and_parts _ _ is in
     let own = and_parts _ _ both.1 in
     (both.0, eqb-true _ _ own.0, eqb-true _ _ own.1)
-
-pub note_from : (hash : ℕ) (cell : Cell) → is_full cell ≡ true → cell.hash ≡ hash → is_note hash cell.place cell ≡ true
-note_from hash cell full same = and_from _ _ full (and_from _ _ (eq-eqb hash cell.hash (sym same)) (eq-eqb cell.place cell.place refl))
 
 -- only notes pass these tests
 pub CountsNotes-is_full : CountsNotes is_full
@@ -56,12 +46,6 @@ past_empty cells k past = ap is_full (get_or_past cells k empty_cell past)
 
 pub count-set : (p : Cell → Bool) (cells : List Cell) (k : ℕ) (c : Cell) → k < length cells → count_by p (set cells k c) + one_if (p (cell_at cells k)) ≡ count_by p cells + one_if (p c)
 count-set p cells k c within = sum_by-set (λ x. cond (p x) 1 0) cells k c empty_cell within
-
-pub count_some : (p : Cell → Bool) (cells : List Cell) (k : ℕ) → k < length cells → p (cell_at cells k) ≡ true → 0 < count_by p cells
-count_some p cells k within passes =
-    let least = get_or-le-sum_by (λ x. cond (p x) 1 0) cells k empty_cell within in
-    let one : one_if (p (cell_at cells k)) ≡ 1 = cond-true _ 1 0 passes in
-    omega arith
 
 -- a count above 0 is of some cell
 pub count_witness : (p : Cell → Bool) (cells : List Cell) → 0 < count_by p cells → (k : ℕ) × (k < length cells) × (p (cell_at cells k) ≡ true)
@@ -85,9 +69,6 @@ full_from (c ∷ cells) (suc from) all =
     omega (arith, sum_by-cons (λ x. cond (is_full x) 1 0) c cells, full_from cells from (λ k past within. all (suc k) (omega arith) (omega arith)))
 
 -- ---- how often a place is noted
-
-pub times_some : (cells : List Cell) (hash place k : ℕ) → is_note hash place (cell_at cells k) ≡ true → 0 < times_in cells hash place
-times_some cells hash place k is = count_some (is_note hash place) cells k (full_within cells k (note_parts hash place _ is).0) is
 
 count-cons_option : (hash place : ℕ) (b : Bool) (note : ℕ × ℕ) (notes : List (ℕ × ℕ)) → count_by (is_at hash place) (cons_option (cond b (Some note) None) notes) ≡ one_if (b && is_at hash place note) + count_by (is_at hash place) notes
 count-cons_option hash place true note notes = sum_by-cons (λ x. cond (is_at hash place x) 1 0) note notes

@@ -2,29 +2,10 @@ use Rattle.std.proofs.Common.{◌≡◌, ◌≢◌, ℕ, ◌+◌, ◌<◌, ◌�
 use Rattle.std.proofs.lemmas.Bool.{false≢true, cases_eq, cases_lt}
 use Rattle.std.proofs.lemmas.List.{get_or-set_same, get_or-set_other, length-set}
 use Rattle.place_index.specs.declared.cells.Cell.{Cell}
-use Rattle.place_index.specs.Cells.{empty_cell, cell_at, is_full, start_of, Comes, IsReached}
+use Rattle.place_index.specs.Cells.{empty_cell, cell_at, is_full, start_of, IsReached}
 use Rattle.place_index.proofs.CellLaws.{one_if, count-set}
 
 -- ---- a note comes into the first empty cell
-
-pub put_reached : (cells : List Cell) (mask at : ℕ) (c : Cell) → IsReached cells mask → at < length cells → is_full c ≡ true → Comes cells (start_of mask c.hash) at → IsReached (set cells at c) mask
-put_reached cells mask at c reached within full comes k filled =
-    elim (cases_eq k at) [
-      | inl same ↦
-          let is : cell_at (set cells at c) k ≡ c = ap (cell_at (set cells at c)) same ∙ get_or-set_same cells at c empty_cell within in
-          let from : start_of mask (cell_at (set cells at c) k).hash ≡ start_of mask c.hash = ap (λ (x : Cell). start_of mask x.hash) is in
-          (omega (arith, comes.0), λ j after before. let apart : j ≢ at = omega arith in ap is_full (get_or-set_other cells at j c empty_cell apart) ∙ comes.1 j (omega arith) (omega arith))
-      | inr apart ↦
-          let is : cell_at (set cells at c) k ≡ cell_at cells k = get_or-set_other cells at k c empty_cell apart in
-          let from : start_of mask (cell_at (set cells at c) k).hash ≡ start_of mask (cell_at cells k).hash = ap (λ (x : Cell). start_of mask x.hash) is in
-          let was = reached k (ap is_full (sym is) ∙ filled) in (
-            omega (arith, was.0),
-            λ j after before. elim (cases_eq j at) [
-              | inl here ↦ ap is_full (ap (cell_at (set cells at c)) here ∙ get_or-set_same cells at c empty_cell within) ∙ full
-              | inr there ↦ ap is_full (get_or-set_other cells at j c empty_cell there) ∙ was.1 j (omega arith) before
-            ],
-          )
-    ]
 
 -- ---- a gap is moved up
 
@@ -35,15 +16,6 @@ pub record HasGap (cells : List Cell) (mask gap next : ℕ) : Type 0 where
   pub within : gap < length cells
   pub behind : (k : ℕ) → gap < k → k < next → gap < start_of mask (cell_at cells k).hash
   pub reached : (k : ℕ) → k ≢ gap → is_full (cell_at cells k) ≡ true → (start_of mask (cell_at cells k).hash ≤ k) × ((j : ℕ) → start_of mask (cell_at cells k).hash ≤ j → j < k → j ≢ gap → is_full (cell_at cells j) ≡ true)
-
-pub gap_opens : (cells : List Cell) (mask gap : ℕ) → IsReached cells mask → gap < length cells → HasGap cells mask gap (gap + 1)
-gap_opens cells mask gap reached within =
-    record {
-      before = omega arith;
-      within = within;
-      behind = λ k after before. absurd (omega arith);
-      reached = λ k apart full. ((reached k full).0, λ j after before other. (reached k full).1 j after before);
-    }
 
 pub gap_stays : (cells : List Cell) (mask gap next : ℕ) → HasGap cells mask gap next → gap < start_of mask (cell_at cells next).hash → HasGap cells mask gap (next + 1)
 gap_stays cells mask gap next has later =

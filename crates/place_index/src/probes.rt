@@ -62,7 +62,8 @@ pub(crate) fn put(cells: &mut [Cell], mask: usize, hash: u32, place: u32)
     requires room { count_by is_full cells.old + mask < length cells.old }
     requires place { place < no_place }
     ensures reached { IsReached cells.new mask }
-    ensures counts { (p : _) → CountsNotes p → count_by p cells.new ≡ count_by p cells.old + (if p (record { hash = hash; place = place }) then 1 else 0) }
+    ensures counts { (p : _) → CountsNotes p →
+        count_by p cells.new ≡ count_by p cells.old + (if p (record { hash = hash; place = place }) then 1 else 0) }
 {
     let at = first_empty(cells, start_of(mask, hash));
     cells[at] = Cell::note(hash, place);
@@ -89,7 +90,8 @@ fn close_gap(cells: &mut [Cell], mask: usize, at: usize)
     requires reached { IsReached cells.old mask }
     requires within { at < length cells.old }
     ensures reached { IsReached cells.new mask }
-    ensures counts { (p : _) → CountsNotes p → count_by p cells.new + (if p (cell_at cells.old at) then 1 else 0) ≡ count_by p cells.old }
+    ensures counts { (p : _) → CountsNotes p →
+        count_by p cells.new + (if p (cell_at cells.old at) then 1 else 0) ≡ count_by p cells.old }
 {
     let mut gap = at;
     for next in at + 1..cells.len() {

@@ -13,7 +13,7 @@ use Rattle.lock_table.specs.Put.{set_at}
 use Rattle.lock_model.specs.Shows.{Shows, ShowsMarks, makes_steps}
 use Rattle.lock_model.proofs.Shows.Changes.{partition_word-set, fast_word-set}
 use Rattle.lock_model.proofs.Shows.Locks.{marks-set}
-use Rattle.lock_model.proofs.Shows.Looks.{steps_from}
+use Rattle.lock_model.proofs.Shows.Looks.{steps_from, fast_word_from}
 
 -- The machine, once a partition's word shows this, and the session shares it or not.
 abbrev pub with_partition_sharer : Machine → ℕ → ℕ → ℕ → Bool → Machine
@@ -88,9 +88,6 @@ module _ (m : Machine) (w : World) (safe : SafeWorld w) (shows : Shows m w) wher
   )
 
   -- The word of a session's fast-path slots.
-  fast_word : (o : ℕ) → o < 64 → get_or m.words.fast o 0 ≡ w.words.fast o
-  fast_word o exists = get_or_default m.words.fast o 0 free_word (subst (λ n. o < n) (sym shows.words.sixty_four_fast) exists) ∙ shows.words.fast o
-
   shown_fast : (s o word its : ℕ) (b : Bool) → s < 64 → o < 64 → word ≡ its
       → Shows (with_fast_sharer m s o word b)
       (record w {
@@ -118,8 +115,8 @@ module _ (m : Machine) (w : World) (safe : SafeWorld w) (shows : Shows m w) wher
       × Shows (with_fast_sharer m s o (shared_word (get_or m.words.fast o 0)) true) v
   shared_fast s o steps below exists free new = (
     after_sharing_fast w s o,
-    inl (subst (λ n. o < n) (sym shows.numbers.limit) exists, may_share s o _ _ m.locks.fast_sharers 64 w.sessions.shares_fast shows.locks.fast_sharers (fast_word o exists) steps free new, refl),
-    shown_fast s o _ _ true below exists (ap shared_word (fast_word o exists)),
+    inl (subst (λ n. o < n) (sym shows.numbers.limit) exists, may_share s o _ _ m.locks.fast_sharers 64 w.sessions.shares_fast shows.locks.fast_sharers (fast_word_from m w safe shows o exists) steps free new, refl),
+    shown_fast s o _ _ true below exists (ap shared_word (fast_word_from m w safe shows o exists)),
   )
 
   pub unshared_fast : (s o : ℕ) → makes_steps m s ≡ true → s < 64 → o < 64 → get_or (get_or m.locks.fast_sharers o []) s false ≡ true
@@ -128,5 +125,5 @@ module _ (m : Machine) (w : World) (safe : SafeWorld w) (shows : Shows m w) wher
   unshared_fast s o steps below exists sharing = (
     after_unsharing_fast w s o,
     inl (may_unshare s o m.locks.fast_sharers 64 w.sessions.shares_fast shows.locks.fast_sharers steps sharing, refl),
-    shown_fast s o _ _ false below exists (ap unshared_word (fast_word o exists)),
+    shown_fast s o _ _ false below exists (ap unshared_word (fast_word_from m w safe shows o exists)),
   )

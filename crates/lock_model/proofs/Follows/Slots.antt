@@ -1,11 +1,10 @@
 use Rattle.std.proofs.Common.{◌≡◌, ℕ, ◌<◌, Bool, true, false, [], get_or, refl, sym, ap, ◌∙◌, subst, inl}
 use Rattle.std.proofs.Math.ListN.{set}
-use Rattle.std.proofs.lemmas.List.{get_or_default}
 use Rattle.lock_table.specs.declared.moves.Move.TheVariants.{Keep}
 use Rattle.lock_world.specs.declared.events.Step.TheVariants.{TakeExclusive, PutExclusive}
 use Rattle.lock_world.specs.declared.events.Word.TheVariants.{Fast}
 use Rattle.lock_model.specs.declared.machine.state.Machine.{Machine}
-use Rattle.lw_word.specs.LightweightWord.{free_word, taken_word, put_word, IsHeldByNobody}
+use Rattle.lw_word.specs.LightweightWord.{taken_word, put_word, IsHeldByNobody}
 use Rattle.lock_world.specs.World.{World}
 use Rattle.lock_world.specs.Happens.{Next}
 use Rattle.lock_world.specs.Happens.Slots.{after_taking_fast, after_putting_fast}
@@ -13,7 +12,7 @@ use Rattle.lock_world.specs.SafeWorld.{SafeWorld}
 use Rattle.lock_model.specs.Shows.{Shows, makes_steps}
 use Rattle.lock_model.proofs.Shows.Changes.{fast_word-set}
 use Rattle.lock_model.proofs.Shows.Locks.{marks-set}
-use Rattle.lock_model.proofs.Shows.Looks.{steps_from}
+use Rattle.lock_model.proofs.Shows.Looks.{steps_from, fast_word_from}
 
 -- The machine, once the word of the owner's slots shows this, and the session holds it exclusively or not.
 abbrev pub with_holder : Machine → ℕ → ℕ → ℕ → Bool → Machine
@@ -23,9 +22,6 @@ with_holder m s o word b = record m {
 }
 
 module _ (m : Machine) (w : World) (safe : SafeWorld w) (shows : Shows m w) where
-  fast_word : (o : ℕ) → o < 64 → get_or m.words.fast o 0 ≡ w.words.fast o
-  fast_word o exists = get_or_default m.words.fast o 0 free_word (subst (λ n. o < n) (sym shows.words.sixty_four_fast) exists) ∙ shows.words.fast o
-
   pub taken_fast : (s o : ℕ) → makes_steps m s ≡ true → s < 64 → o < 64 → IsHeldByNobody (get_or m.words.fast o 0)
       → (v : World) × Next w (record { session = s; step = TakeExclusive (Fast o) }) v
       × Shows (with_holder m s o (taken_word (get_or m.words.fast o 0)) true) v
@@ -35,13 +31,13 @@ module _ (m : Machine) (w : World) (safe : SafeWorld w) (shows : Shows m w) wher
       record {
         steps = steps_from m w safe shows s steps;
         exists = subst (λ n. o < n) (sym shows.numbers.limit) exists;
-        free = subst IsHeldByNobody (fast_word o exists) free;
+        free = subst IsHeldByNobody (fast_word_from m w safe shows o exists) free;
       },
       refl,
     ),
     record {
       numbers = shows.numbers;
-      words = fast_word-set m.words w.words o _ _ shows.words exists (ap taken_word (fast_word o exists));
+      words = fast_word-set m.words w.words o _ _ shows.words exists (ap taken_word (fast_word_from m w safe shows o exists));
       fast_path = shows.fast_path;
       counted = shows.counted;
       asleep = shows.asleep;
@@ -63,7 +59,7 @@ module _ (m : Machine) (w : World) (safe : SafeWorld w) (shows : Shows m w) wher
     inl (refl, (record { steps = steps_from m w safe shows s steps; holding = sym (shows.locks.fast_holders.mark s o) ∙ holding }, refl)),
     record {
       numbers = shows.numbers;
-      words = fast_word-set m.words w.words o _ _ shows.words exists (ap put_word (fast_word o exists));
+      words = fast_word-set m.words w.words o _ _ shows.words exists (ap put_word (fast_word_from m w safe shows o exists));
       fast_path = shows.fast_path;
       counted = shows.counted;
       asleep = shows.asleep;

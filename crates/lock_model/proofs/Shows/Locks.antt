@@ -5,10 +5,9 @@ use Rattle.std.proofs.lemmas.Bool.{cases_eq, cases_lt, both_ways, false_from_ne_
 use Rattle.std.proofs.lemmas.List.{get_or-set_same, get_or-set_other, get_or-replicate, get_or_past, length-replicate}
 use Rattle.lock_table.specs.Put.{set_at}
 use Rattle.lock_table.proofs.ListLemmas.{any_found, found_within}
-use Rattle.lock_table.proofs.PutLemmas.{column-here, column-else}
+use Rattle.lock_table.proofs.PutLemmas.{column-here, column-else, written-at}
 use Rattle.lock_model.specs.Shows.{ShowsMarks, has_a_mark}
 use Rattle.lock_model.proofs.Shows.Places.{get_or-one_value}
-use Rattle.lock_model.proofs.Shows.Changes.{get_or-set_at}
 
 -- The marks of who has which lightweight locks.
 
@@ -38,7 +37,7 @@ marks-set marks locks has s lock b shows below within = record {
   mark = λ k j. elim (cases_eq j lock) [
     | inl same ↦
         ap (λ i. get_or (get_or (set marks lock row) i []) k false) same ∙ ap (λ list. get_or list k false) here
-        ∙ get_or-set_at (get_or marks lock []) s b false (λ i. has i lock) in_row (λ i. shows.mark i lock) k
+        ∙ written-at (λ own its. own ≡ its) (get_or marks lock []) s b false (λ i. has i lock) b in_row refl k (shows.mark k lock)
         ∙ sym (ap (λ q. set_at has s (set_at (has s) lock b) k q) same ∙ column-here has s lock b lock refl k)
     | inr other ↦
         ap (λ list. get_or list k false) (get_or-set_other marks lock j row [] other) ∙ shows.mark k j ∙ sym (column-else has s lock b j other k)

@@ -2,12 +2,13 @@ use Rattle.std.proofs.Common.{◌≡◌, ℕ, ◌<◌, ◌≤◌, Bool, true, fa
 use Rattle.std.specs.Prelude.{◌==◌}
 use Rattle.std.proofs.Math.Bool.{or-false, and-true, and-false}
 use Rattle.std.proofs.lemmas.Bool.{cases_Bool, cases_lt, both_ways, false≢true, and_parts, and_from, eqb-true, false_from_ne_true, cond-true, cond-false, not-true}
-use Rattle.std.proofs.lemmas.List.{get_or_past}
+use Rattle.std.proofs.lemmas.List.{get_or_past, get_or_default}
 use Rattle.modes_core.specs.declared.modes.Mode.{Mode}
 use Rattle.modes_core.specs.declared.tags.Tag.{Tag}
 use Rattle.modes_core.specs.Tag.{partition_of}
 use Rattle.lock_model.specs.declared.machine.hands.InHand.{InHand}
 use Rattle.lock_model.specs.declared.machine.state.Machine.{Machine}
+use Rattle.lw_word.specs.LightweightWord.{free_word}
 use Rattle.lock_table.specs.Content.{Content}
 use Rattle.lock_table.specs.OwnWait.{OwnWait, Stage, InQueue, WasGranted, HasLeft, is_for, is_pending, queued_by}
 use Rattle.lock_table.specs.Parts.{contents_in}
@@ -152,6 +153,10 @@ module _ (m : Machine) (w : World) (safe : SafeWorld w) (shows : Shows m w) wher
             sym (or_false (w.sessions.own s t n) _ (not_pending (w.sessions.awaited s) (stages w s) t n other))
             ∙ sym ((safe.but_slots.table.promise.one_place.on_object t).held s n) ∙ sym (and_not_false there _ (awaits_from s t n ∙ other))
       ]
+
+  -- The word of the lock of a session's fast-path slots.
+  pub fast_word_from : (o : ℕ) → o < 64 → get_or m.words.fast o 0 ≡ w.words.fast o
+  fast_word_from o exists = get_or_default m.words.fast o 0 free_word (subst (λ n. o < n) (sym shows.words.sixty_four_fast) exists) ∙ shows.words.fast o
 
   pub content_from : (t : Tag) → contents_in m.contents.parts.items (partition_of t) ≡ w.contents.now (partition_of t)
   content_from t = shows.contents.now (partition_of t) (omega arith)

@@ -101,7 +101,8 @@ impl Machine {
 
     /// Whether the session shares any word.
     pub fn shares_a_word(&self, session: SessionId) -> bool
-        ensures { result ≡ (has_a_mark session self.now.locks.fast_sharers || has_a_mark session self.now.locks.partition_sharers) }
+        ensures { result ≡ (has_a_mark session self.now.locks.fast_sharers
+            || has_a_mark session self.now.locks.partition_sharers) }
     {
         has_a_mark(self.locks.fast_sharers.as_slice(), session)
             || has_a_mark(self.locks.partition_sharers.as_slice(), session)

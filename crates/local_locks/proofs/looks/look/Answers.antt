@@ -1,8 +1,8 @@
-use Rattle.std.proofs.Common.{◌≡◌, ◌≢◌, ◌<◌, ℕ, true, false, Some, None, sym, ap, ◌∙◌, length, refl, rules, arith, of_calls}
+use Rattle.std.proofs.Common.{◌≢◌, ◌<◌, true, Some, sym, ap, ◌∙◌, length, of_calls}
 use Rattle.std.proofs.lemmas.List.{get_or_default}
 use Rattle.local_locks.specs.declared.records.Entry.{Entry}
 use Rattle.local_locks.specs.Owned.{is_of, count_in_all}
-use Rattle.local_locks.specs.Slots.{opened, entry_at, IsPlaceOf, slot_at}
+use Rattle.local_locks.specs.Slots.{opened, entry_at}
 use Rattle.local_locks.proofs.IndexLaws.{noted_at}
 use Rattle.local_locks.proofs.OpenLaws.{opened_some, slot_at-opened, entry_in-held}
 use Rattle.local_locks.proofs.LookLaws.{place_of, missing_of}

@@ -1,15 +1,15 @@
-use Rattle.std.proofs.Common.{◌≡◌, ◌≢◌, ◌+◌, ◌<◌, ◌≤◌, ℕ, true, false, None, Some, sym, ap, ◌∙◌, arith, length, inl, inr, take, subst, Vec, Global, vec_capacity}
+use Rattle.std.proofs.Common.{◌≡◌, ◌≢◌, ◌<◌, ◌≤◌, ℕ, true, false, None, sym, ap, ◌∙◌, arith, length, inl, inr, take, subst, Vec, Global, vec_capacity}
 use Rattle.std.specs.Option.{option_map}
 use Rattle.place_index.specs.Notes.{Notes}
-use Rattle.std.specs.Prelude.{IsSomeAnd, List}
+use Rattle.std.specs.Prelude.{IsSomeAnd}
 use Rattle.std.proofs.lemmas.Bool.{false≢true, cases_lt, cases_eq}
-use Rattle.std.proofs.lemmas.List.{length-take, take_at, get_or_default}
+use Rattle.std.proofs.lemmas.List.{length-take, get_or_default}
 use Rattle.local_locks.specs.declared.records.Entry.{Entry}
 use Rattle.local_locks.specs.Owned.{count_in_all}
 use Rattle.local_locks.specs.Slots.{Slots, opened, slot_at, present, entry_at, IsIndexed}
 use Rattle.local_locks.proofs.SlotLaws.{present-take, slot_at-take, slot_at-past, length-full}
 use Rattle.local_locks.proofs.IndexLaws.{indexed-alike}
-use Rattle.local_locks.proofs.OpenLaws.{length-opened, opened-take, slot_at-opened, entry_in-held, entry_in-empty}
+use Rattle.local_locks.proofs.OpenLaws.{length-opened, opened-take, slot_at-opened, entry_in-empty}
 use Rattle.local_locks.proofs.slots.compact.Goals as goal
 use Rattle.local_locks.proofs.slots.compact.Goals.{then-is_held, else-is_held}
 

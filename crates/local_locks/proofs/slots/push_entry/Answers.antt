@@ -1,4 +1,4 @@
-use Rattle.std.proofs.Common.{◌≡◌, ◌++◌, ◌∷◌, [], Some, sym, ap, cond, ◌∙◌, subst, length, true, arith}
+use Rattle.std.proofs.Common.{◌≡◌, ◌++◌, ◌∷◌, [], sym, ap, cond, ◌∙◌, subst, length, true, arith}
 use Rattle.std.specs.Prelude.{is_ok}
 use Rattle.local_locks.specs.Slots.{Slots, IsIndexed, opened}
 use Rattle.local_locks.proofs.IndexLaws.{pushed-indexed}

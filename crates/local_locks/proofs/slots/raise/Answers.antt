@@ -1,4 +1,4 @@
-use Rattle.std.proofs.Common.{set, sym, ap, ◌∙◌}
+use Rattle.std.proofs.Common.{set, ap, ◌∙◌}
 use Rattle.std.proofs.lemmas.List.{get_or_default}
 use Rattle.local_locks.specs.Owned.{raised}
 use Rattle.local_locks.specs.Slots.{opened, entry_in, entry_at}

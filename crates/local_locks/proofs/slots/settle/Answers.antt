@@ -1,10 +1,9 @@
 use Rattle.std.proofs.Common.{◌≡◌, ◌≢◌, ◌+◌, ◌<◌, true, false, List, length, set, sym, ap, subst, ◌∙◌, inl, inr, arith}
-use Rattle.std.specs.Prelude.{Some, None}
 use Rattle.std.proofs.lemmas.List.{get_or_default}
 use Rattle.std.proofs.lemmas.Bool.{false≢true, ne_eqb, cases_eq}
 use Rattle.local_locks.specs.declared.records.Entry.{Entry}
-use Rattle.local_locks.specs.Owned.{count_in_all, after_end, is_ended}
-use Rattle.local_locks.specs.Slots.{opened, slot_at, entry_in, entry_at}
+use Rattle.local_locks.specs.Owned.{count_in_all, after_end}
+use Rattle.local_locks.specs.Slots.{entry_at}
 use Rattle.local_locks.proofs.OpenLaws.{Settled, settled-empty, settled-left, slot_at-opened, entry_in-held, entry_in-empty}
 use Rattle.local_locks.proofs.slots.settle.Goals as goal
 use Rattle.local_locks.proofs.slots.settle.Goals.{then-is_held+else-total-eq0, else-is_held}

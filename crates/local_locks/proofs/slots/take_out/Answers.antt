@@ -1,8 +1,8 @@
-use Rattle.std.proofs.Common.{◌≡◌, None, take, set, sym, ap, ◌∙◌, length, inl, inr, arith}
+use Rattle.std.proofs.Common.{◌≡◌, None, take, set, sym, ap, ◌∙◌, inl, inr, arith}
 use Rattle.std.specs.Option.{option_map}
 use Rattle.std.proofs.lemmas.List.{get_or_default}
 use Rattle.local_locks.specs.declared.records.Entry.{Entry}
-use Rattle.local_locks.specs.Slots.{opened, slot_at, present, entry_in, entry_at, key_at, key_hash}
+use Rattle.local_locks.specs.Slots.{opened, entry_in, entry_at, key_hash}
 use Rattle.local_locks.proofs.IndexLaws.{noted_some, indexed-cleared}
 use Rattle.local_locks.proofs.OpenLaws.{length-opened, opened-set, opened-take, opened_some}
 use Rattle.local_locks.proofs.SlotSteps.{IsCut, left-entries, left-number, left-gone, left-others}

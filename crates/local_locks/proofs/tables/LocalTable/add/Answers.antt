@@ -1,8 +1,7 @@
-use Rattle.std.proofs.Common.{◌≡◌, ◌≢◌, ◌<◌, ◌+◌, ◌∷◌, ◌++◌, [], Some, false, sym, ap, subst, cond, ◌∙◌, length, set, arith}
+use Rattle.std.proofs.Common.{◌≡◌, ◌<◌, ◌+◌, ◌∷◌, ◌++◌, [], Some, false, sym, ap, subst, cond, ◌∙◌, length, arith}
 use Rattle.std.specs.Prelude.{is_some, List}
-use Rattle.std.proofs.lemmas.List.{get_or_default}
 use Rattle.local_locks.specs.Owned.{IsCounted, raised, new_entry, max_count, count_for, has_entry, owner_count_of, with_one_more, change}
-use Rattle.local_locks.specs.Slots.{Slots, IsKept, IsIndexed, IsPlaceOf, IsMissing, opened, entry_at, slot_at, present, key_at, back_to}
+use Rattle.local_locks.specs.Slots.{Slots, IsKept, IsIndexed, IsPlaceOf, IsMissing, opened, entry_at, present, back_to}
 use Rattle.local_locks.specs.declared.ends.Progress.{Progress}
 use Rattle.local_locks.specs.declared.records.Entry.{Entry}
 use Rattle.local_locks.proofs.SlotLaws.{present-push}

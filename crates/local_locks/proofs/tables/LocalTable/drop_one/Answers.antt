@@ -1,13 +1,12 @@
-use Rattle.std.proofs.Common.{◌≡◌, ◌≢◌, ◌<◌, List, Some, refl, sym, ap, subst, ◌∙◌, set, arith}
+use Rattle.std.proofs.Common.{◌≡◌, ◌≢◌, ◌<◌, List, refl, sym, ap, subst, ◌∙◌, arith}
 use Rattle.std.proofs.lemmas.List.{get_or_default}
 use Rattle.local_locks.specs.declared.answers.Unlocked.TheVariants.{Released, StillHeld}
-use Rattle.local_locks.specs.Owned.{IsWellOwned, count_for, count_in_all, is_of, lowered, total_of, without, with_one_less}
-use Rattle.local_locks.specs.Slots.{Slots, IsKept, IsPlaceOf, opened, entry_at, slot_at, present}
+use Rattle.local_locks.specs.Owned.{IsWellOwned, count_for, count_in_all, total_of, without, with_one_less}
+use Rattle.local_locks.specs.Slots.{Slots, IsKept, IsPlaceOf, opened, entry_at, present}
 use Rattle.local_locks.specs.declared.records.Entry.{Entry}
 use Rattle.local_locks.proofs.SlotLaws.{is_of-same}
 use Rattle.local_locks.proofs.KeptLaws.{well_owned}
-use Rattle.local_locks.proofs.TableSteps.{kept-lowered, kept-taken, entries-lowered, entries-released, total-lowered, total-none, entry_of-without, IsCounted-lowered}
-use Rattle.local_locks.proofs.LookLaws.{IsEntryOf, entry_of_place}
+use Rattle.local_locks.proofs.TableSteps.{kept-lowered, kept-taken, entries-lowered, total-lowered, total-none, entry_of-without, IsCounted-lowered}
 use Rattle.local_locks.proofs.tables.LocalTable.drop_one.Goals as goal
 
 pub returns-in_default-clause-well_owned : goal.returns-in_default-clause-well_owned

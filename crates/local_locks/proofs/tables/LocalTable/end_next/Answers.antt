@@ -1,12 +1,12 @@
-use Rattle.std.proofs.Common.{◌≡◌, ◌≢◌, ◌<◌, ◌-◌, ◌∷◌, ◌++◌, ℕ, Some, None, sym, ap, subst, ◌∙◌, length, take, drop, get_or, arith}
+use Rattle.std.proofs.Common.{◌≡◌, ◌≢◌, ◌-◌, ◌∷◌, ◌++◌, Some, None, sym, ap, subst, ◌∙◌, length, take, drop, get_or, arith}
 use Rattle.std.specs.Prelude.{List, find}
-use Rattle.std.proofs.lemmas.List.{take_at, get_or_default}
+use Rattle.std.proofs.lemmas.List.{take_at}
 use Rattle.local_locks.specs.declared.records.Entry.{Entry}
 use Rattle.local_locks.specs.Owned.{is_ended, ended_by, left_by, with_next_ended}
-use Rattle.local_locks.specs.Slots.{Slots, IsKept, IsIndexed, IsTable, opened, entry_at, slot_at, present, with_reached}
+use Rattle.local_locks.specs.Slots.{IsKept, IsIndexed, IsTable, opened, slot_at, present, with_reached}
 use Rattle.local_locks.specs.declared.ends.Progress.{Progress}
 use Rattle.local_locks.proofs.KeptLaws.{well_owned}
-use Rattle.local_locks.proofs.OpenLaws.{length-opened, slot_at-opened}
+use Rattle.local_locks.proofs.OpenLaws.{length-opened}
 use Rattle.local_locks.proofs.EndLaws.{ended_by-next, ended_by-none, left_by-next, with_next_ended-none, present-passed, find-passed}
 use Rattle.local_locks.proofs.EndSteps.{Walked, walked-slots, kept-walked, walked_ended, walked_passed, walked_place}
 use Rattle.local_locks.proofs.TableSteps.{kept-taken}

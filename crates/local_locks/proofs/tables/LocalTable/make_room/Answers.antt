@@ -1,6 +1,4 @@
-use Rattle.std.proofs.Common.{◌≡◌, ◌<◌, refl, subst, sym, ap, ◌∙◌, length, arith, List}
-use Rattle.place_index.specs.Notes.{Notes, HasSameNotes}
-use Rattle.local_locks.specs.declared.records.Entry.{Entry}
+use Rattle.std.proofs.Common.{refl, subst}
 use Rattle.local_locks.specs.Owned.{IsWellOwned}
 use Rattle.local_locks.proofs.KeptLaws.{well_owned}
 use Rattle.local_locks.proofs.EndSteps.{table-index}

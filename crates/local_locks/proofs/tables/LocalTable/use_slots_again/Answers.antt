@@ -1,4 +1,4 @@
-use Rattle.std.proofs.Common.{sym, subst, ap, ◌∙◌, length, arith}
+use Rattle.std.proofs.Common.{sym, subst, arith}
 use Rattle.local_locks.specs.declared.ends.Progress.{Progress}
 use Rattle.local_locks.specs.Slots.{opened, IsKept}
 use Rattle.local_locks.proofs.EndSteps.{kept-compact}
