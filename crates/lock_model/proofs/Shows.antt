@@ -5,3 +5,4 @@ pub mod Hands
 pub mod Locks
 pub mod Looks
 pub mod Runs
+pub mod SlotLists
