@@ -2,3 +2,4 @@ pub mod MovedPart
 pub mod Shows
 pub mod PlainLists
 pub mod Plain
+pub mod SlotLooks
