@@ -7,8 +7,6 @@ use modes_core::SessionId;
 impl Machine {
     ghost use Rattle.std.specs.Prelude.{◌≡◌, ◌==◌, Some, None};
     ghost use Rattle.std.specs.List.{list_any};
-    ghost use Rattle.lw_word.specs.SlotWord.{in_use};
-    ghost use Rattle.lock_model.specs.SlotLooks.{slots_at};
     ghost use Rattle.lock_world.specs.declared.events.Step.{Step};
     ghost use Rattle.lock_model.specs.Shows.{Follows, is_number, is_holder};
 
@@ -96,14 +94,5 @@ impl Machine {
             .parts
             .iter()
             .any(|part| part.has_hold_of(session))
-    }
-
-    /// Whether the session has a slot in use.
-    pub fn has_a_slot(&self, session: SessionId) -> bool
-        ensures { result ≡ list_any in_use (slots_at self.now session) }
-    {
-        self.fast_path.slots[usize::from(session.number())]
-            .iter()
-            .any(|word| word.in_use())
     }
 }

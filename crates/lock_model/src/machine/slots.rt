@@ -2,6 +2,7 @@
 
 ghost use Rattle.std.specs.Prelude.{◌≡◌, ◌<◌, length};
 ghost use Rattle.std.specs.List.{list_any};
+ghost use Rattle.lw_word.specs.SlotWord.{in_use};
 ghost use Rattle.lock_world.specs.SlotHolds.{is_slot_of};
 ghost use Rattle.lock_model.specs.SlotLooks.{is_slot_to_grant};
 
@@ -11,6 +12,13 @@ use lock_table::Move;
 use lock_world::Word;
 use lw_word::SlotWord;
 use modes_core::{Mode, SessionId, Tag, is_eligible};
+
+/// Whether a slot is in use.
+fn some_slot_in_use(slots: &[SlotWord]) -> bool
+    ensures { result ≡ list_any in_use slots.now }
+{
+    slots.iter().any(|word| word.in_use())
+}
 
 /// Whether the slot with this word is in use for the relation.
 fn is_slot_of(word: SlotWord, relation: u32) -> bool
@@ -37,12 +45,14 @@ fn is_slot_to_grant(slots: &[SlotWord], relation: u32, place: usize) -> bool
 
 impl Machine {
     ghost use Rattle.std.specs.Prelude.{◌≡◌, slice_index_or, None};
+    ghost use Rattle.std.specs.List.{list_any};
+    ghost use Rattle.lw_word.specs.SlotWord.{in_use};
     ghost use Rattle.modes_core.specs.Tag.{index_of};
     ghost use Rattle.lock_table.specs.declared.moves.Move.{Move};
     ghost use Rattle.lock_world.specs.declared.events.Step.{Step};
     ghost use Rattle.lock_world.specs.declared.events.Word.{Word};
     ghost use Rattle.lock_model.specs.Shows.{ShowsSafe, Follows, has_a_mark, is_number};
-    ghost use Rattle.lock_model.specs.SlotLooks.{has_own_slots, may_set_slot, may_clear_slot, may_store_database};
+    ghost use Rattle.lock_model.specs.SlotLooks.{slots_at, has_own_slots, may_set_slot, may_clear_slot, may_store_database};
 
     /// Takes the lock of the owner's slots exclusively, where nobody has it (`LWLockAcquire` with
     /// `LW_EXCLUSIVE` in lwlock.c). The owner is any session number, issued or not, the own too.
@@ -127,6 +137,14 @@ impl Machine {
         }
     }
 
+    /// Whether the session has a slot in use.
+    pub fn has_a_slot(&self, session: SessionId) -> bool
+        ensures { result ≡ list_any in_use (slots_at self.now session) }
+    {
+        let slots = self.fast_path.slots[usize::from(session.number())];
+        some_slot_in_use(slots.as_slice())
+    }
+
     /// Whether the session makes steps, and holds the lock of its own slots.
     fn has_own_slots(&self, session: SessionId) -> bool
         ensures { result ≡ has_own_slots self.now session }
@@ -149,12 +167,13 @@ impl Machine {
         ensures { result ≡ may_set_slot self.now session place tag mode }
     {
         let index = usize::from(session.number());
+        let slots = self.fast_path.slots[index];
         place < 16
             && self.has_own_slots(session)
             && is_eligible(self.fast_path.databases[index], tag, mode)
             && self.has_read_zero(session, tag)
             && self.may_ask(session, tag, mode)
-            && is_slot_to_grant(self.fast_path.slots[index].as_slice(), relation_of(tag), place)
+            && is_slot_to_grant(slots.as_slice(), relation_of(tag), place)
     }
 
     /// Whether the session may clear the mode in the slot.
