@@ -4,4 +4,5 @@ pub mod Seats
 pub mod Partitions
 pub mod Waits
 pub mod Slots
+pub mod SlotSteps
 pub mod Sharing

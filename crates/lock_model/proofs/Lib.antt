@@ -1,3 +1,4 @@
+pub mod CountedLists
 pub mod PlainLists
 pub mod HoldOrder
 pub mod Shows

@@ -4,4 +4,6 @@ pub mod Changes
 pub mod Hands
 pub mod Locks
 pub mod Looks
+pub mod SlotLooks
 pub mod Runs
+pub mod SlotLists

@@ -2,3 +2,5 @@ pub mod MovedPart
 pub mod Shows
 pub mod PlainLists
 pub mod Plain
+pub mod CountedLists
+pub mod SlotLooks

@@ -16,6 +16,7 @@ mod plain;
 mod plain_lists;
 mod seats;
 mod sharing;
+mod slot_looks;
 mod slots;
 mod state;
 #[cfg(test)]

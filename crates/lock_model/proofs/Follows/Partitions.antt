@@ -22,11 +22,12 @@ use Rattle.lock_world.specs.World.{World}
 use Rattle.lock_world.specs.Happens.{Lawful, Next}
 use Rattle.lock_world.specs.Happens.Partitions.{after_taking_partition, IsMadeByPutting, MayPutPartition, after_putting_partition, WaitIsOver, MayPutRecorded, after_putting_recorded}
 use Rattle.lock_world.specs.SafeWorld.{SafeWorld}
+use Rattle.lock_model.specs.SlotLooks.{may_ask}
 use Rattle.lock_model.specs.Shows.{Shows, is_unmarked_in, none_unmarked, makes_steps, hand_of, awaits, awaited_of, HasUnmoved, is_over, CannotMake}
 use Rattle.lock_model.proofs.Shows.Hands.{none_unmarked-each, each-none_unmarked}
 use Rattle.lock_model.proofs.Shows.Changes.{partition_word-set, hand-set, IsChangedAt, changed_nowhere, parts-changed}
 use Rattle.lock_table.proofs.QueueLaws.{one_wakes}
-use Rattle.lock_model.proofs.Shows.Looks.{recorded_from, unmarked_from, steps_from, hand_from, hand_not, own_from, content_from, awaits_from, no_wait_from, some_wait_from}
+use Rattle.lock_model.proofs.Shows.Looks.{recorded_from, unmarked_from, steps_from, hand_from, hand_not, own_in_content, not_awaited_own, content_from, fits_from, from_fits}
 
 -- What the code asks of the own wait before a leave is put is what the World asks.
 over_from : (awaited : Option OwnWait) (p : ℕ) (done : Move) → is_over (option_map awaited_of awaited) p done ≡ true → WaitIsOver awaited p done
@@ -181,37 +182,22 @@ module _ (m : Machine) (w : World) (safe : SafeWorld w) (shows : Shows m w) wher
       made_put s p Keep (contents_in m.contents.parts.items p) m.contents in_hand tt tt tt (refl, refl) in_words
       (changed_nowhere m.contents.parts.items p (contents_in m.contents.parts.items p) refl (shows.contents.none_begun p))
 
-  -- A session may ask just where its own account fits a grant.
-  fits_from : (s : ℕ) (t : Tag) (n : Mode) → (is_none (get_or m.waits.awaited s None) && not ((contents_in m.contents.parts.items (partition_of t)).holds s t n)) ≡ true → (w.sessions.awaited s ≡ None) × (w.sessions.own s t n ≡ false)
-  fits_from s t n e =
-      let parts = and_parts (is_none (get_or m.waits.awaited s None)) _ e in
-      let absent : (w.contents.now (partition_of t)).holds s t n ≡ false = sym (ap (λ c. c.holds s t n) (content_from m w safe shows t)) ∙ not-true _ parts.1 in
-      (no_wait_from m w safe shows s parts.0, own_from m w safe shows s t n ∙ and_left _ _ absent)
-
-  from_fits : (s : ℕ) (t : Tag) (n : Mode) → w.sessions.awaited s ≡ None → w.sessions.own s t n ≡ false → (is_none (get_or m.waits.awaited s None) && not ((contents_in m.contents.parts.items (partition_of t)).holds s t n)) ≡ true
-  from_fits s t n none own =
-      let no_wait : is_none (get_or m.waits.awaited s None) ≡ true = true_from_ne_false _ (λ e. some_wait_from m w safe shows s e none) in
-      let not_awaited : awaits (get_or m.waits.awaited s None) t n ≡ false = awaits_from m w safe shows s t n ∙ ap (λ o. is_for o t n) none in
-      let absent : (w.contents.now (partition_of t)).holds s t n ≡ false =
-      false_from_ne_true _ (λ held. both_ways (w.sessions.own s t n) own (own_from m w safe shows s t n ∙ and_from _ _ held (not_from_false _ not_awaited))) in
-      and_from _ _ no_wait (not_from_false _ (ap (λ c. c.holds s t n) (content_from m w safe shows t) ∙ absent))
-
   pub granted : (s p : ℕ) (t : Tag) (n : Mode) (changed : Contents) → HasUnmoved m s p → partition_of t ≡ p
-      → (is_none (get_or m.waits.awaited s None) && not ((contents_in m.contents.parts.items (partition_of t)).holds s t n)) ≡ true
+      → may_ask m s t n ≡ true
       → WaitingAnswer (contents_in m.contents.parts.items p) s t n Granted → p < length m.words.partitions
       → IsChangedAt m.contents.parts.items changed.parts.items p (add_hold (contents_in m.contents.parts.items p) s t n)
       → (v : World) × Next w (record { session = s; step = PutExclusive (Partition p) (Grant t n) }) v
       × Shows (put_by m p changed) v
   granted s p t n changed in_hand object asks answer in_words at =
-      made_put s p (Grant t n) (add_hold (contents_in m.contents.parts.items p) s t n) changed in_hand tt object (fits_from s t n asks) (answer, refl, refl) in_words at
+      made_put s p (Grant t n) (add_hold (contents_in m.contents.parts.items p) s t n) changed in_hand tt object (fits_from m w safe shows s t n asks) (answer, refl, refl) in_words at
 
   -- What a lawful grant needs.
   pub granting : (s p : ℕ) (t : Tag) (n : Mode) → HasUnmoved m s p → Lawful w (record { session = s; step = PutExclusive (Partition p) (Grant t n) })
-      → (partition_of t ≡ p) × ((is_none (get_or m.waits.awaited s None) && not ((contents_in m.contents.parts.items (partition_of t)).holds s t n)) ≡ true) × WaitingAnswer (contents_in m.contents.parts.items p) s t n Granted
+      → (partition_of t ≡ p) × (may_ask m s t n ≡ true) × WaitingAnswer (contents_in m.contents.parts.items p) s t n Granted
   granting s p t n in_hand lawful =
       let may = (only_made s p (Grant t n) in_hand lawful).1.may_move in (
         may.object,
-        from_fits s t n may.own.0 may.own.1,
+        from_fits m w safe shows s t n may.own.0 may.own.1,
         subst (λ now. WaitingAnswer now s t n Granted) (sym (shows.contents.now p (exists_from s p in_hand))) may.moved.0,
       )
 
@@ -223,7 +209,7 @@ module _ (m : Machine) (w : World) (safe : SafeWorld w) (shows : Shows m w) wher
       let held : (w.contents.now (partition_of t)).holds s t n ≡ true =
       sym (ap (λ c. c.holds s t n) (content_from m w safe shows t)) ∙ ap (λ q. (contents_in m.contents.parts.items q).holds s t n) object ∙ moves.0 in
       made_put s p (Release t n) content changed in_hand tt object
-      (own_from m w safe shows s t n ∙ and_from _ _ held (not_from_false _ not_awaited)) moves in_words at
+      (own_in_content m w safe shows s t n held not_awaited) moves in_words at
 
   -- What a lawful release needs.
   pub releasing : (s p : ℕ) (t : Tag) (n : Mode) → HasUnmoved m s p → Lawful w (record { session = s; step = PutExclusive (Partition p) (Release t n) })
@@ -231,11 +217,10 @@ module _ (m : Machine) (w : World) (safe : SafeWorld w) (shows : Shows m w) wher
   releasing s p t n in_hand lawful =
       let made = only_made s p (Release t n) in_hand lawful in
       let may = made.1.may_move in
-      let both = and_parts _ _ (sym (own_from m w safe shows s t n) ∙ may.own) in
       let moves : Moves (contents_in m.contents.parts.items p) s (Release t n) [] made.0 = subst (λ now. Moves now s (Release t n) [] made.0) (sym (shows.contents.now p (exists_from s p in_hand))) may.moved in (
         may.object,
         λ cannot. elim cannot [
-          | inl awaited ↦ both_ways _ (not-true _ both.1) awaited
+          | inl awaited ↦ both_ways _ (not_awaited_own m w safe shows s t n may.own) awaited
           | inr absent ↦ both_ways _ absent moves.0
         ],
         (made.0, moves),

@@ -18,20 +18,23 @@ use Rattle.lock_world.specs.Happens.{Next}
 use Rattle.lock_world.specs.Happens.Seats.{MayBeIssued, after_issuing, after_going_on, MayBeKeptApart, after_keeping_apart, MayClose, after_closing}
 use Rattle.lock_world.specs.SafeWorld.{SafeWorld}
 use Rattle.lock_table.specs.OwnWait.{is_for}
+use Rattle.lw_word.specs.SlotWord.{in_use}
+use Rattle.lock_model.specs.SlotLooks.{slots_at}
+use Rattle.lock_model.proofs.Shows.SlotLooks.{no_slot_hold}
 use Rattle.lock_model.specs.Shows.{Shows, is_number, is_holder, has_a_mark, makes_steps, awaits}
 use Rattle.lock_model.proofs.Shows.Locks.{no_mark, some_mark}
 use Rattle.lock_table.proofs.PutLemmas.{written-at}
 use Rattle.lock_table.proofs.ListLemmas.{any_found, any_weaker, found_within}
 use Rattle.lock_table.proofs.Same.{same_triple-refl}
-use Rattle.lock_model.proofs.Shows.Looks.{hand_kept, kept_hand, steps_from, own_from, content_from, awaits_from, no_wait_from}
+use Rattle.lock_model.proofs.Shows.Looks.{hand_kept, kept_hand, steps_from, own_nowhere, own_in_content, content_from, awaits_from, no_wait_from}
 
 -- The events on session numbers, as the machine makes them, and what its tests of them say of the World.
 
-number_of_some : (o : Option ℕ) (s : ℕ) → is_number s o ≡ true → o ≡ Some s
+pub number_of_some : (o : Option ℕ) (s : ℕ) → is_number s o ≡ true → o ≡ Some s
 number_of_some None s e = absurd (false≢true e)
 number_of_some (Some k) s e = ap Some (eqb-true k s e)
 
-some_of_number : (o : Option ℕ) (s : ℕ) → o ≡ Some s → is_number s o ≡ true
+pub some_of_number : (o : Option ℕ) (s : ℕ) → o ≡ Some s → is_number s o ≡ true
 some_of_number o s e = ap (is_number s) e ∙ eq-eqb s s refl
 
 -- whether a part has a hold of the session
@@ -129,12 +132,13 @@ module _ (m : Machine) (w : World) (safe : SafeWorld w) (shows : Shows m w) wher
         | inr no_fast ↦ some_mark m.locks.partition_sharers 16 w.sessions.shares_partition s shows.locks.partition_sharers (ap (λ b. b || has_a_mark s m.locks.partition_sharers) (sym no_fast) ∙ any) none
       ]
 
-  pub no_hold : (s : ℕ) → list_any (has_hold_of s) m.contents.parts.items ≡ false → (t : Tag) (n : Mode) → w.sessions.own s t n ≡ false
-  no_hold s none t n = false_from_ne_true _ (λ own.
-      let there : (w.contents.now (partition_of t)).holds s t n ≡ true = (and_parts _ _ (sym (own_from m w safe shows s t n) ∙ own)).0 in
-      let listed : holds_in (part_at m.contents.parts.items (partition_of t)).holds s t n ≡ true = ap (λ c. c.holds s t n) (content_from m w safe shows t) ∙ there in
-      both_ways (list_any (has_hold_of s) m.contents.parts.items) none
-      (found_within (has_hold_of s) m.contents.parts.items (partition_of t) no_part refl (session_of_hold _ s t n listed)))
+  pub no_hold : (s : ℕ) → list_any (has_hold_of s) m.contents.parts.items ≡ false → list_any in_use (slots_at m s) ≡ false → (t : Tag) (n : Mode) → w.sessions.own s t n ≡ false
+  no_hold s none none_used t n = own_nowhere m w safe shows s t n absent (no_slot_hold m w safe shows s none_used t n) where
+    absent : (w.contents.now (partition_of t)).holds s t n ≡ false
+    absent = false_from_ne_true _ (λ there.
+        let listed : holds_in (part_at m.contents.parts.items (partition_of t)).holds s t n ≡ true = ap (λ c. c.holds s t n) (content_from m w safe shows t) ∙ there in
+        both_ways (list_any (has_hold_of s) m.contents.parts.items) none
+        (found_within (has_hold_of s) m.contents.parts.items (partition_of t) no_part refl (session_of_hold _ s t n listed)))
 
   pub some_hold : (s : ℕ) → list_any (has_hold_of s) m.contents.parts.items ≡ true → w.sessions.awaited s ≡ None → ((t : Tag) (n : Mode) → w.sessions.own s t n ≡ false) → ⊥
   some_hold s any no_wait none =
@@ -147,7 +151,7 @@ module _ (m : Machine) (w : World) (safe : SafeWorld w) (shows : Shows m w) wher
       let home : partition_of t ≡ p = safe.but_slots.table.promise.one_place.no_hold_elsewhere p s t n there in
       let not_awaited : awaits (get_or m.waits.awaited s None) t n ≡ false = awaits_from m w safe shows s t n ∙ ap (λ o. is_for o t n) no_wait in
       both_ways (w.sessions.own s t n) (none t n)
-      (own_from m w safe shows s t n ∙ and_from _ _ (ap (λ q. (w.contents.now q).holds s t n) home ∙ there) (ap not not_awaited))
+      (own_in_content m w safe shows s t n (ap (λ q. (w.contents.now q).holds s t n) home ∙ there) not_awaited)
 
   pub keeps_nobody : (s : ℕ) → list_any (is_number s) m.numbers.kept_by ≡ false → (k : ℕ) → w.numbers.kept_by k ≢ Some s
   keeps_nobody s none k kept =
@@ -188,9 +192,9 @@ module _ (m : Machine) (w : World) (safe : SafeWorld w) (shows : Shows m w) wher
       )
 
   pub was_closed : (s : ℕ) → makes_steps m s ≡ true → list_any (is_holder s) m.contents.hands ≡ false → has_a_mark s m.locks.fast_holders ≡ false → (has_a_mark s m.locks.fast_sharers || has_a_mark s m.locks.partition_sharers) ≡ false
-      → list_any (has_hold_of s) m.contents.parts.items ≡ false → is_none (get_or m.waits.awaited s None) ≡ true → list_any (is_number s) m.numbers.kept_by ≡ false → s < length m.numbers.live
+      → list_any (has_hold_of s) m.contents.parts.items ≡ false → list_any in_use (slots_at m s) ≡ false → is_none (get_or m.waits.awaited s None) ≡ true → list_any (is_number s) m.numbers.kept_by ≡ false → s < length m.numbers.live
       → (v : World) × Next w (record { session = s; step = JoinSeat None }) v × Shows (record m { numbers = record (m.numbers) { live = set m.numbers.live s false } }) v
-  was_closed s steps no_hand no_fast no_shared none_held no_wait keeps_none in_live =
+  was_closed s steps no_hand no_fast no_shared none_held none_used no_wait keeps_none in_live =
       let shares_none = or_parts (has_a_mark s m.locks.fast_sharers) (has_a_mark s m.locks.partition_sharers) no_shared in
       let may : MayClose w s = record {
         steps = steps_from m w safe shows s steps;
@@ -198,7 +202,7 @@ module _ (m : Machine) (w : World) (safe : SafeWorld w) (shows : Shows m w) wher
         no_fast_word = no_fast_word s no_fast;
         no_shared_word = no_mark m.locks.partition_sharers 16 w.sessions.shares_partition s shows.locks.partition_sharers shares_none.1;
         no_shared_fast_word = no_mark m.locks.fast_sharers 64 w.sessions.shares_fast s shows.locks.fast_sharers shares_none.0;
-        no_hold = no_hold s none_held;
+        no_hold = no_hold s none_held none_used;
         no_wait = no_wait_from m w safe shows s no_wait;
         keeps_nobody = keeps_nobody s keeps_none;
       } in (

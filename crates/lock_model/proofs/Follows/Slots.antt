@@ -1,18 +1,22 @@
-use Rattle.std.proofs.Common.{◌≡◌, ℕ, ◌<◌, Bool, true, false, [], get_or, refl, sym, ap, ◌∙◌, subst, inl}
+use Rattle.std.proofs.Common.{◌≡◌, ◌≢◌, ℕ, ◌<◌, Bool, true, false, [], get_or, nat_eq, Option, None, refl, sym, ap, ◌∙◌, subst, inl}
 use Rattle.std.proofs.Math.ListN.{set}
+use Rattle.std.proofs.lemmas.Bool.{cond-true, cond-false, eq-eqb, ne_eqb}
 use Rattle.lock_table.specs.declared.moves.Move.TheVariants.{Keep}
 use Rattle.lock_world.specs.declared.events.Step.TheVariants.{TakeExclusive, PutExclusive}
 use Rattle.lock_world.specs.declared.events.Word.TheVariants.{Fast}
+use Rattle.lock_model.specs.declared.machine.state.FastPath.{FastPath}
 use Rattle.lock_model.specs.declared.machine.state.Machine.{Machine}
+use Rattle.lock_table.specs.Put.{set_at}
 use Rattle.lw_word.specs.LightweightWord.{taken_word, put_word, IsHeldByNobody}
 use Rattle.lock_world.specs.World.{World}
 use Rattle.lock_world.specs.Happens.{Next}
-use Rattle.lock_world.specs.Happens.Slots.{after_taking_fast, after_putting_fast}
+use Rattle.lock_world.specs.Happens.Slots.{after_taking_fast, zero_after_putting, after_putting_fast}
 use Rattle.lock_world.specs.SafeWorld.{SafeWorld}
-use Rattle.lock_model.specs.Shows.{Shows, makes_steps}
+use Rattle.lock_model.specs.Shows.{Shows, ShowsFastPath, makes_steps}
 use Rattle.lock_model.proofs.Shows.Changes.{fast_word-set}
 use Rattle.lock_model.proofs.Shows.Locks.{marks-set}
 use Rattle.lock_model.proofs.Shows.Looks.{steps_from, fast_word_from}
+use Rattle.lock_model.proofs.Shows.SlotLooks.{zero-set}
 
 -- The machine, once the word of the owner's slots shows this, and the session holds it exclusively or not.
 abbrev pub with_holder : Machine → ℕ → ℕ → ℕ → Bool → Machine
@@ -51,16 +55,21 @@ module _ (m : Machine) (w : World) (safe : SafeWorld w) (shows : Shows m w) wher
     },
   )
 
-  pub was_put_fast : (s o : ℕ) → makes_steps m s ≡ true → s < 64 → o < 64 → get_or (get_or m.locks.fast_holders o []) s false ≡ true
+  zero_after : (s o : ℕ) (shown : FastPath) (zeros : ℕ → Option ℕ) → ShowsFastPath shown w.words.database w.words.slot zeros → zeros ≡ zero_after_putting w.sessions.zero s o
+      → ShowsFastPath shown w.words.database w.words.slot (zero_after_putting w.sessions.zero s o)
+  zero_after s o shown zeros is same = subst (ShowsFastPath shown w.words.database w.words.slot) same is
+
+  was_put : (s o : ℕ) (path : FastPath) → makes_steps m s ≡ true → s < 64 → o < 64 → get_or (get_or m.locks.fast_holders o []) s false ≡ true
+      → ShowsFastPath path w.words.database w.words.slot (zero_after_putting w.sessions.zero s o)
       → (v : World) × Next w (record { session = s; step = PutExclusive (Fast o) Keep }) v
-      × Shows (with_holder m s o (put_word (get_or m.words.fast o 0)) false) v
-  was_put_fast s o steps below exists holding = (
+      × Shows (record (with_holder m s o (put_word (get_or m.words.fast o 0)) false) { fast_path = path }) v
+  was_put s o path steps below exists holding is = (
     after_putting_fast w s o,
     inl (refl, (record { steps = steps_from m w safe shows s steps; holding = sym (shows.locks.fast_holders.mark s o) ∙ holding }, refl)),
     record {
       numbers = shows.numbers;
       words = fast_word-set m.words w.words o _ _ shows.words exists (ap put_word (fast_word_from m w safe shows o exists));
-      fast_path = shows.fast_path;
+      fast_path = is;
       counted = shows.counted;
       asleep = shows.asleep;
       locks = record {
@@ -72,3 +81,22 @@ module _ (m : Machine) (w : World) (safe : SafeWorld w) (shows : Shows m w) wher
       waits = shows.waits;
     },
   )
+
+  -- Another session's lock is put,
+  pub was_put_fast : (s o : ℕ) → makes_steps m s ≡ true → s < 64 → o < 64 → get_or (get_or m.locks.fast_holders o []) s false ≡ true → o ≢ s
+      → (v : World) × Next w (record { session = s; step = PutExclusive (Fast o) Keep }) v
+      × Shows (with_holder m s o (put_word (get_or m.words.fast o 0)) false) v
+  was_put_fast s o steps below exists holding other =
+      was_put s o m.fast_path steps below exists holding
+      (zero_after s o m.fast_path w.sessions.zero shows.fast_path
+      (sym (cond-false (nat_eq o s) (set_at w.sessions.zero s None) w.sessions.zero (ne_eqb o s other))))
+
+  -- or the own one, with which what was read of a counter is gone.
+  pub was_put_own : (s o : ℕ) → makes_steps m s ≡ true → s < 64 → o < 64 → get_or (get_or m.locks.fast_holders o []) s false ≡ true → o ≡ s
+      → (v : World) × Next w (record { session = s; step = PutExclusive (Fast o) Keep }) v
+      × Shows (record (with_holder m s o (put_word (get_or m.words.fast o 0)) false) { fast_path = record (m.fast_path) { zeros = set m.fast_path.zeros s None } }) v
+  was_put_own s o steps below exists holding own =
+      was_put s o (record (m.fast_path) { zeros = set m.fast_path.zeros s None }) steps below exists holding
+      (zero_after s o (record (m.fast_path) { zeros = set m.fast_path.zeros s None }) (set_at w.sessions.zero s None)
+      (zero-set m.fast_path w.words.database w.words.slot w.sessions.zero s None shows.fast_path below)
+      (sym (cond-true (nat_eq o s) (set_at w.sessions.zero s None) w.sessions.zero (eq-eqb o s own))))

@@ -1,7 +1,7 @@
 use Rattle.std.proofs.Common.{◌≡◌, ℕ, ◌<◌, ◌≤◌, Bool, true, false, not, ◌&&◌, ◌||◌, length, is_none, get_or, option_map, Option, Some, None, refl, sym, ap, ◌∙◌, subst, inl, inr, arith}
 use Rattle.std.specs.Prelude.{◌==◌}
 use Rattle.std.proofs.Math.Bool.{or-false, and-true, and-false}
-use Rattle.std.proofs.lemmas.Bool.{cases_Bool, cases_lt, both_ways, false≢true, and_parts, and_from, eqb-true, false_from_ne_true, cond-true, cond-false, not-true}
+use Rattle.std.proofs.lemmas.Bool.{cases_Bool, cases_lt, both_ways, false≢true, and_parts, and_from, and_left, or_from, or_parts, or_right, eqb-true, false_from_ne_true, true_from_ne_false, cond-true, cond-false, not-true, not_from_false}
 use Rattle.std.proofs.lemmas.List.{get_or_past, get_or_default}
 use Rattle.modes_core.specs.declared.modes.Mode.{Mode}
 use Rattle.modes_core.specs.declared.tags.Tag.{Tag}
@@ -15,8 +15,10 @@ use Rattle.lock_table.specs.Parts.{contents_in}
 use Rattle.lock_table.specs.Queue.{waits_there, awaits_mode}
 use Rattle.lock_world.specs.World.{World, Hand, MakesSteps, recorded_in, is_unmarked}
 use Rattle.lock_world.specs.Safe.{is_hand_of, stages}
-use Rattle.lock_world.specs.SafeWorld.{SafeWorld}
+use Rattle.lock_world.specs.SlotHolds.{slot_holds}
+use Rattle.lock_world.specs.SafeWorld.{SafeWorld, slots_of, own_but}
 use Rattle.lock_model.specs.Shows.{Shows, ShowsHand, ShowsHandIfAny, is_unmarked_in, is_holder, makes_steps, hand_of, awaits, awaited_of}
+use Rattle.lock_model.specs.SlotLooks.{slots_hold, may_ask}
 use Rattle.lock_table.proofs.ListLemmas.{any_weaker, filter_nothing}
 
 -- What the machine's looks tell of a safe World that it shows.
@@ -104,7 +106,7 @@ module _ (m : Machine) (w : World) (safe : SafeWorld w) (shows : Shows m w) wher
         by_itself = sym (shows.numbers.kept_by s) ∙ none_of (get_or m.numbers.kept_by s None) parts.1;
       }
 
-  steps_kept : (s : ℕ) → MakesSteps w.numbers s → makes_steps m s ≡ true
+  pub steps_kept : (s : ℕ) → MakesSteps w.numbers s → makes_steps m s ≡ true
   steps_kept s steps =
       and_from (get_or m.numbers.live s false) (is_none (get_or m.numbers.kept_by s None)) (shows.numbers.live s ∙ steps.live) (ap is_none (shows.numbers.kept_by s ∙ steps.by_itself))
 
@@ -143,20 +145,54 @@ module _ (m : Machine) (w : World) (safe : SafeWorld w) (shows : Shows m w) wher
   pub awaits_from : (s : ℕ) (t : Tag) (n : Mode) → awaits (get_or m.waits.awaited s None) t n ≡ is_for (w.sessions.awaited s) t n
   awaits_from s t n = ap (λ o. awaits o t n) (shows.waits.awaited s) ∙ awaits_same (w.sessions.awaited s) t n
 
-  -- A session's own holds are those of the contents, but what it awaits.
-  pub own_from : (s : ℕ) (t : Tag) (n : Mode) → w.sessions.own s t n ≡ ((w.contents.now (partition_of t)).holds s t n && not (awaits (get_or m.waits.awaited s None) t n))
-  own_from s t n =
+  -- The slots are the World's.
+  pub slots_from : (s : ℕ) (t : Tag) (n : Mode) → slots_hold m s t n ≡ slots_of w.words.database w.words.slot s t n
+  slots_from s t n = λ i. slot_holds (shows.fast_path.database s i) (λ place. shows.fast_path.slot s place i) t n
+
+  -- A session's own holds in contents are those of the contents but what it awaits.
+  own_but_from : (s : ℕ) (t : Tag) (n : Mode) → own_but w.sessions.own (slots_of w.words.database w.words.slot) s t n ≡ ((w.contents.now (partition_of t)).holds s t n && not (awaits (get_or m.waits.awaited s None) t n))
+  own_but_from s t n =
       let there = (w.contents.now (partition_of t)).holds s t n in
+      let own = own_but w.sessions.own (slots_of w.words.database w.words.slot) s t n in
       elim (cases_Bool (is_for (w.sessions.awaited s) t n)) [
         | inl its ↦ safe.but_slots.table.promise.one_place.awaited_is_not_own s t n its ∙ sym (and_not_true there _ (awaits_from s t n ∙ its))
         | inr other ↦
-            sym (or_false (w.sessions.own s t n) _ (not_pending (w.sessions.awaited s) (stages w s) t n other))
+            sym (or_false own _ (not_pending (w.sessions.awaited s) (stages w s) t n other))
             ∙ sym ((safe.but_slots.table.promise.one_place.on_object t).held s n) ∙ sym (and_not_false there _ (awaits_from s t n ∙ other))
       ]
 
   -- The word of the lock of a session's fast-path slots.
   pub fast_word_from : (o : ℕ) → o < 64 → get_or m.words.fast o 0 ≡ w.words.fast o
   fast_word_from o exists = get_or_default m.words.fast o 0 free_word (subst (λ n. o < n) (sym shows.words.sixty_four_fast) exists) ∙ shows.words.fast o
+
+  -- A session's own holds are those that its slots show, and those of the contents but what it awaits.
+  pub own_from : (s : ℕ) (t : Tag) (n : Mode)
+      → w.sessions.own s t n ≡ (slots_hold m s t n || ((w.contents.now (partition_of t)).holds s t n && not (awaits (get_or m.waits.awaited s None) t n)))
+  own_from s t n =
+      let there = (w.contents.now (partition_of t)).holds s t n && not (awaits (get_or m.waits.awaited s None) t n) in
+      let slots = slots_of w.words.database w.words.slot in
+      elim (cases_Bool (slots s t n)) [
+        | inl shown ↦ safe.slots.are_own s t n shown ∙ sym (ap (λ b. b || there) (slots_from s t n ∙ shown))
+        | inr not_shown ↦
+            sym (and_not_false (w.sessions.own s t n) (slots s t n) not_shown) ∙ own_but_from s t n
+            ∙ sym (ap (λ b. b || there) (slots_from s t n ∙ not_shown))
+      ]
+
+  -- So what is in a content and not awaited is own,
+  pub own_in_content : (s : ℕ) (t : Tag) (n : Mode) → (w.contents.now (partition_of t)).holds s t n ≡ true → awaits (get_or m.waits.awaited s None) t n ≡ false → w.sessions.own s t n ≡ true
+  own_in_content s t n there not_awaited =
+      own_from s t n
+      ∙ or_right (slots_hold m s t n) ((w.contents.now (partition_of t)).holds s t n && not (awaits (get_or m.waits.awaited s None) t n)) (and_from _ _ there (not_from_false _ not_awaited))
+
+  -- and what is neither in a content nor in a slot is not.
+  pub own_nowhere : (s : ℕ) (t : Tag) (n : Mode) → (w.contents.now (partition_of t)).holds s t n ≡ false → slots_hold m s t n ≡ false → w.sessions.own s t n ≡ false
+  own_nowhere s t n absent not_shown =
+      own_from s t n
+      ∙ or_from (slots_hold m s t n) ((w.contents.now (partition_of t)).holds s t n && not (awaits (get_or m.waits.awaited s None) t n)) not_shown (and_left _ _ absent)
+
+  pub not_awaited_own : (s : ℕ) (t : Tag) (n : Mode) → w.sessions.own s t n ≡ true → awaits (get_or m.waits.awaited s None) t n ≡ false
+  not_awaited_own s t n own =
+      awaits_from s t n ∙ false_from_ne_true _ (λ its. both_ways (w.sessions.own s t n) (safe.order.awaited_is_not_own s t n its) own)
 
   pub content_from : (t : Tag) → contents_in m.contents.parts.items (partition_of t) ≡ w.contents.now (partition_of t)
   content_from t = shows.contents.now (partition_of t) (omega arith)
@@ -185,7 +221,24 @@ module _ (m : Machine) (w : World) (safe : SafeWorld w) (shows : Shows m w) wher
   pub awaits_not_here : (s : ℕ) (t : Tag) (n : Mode) → is_none (get_or m.waits.awaited s None) ≡ true → awaits_mode ((contents_in m.contents.parts.items (partition_of t)).waits t) s n ≡ false
   awaits_not_here s t n none = ap (λ (c : Content). awaits_mode (c.waits t) s n) (content_from t) ∙ awaits_not s (no_wait_from s none) t n
 
-  -- Whoever may ask waits for nothing and has not the hold.
-  pub asks_new : (s : ℕ) (t : Tag) (n : Mode) → (is_none (get_or m.waits.awaited s None) && not ((contents_in m.contents.parts.items (partition_of t)).holds s t n)) ≡ true
-      → (is_none (get_or m.waits.awaited s None) ≡ true) × ((contents_in m.contents.parts.items (partition_of t)).holds s t n ≡ false)
-  asks_new s t n may = let both = and_parts _ _ may in (both.0, not-true _ both.1)
+  -- A session may ask just where its own account fits a grant.
+  pub asks_new : (s : ℕ) (t : Tag) (n : Mode) → may_ask m s t n ≡ true
+      → (is_none (get_or m.waits.awaited s None) ≡ true) × ((contents_in m.contents.parts.items (partition_of t)).holds s t n ≡ false) × (slots_hold m s t n ≡ false)
+  asks_new s t n may =
+      let both = and_parts _ _ may in
+      let first = and_parts _ _ both.0 in
+      (first.0, not-true _ first.1, not-true _ both.1)
+
+  pub fits_from : (s : ℕ) (t : Tag) (n : Mode) → may_ask m s t n ≡ true → (w.sessions.awaited s ≡ None) × (w.sessions.own s t n ≡ false)
+  fits_from s t n may =
+      let new = asks_new s t n may in
+      (no_wait_from s new.0, own_nowhere s t n (sym (ap (λ (c : Content). c.holds s t n) (content_from t)) ∙ new.1) new.2)
+
+  pub from_fits : (s : ℕ) (t : Tag) (n : Mode) → w.sessions.awaited s ≡ None → w.sessions.own s t n ≡ false → may_ask m s t n ≡ true
+  from_fits s t n none own =
+      let no_wait : is_none (get_or m.waits.awaited s None) ≡ true = true_from_ne_false _ (λ e. some_wait_from s e none) in
+      let not_awaited : awaits (get_or m.waits.awaited s None) t n ≡ false = awaits_from s t n ∙ ap (λ o. is_for o t n) none in
+      let absent : (w.contents.now (partition_of t)).holds s t n ≡ false =
+      false_from_ne_true _ (λ held. both_ways (w.sessions.own s t n) own (own_in_content s t n held not_awaited)) in
+      let not_shown : slots_hold m s t n ≡ false = (or_parts _ _ (sym (own_from s t n) ∙ own)).0 in
+      and_from _ _ (and_from _ _ no_wait (not_from_false _ (ap (λ (c : Content). c.holds s t n) (content_from t) ∙ absent))) (not_from_false _ not_shown)

@@ -1,39 +1,243 @@
 //! The plain machine's steps on strong lock counters.
 
 use super::state::{CountedBy, Machine};
-use lock_table::NoMemory;
+use lock_table::{NoMemory, PartTable};
 use modes_core::{Mode, SessionId, Tag, is_strong};
 
-impl Machine {
-    ghost use Rattle.std.specs.Prelude.{◌≡◌, OnOk};
-    ghost use Rattle.lock_world.specs.declared.events.Step.{Step};
-    ghost use Rattle.lock_model.specs.Shows.{ShowsSafe, Follows};
+ghost use Rattle.std.specs.Prelude.{◌≡◌, map};
+ghost use Rattle.lock_model.specs.CountedLists.{is_by, is_by_at, passed_by};
 
-    /// Counts a strong lock, which is not counted yet, past nobody (`BeginStrongLockAcquire` in lock.c).
+/// How many strong locks a session may have counted.
+const MOST_COUNTED: usize = 65_536;
+
+/// The position past every session.
+const ALL_PASSED: u8 = 64;
+
+impl CountedBy {
+    /// Whether it is this session's lock of this mode on this object.
+    fn is_by(&self, session: SessionId, tag: Tag, mode: Mode) -> bool
+        ensures { result ≡ is_by session tag mode self.now }
+    {
+        self.session == session && self.tag.is_same(tag) && self.mode.is_same(mode)
+    }
+
+    /// Whether it is that, and past just the sessions below the position.
+    fn is_by_at(&self, session: SessionId, position: u8, tag: Tag, mode: Mode) -> bool
+        ensures { result ≡ is_by_at session position tag mode self.now }
+    {
+        self.is_by(session, tag, mode) && self.position == position
+    }
+
+    /// One past the owner, if it is the session's lock and the owner is next.
+    fn passed(self, session: SessionId, owner: SessionId, tag: Tag, mode: Mode) -> Self
+        ensures { result ≡ passed_by session owner tag mode self }
+    {
+        if self.is_by_at(session, owner.number(), tag, mode) {
+            CountedBy {
+                session: self.session,
+                tag: self.tag,
+                mode: self.mode,
+                position: owner.number() + 1,
+            }
+        } else {
+            self
+        }
+    }
+}
+
+/// Takes what the session has counted of the mode on the object one past the owner, where the owner is next.
+fn pass(counted: &mut [CountedBy], session: SessionId, owner: SessionId, tag: Tag, mode: Mode)
+    ensures { counted.new ≡ map (passed_by session owner tag mode) counted.old }
+{
+    for c in counted.iter_mut() {
+        *c = c.passed(session, owner, tag, mode);
+    }
+}
+
+impl Machine {
+    ghost use Rattle.std.specs.Prelude.{◌≡◌, ◌==◌, ◌||◌, false, not, [], count_by, slice_set, slice_index_or, OnOk, OnErr, None, if◌then◌else◌};
+    ghost use Rattle.modes_core.specs.Tag.{index_of, is_strong_on, partition_of};
+    ghost use Rattle.modes_core.specs.declared.modes.Mode.TheVariants.{AccessShare, RowShare, RowExclusive};
+    ghost use Rattle.lw_word.specs.LightweightWord.{put_word};
+    ghost use Rattle.lock_table.specs.Parts.{contents_in};
+    ghost use Rattle.lock_world.specs.declared.events.Step.{Step};
+    ghost use Rattle.std.specs.List.{list_any};
+    ghost use Rattle.lock_model.specs.Shows.{ShowsSafe, Follows, awaits};
+    ghost use Rattle.lock_model.specs.SlotLooks.{slots_hold};
+
+    /// Counts a strong lock, which is not counted yet, past nobody (`BeginStrongLockAcquire` in lock.c). After
+    /// `NoMemory` nothing has changed.
     pub fn count(&mut self, session: SessionId, tag: Tag, mode: Mode) -> Result<(), NoMemory>
         requires shown { ShowsSafe self.old }
-        ensures { OnOk result (Follows self.old session (Step.Count tag mode) self.new) }
+        ensures followed { OnOk result (Follows self.old session (Step.Count tag mode) self.new) }
+        ensures refused { OnErr result (self.new ≡ self.old) }
     {
+        if self.makes_steps(session)
+            && is_strong(tag, mode)
+            && !self.is_counted(session, tag, mode)
+            && self.how_many_counted(session) < MOST_COUNTED
+        {
+            self.counted.push(CountedBy {
+                session,
+                tag,
+                mode,
+                position: 0,
+            })?;
+        }
         Ok(())
     }
 
     /// Counts a strong lock no more that the session neither has nor awaits (`AbortStrongLockAcquire` in lock.c).
     pub fn uncount(&mut self, session: SessionId, tag: Tag, mode: Mode)
+        requires shown { ShowsSafe self.old }
         ensures { Follows self.old session (Step.Uncount tag mode) self.new }
     {
+        if self.makes_steps(session)
+            && self.is_counted(session, tag, mode)
+            && !self.has_or_awaits(session, tag, mode)
+        {
+            self.counted.retain(|c| !c.is_by(session, tag, mode));
+        }
     }
 
     /// Puts the lock of the owner's slots and goes past the owner, which is next and has no slot on the object (a
     /// turn of the loop of `FastPathTransferRelationLocks` in lock.c).
     pub fn put_passing(&mut self, session: SessionId, owner: SessionId, tag: Tag, mode: Mode)
+        requires shown { ShowsSafe self.old }
         ensures { Follows self.old session (Step.PutPassing owner tag mode) self.new }
     {
+        let index = usize::from(owner.number());
+        let whose = usize::from(session.number());
+        if self.makes_steps(session)
+            && self.locks.fast_holders[index][whose]
+            && self.is_counted_at(session, owner.number(), tag, mode)
+            && !self.slots_show(owner, tag)
+        {
+            self.free_fast(session, owner);
+            pass(self.counted.as_mut_slice(), session, owner, tag, mode);
+        }
     }
 
     /// Loads a strong lock counter, which must show this. Where it is 0 and the session holds the lock of its own
     /// slots, it may set slots for objects of this index (`LockAcquireExtended` in lock.c).
     pub fn load_strong(&mut self, session: SessionId, index: u16, shown: u64)
+        requires shown { ShowsSafe self.old }
         ensures { Follows self.old session (Step.LoadStrong index shown) self.new }
     {
+        let whose = usize::from(session.number());
+        if self.makes_steps(session)
+            && index < 1024
+            && shown == self.counter(index)
+            && shown == 0
+            && self.locks.fast_holders[whose][whose]
+        {
+            self.fast_path.zeros[whose] = Some(index);
+        }
+    }
+
+    /// Whether the object's content has the session's hold.
+    fn in_content(&self, session: SessionId, tag: Tag, mode: Mode) -> bool
+        requires shown { ShowsSafe self.now }
+        ensures { result ≡ (contents_in self.now.contents.parts.items (partition_of tag)).holds session tag mode }
+    {
+        self.contents.parts[usize::from(tag.partition())]
+            .held(session, &tag)
+            .has(mode)
+    }
+
+    /// Whether the session has the mode on the object, in a content or in a slot, or awaits it.
+    fn has_or_awaits(&self, session: SessionId, tag: Tag, mode: Mode) -> bool
+        requires shown { ShowsSafe self.now }
+        ensures { result ≡ ((awaits (slice_index_or self.now.waits.awaited session None) tag mode
+            || (contents_in self.now.contents.parts.items (partition_of tag)).holds session tag mode)
+            || slots_hold self.now session tag mode) }
+    {
+        self.awaits(session, tag, mode)
+            || self.in_content(session, tag, mode)
+            || self.slots_hold(session, tag, mode)
+    }
+
+    /// Whether the owner's slots show that it holds any mode on the object.
+    fn slots_show(&self, owner: SessionId, tag: Tag) -> bool
+        requires shown { ShowsSafe self.now }
+        ensures { result ≡ ((slots_hold self.now owner tag AccessShare
+            || slots_hold self.now owner tag RowShare) || slots_hold self.now owner tag RowExclusive) }
+    {
+        self.slots_hold(owner, tag, Mode::AccessShare)
+            || self.slots_hold(owner, tag, Mode::RowShare)
+            || self.slots_hold(owner, tag, Mode::RowExclusive)
+    }
+
+    /// Puts the lock of the owner's slots back, which the session holds exclusively: a counter that it read as 0
+    /// permits no more slot to be set once its own lock is put.
+    fn free_fast(&mut self, session: SessionId, owner: SessionId)
+        ensures { self.new ≡ record self.old {
+          words = record (self.old.words) {
+            fast = slice_set self.old.words.fast owner (put_word (slice_index_or self.old.words.fast owner 0));
+          };
+          locks = record (self.old.locks) {
+            fast_holders = slice_set self.old.locks.fast_holders owner
+              (slice_set (slice_index_or self.old.locks.fast_holders owner []) session false);
+          };
+          fast_path = record (self.old.fast_path) {
+            zeros = if owner == session
+              then slice_set self.old.fast_path.zeros session None else self.old.fast_path.zeros;
+          };
+        } }
+    {
+        let index = usize::from(owner.number());
+        let whose = usize::from(session.number());
+        // A word that is held shows it, so that nothing is cut off here.
+        self.words.fast[index] = self.words.fast[index].saturating_sub(0x100_0000);
+        self.locks.fast_holders[index][whose] = false;
+        if owner == session {
+            self.fast_path.zeros[whose] = None;
+        }
+    }
+
+    /// What a strong lock counter shows: how much is counted at its index.
+    pub fn counter(&self, index: u16) -> u64
+        ensures { result ≡ count_by (λ c. index_of c.tag == index) self.now.counted.items }
+    {
+        self.counted.iter().filter(|c| c.tag.strong_index() == index).count() as u64
+    }
+
+    /// Whether the session may be granted the mode on the object, or await it: a strong one must be counted, and
+    /// past each session.
+    pub fn is_counted_for(&self, session: SessionId, tag: Tag, mode: Mode) -> bool
+        ensures { result ≡ (not (is_strong_on tag mode)
+            || list_any (is_by_at session 64 tag mode) self.now.counted.items) }
+    {
+        !is_strong(tag, mode) || self.is_counted_at(session, ALL_PASSED, tag, mode)
+    }
+
+    /// Whether the session has counted nothing.
+    pub fn counts_nothing(&self, session: SessionId) -> bool
+        ensures { result ≡ (count_by (λ c. c.session == session) self.now.counted.items == 0) }
+    {
+        self.how_many_counted(session) == 0
+    }
+
+    /// How many strong locks the session has counted.
+    fn how_many_counted(&self, session: SessionId) -> usize
+        ensures { result ≡ count_by (λ c. c.session == session) self.now.counted.items }
+    {
+        self.counted.iter().filter(|c| c.session == session).count()
+    }
+
+    /// Whether the session has counted the mode on the object.
+    fn is_counted(&self, session: SessionId, tag: Tag, mode: Mode) -> bool
+        ensures { result ≡ list_any (is_by session tag mode) self.now.counted.items }
+    {
+        self.counted.iter().any(|c| c.is_by(session, tag, mode))
+    }
+
+    /// Whether it has, and is past just the sessions below the position.
+    fn is_counted_at(&self, session: SessionId, position: u8, tag: Tag, mode: Mode) -> bool
+        ensures { result ≡ list_any (is_by_at session position tag mode) self.now.counted.items }
+    {
+        self.counted
+            .iter()
+            .any(|c| c.is_by_at(session, position, tag, mode))
     }
 }

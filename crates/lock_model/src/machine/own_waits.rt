@@ -16,6 +16,7 @@ impl Machine {
     ghost use Rattle.modes_core.specs.Tag.{partition_of};
     ghost use Rattle.lock_table.specs.Parts.{contents_in};
     ghost use Rattle.lock_model.specs.Shows.{ShowsSafe, awaits};
+    ghost use Rattle.lock_model.specs.SlotLooks.{may_ask};
 
     /// Whether the session waits for the mode on the object.
     pub fn awaits(&self, session: SessionId, tag: Tag, mode: Mode) -> bool
@@ -27,8 +28,17 @@ impl Machine {
         }
     }
 
-    /// Whether the session may ask for the mode on the object: it waits for nothing, and hasn't the hold.
+    /// Whether the session may ask for the mode on the object: it waits for nothing, and hasn't the hold, in no
+    /// content and in no slot.
     pub fn may_ask(&self, session: SessionId, tag: Tag, mode: Mode) -> bool
+        requires shown { ShowsSafe self.now }
+        ensures { result ≡ may_ask self.now session tag mode }
+    {
+        self.may_ask_table(session, tag, mode) && !self.slots_hold(session, tag, mode)
+    }
+
+    /// Whether the session waits for nothing, and hasn't the hold in a content.
+    fn may_ask_table(&self, session: SessionId, tag: Tag, mode: Mode) -> bool
         requires shown { ShowsSafe self.now }
         ensures { result ≡ (is_none (slice_index_or self.now.waits.awaited session None)
             && not ((contents_in self.now.contents.parts.items (partition_of tag)).holds session tag mode)) }

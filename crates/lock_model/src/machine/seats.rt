@@ -57,6 +57,7 @@ impl Machine {
             && !self.has_a_fast_word(session)
             && !self.shares_a_word(session)
             && !self.has_a_hold(session)
+            && !self.has_a_slot(session)
             && self.waits.awaited[index].is_none()
             && !self.keeps_someone(session)
         {

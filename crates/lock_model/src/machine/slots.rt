@@ -1,16 +1,58 @@
-//! The plain machine's steps on the locks of sessions' fast-path slots (`fpInfoLock` of a `PGPROC`, proc.h).
+//! The plain machine's steps on sessions' fast-path slots, and on their locks (`fpInfoLock` of a `PGPROC`, proc.h).
 
+ghost use Rattle.std.specs.Prelude.{◌≡◌, ◌<◌, length};
+ghost use Rattle.std.specs.List.{list_any};
+ghost use Rattle.lw_word.specs.SlotWord.{in_use};
+ghost use Rattle.lock_world.specs.SlotHolds.{is_slot_of};
+ghost use Rattle.lock_model.specs.SlotLooks.{is_slot_to_grant};
+
+use super::slot_looks::relation_of;
 use super::state::{Machine, has_a_mark};
 use lock_table::Move;
 use lock_world::Word;
+use lw_word::SlotWord;
 use modes_core::{Mode, SessionId, Tag, is_eligible};
 
+/// Whether a slot is in use.
+fn some_slot_in_use(slots: &[SlotWord]) -> bool
+    ensures { result ≡ list_any in_use slots.now }
+{
+    slots.iter().any(|word| word.in_use())
+}
+
+/// Whether the slot with this word is in use for the relation.
+fn is_slot_of(word: SlotWord, relation: u32) -> bool
+    ensures { result ≡ is_slot_of word relation }
+{
+    word.in_use() && word.relation() == relation
+}
+
+/// Whether a slot is in use for the relation.
+fn some_slot_is_of(slots: &[SlotWord], relation: u32) -> bool
+    ensures { result ≡ list_any (λ word. is_slot_of word relation) slots.now }
+{
+    slots.iter().any(|word| is_slot_of(*word, relation))
+}
+
+/// Whether a grant for the relation takes the slot: it is in use for it, or it is not in use and none is for it.
+fn is_slot_to_grant(slots: &[SlotWord], relation: u32, place: usize) -> bool
+    requires { place < length slots.now }
+    ensures { result ≡ is_slot_to_grant slots.now relation place }
+{
+    let word = slots[place];
+    is_slot_of(word, relation) || !word.in_use() && !some_slot_is_of(slots, relation)
+}
+
 impl Machine {
-    ghost use Rattle.std.specs.Prelude.{◌≡◌};
+    ghost use Rattle.std.specs.Prelude.{◌≡◌, slice_index_or, None};
+    ghost use Rattle.std.specs.List.{list_any};
+    ghost use Rattle.lw_word.specs.SlotWord.{in_use};
+    ghost use Rattle.modes_core.specs.Tag.{index_of};
     ghost use Rattle.lock_table.specs.declared.moves.Move.{Move};
     ghost use Rattle.lock_world.specs.declared.events.Step.{Step};
     ghost use Rattle.lock_world.specs.declared.events.Word.{Word};
-    ghost use Rattle.lock_model.specs.Shows.{Follows, has_a_mark};
+    ghost use Rattle.lock_model.specs.Shows.{ShowsSafe, Follows, has_a_mark, is_number};
+    ghost use Rattle.lock_model.specs.SlotLooks.{slots_at, has_own_slots, may_set_slot, may_clear_slot, may_store_database};
 
     /// Takes the lock of the owner's slots exclusively, where nobody has it (`LWLockAcquire` with
     /// `LW_EXCLUSIVE` in lwlock.c). The owner is any session number, issued or not, the own too.
@@ -26,7 +68,7 @@ impl Machine {
     }
 
     /// Puts the lock of the owner's slots back, which the session holds exclusively; no move comes with it
-    /// (`LWLockRelease` in lwlock.c).
+    /// (`LWLockRelease` in lwlock.c). With the own lock put, a counter that was read as 0 counts no more.
     pub fn put_fast(&mut self, session: SessionId, owner: SessionId, done: Move)
         ensures { Follows self.old session (Step.PutExclusive (Word.Fast owner) done) self.new }
     {
@@ -39,6 +81,9 @@ impl Machine {
             // A word that is held shows it, so that nothing is cut off here.
             self.words.fast[index] = self.words.fast[index].saturating_sub(0x100_0000);
             self.locks.fast_holders[index][whose] = false;
+            if index == whose {
+                self.fast_path.zeros[whose] = None;
+            }
         }
     }
 
@@ -49,18 +94,25 @@ impl Machine {
         has_a_mark(self.locks.fast_holders.as_slice(), session)
     }
 
-    /// Loads a word, which must show this: any slot, any session's database, or the lock of the own slots.
+    /// Loads a word, which must show this: any slot, any session's database, or the lock of the own slots. No step
+    /// of the machine keeps what a load showed.
     pub fn load_word(&mut self, session: SessionId, word: Word, shown: u64)
         ensures { Follows self.old session (Step.LoadWord word shown) self.new }
     {
-        // no step of the machine keeps what a load showed
     }
 
     /// Sets the mode in the session's slot, with the lock of its slots held, after its counter was read as 0
     /// (`FastPathGrantRelationLock` in lock.c).
     pub fn set_slot(&mut self, session: SessionId, slot: u8, tag: Tag, mode: Mode)
+        requires shown { ShowsSafe self.old }
         ensures { Follows self.old session (Step.SetSlot slot tag mode) self.new }
     {
+        let index = usize::from(session.number());
+        let place = usize::from(slot);
+        if self.may_set_slot(session, place, tag, mode) {
+            let word = self.fast_path.slots[index][place];
+            self.fast_path.slots[index][place] = word.with(relation_of(tag), mode);
+        }
     }
 
     /// Clears the mode in the session's slot, with the lock of its slots held (`FastPathUnGrantRelationLock` in
@@ -68,11 +120,79 @@ impl Machine {
     pub fn clear_slot(&mut self, session: SessionId, slot: u8, tag: Tag, mode: Mode)
         ensures { Follows self.old session (Step.ClearSlot slot tag mode) self.new }
     {
+        let index = usize::from(session.number());
+        let place = usize::from(slot);
+        if self.may_clear_slot(session, place, tag, mode) {
+            let word = self.fast_path.slots[index][place];
+            self.fast_path.slots[index][place] = word.without(mode);
+        }
     }
 
     /// Stores the session's database, where it has none and no slot in use (`InitPostgres` in postinit.c).
     pub fn store_database(&mut self, session: SessionId, database: u32)
         ensures { Follows self.old session (Step.StoreDatabase database) self.new }
     {
+        if self.may_store_database(session) {
+            self.fast_path.databases[usize::from(session.number())] = database;
+        }
+    }
+
+    /// Whether the session has a slot in use.
+    pub fn has_a_slot(&self, session: SessionId) -> bool
+        ensures { result ≡ list_any in_use (slots_at self.now session) }
+    {
+        let slots = self.fast_path.slots[usize::from(session.number())];
+        some_slot_in_use(slots.as_slice())
+    }
+
+    /// Whether the session makes steps, and holds the lock of its own slots.
+    fn has_own_slots(&self, session: SessionId) -> bool
+        ensures { result ≡ has_own_slots self.now session }
+    {
+        let index = usize::from(session.number());
+        self.makes_steps(session) && self.locks.fast_holders[index][index]
+    }
+
+    /// Whether the session has read the counter of the object as 0, and may set slots for that.
+    fn has_read_zero(&self, session: SessionId, tag: Tag) -> bool
+        ensures { result ≡ is_number (index_of tag) (slice_index_or self.now.fast_path.zeros session None) }
+    {
+        let index = tag.strong_index();
+        self.fast_path.zeros[usize::from(session.number())].is_some_and(|read| read == index)
+    }
+
+    /// Whether the session may set the mode in the slot.
+    fn may_set_slot(&self, session: SessionId, place: usize, tag: Tag, mode: Mode) -> bool
+        requires shown { ShowsSafe self.now }
+        ensures { result ≡ may_set_slot self.now session place tag mode }
+    {
+        let index = usize::from(session.number());
+        let slots = self.fast_path.slots[index];
+        place < 16
+            && self.has_own_slots(session)
+            && is_eligible(self.fast_path.databases[index], tag, mode)
+            && self.has_read_zero(session, tag)
+            && self.may_ask(session, tag, mode)
+            && is_slot_to_grant(slots.as_slice(), relation_of(tag), place)
+    }
+
+    /// Whether the session may clear the mode in the slot.
+    fn may_clear_slot(&self, session: SessionId, place: usize, tag: Tag, mode: Mode) -> bool
+        ensures { result ≡ may_clear_slot self.now session place tag mode }
+    {
+        let index = usize::from(session.number());
+        place < 16
+            && self.has_own_slots(session)
+            && is_eligible(self.fast_path.databases[index], tag, mode)
+            && self.fast_path.slots[index][place].shows(relation_of(tag), mode)
+    }
+
+    /// Whether the session may store its database.
+    fn may_store_database(&self, session: SessionId) -> bool
+        ensures { result ≡ may_store_database self.now session }
+    {
+        self.makes_steps(session)
+            && self.fast_path.databases[usize::from(session.number())] == 0
+            && !self.has_a_slot(session)
     }
 }

@@ -17,6 +17,7 @@ impl Machine {
     ghost use Rattle.lock_model.specs.MovedPart.{IsMoved};
     ghost use Rattle.lock_table.specs.Parts.{part_at, contents_in};
     ghost use Rattle.lock_world.specs.WaitWord.{wait_state};
+    ghost use Rattle.lock_model.specs.SlotLooks.{slots_hold};
     ghost use Rattle.lock_model.specs.Shows.{ShowsSafe, Follows, FollowsMarking, IsWaking, IsOwnFor, CannotMake, makes_steps, hand_of};
 
     /// Asks the other session, whoever it is, to cancel: bit 2 of its wait word is set.
@@ -116,6 +117,7 @@ impl Machine {
         requires no_wait { is_none (slice_index_or self.old.waits.awaited session None) ≡ true }
         requires not_held { (contents_in self.old.contents.parts.items (partition_of tag)).holds session tag mode
             ≡ false }
+        requires in_no_slot { slots_hold self.old session tag mode ≡ false }
         requires answer { WaitingAnswer (contents_in self.old.contents.parts.items (partition_of tag))
             session tag mode (Queued place) }
         ensures { OnOk result (Follows self.old session (Step.SetWaiting tag mode) self.new) }

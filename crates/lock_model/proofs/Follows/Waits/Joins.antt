@@ -21,12 +21,13 @@ use Rattle.lock_world.specs.Happens.Partitions.{MayMove}
 use Rattle.lock_world.specs.Happens.Waits.{after_setting_waiting}
 use Rattle.lock_world.specs.Happens.{Next}
 use Rattle.lock_world.specs.SafeWorld.{SafeWorld}
+use Rattle.lock_model.specs.SlotLooks.{slots_hold, may_ask}
 use Rattle.lock_model.specs.Shows.{Shows, is_unmarked_in, hand_of, awaits, awaited_of}
 use Rattle.lock_model.proofs.Shows.Changes.{wait_word-set, hand-set, part-set, own_wait-set}
 use Rattle.lock_model.proofs.Shows.Hands.{recording-shown}
 use Rattle.lock_table.proofs.OneAnswer.{waiting_answer-one}
 use Rattle.lock_model.proofs.Follows.Skipped.{skipped}
-use Rattle.lock_model.proofs.Shows.Looks.{HasInHand, recorded_from, hand_from, hand_not, own_from, content_from, no_wait_from}
+use Rattle.lock_model.proofs.Shows.Looks.{HasInHand, recorded_from, hand_from, hand_not, own_nowhere, content_from, no_wait_from, from_fits}
 
 -- Joining a queue, and setting the own wait word to waiting.
 
@@ -34,14 +35,9 @@ use Rattle.lock_model.proofs.Shows.Looks.{HasInHand, recorded_from, hand_from, h
 pub queued_not : (c : Content) (s : ℕ) (t : Tag) (m : Mode) (what : Answer) (place : ℕ) → WaitingAnswer c s t m what → ((n : ℕ) → what ≡ Queued n → ⊥) → WaitingAnswer c s t m (Queued place) → ⊥
 queued_not c s t m what place is not_queued answer = not_queued place (waiting_answer-one c s t m what (Queued place) is answer)
 
--- Whoever waits for nothing waits for no mode.
-none_awaits : (o : Option Awaited) (t : Tag) (n : Mode) → is_none o ≡ true → awaits o t n ≡ false
-none_awaits None t n e = refl
-none_awaits (Some wait) t n e = absurd (cc)
-
 module _ (m : Machine) (w : World) (safe : SafeWorld w) (shows : Shows m w) where
   pub was_set_waiting : (s : ℕ) (t : Tag) (n : Mode) (shown : InHand) (place : ℕ) (part : PartView) (marks : List Bool) → hand_of m s (partition_of t) ≡ Some shown → shown.recorded ≡ None
-      → is_none (get_or m.waits.awaited s None) ≡ true → (contents_in m.contents.parts.items (partition_of t)).holds s t n ≡ false → WaitingAnswer (contents_in m.contents.parts.items (partition_of t)) s t n (Queued place)
+      → is_none (get_or m.waits.awaited s None) ≡ true → (contents_in m.contents.parts.items (partition_of t)).holds s t n ≡ false → slots_hold m s t n ≡ false → WaitingAnswer (contents_in m.contents.parts.items (partition_of t)) s t n (Queued place)
       → content_of part ≡ add_wait (contents_in m.contents.parts.items (partition_of t)) s t n place → part.begun ≡ None → ((k : ℕ) → is_unmarked_in marks k ≡ false) → s < 64
       → (v : World) × Next w (record { session = s; step = SetWaiting t n }) v
       × Shows
@@ -53,7 +49,7 @@ module _ (m : Machine) (w : World) (safe : SafeWorld w) (shows : Shows m w) wher
         };
         waits = record { awaited = set m.waits.awaited s (Some (record { tag = t; mode = n })); seen = set m.waits.seen s false };
       }) v
-  was_set_waiting s t n shown place part marks in_hand unmoved none not_held answer is begun unmarked below = (
+  was_set_waiting s t n shown place part marks in_hand unmoved none not_held not_shown answer is begun unmarked below = (
     after_setting_waiting w s t n content,
     inl (content, may, refl),
     record {
@@ -89,7 +85,7 @@ module _ (m : Machine) (w : World) (safe : SafeWorld w) (shows : Shows m w) wher
       object = refl;
       own = (
         no_wait_from m w safe shows s none,
-        own_from m w safe shows s t n ∙ ap (λ b. b && not (awaits (get_or m.waits.awaited s None) t n)) (sym (ap (λ (c : Content). c.holds s t n) same) ∙ not_held),
+        own_nowhere m w safe shows s t n (sym (ap (λ (c : Content). c.holds s t n) same) ∙ not_held) not_shown,
       );
       moved = (place, subst (λ (c : Content). WaitingAnswer c s t n (Queued place)) same answer, refl, refl);
     }
@@ -104,17 +100,11 @@ module _ (m : Machine) (w : World) (safe : SafeWorld w) (shows : Shows m w) wher
       (ap is_some (sym (recorded_from w s (partition_of t) shown (hand_from m w safe shows s (partition_of t) shown in_hand)) ∙ lawful.1.1.unrecorded)) moved)
 
   pub join_may_not : (s : ℕ) (t : Tag) (n : Mode) (shown : InHand) → hand_of m s (partition_of t) ≡ Some shown
-      → (is_none (get_or m.waits.awaited s None) && not ((contents_in m.contents.parts.items (partition_of t)).holds s t n)) ≡ false
+      → may_ask m s t n ≡ false
       → (v : World) × Next w (record { session = s; step = SetWaiting t n }) v × Shows m v
   join_may_not s t n shown in_hand may_not =
       skipped m w safe shows s (SetWaiting t n)
-      (λ lawful.
-      let none : is_none (get_or m.waits.awaited s None) ≡ true = ap is_none (shows.waits.awaited s ∙ ap (option_map awaited_of) lawful.1.1.own.0) in
-      let not_held = false_from_ne_true ((contents_in m.contents.parts.items (partition_of t)).holds s t n) (λ held.
-      both_ways (w.sessions.own s t n) lawful.1.1.own.1
-      (own_from m w safe shows s t n
-      ∙ and_from _ _ (sym (ap (λ (c : Content). c.holds s t n) (content_from m w safe shows t)) ∙ held) (not_from_false _ (none_awaits (get_or m.waits.awaited s None) t n none)))) in
-      both_ways _ may_not (and_from _ _ none (not_from_false _ not_held)))
+      (λ lawful. both_ways (may_ask m s t n) may_not (from_fits m w safe shows s t n lawful.1.1.own.0 lawful.1.1.own.1))
 
   pub join_not_answered : (s : ℕ) (t : Tag) (n : Mode) (what : Answer) → WaitingAnswer (contents_in m.contents.parts.items (partition_of t)) s t n what → ((k : ℕ) → what ≡ Queued k → ⊥)
       → (v : World) × Next w (record { session = s; step = SetWaiting t n }) v × Shows m v

@@ -26,7 +26,7 @@ use Rattle.lock_model.proofs.Shows.Changes.{wait_word-set, hand-set, part-set}
 use Rattle.lock_model.proofs.Shows.Hands.{names_in-granted, marks-without, recording-shown}
 use Rattle.lock_table.proofs.MoveTests.{move_eq-same, move_eq-refl}
 use Rattle.lock_table.proofs.OneMove.{one_moved}
-use Rattle.lock_model.proofs.Shows.Looks.{HasInHand, and_not_true, recorded_from, unmarked_from, hand_from, hand_not, own_from}
+use Rattle.lock_model.proofs.Shows.Looks.{HasInHand, recorded_from, unmarked_from, hand_from, hand_not, own_in_content, not_awaited_own}
 
 -- Marking the wait of another session granted.
 
@@ -135,7 +135,7 @@ module _ (m : Machine) (w : World) (safe : SafeWorld w) (shows : Shows m w) wher
   fits_own s p (Grant t n) granted after object wakes own moves = absurd wakes
   fits_own s p (Join t n) granted after object wakes own moves = absurd wakes
   fits_own s p (Release t n) granted after object wakes own moves =
-      own_from m w safe shows s t n ∙ and_from _ _ (ap (λ q. (w.contents.now q).holds s t n) object ∙ moves.0) (ap not own)
+      own_in_content m w safe shows s t n (ap (λ q. (w.contents.now q).holds s t n) object ∙ moves.0) own
   fits_own s p (Leave t) granted after object wakes own moves = tt
 
   -- The move is made, and one of those is marked whom it granted.
@@ -200,7 +200,7 @@ module _ (m : Machine) (w : World) (safe : SafeWorld w) (shows : Shows m w) wher
   cannot_make s p (Grant t n) granted after below wakes cannot fits moves = wakes
   cannot_make s p (Join t n) granted after below wakes cannot fits moves = wakes
   cannot_make s p (Release t n) granted after below wakes (inl awaited) fits moves =
-      both_ways (w.sessions.own s t n) (own_from m w safe shows s t n ∙ and_not_true ((w.contents.now (partition_of t)).holds s t n) (awaits (get_or m.waits.awaited s None) t n) awaited) fits
+      both_ways (awaits (get_or m.waits.awaited s None) t n) (not_awaited_own m w safe shows s t n fits) awaited
   cannot_make s p (Release t n) granted after below wakes (inr none) fits moves =
       both_ways ((w.contents.now p).holds s t n) (ap (λ (c : Content). c.holds s t n) (sym (shows.contents.now p below)) ∙ none) moves.0
   cannot_make s p (Leave t) granted after below wakes cannot fits moves =

@@ -38,3 +38,7 @@ returns-in_default-waiting_answer c = λ w safe shows.
 pub join_now-requires-clause-not_held : goal.join_now-requires-clause-not_held
 join_now-requires-clause-not_held c =
     (asks_new c.args.self.now c.requires.shown.0 c.requires.shown.1 c.requires.shown.2 c.args.session c.args.tag c.args.mode (sym c.if-not-may_ask.ensures)).1
+
+pub join_now-requires-clause-in_no_slot : goal.join_now-requires-clause-in_no_slot
+join_now-requires-clause-in_no_slot c =
+    (asks_new c.args.self.now c.requires.shown.0 c.requires.shown.1 c.requires.shown.2 c.args.session c.args.tag c.args.mode (sym c.if-not-may_ask.ensures)).2

@@ -32,3 +32,27 @@ returns-in-TakeShared c = rw c.in-TakeShared.is c.take_shared.ensures
 
 pub returns-in-PutShared : goal.returns-in-PutShared
 returns-in-PutShared c = rw c.in-PutShared.is c.put_shared.ensures
+
+pub returns-in-PutPassing : goal.returns-in-PutPassing
+returns-in-PutPassing c = rw c.in-PutPassing.is c.put_passing.ensures
+
+pub returns-in-LoadStrong : goal.returns-in-LoadStrong
+returns-in-LoadStrong c = rw c.in-LoadStrong.is c.load_strong.ensures
+
+pub returns-in-LoadWord : goal.returns-in-LoadWord
+returns-in-LoadWord c = rw c.in-LoadWord.is c.load_word.ensures
+
+pub returns-in-SetSlot : goal.returns-in-SetSlot
+returns-in-SetSlot c = rw c.in-SetSlot.is c.set_slot.ensures
+
+pub returns-in-ClearSlot : goal.returns-in-ClearSlot
+returns-in-ClearSlot c = rw c.in-ClearSlot.is c.clear_slot.ensures
+
+pub returns-in-StoreDatabase : goal.returns-in-StoreDatabase
+returns-in-StoreDatabase c = rw c.in-StoreDatabase.is c.store_database.ensures
+
+pub returns-in-Count : goal.returns-in-Count
+returns-in-Count c = rw c.in-Count.is c.count.ensures
+
+pub returns-in-Uncount : goal.returns-in-Uncount
+returns-in-Uncount c = rw c.in-Uncount.is c.uncount.ensures
