@@ -15,3 +15,4 @@ pub mod FromSafe
 pub mod SafeWorld
 pub mod FromSafeWorld
 pub mod Listing
+pub mod WaitLists

@@ -3,6 +3,7 @@ pub mod WaitWord
 pub mod World
 pub mod SlotHolds
 pub mod Counted
+pub mod WaitLists
 pub mod Account
 pub mod AccountSteps
 pub mod Happens

@@ -1,0 +1,62 @@
+use Rattle.std.specs.Prelude.{◌≡◌, ℕ, ◌≤◌, Bool, true, false, List, [], ◌∷◌, ◌++◌, Option, Some, None}
+use Rattle.lw_word.specs.declared.wait_lists.LwWaiter.{LwWaiter}
+use Rattle.lw_word.specs.WaitList.{stands_in, times_in, without}
+use Rattle.lock_table.specs.Put.{set_at}
+
+-- The wait lists of lightweight locks, and who sleeps (`waiters` of an LWLock, `lwWaiting` of a PGPROC). Locks go by a number of their
+-- own here: what a step does to its list is the same whatever the lock guards.
+
+-- What the lists, the sleep words and the sessions' own accounts say together.
+pub record Sleepers : Type 0 where
+  -- who waits for each lock, first come first
+  pub list : ℕ → List LwWaiter
+  -- what each session's sleep word shows: 0 not waiting, 1 waiting, 2 woken and to be told
+  pub sleep : ℕ → ℕ
+  -- the lock in whose list each session stands by its own account
+  pub stands : ℕ → Option ℕ
+  -- whom each session has taken off a list and not told yet
+  pub off : ℕ → ℕ → Bool
+
+-- A session stands only in the list that its account names, once, and with a sleep word that shows waiting; whom somebody has taken off
+-- and not told shows that, and nobody else has it to tell.
+pub record SleepersAreInOrder (s : Sleepers) : Type 0 where
+  pub named : (lock session : ℕ) → stands_in session (s.list lock) ≡ true → s.stands session ≡ Some lock
+  pub waiting : (lock session : ℕ) → stands_in session (s.list lock) ≡ true → s.sleep session ≡ 1
+  pub once : (lock session : ℕ) → times_in session (s.list lock) ≤ 1
+  pub taken_off : (session other : ℕ) → s.off session other ≡ true → s.sleep other ≡ 2
+  pub by_one : (session another other : ℕ) → s.off session other ≡ true → s.off another other ≡ true → session ≡ another
+
+-- Joining a list behind all others, with a sleep word of 0 (LWLockQueueSelf in lwlock.c).
+abbrev pub after_joining : Sleepers → ℕ → LwWaiter → Sleepers
+after_joining s lock waiter = record s {
+  list = set_at s.list lock (s.list lock ++ waiter ∷ []);
+  sleep = set_at s.sleep waiter.session 1;
+  stands = set_at s.stands waiter.session (Some lock);
+}
+
+-- Leaving the list that the session stands in (LWLockDequeueSelf).
+abbrev pub after_leaving_list : Sleepers → ℕ → ℕ → Sleepers
+after_leaving_list s lock session = record s {
+  list = set_at s.list lock (without session (s.list lock));
+  sleep = set_at s.sleep session 0;
+  stands = set_at s.stands session None;
+}
+
+-- Taking another session off the list, to be told later (LWLockWakeup, its first loop).
+abbrev pub after_taking_off : Sleepers → ℕ → ℕ → ℕ → Sleepers
+after_taking_off s lock session other = record s {
+  list = set_at s.list lock (without other (s.list lock));
+  sleep = set_at s.sleep other 2;
+  off = set_at s.off session (set_at (s.off session) other true);
+}
+
+-- Telling one of those taken off that it may go on (LWLockWakeup, its second loop).
+abbrev pub after_telling : Sleepers → ℕ → ℕ → Sleepers
+after_telling s session other = record s {
+  sleep = set_at s.sleep other 0;
+  off = set_at s.off session (set_at (s.off session) other false);
+}
+
+-- Seeing that one's sleep word shows 0: the session stands in no list then.
+abbrev pub after_seeing_none : Sleepers → ℕ → Sleepers
+after_seeing_none s session = record s { stands = set_at s.stands session None }
