@@ -5,3 +5,4 @@ pub mod Partitions
 pub mod Waits
 pub mod Slots
 pub mod Sharing
+pub mod Counters

@@ -105,7 +105,7 @@ module _ (m : Machine) (w : World) (safe : SafeWorld w) (shows : Shows m w) wher
         by_itself = sym (shows.numbers.kept_by s) ∙ none_of (get_or m.numbers.kept_by s None) parts.1;
       }
 
-  steps_kept : (s : ℕ) → MakesSteps w.numbers s → makes_steps m s ≡ true
+  pub steps_kept : (s : ℕ) → MakesSteps w.numbers s → makes_steps m s ≡ true
   steps_kept s steps =
       and_from (get_or m.numbers.live s false) (is_none (get_or m.numbers.kept_by s None)) (shows.numbers.live s ∙ steps.live) (ap is_none (shows.numbers.kept_by s ∙ steps.by_itself))
 
