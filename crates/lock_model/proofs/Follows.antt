@@ -4,5 +4,6 @@ pub mod Seats
 pub mod Partitions
 pub mod Waits
 pub mod Slots
+pub mod SlotSteps
 pub mod Sharing
 pub mod Counters

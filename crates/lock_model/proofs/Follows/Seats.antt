@@ -30,11 +30,11 @@ use Rattle.lock_model.proofs.Shows.Looks.{hand_kept, kept_hand, steps_from, own_
 
 -- The events on session numbers, as the machine makes them, and what its tests of them say of the World.
 
-number_of_some : (o : Option ℕ) (s : ℕ) → is_number s o ≡ true → o ≡ Some s
+pub number_of_some : (o : Option ℕ) (s : ℕ) → is_number s o ≡ true → o ≡ Some s
 number_of_some None s e = absurd (false≢true e)
 number_of_some (Some k) s e = ap Some (eqb-true k s e)
 
-some_of_number : (o : Option ℕ) (s : ℕ) → o ≡ Some s → is_number s o ≡ true
+pub some_of_number : (o : Option ℕ) (s : ℕ) → o ≡ Some s → is_number s o ≡ true
 some_of_number o s e = ap (is_number s) e ∙ eq-eqb s s refl
 
 -- whether a part has a hold of the session

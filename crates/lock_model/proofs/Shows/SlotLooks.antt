@@ -122,6 +122,16 @@ from_to_grant slots slot relation place sixteen same takes =
           (ap (λ word. is_slot_of word relation) (sym (same found.0) ∙ found.3 0) ∙ found.4)))))
     ]
 
+-- A slot in use that a grant takes is in use for the relation.
+pub to_grant-relation : (slots : List ℕ) (relation place : ℕ) → is_slot_to_grant slots relation place ≡ true → in_use (get_or slots place 0) ≡ true → relation_in (get_or slots place 0) ≡ relation
+to_grant-relation slots relation place takes used =
+    elim (or_cases (is_slot_of word relation) (not (in_use word) && not (list_any (λ other. is_slot_of other relation) slots)) takes) [
+      | inl its ↦ eqb-true (relation_in word) relation (and_parts (in_use word) (nat_eq (relation_in word) relation) its).1
+      | inr unused ↦ absurd (both_ways (in_use word) (not-true (in_use word) (and_parts (not (in_use word)) (not (list_any (λ other. is_slot_of other relation) slots)) unused).0) used)
+    ] where
+      word : ℕ
+      word = get_or slots place 0
+
 -- A slot is written.
 pub slot-set : (shown : FastPath) (databases : ℕ → ℕ) (slots : ℕ → ℕ → ℕ) (zeros : ℕ → Option ℕ) (s place a b : ℕ) → ShowsFastPath shown databases slots zeros → s < 64 → place < 16 → a ≡ b
     → ShowsFastPath (record shown { slots = set shown.slots s (set (get_or shown.slots s []) place a) }) databases (set_at slots s (set_at (slots s) place b)) zeros
