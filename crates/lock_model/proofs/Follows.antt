@@ -6,3 +6,4 @@ pub mod Waits
 pub mod Slots
 pub mod SlotSteps
 pub mod Sharing
+pub mod Counters

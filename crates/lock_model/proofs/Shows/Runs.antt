@@ -1,13 +1,13 @@
-use Rattle.std.proofs.Common.{◌≡◌, ◌≢◌, ℕ, Bool, true, false, cond, List, [], length, get_or, Option, None, refl, sym, ap, ◌∙◌, subst, inl, inr, arith}
-use Rattle.std.specs.Prelude.{replicate, map, filter}
+use Rattle.std.proofs.Common.{◌≡◌, ◌≢◌, ℕ, ◌<◌, All, Bool, true, false, cond, List, [], length, get_or, Option, None, refl, sym, ap, ◌∙◌, subst, inl, inr, arith}
+use Rattle.std.specs.Prelude.{◌==◌, count_by, replicate, map, filter}
 use Rattle.std.specs.List.Sorted.{IsSortedByKey}
 use Rattle.std.specs.Ordering.{nat_cmp, on}
 use Rattle.std.specs.Cmp.Lexicographic.{slice_cmp}
 use Rattle.std.proofs.lemmas.Bool.{cases_lt, false≢true}
-use Rattle.std.proofs.lemmas.List.{length-replicate, get_or_past}
+use Rattle.std.proofs.lemmas.List.{get_or-replicate, length-replicate, get_or_past}
 use Rattle.modes_core.specs.declared.modes.Mode.{Mode}
 use Rattle.modes_core.specs.declared.tags.Tag.{Tag}
-use Rattle.modes_core.specs.Tag.{tag_eq, numbers_of, partition_of}
+use Rattle.modes_core.specs.Tag.{tag_eq, numbers_of, partition_of, index_of}
 use Rattle.lock_world.specs.declared.events.Word.{Word}
 use Rattle.lock_world.specs.declared.events.Word.TheVariants.{Partition, Fast, Database, Slot, Wait, Strong, Sleep}
 use Rattle.lock_model.specs.declared.machine.hands.InHand.{InHand}
@@ -23,7 +23,10 @@ use Rattle.lock_table.specs.PartView.{PartView, content_of}
 use Rattle.lock_model.specs.Plain.{IsPlainOf, word_of, holds_of, waits_of, wait_of}
 use Rattle.lock_world.specs.World.{WordExists, word_in, World, opening}
 use Rattle.lock_world.specs.SafeWorld.{SafeWorld}
-use Rattle.lock_model.specs.Shows.{Shows, ShowsHandIfAny, AreInTable, ListsHolds}
+use Rattle.lock_world.specs.Counted.{Counted, count_at}
+use Rattle.lock_world.specs.Total.{total}
+use Rattle.lock_model.proofs.CountedLists.{total-of_sessions}
+use Rattle.lock_model.specs.Shows.{Shows, ShowsHandIfAny, AreInTable, ListsHolds, counted_of}
 use Rattle.lock_model.proofs.Shows.Places.{get_or-one_value}
 use Rattle.lock_model.proofs.Shows.Locks.{no_marks}
 use Rattle.lock_model.proofs.Shows.Looks.{content_from}
@@ -31,9 +34,10 @@ use Rattle.lock_model.proofs.Shows.Looks.{content_from}
 -- The machine as it is made shows the opening World.
 pub opening-shown : (m : Machine) → m.numbers.issued ≡ 0 → m.numbers.live ≡ replicate 64 false → m.numbers.kept_by ≡ replicate 64 None → m.words.partitions ≡ replicate 16 536870912
     → m.words.fast ≡ replicate 64 536870912 → m.words.waits ≡ replicate 64 0 → m.locks.fast_holders ≡ replicate 64 (replicate 64 false)
-    → m.locks.fast_sharers ≡ replicate 64 (replicate 64 false) → m.locks.partition_sharers ≡ replicate 16 (replicate 64 false) → m.contents.hands ≡ replicate 16 None → m.waits.awaited ≡ replicate 64 None → m.waits.seen ≡ replicate 64 false
+    → m.locks.fast_sharers ≡ replicate 64 (replicate 64 false) → m.locks.partition_sharers ≡ replicate 16 (replicate 64 false) → m.fast_path.databases ≡ replicate 64 0 → m.fast_path.slots ≡ replicate 64 (replicate 16 0) → m.fast_path.zeros ≡ replicate 64 None → m.counted.items ≡ []
+    → m.contents.hands ≡ replicate 16 None → m.waits.awaited ≡ replicate 64 None → m.waits.seen ≡ replicate 64 false
     → length m.contents.parts.items ≡ 16 → ((p : ℕ) → (contents_in m.contents.parts.items p ≡ empty_content) × ((part_at m.contents.parts.items p).begun ≡ None)) → Shows m (opening 64)
-opening-shown m issued live kept_by words fast_words wait_words holders sharers partition_sharers hands awaited seen sixteen empty = record {
+opening-shown m issued live kept_by words fast_words wait_words holders sharers partition_sharers databases slots zeros counted hands awaited seen sixteen empty = record {
   numbers = record {
     limit = refl;
     issued = issued;
@@ -47,9 +51,18 @@ opening-shown m issued live kept_by words fast_words wait_words holders sharers 
     fast = λ k. ap (λ list. get_or list k free_word) fast_words ∙ get_or-one_value 64 536870912 k;
     wait = λ k. ap (λ list. get_or list k 0) wait_words ∙ get_or-one_value 64 0 k;
   };
-  fast_path = shows.fast_path;
-  counted = shows.counted;
-  asleep = shows.asleep;
+  fast_path = record {
+    sixty_four_databases = ap length databases ∙ length-replicate {A = ℕ} 64 0;
+    sixty_four = ap length slots ∙ length-replicate {A = List ℕ} 64 (replicate 16 0);
+    sixteen = λ s below.
+    ap (λ list. length (get_or list s [])) slots ∙ ap length (get_or-replicate 64 s (replicate 16 0) [] below) ∙ length-replicate {A = ℕ} 16 0;
+    sixty_four_zeros = ap length zeros ∙ length-replicate {A = Option ℕ} 64 None;
+    database = λ s. ap (λ list. get_or list s 0) databases ∙ get_or-one_value 64 0 s;
+    slot = λ s place. ap (λ list. get_or (get_or list s []) place 0) slots ∙ no_slot s place;
+    zero = λ s. ap (λ list. get_or list s None) zeros ∙ get_or-one_value 64 None s;
+  };
+  counted = record { each = λ s. ap (counted_of s) counted; within = subst (All (λ c. c.session < 64)) (sym counted) (λ k c within. absurd (omega (arith, within))) };
+  asleep = λ s. refl;
   locks = record {
     fast_holders = no_marks 64 m.locks.fast_holders holders;
     fast_sharers = no_marks 64 m.locks.fast_sharers sharers;
@@ -68,7 +81,13 @@ opening-shown m issued live kept_by words fast_words wait_words holders sharers 
     awaited = λ k. ap (λ list. get_or list k None) awaited ∙ get_or-one_value 64 None k;
     seen = λ k. ap (λ list. get_or list k false) seen ∙ get_or-one_value 64 false k;
   };
-}
+} where
+  no_slot : (s place : ℕ) → ◌≡◌ {A = ℕ} (get_or (get_or (replicate 64 (replicate 16 0)) s []) place 0) 0
+  no_slot s place =
+      elim (cases_lt s 64) [
+        | inl within ↦ ap (λ row. get_or row place 0) (get_or-replicate 64 s (replicate 16 0) [] within) ∙ get_or-one_value 16 0 place
+        | inr past ↦ ap (λ row. get_or row place 0) (get_or_past (replicate 64 (replicate 16 0)) s [] (let e = length-replicate {A = List ℕ} 64 (replicate 16 0) in omega (arith, e)))
+      ]
 
 -- In a safe World each hold and each wait that the machine keeps stands in the partition that its object lies in.
 pub parts_at_home : (m : Machine) (w : World) → SafeWorld w → Shows m w → AreAtHome m.contents.parts.items
@@ -98,12 +117,20 @@ GathersHolds parts list = AreAtHome parts → ListsHolds list (λ s t n. (conten
 abbrev pub GathersWaits : List PartView → List QueuedWait → Type 0
 GathersWaits parts list = AreAtHome parts → (t : Tag) → map wait_of (filter (λ queued. tag_eq queued.tag t) list) ≡ (contents_in parts (partition_of t)).waits t
 
+-- A counter shows how many of all that is counted are at its index.
+counter_shown : (m : Machine) (w : World) → SafeWorld w → Shows m w → (i : ℕ) → count_by (λ c. index_of c.tag == i) m.counted.items ≡ w.words.strong i
+counter_shown m w safe shows i =
+    sym (total-of_sessions 64 (λ (c : Counted). index_of c.tag == i) m.counted.items shows.counted.within)
+    ∙ ap (λ n. total n (λ s. count_at i (counted_of s m.counted.items))) (sym shows.numbers.limit)
+    ∙ (λ j. total w.numbers.limit (λ s. count_at i (shows.counted.each s j)))
+    ∙ sym (safe.counters.shown i)
+
 -- What the machine gives in the end is what the World has.
 pub plain-shown : (m : Machine) (w : World) → SafeWorld w → Shows m w → (plain : Plain) (parts parts_2 : List PartView) → parts ≡ m.contents.parts.items → parts_2 ≡ m.contents.parts.items
     → GathersHolds parts (holds_of plain) → AreInTable (holds_of plain) → GathersWaits parts_2 (waits_of plain)
     → IsSortedByKey (λ queued. queued.tag) (on numbers_of (slice_cmp nat_cmp)) (waits_of plain)
-    → plain.words ≡ m.words → IsPlainOf plain w
-plain-shown m w safe shows plain parts parts_2 these those gathered in_table gathered_waits by_tag same = record {
+    → plain.words ≡ m.words → plain.fast_path ≡ m.fast_path → plain.counted ≡ m.counted → IsPlainOf plain w
+plain-shown m w safe shows plain parts parts_2 these those gathered in_table gathered_waits by_tag same same_path same_counted = record {
   holds = λ s t n. holds at_home s t n ∙ ap (λ c. cond (c.holds s t n) 1 0) (content_from m w safe shows t);
   in_table = in_table;
   waits = λ t. waits at_home t ∙ ap (λ c. c.waits t) (content_from m w safe shows t);
@@ -122,8 +149,8 @@ plain-shown m w safe shows plain parts parts_2 these those gathered in_table gat
   word_shown : (word : Word) → WordExists word → word_of plain word ≡ word_in w.words word
   word_shown (Partition p) exists = ap (λ words. get_or words.partitions p free_word) same ∙ shows.words.partition p
   word_shown (Fast k) exists = ap (λ words. get_or words.fast k free_word) same ∙ shows.words.fast k
-  word_shown (Database k) exists = sym (safe.but_slots.table.carriers.not_yet.database k)
-  word_shown (Slot k i) exists = sym (safe.but_slots.table.carriers.not_yet.slot k i)
+  word_shown (Database k) exists = ap (λ path. get_or path.databases k 0) same_path ∙ shows.fast_path.database k
+  word_shown (Slot k i) exists = ap (λ path. get_or (get_or path.slots k []) i 0) same_path ∙ shows.fast_path.slot k i
   word_shown (Wait k) exists = ap (λ words. get_or words.waits k 0) same ∙ shows.words.wait k
-  word_shown (Strong i) exists = sym (safe.but_slots.table.carriers.not_yet.strong i)
-  word_shown (Sleep k) exists = sym (safe.but_slots.table.carriers.not_yet.sleep k)
+  word_shown (Strong i) exists = ap (λ counted. count_by (λ c. index_of c.tag == i) counted.items) same_counted ∙ counter_shown m w safe shows i
+  word_shown (Sleep k) exists = sym (shows.asleep k)

@@ -4,7 +4,7 @@ use super::state::{CountedBy, Machine};
 use lock_table::{NoMemory, PartTable};
 use modes_core::{Mode, SessionId, Tag, is_strong};
 
-ghost use Rattle.std.specs.Prelude.{◌≡◌, map};
+ghost use Rattle.std.specs.Prelude.{◌≡◌, not, map, filter};
 ghost use Rattle.lock_model.specs.CountedLists.{is_by, is_by_at, passed_by};
 
 /// How many strong locks a session may have counted.
@@ -54,29 +54,34 @@ fn pass(counted: &mut [CountedBy], session: SessionId, owner: SessionId, tag: Ta
     }
 }
 
+/// Takes out what the session has counted of the mode on the object.
+fn uncounted(counted: &mut Vec<CountedBy>, session: SessionId, tag: Tag, mode: Mode)
+    ensures { counted.new.items ≡ filter (λ c. not (is_by session tag mode c)) counted.old.items }
+{
+    counted.retain(|c| !c.is_by(session, tag, mode));
+}
+
 impl Machine {
-    ghost use Rattle.std.specs.Prelude.{◌≡◌, ◌==◌, ◌||◌, false, not, [], count_by, slice_set, slice_index_or, OnOk, OnErr, None, if◌then◌else◌};
-    ghost use Rattle.modes_core.specs.Tag.{index_of, is_strong_on, partition_of};
-    ghost use Rattle.modes_core.specs.declared.modes.Mode.TheVariants.{AccessShare, RowShare, RowExclusive};
+    ghost use Rattle.std.specs.Prelude.{◌≡◌, ◌==◌, ◌≤◌, ◌||◌, false, not, [], count_by, slice_set, slice_index_or, OnOk, OnErr, None, if◌then◌else◌, vec_len};
+    ghost use Rattle.std.specs.List.{list_any};
+    ghost use Rattle.std.specs.Vec.{vec_capacity};
+    ghost use Rattle.modes_core.specs.Tag.{is_strong_on, partition_of};
     ghost use Rattle.lw_word.specs.LightweightWord.{put_word};
     ghost use Rattle.lock_table.specs.Parts.{contents_in};
     ghost use Rattle.lock_world.specs.declared.events.Step.{Step};
-    ghost use Rattle.std.specs.List.{list_any};
-    ghost use Rattle.lock_model.specs.Shows.{ShowsSafe, Follows, awaits};
-    ghost use Rattle.lock_model.specs.SlotLooks.{slots_hold};
+    ghost use Rattle.lock_world.specs.World.{World};
+    ghost use Rattle.lock_model.specs.Shows.{Shows, ShowsSafe, Follows};
+    ghost use Rattle.lock_model.specs.CountedLists.{counter, holds_fast, may_count, has_or_awaits, may_uncount, slots_show, may_pass, may_load_counter, reads_zero};
 
     /// Counts a strong lock, which is not counted yet, past nobody (`BeginStrongLockAcquire` in lock.c). After
-    /// `NoMemory` nothing has changed.
+    /// `NoMemory`, which comes only where the list was full, the machine shows what it showed.
     pub fn count(&mut self, session: SessionId, tag: Tag, mode: Mode) -> Result<(), NoMemory>
         requires shown { ShowsSafe self.old }
         ensures followed { OnOk result (Follows self.old session (Step.Count tag mode) self.new) }
-        ensures refused { OnErr result (self.new ≡ self.old) }
+        ensures refused { OnErr result ((w : World) → Shows self.old w → Shows self.new w) }
+        ensures full { OnErr result (vec_capacity self.old.counted ≤ vec_len self.old.counted) }
     {
-        if self.makes_steps(session)
-            && is_strong(tag, mode)
-            && !self.is_counted(session, tag, mode)
-            && self.how_many_counted(session) < MOST_COUNTED
-        {
+        if self.may_count(session, tag, mode) {
             self.counted.push(CountedBy {
                 session,
                 tag,
@@ -92,11 +97,8 @@ impl Machine {
         requires shown { ShowsSafe self.old }
         ensures { Follows self.old session (Step.Uncount tag mode) self.new }
     {
-        if self.makes_steps(session)
-            && self.is_counted(session, tag, mode)
-            && !self.has_or_awaits(session, tag, mode)
-        {
-            self.counted.retain(|c| !c.is_by(session, tag, mode));
+        if self.may_uncount(session, tag, mode) {
+            uncounted(&mut self.counted, session, tag, mode);
         }
     }
 
@@ -106,13 +108,7 @@ impl Machine {
         requires shown { ShowsSafe self.old }
         ensures { Follows self.old session (Step.PutPassing owner tag mode) self.new }
     {
-        let index = usize::from(owner.number());
-        let whose = usize::from(session.number());
-        if self.makes_steps(session)
-            && self.locks.fast_holders[index][whose]
-            && self.is_counted_at(session, owner.number(), tag, mode)
-            && !self.slots_show(owner, tag)
-        {
+        if self.may_pass(session, owner, tag, mode) {
             self.free_fast(session, owner);
             pass(self.counted.as_mut_slice(), session, owner, tag, mode);
         }
@@ -121,51 +117,91 @@ impl Machine {
     /// Loads a strong lock counter, which must show this. Where it is 0 and the session holds the lock of its own
     /// slots, it may set slots for objects of this index (`LockAcquireExtended` in lock.c).
     pub fn load_strong(&mut self, session: SessionId, index: u16, shown: u64)
-        requires shown { ShowsSafe self.old }
         ensures { Follows self.old session (Step.LoadStrong index shown) self.new }
     {
-        let whose = usize::from(session.number());
-        if self.makes_steps(session)
-            && index < 1024
-            && shown == self.counter(index)
-            && shown == 0
-            && self.locks.fast_holders[whose][whose]
-        {
-            self.fast_path.zeros[whose] = Some(index);
+        if self.reads_zero(session, index, shown) {
+            self.fast_path.zeros[usize::from(session.number())] = Some(index);
         }
     }
 
-    /// Whether the object's content has the session's hold.
-    fn in_content(&self, session: SessionId, tag: Tag, mode: Mode) -> bool
-        requires shown { ShowsSafe self.now }
-        ensures { result ≡ (contents_in self.now.contents.parts.items (partition_of tag)).holds session tag mode }
+    /// Whether the session may be granted the mode on the object, or await it: a strong one must be counted, and
+    /// past each session.
+    pub fn is_counted_for(&self, session: SessionId, tag: Tag, mode: Mode) -> bool
+        ensures { result ≡ (not (is_strong_on tag mode)
+            || list_any (is_by_at session 64 tag mode) self.now.counted.items) }
     {
-        self.contents.parts[usize::from(tag.partition())]
-            .held(session, &tag)
-            .has(mode)
+        !is_strong(tag, mode) || self.is_counted_at(session, ALL_PASSED, tag, mode)
     }
 
-    /// Whether the session has the mode on the object, in a content or in a slot, or awaits it.
-    fn has_or_awaits(&self, session: SessionId, tag: Tag, mode: Mode) -> bool
-        requires shown { ShowsSafe self.now }
-        ensures { result ≡ ((awaits (slice_index_or self.now.waits.awaited session None) tag mode
-            || (contents_in self.now.contents.parts.items (partition_of tag)).holds session tag mode)
-            || slots_hold self.now session tag mode) }
+    /// Whether the session has counted nothing.
+    pub fn counts_nothing(&self, session: SessionId) -> bool
+        ensures { result ≡ (count_by (λ c. c.session == session) self.now.counted.items == 0) }
     {
-        self.awaits(session, tag, mode)
-            || self.in_content(session, tag, mode)
-            || self.slots_hold(session, tag, mode)
+        self.how_many_counted(session) == 0
     }
 
-    /// Whether the owner's slots show that it holds any mode on the object.
-    fn slots_show(&self, owner: SessionId, tag: Tag) -> bool
-        requires shown { ShowsSafe self.now }
-        ensures { result ≡ ((slots_hold self.now owner tag AccessShare
-            || slots_hold self.now owner tag RowShare) || slots_hold self.now owner tag RowExclusive) }
+    /// Whether the session may count the mode on the object.
+    fn may_count(&self, session: SessionId, tag: Tag, mode: Mode) -> bool
+        ensures { result ≡ may_count self.now session tag mode }
     {
-        self.slots_hold(owner, tag, Mode::AccessShare)
-            || self.slots_hold(owner, tag, Mode::RowShare)
-            || self.slots_hold(owner, tag, Mode::RowExclusive)
+        self.makes_steps(session)
+            && is_strong(tag, mode)
+            && !self.is_counted(session, tag, mode)
+            && self.how_many_counted(session) < MOST_COUNTED
+    }
+
+    /// Whether the session may count it no more.
+    fn may_uncount(&self, session: SessionId, tag: Tag, mode: Mode) -> bool
+        requires shown { ShowsSafe self.now }
+        ensures { result ≡ may_uncount self.now session tag mode }
+    {
+        self.makes_steps(session)
+            && self.is_counted(session, tag, mode)
+            && !self.has_or_awaits(session, tag, mode)
+    }
+
+    /// Whether the session may go past the owner.
+    fn may_pass(&self, session: SessionId, owner: SessionId, tag: Tag, mode: Mode) -> bool
+        requires shown { ShowsSafe self.now }
+        ensures { result ≡ may_pass self.now session owner tag mode }
+    {
+        self.makes_steps(session)
+            && self.holds_fast(session, owner)
+            && self.is_counted_at(session, owner.number(), tag, mode)
+            && !self.slots_show(owner, tag)
+    }
+
+    /// Whether the session may load the counter, and it shows this.
+    fn may_load_counter(&self, session: SessionId, index: u16, shown: u64) -> bool
+        ensures { result ≡ may_load_counter self.now session index shown }
+    {
+        self.makes_steps(session) && index < 1024 && shown == self.counter(index)
+    }
+
+    /// Whether the session reads it as 0, and may set slots then.
+    fn reads_zero(&self, session: SessionId, index: u16, shown: u64) -> bool
+        ensures { result ≡ reads_zero self.now session index shown }
+    {
+        self.may_load_counter(session, index, shown)
+            && shown == 0
+            && self.holds_fast(session, session)
+    }
+
+    /// What a strong lock counter shows: how much is counted at its index.
+    fn counter(&self, index: u16) -> u64
+        ensures { result ≡ counter self.now index }
+    {
+        self.counted
+            .iter()
+            .filter(|c| c.tag.strong_index() == index)
+            .count() as u64
+    }
+
+    /// Whether the session holds the lock of the owner's slots exclusively.
+    fn holds_fast(&self, session: SessionId, owner: SessionId) -> bool
+        ensures { result ≡ holds_fast self.now session owner }
+    {
+        self.locks.fast_holders[usize::from(owner.number())][usize::from(session.number())]
     }
 
     /// Puts the lock of the owner's slots back, which the session holds exclusively: a counter that it read as 0
@@ -195,27 +231,34 @@ impl Machine {
         }
     }
 
-    /// What a strong lock counter shows: how much is counted at its index.
-    pub fn counter(&self, index: u16) -> u64
-        ensures { result ≡ count_by (λ c. index_of c.tag == index) self.now.counted.items }
+    /// Whether the session has the mode on the object, in a content or in a slot, or awaits it.
+    fn has_or_awaits(&self, session: SessionId, tag: Tag, mode: Mode) -> bool
+        requires shown { ShowsSafe self.now }
+        ensures { result ≡ has_or_awaits self.now session tag mode }
     {
-        self.counted.iter().filter(|c| c.tag.strong_index() == index).count() as u64
+        self.awaits(session, tag, mode)
+            || self.in_content(session, tag, mode)
+            || self.slots_hold(session, tag, mode)
     }
 
-    /// Whether the session may be granted the mode on the object, or await it: a strong one must be counted, and
-    /// past each session.
-    pub fn is_counted_for(&self, session: SessionId, tag: Tag, mode: Mode) -> bool
-        ensures { result ≡ (not (is_strong_on tag mode)
-            || list_any (is_by_at session 64 tag mode) self.now.counted.items) }
+    /// Whether the object's content has the session's hold.
+    fn in_content(&self, session: SessionId, tag: Tag, mode: Mode) -> bool
+        requires shown { ShowsSafe self.now }
+        ensures { result ≡ (contents_in self.now.contents.parts.items (partition_of tag)).holds session tag mode }
     {
-        !is_strong(tag, mode) || self.is_counted_at(session, ALL_PASSED, tag, mode)
+        self.contents.parts[usize::from(tag.partition())]
+            .held(session, &tag)
+            .has(mode)
     }
 
-    /// Whether the session has counted nothing.
-    pub fn counts_nothing(&self, session: SessionId) -> bool
-        ensures { result ≡ (count_by (λ c. c.session == session) self.now.counted.items == 0) }
+    /// Whether the owner's slots show that it holds any mode on the object.
+    fn slots_show(&self, owner: SessionId, tag: Tag) -> bool
+        requires shown { ShowsSafe self.now }
+        ensures { result ≡ slots_show self.now owner tag }
     {
-        self.how_many_counted(session) == 0
+        self.slots_hold(owner, tag, Mode::AccessShare)
+            || self.slots_hold(owner, tag, Mode::RowShare)
+            || self.slots_hold(owner, tag, Mode::RowExclusive)
     }
 
     /// How many strong locks the session has counted.

@@ -42,7 +42,7 @@ pub struct Plain {
 
 impl Plain {
     ghost use Rattle.std.specs.Prelude.{◌≡◌, ◌<◌, ◌≤◌};
-    ghost use Rattle.lock_world.specs.declared.events.Word.TheVariants.{Strong};
+    ghost use Rattle.lock_world.specs.declared.events.Word.TheVariants.{Slot, Strong};
     ghost use Rattle.lock_model.specs.Plain.{holds_of, waits_of, word_of};
     ghost use Rattle.lock_world.specs.World.{WordExists};
 
@@ -84,11 +84,26 @@ impl Plain {
                 }
             }
             Word::Fast(session) => u64::from(self.words.fast[usize::from(session.number())]),
-            Word::Database(_) => 0,
-            Word::Slot(_, _) => 0,
+            Word::Database(session) => {
+                u64::from(self.fast_path.databases[usize::from(session.number())])
+            }
+            Word::Slot(session, place) => self.slot(session, place),
             Word::Wait(session) => u64::from(self.words.waits[usize::from(session.number())]),
             Word::Strong(_) => 0,
             Word::Sleep(_) => 0,
+        }
+    }
+
+    /// What a fast-path slot of the session shows, and 0 where there is no slot of this place.
+    fn slot(&self, session: SessionId, place: u8) -> u64
+        ensures shown { place < 16 → result ≡ word_of self.now (Slot session place) }
+        ensures absent { 16 ≤ place → result ≡ 0 }
+    {
+        let index = usize::from(place);
+        if index < 16 {
+            self.fast_path.slots[usize::from(session.number())][index].number()
+        } else {
+            0
         }
     }
 }

@@ -83,6 +83,23 @@ pub struct FastPath {
     pub zeros: [Option<u16>; 64],
 }
 
+impl FastPath {
+    ghost use Rattle.std.specs.Prelude.{◌≡◌, replicate, None};
+
+    /// No database, no slot in use, and no counter read.
+    fn empty() -> Self
+        ensures databases { result.databases ≡ replicate 64 0 }
+        ensures slots { result.slots ≡ replicate 64 (replicate 16 0) }
+        ensures zeros { result.zeros ≡ replicate 64 None }
+    {
+        FastPath {
+            databases: [0; 64],
+            slots: [[SlotWord::from_number(0); 16]; 64],
+            zeros: [None; 64],
+        }
+    }
+}
+
 /// A strong lock that a session has counted, and the position up to which the session has gone past others.
 #[derive(Clone, Copy, Debug)]
 pub struct CountedBy {
@@ -136,11 +153,7 @@ impl Machine {
                 fast_sharers: [[false; 64]; 64],
                 partition_sharers: [[false; 64]; 16],
             },
-            fast_path: FastPath {
-                databases: [0; 64],
-                slots: [[SlotWord::from_number(0); 16]; 64],
-                zeros: [None; 64],
-            },
+            fast_path: FastPath::empty(),
             counted: Vec::new(alloc),
             contents: Contents {
                 hands: [None; 16],

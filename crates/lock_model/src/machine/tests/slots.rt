@@ -1,9 +1,11 @@
 use super::{
-    FREE, HELD, closes, grant, is_kept, opens, puts_word, session, shares, shows, takes_word,
+    FREE, HELD, closes, grant, is_kept, object, opens, puts, puts_word, run_open, session, shares,
+    shows, takes, takes_word,
 };
 use lock_table::Move;
-use lock_world::{Event, Word};
-use modes_core::{Mode, SessionId};
+use lock_world::{Event, Step, Word};
+use modes_core::{Mode, SessionId, Tag};
+use std::process::Abort;
 use std::test::Fail;
 
 fn takes_fast(session: SessionId, owner: SessionId) -> Event {
@@ -98,4 +100,329 @@ fn a_holder_is_neither_closed_nor_kept_apart(rt: HostRuntime) -> Result<(), Fail
     ];
     shows(&rt, &kept[..4], Word::Fast(b), FREE)?;
     shows(&rt, &kept, Word::Fast(b), HELD)
+}
+
+fn does(session: SessionId, step: Step) -> Event {
+    Event { session, step }
+}
+
+fn stores(session: SessionId, database: u32) -> Event {
+    does(session, Step::StoreDatabase { database })
+}
+
+fn reads_zero(session: SessionId, tag: Tag) -> Event {
+    let index = tag.strong_index();
+    does(session, Step::LoadStrong { index, shown: 0 })
+}
+
+fn sets(session: SessionId, slot: u8, tag: Tag, mode: Mode) -> Event {
+    does(session, Step::SetSlot { slot, tag, mode })
+}
+
+fn unsets(session: SessionId, slot: u8, tag: Tag, mode: Mode) -> Event {
+    does(session, Step::ClearSlot { slot, tag, mode })
+}
+
+/// A table of database 5.
+fn table() -> Tag {
+    Tag::relation(5, 100)
+}
+
+/// Another table of database 5, at the same index of the counters.
+fn same_index() -> Tag {
+    Tag::relation(5, 1124)
+}
+
+/// Another table of database 5, at another index.
+fn other_index() -> Tag {
+    Tag::relation(5, 101)
+}
+
+const ACCESS_SHARE: u64 = 0x1_0000_0000;
+
+const ROW_SHARE: u64 = 0x2_0000_0000;
+
+const ROW_EXCLUSIVE: u64 = 0x4_0000_0000;
+
+/// Runs the events after session 0 has stored database 5, taken the lock of its slots and read the counter of
+/// the table as 0, and looks at what its slot shows; there are no holds in the lock table.
+fn shows_slot<R: Abort + AllocGlobal>(
+    rt: &R,
+    more: &[Event],
+    slot: u8,
+    shown: u64,
+) -> Result<(), Fail> {
+    let a = session(rt, 0);
+    let mut events = Vec::new(rt.alloc());
+    events.push(stores(a, 5))?;
+    events.push(takes_fast(a, a))?;
+    events.push(reads_zero(a, table()))?;
+    events.extend_from_slice(more)?;
+    shows(rt, events.as_slice(), Word::Slot(a, slot), shown)
+}
+
+#[test]
+fn modes_are_set_in_slots(rt: HostRuntime) -> Result<(), Fail> {
+    let (a, b) = (session(&rt, 0), session(&rt, 1));
+    assert_eq!(rt; table().strong_index(), same_index().strong_index());
+    assert_ne!(rt; table().strong_index(), other_index().strong_index());
+    let more = [
+        sets(a, 3, table(), Mode::AccessShare),
+        sets(a, 3, table(), Mode::RowExclusive),
+        sets(a, 15, same_index(), Mode::RowShare),
+    ];
+    shows_slot(&rt, &more[..1], 3, ACCESS_SHARE + 100)?;
+    shows_slot(&rt, &more, 3, ACCESS_SHARE + ROW_EXCLUSIVE + 100)?;
+    shows_slot(&rt, &more, 15, ROW_SHARE + 1124)?;
+    shows_slot(&rt, &more, 0, 0)?;
+    // Another session sets its own slots, at the same time.
+    let another = [
+        stores(b, 5),
+        takes_fast(b, b),
+        reads_zero(b, table()),
+        sets(b, 3, table(), Mode::RowShare),
+    ];
+    shows(&rt, &another, Word::Slot(b, 3), ROW_SHARE + 100)?;
+    shows(&rt, &another, Word::Slot(a, 3), 0)
+}
+
+#[test]
+fn slots_are_set_after_a_zero_read_with_the_own_lock(rt: HostRuntime) -> Result<(), Fail> {
+    let (a, b, c) = (session(&rt, 0), session(&rt, 1), session(&rt, 2));
+    let set = sets(a, 0, table(), Mode::RowShare);
+    // Nothing was read as 0, or another counter.
+    let unread = [stores(a, 5), takes_fast(a, a), set];
+    shows(&rt, &unread, Word::Slot(a, 0), 0)?;
+    let another = sets(a, 0, other_index(), Mode::RowShare);
+    shows_slot(&rt, &[another], 0, 0)?;
+    // It was read before the lock was taken, or with another session's lock alone.
+    let before = [
+        stores(a, 5),
+        reads_zero(a, table()),
+        takes_fast(a, a),
+        set,
+    ];
+    shows(&rt, &before, Word::Slot(a, 0), 0)?;
+    let by_another = [
+        stores(a, 5),
+        takes_fast(a, b),
+        reads_zero(a, table()),
+        set,
+    ];
+    shows(&rt, &by_another, Word::Slot(a, 0), 0)?;
+    // The own lock was put since, and even taken again.
+    let put = [puts_fast(a, a), set, takes_fast(a, a), set];
+    shows_slot(&rt, &put[..2], 0, 0)?;
+    shows_slot(&rt, &put, 0, 0)?;
+    // Another lock that is put ends no read.
+    let other_put = [takes_fast(a, b), puts_fast(a, b), set];
+    shows_slot(&rt, &other_put, 0, ROW_SHARE + 100)?;
+    // The session is not open.
+    let not_open = [
+        stores(c, 5),
+        takes_fast(c, c),
+        reads_zero(c, table()),
+        sets(c, 0, table(), Mode::RowShare),
+    ];
+    shows(&rt, &not_open, Word::Slot(c, 0), 0)
+}
+
+#[test]
+fn slots_are_set_for_what_is_eligible(rt: HostRuntime) -> Result<(), Fail> {
+    let a = session(&rt, 0);
+    let strong = sets(a, 0, table(), Mode::ShareUpdateExclusive);
+    shows_slot(&rt, &[strong], 0, 0)?;
+    let object = Tag::object(5, 100, 0, 0);
+    let not_relation = [
+        reads_zero(a, object),
+        sets(a, 0, object, Mode::AccessShare),
+    ];
+    shows_slot(&rt, &not_relation, 0, 0)?;
+    // Another database, and none.
+    let elsewhere = Tag::relation(6, 100);
+    let another = [
+        reads_zero(a, elsewhere),
+        sets(a, 0, elsewhere, Mode::AccessShare),
+    ];
+    shows_slot(&rt, &another, 0, 0)?;
+    let set = sets(a, 0, table(), Mode::AccessShare);
+    let none = [takes_fast(a, a), reads_zero(a, table()), set];
+    shows(&rt, &none, Word::Slot(a, 0), 0)?;
+    let shared = Tag::relation(0, 100);
+    let of_none = [
+        takes_fast(a, a),
+        reads_zero(a, shared),
+        sets(a, 0, shared, Mode::AccessShare),
+    ];
+    shows(&rt, &of_none, Word::Slot(a, 0), 0)
+}
+
+#[test]
+fn a_relation_has_one_slot(rt: HostRuntime) -> Result<(), Fail> {
+    let a = session(&rt, 0);
+    let more = [
+        sets(a, 2, table(), Mode::RowShare),
+        // A slot that is not in use, before and after its own.
+        sets(a, 1, table(), Mode::AccessShare),
+        sets(a, 3, table(), Mode::AccessShare),
+        // The slot of another relation.
+        sets(a, 2, same_index(), Mode::AccessShare),
+        // No slot.
+        sets(a, 16, same_index(), Mode::AccessShare),
+        sets(a, 255, same_index(), Mode::AccessShare),
+    ];
+    shows_slot(&rt, &more, 1, 0)?;
+    shows_slot(&rt, &more, 2, ROW_SHARE + 100)?;
+    shows_slot(&rt, &more, 3, 0)?;
+    shows_slot(&rt, &more, 16, 0)
+}
+
+#[test]
+fn what_is_had_or_awaited_is_set_in_no_slot(rt: HostRuntime) -> Result<(), Fail> {
+    let (a, b) = (session(&rt, 0), session(&rt, 1));
+    let partition = table().partition();
+    let granted = Move::Grant {
+        tag: table(),
+        mode: Mode::RowShare,
+    };
+    let had = [
+        stores(a, 5),
+        takes_fast(a, a),
+        reads_zero(a, table()),
+        takes(a, partition),
+        puts(a, partition, granted),
+        sets(a, 0, table(), Mode::RowShare),
+        sets(a, 0, table(), Mode::AccessShare),
+    ];
+    let plain = run_open(&rt, &had[..6])?;
+    assert_eq!(rt; plain.holds().len(), 1);
+    assert_eq!(rt; plain.word(Word::Slot(a, 0)), 0);
+    // Another mode is set.
+    let plain = run_open(&rt, &had)?;
+    assert_eq!(rt; plain.word(Word::Slot(a, 0)), ACCESS_SHARE + 100);
+    // The other way round: what is in a slot is not asked for in the lock table.
+    let in_slot = [
+        sets(a, 0, table(), Mode::RowShare),
+        takes(a, partition),
+        puts(a, partition, granted),
+    ];
+    shows_slot(&rt, &in_slot, 0, ROW_SHARE + 100)?;
+    // Whoever waits sets none.
+    let waits = [
+        takes(b, 15),
+        puts(b, 15, grant(Mode::AccessExclusive)),
+        stores(a, 5),
+        takes_fast(a, a),
+        reads_zero(a, table()),
+        takes(a, 15),
+        does(
+            a,
+            Step::SetWaiting {
+                tag: object(),
+                mode: Mode::AccessShare,
+            },
+        ),
+        sets(a, 0, table(), Mode::RowShare),
+    ];
+    let plain = run_open(&rt, &waits)?;
+    assert_eq!(rt; plain.waits().len(), 1);
+    assert_eq!(rt; plain.word(Word::Slot(a, 0)), 0);
+    Ok(())
+}
+
+#[test]
+fn modes_are_cleared_in_slots(rt: HostRuntime) -> Result<(), Fail> {
+    let (a, b) = (session(&rt, 0), session(&rt, 1));
+    let both = ACCESS_SHARE + ROW_SHARE + 100;
+    let more = [
+        sets(a, 3, table(), Mode::AccessShare),
+        sets(a, 3, table(), Mode::RowShare),
+        unsets(a, 3, table(), Mode::RowShare),
+        unsets(a, 3, table(), Mode::AccessShare),
+        sets(a, 3, same_index(), Mode::AccessShare),
+    ];
+    shows_slot(&rt, &more[..2], 3, both)?;
+    shows_slot(&rt, &more[..3], 3, ACCESS_SHARE + 100)?;
+    // An emptied slot shows nothing, and is there for another relation.
+    shows_slot(&rt, &more[..4], 3, 0)?;
+    shows_slot(&rt, &more, 3, ACCESS_SHARE + 1124)?;
+    // What the slot does not show, or another slot, or no slot.
+    let others = [
+        more[0],
+        more[1],
+        unsets(a, 3, table(), Mode::RowExclusive),
+        unsets(a, 3, table(), Mode::AccessExclusive),
+        unsets(a, 3, same_index(), Mode::RowShare),
+        unsets(a, 3, Tag::relation(6, 100), Mode::RowShare),
+        unsets(a, 4, table(), Mode::RowShare),
+        unsets(a, 16, table(), Mode::RowShare),
+        unsets(b, 3, table(), Mode::RowShare),
+    ];
+    shows_slot(&rt, &others, 3, both)?;
+    // Without the own lock nothing is cleared; a zero read is not needed.
+    let put = [
+        more[0],
+        more[1],
+        puts_fast(a, a),
+        unsets(a, 3, table(), Mode::RowShare),
+        takes_fast(a, a),
+        unsets(a, 3, table(), Mode::AccessShare),
+    ];
+    shows_slot(&rt, &put[..4], 3, both)?;
+    shows_slot(&rt, &put, 3, ROW_SHARE + 100)
+}
+
+#[test]
+fn a_database_is_stored_once(rt: HostRuntime) -> Result<(), Fail> {
+    let (a, b, c) = (session(&rt, 0), session(&rt, 1), session(&rt, 2));
+    let twice = [stores(a, 5), stores(a, 6)];
+    shows(&rt, &twice, Word::Database(a), 5)?;
+    shows(&rt, &twice, Word::Database(b), 0)?;
+    // None is stored before a database is.
+    shows(&rt, &[stores(a, 0), stores(a, 6)], Word::Database(a), 6)?;
+    // The session is not open, or is kept apart.
+    shows(&rt, &[stores(c, 5)], Word::Database(c), 0)?;
+    shows(&rt, &[is_kept(b, a), stores(b, 5)], Word::Database(b), 0)
+}
+
+#[test]
+fn loads_change_nothing(rt: HostRuntime) -> Result<(), Fail> {
+    let (a, b) = (session(&rt, 0), session(&rt, 1));
+    let word = Word::Slot(b, 3);
+    let more = [
+        does(a, Step::LoadWord { word, shown: 0 }),
+        does(a, Step::LoadWord { word, shown: 7 }),
+        does(
+            a,
+            Step::LoadWord {
+                word: Word::Strong(3),
+                shown: 0,
+            },
+        ),
+    ];
+    shows(&rt, &more, word, 0)?;
+    shows(&rt, &more, Word::Strong(3), 0)
+}
+
+#[test]
+fn whoever_has_a_slot_is_not_closed(rt: HostRuntime) -> Result<(), Fail> {
+    let a = session(&rt, 0);
+    let more = [
+        sets(a, 7, table(), Mode::AccessShare),
+        puts_fast(a, a),
+        closes(a),
+        takes_fast(a, a),
+        unsets(a, 7, table(), Mode::AccessShare),
+        puts_fast(a, a),
+        closes(a),
+        takes_fast(a, a),
+    ];
+    shows_slot(&rt, &more[..5], 7, 0)?;
+    let mut events = Vec::new(rt.alloc());
+    events.push(stores(a, 5))?;
+    events.push(takes_fast(a, a))?;
+    events.push(reads_zero(a, table()))?;
+    events.extend_from_slice(&more)?;
+    shows(&rt, events.as_slice(), Word::Fast(a), FREE)?;
+    shows(&rt, &events.as_slice()[..7], Word::Fast(a), HELD)
 }
