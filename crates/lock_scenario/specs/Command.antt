@@ -45,11 +45,13 @@ NamesOneThatMayAct names word = (speaker : Speaker) × IsNamed names word speake
 
 -- why a word names no session that may act
 abbrev pub IsBarred : NamesView → List ℕ → Defect → Type 0
-IsBarred names word SessionWaits = (speaker : Speaker) × IsNamed names word speaker × (waits_of names speaker.session ≡ true)
+IsBarred names word SessionWaits =
+    (speaker : Speaker) × IsNamed names word speaker × (waits_of names speaker.session ≡ true)
 IsBarred names word defect = IsUnnamed names word defect
 
 -- why three words are no lock and whose: by the first of them that is wrong
 abbrev pub IsNoTarget : NamesView → List ℕ → List ℕ → List ℕ → Defect → Type 0
 IsNoTarget names name tag mode BadObject = NamesOneThatMayAct names name × (tag_of tag ≡ None)
-IsNoTarget names name tag mode BadMode = NamesOneThatMayAct names name × IsSome (tag_of tag) × ((its : Mode) → name_of its ≢ mode)
+IsNoTarget names name tag mode BadMode =
+    NamesOneThatMayAct names name × IsSome (tag_of tag) × ((its : Mode) → name_of its ≢ mode)
 IsNoTarget names name tag mode defect = IsBarred names name defect

@@ -71,7 +71,9 @@ cancelled_as wait = if wait.is_granted then WasGranted else Removed
 
 -- whether a desk can have this many sessions and local entries
 abbrev pub is_in_range : Config → Bool
-is_in_range config = nat_le 1 config.sessions && (nat_le config.sessions 64 && (nat_le 1 config.max_local && nat_le config.max_local 65536))
+is_in_range config =
+    nat_le 1 config.sessions && (nat_le config.sessions 64 &&
+    (nat_le 1 config.max_local && nat_le config.max_local 65536))
 
 -- A desk with no session, and nothing in its partitions.
 pub record IsNew (desk : DeskView) (config : Config) : Type 0 where
@@ -90,14 +92,18 @@ pub record IsUnchanged (old new : DeskView) : Type 0 where
 
 -- what an acquire of the session on the object can change
 abbrev pub part_and_entries : DeskView → ℕ → Tag → PartAndEntries
-part_and_entries desk session tag = record { content = contents_of desk (partition_of tag); entries = entries_of desk session }
+part_and_entries desk session tag = record {
+  content = contents_of desk (partition_of tag);
+  entries = entries_of desk session;
+}
 
 -- The other sessions' entries and the other partitions are as before.
 pub record LeavesOthers (old new : DeskView) (session : ℕ) (tag : Tag) : Type 0 where
   pub entries : (other : ℕ) → other ≢ session → entries_of new other ≡ entries_of old other
   pub contents : (p : ℕ) → p ≢ partition_of tag → contents_of new p ≡ contents_of old p
 
--- What a call leaves alone: which sessions there are, with their databases, and how many sessions and entries there may be.
+-- What a call leaves alone: which sessions there are, with their databases, and how many sessions and entries there may
+-- be.
 pub record LeavesAlone (old new : DeskView) : Type 0 where
   pub sessions : issued_of new ≡ issued_of old
   pub databases : databases_of new ≡ databases_of old
@@ -115,8 +121,8 @@ pub record IsInOrder (max_local : ℕ) (session : DeskSession) : Type 0 where
   pub same_limit : session.locals.max_local ≡ max_local
   pub ready : IfSome session.wait (IsReadyFor session.locals)
 
--- What a desk keeps true: sixteen partitions with no request begun; no more sessions than may be, each in order; and the
--- partitions have just what the sessions have entries and waits for.
+-- What a desk keeps true: sixteen partitions with no request begun; no more sessions than may be, each in order; and
+-- the partitions have just what the sessions have entries and waits for.
 pub record IsDesk (parts : List PartView) (sessions : List DeskSession) (limit max_local : ℕ) : Type 0 where
   pub sixteen : length parts ≡ 16
   pub none_begun : (p : ℕ) → (slice_index_or parts p no_part).begun ≡ None

@@ -23,7 +23,8 @@ IsCalled speakers name place = (d : Speaker) → (slice_index_or speakers place 
 -- The session of this name is taken out; or none has the name, and nothing is.
 abbrev pub Forgets : List Speaker → List ℕ → List Speaker → Type 0
 Forgets old name new =
-    ((place : ℕ) × (place < length old) × IsCalled old name place × (new ≡ remove old place)) ⊎ (All (λ other. other.name.bytes ≢ name) old × (new ≡ old))
+    ((place : ℕ) × (place < length old) × IsCalled old name place × (new ≡ remove old place)) ⊎
+    (All (λ other. other.name.bytes ≢ name) old × (new ≡ old))
 
 -- the one name does not come after the other in the order of bytes
 abbrev pub NotAfter : List ℕ → List ℕ → Type 0
@@ -33,7 +34,8 @@ NotAfter name other = slice_cmp nat_cmp name other ≢ Greater
 abbrev pub IsByName : List Speaker → Type 0
 IsByName speakers = AllPairs (λ speaker other. NotAfter speaker.name.bytes other.name.bytes) speakers
 
--- What the names keep true: the open sessions stand in the order of their names, each was opened, and no more are open than were.
+-- What the names keep true: the open sessions stand in the order of their names, each was opened, and no more are open
+-- than were.
 pub record AreInOrder (issued : List (ArrayString 16)) (by_name : List Speaker) (waiting : List Bool) : Type 0 where
   pub in_order : IsByName by_name
   pub issued_ones : All (λ speaker. speaker.session < length issued) by_name

@@ -51,7 +51,8 @@ marked_all (woken ∷ others) sessions = marked_all others (marked_at woken.0 se
 
 -- the waits of all sessions after these waits were granted
 abbrev pub marked : List Wait → (ℕ → Option DeskWait) → ℕ → Option DeskWait
-marked granted waits session = if waits_there granted session then option_map as_granted (waits session) else waits session
+marked granted waits session =
+    if waits_there granted session then option_map as_granted (waits session) else waits session
 
 -- whether the session's wait was granted this mode on this object, with the entry still to be made
 abbrev pub has_grant : Option DeskWait → Tag → Mode → Bool

@@ -34,7 +34,8 @@ is_short_numeral word = nat_le 1 (length word) && (nat_le (length word) 10 && li
 
 -- the number that a word is, where it is 1 to 10 decimal digits and at most 4294967295
 abbrev pub number_in : List ℕ → Option ℕ
-number_in word = if is_short_numeral word && nat_le (digits_value 10 word) 4294967295 then Some (digits_value 10 word) else None
+number_in word =
+    if is_short_numeral word && nat_le (digits_value 10 word) 4294967295 then Some (digits_value 10 word) else None
 
 -- the byte between the numbers of a tag
 abbrev pub is_slash : ℕ → Bool
@@ -43,7 +44,8 @@ is_slash b = b == 47
 -- Two numbers are a relation, four an object whose sub-object is at most 65535.
 abbrev pub tag_of_numbers : List (Option ℕ) → Option Tag
 tag_of_numbers (Some database ∷ Some relation ∷ []) = Some (Relation database relation)
-tag_of_numbers (Some database ∷ Some class ∷ Some object ∷ Some sub_object ∷ []) = if nat_le sub_object 65535 then Some (Object database class object sub_object) else None
+tag_of_numbers (Some database ∷ Some class ∷ Some object ∷ Some sub_object ∷ []) =
+    if nat_le sub_object 65535 then Some (Object database class object sub_object) else None
 tag_of_numbers _ = None
 
 -- the tag that a word is, by the numbers between its slashes
