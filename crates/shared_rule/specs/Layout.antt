@@ -1,0 +1,53 @@
+use Rattle.std.specs.Prelude.{ℕ, ◌+◌, ◌*◌, ◌<◌, ◌≤◌, ◌⊎◌}
+use Rattle.lock_world.specs.declared.events.Word.{Word}
+use Rattle.lock_world.specs.declared.events.Word.TheVariants.{Partition, Fast, Database, Slot, Wait, Strong, Sleep}
+use Rattle.lock_world.specs.World.{WordExists}
+
+-- Where each word stands in the table: its index, in words of 8 bytes. First come the partitions, then the strong lock
+-- counters, then a block for each session.
+
+-- where a session's block begins
+abbrev pub block_start : ℕ → ℕ
+block_start session = 1296 + 36 * session
+
+abbrev pub index_of_word : Word → ℕ
+index_of_word (Partition p) = 16 * p
+index_of_word (Strong index) = 256 + index
+index_of_word (Fast session) = block_start session
+index_of_word (Database session) = block_start session + 1
+index_of_word (Slot session place) = block_start session + 2 + place
+index_of_word (Wait session) = block_start session + 18
+index_of_word (Sleep session) = block_start session + 19
+
+-- The table has the words of 64 sessions.
+abbrev pub SessionHasWords : Word → Type 0
+SessionHasWords (Partition p) = Unit {0}
+SessionHasWords (Strong index) = Unit {0}
+SessionHasWords (Fast session) = session < 64
+SessionHasWords (Database session) = session < 64
+SessionHasWords (Slot session place) = session < 64
+SessionHasWords (Wait session) = session < 64
+SessionHasWords (Sleep session) = session < 64
+
+-- The table has this word.
+abbrev pub IsInTable : Word → Type 0
+IsInTable word = WordExists word × SessionHasWords word
+
+-- Words of one group may share a cache line: each partition's word is a group, all counters together are one, and a
+-- session's words are one.
+abbrev pub group_of : Word → ℕ
+group_of (Partition p) = p
+group_of (Strong index) = 16
+group_of (Fast session) = 17 + session
+group_of (Database session) = 17 + session
+group_of (Slot session place) = 17 + session
+group_of (Wait session) = 17 + session
+group_of (Sleep session) = 17 + session
+
+-- The two indexes are 16 words apart at least, which is 128 bytes.
+abbrev pub IsApart : ℕ → ℕ → Type 0
+IsApart index other = (index + 16 ≤ other) ⊎ (other + 16 ≤ index)
+
+-- in which slot of the table's contents a partition's content lies
+abbrev pub content_slot_of : ℕ → ℕ
+content_slot_of partition = 8 * partition

@@ -1,0 +1,24 @@
+//! Laws of the layout, each a clause over all words. The bodies are empty.
+
+ghost use Rattle.std.specs.Prelude.{◌≡◌, ◌≢◌, ◌<◌};
+ghost use Rattle.lock_world.specs.declared.events.Word.{Word};
+ghost use Rattle.shared_rule.specs.Layout.{index_of_word, IsInTable, IsApart, group_of};
+ghost use Rattle.shared_rule.specs.declared.layout.TheConstants.{TABLE_WORDS};
+
+/// Each word of the table stands below the table's length.
+pub fn each_word_is_within_the_table()
+    ensures { (word : Word) → IsInTable word → index_of_word word < TABLE_WORDS }
+{}
+
+/// Two words with one index are one word.
+pub fn no_two_words_share_an_index()
+    ensures { (word other : Word) → IsInTable word → IsInTable other →
+        index_of_word word ≡ index_of_word other → word ≡ other }
+{}
+
+/// Words of two partitions stand 128 bytes apart at least, so do words of two sessions, and so do words of a
+/// partition, of the counters and of a session from each other.
+pub fn words_of_two_groups_stand_apart()
+    ensures { (word other : Word) → IsInTable word → IsInTable other →
+        group_of word ≢ group_of other → IsApart (index_of_word word) (index_of_word other) }
+{}

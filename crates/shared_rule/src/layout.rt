@@ -1,0 +1,121 @@
+//! Where each word of the shared table stands, and each partition's content. A word has 8 bytes; all indexes
+//! count words. The layout is the same whatever the configuration: 16 partitions, 1,024 strong lock counters,
+//! 64 sessions with 16 fast-path slots.
+//!
+//! A processor that writes a word takes the word's cache line from all others, 64 bytes or 128. So words that
+//! different sessions write at the same time stand 128 bytes apart (`PG_CACHE_LINE_SIZE` in
+//! pg_config_manual.h), and then share no line wherever the table begins. Only the counters are packed.
+
+ghost use Rattle.std.specs.Prelude.{◌≡◌, ◌<◌, ◌≤◌, ◌+◌};
+ghost use Rattle.lock_world.specs.declared.events.Word.TheVariants.{Partition, Fast, Database, Slot, Wait, Strong, Sleep};
+ghost use Rattle.shared_rule.specs.Layout.{index_of_word, block_start, content_slot_of};
+
+use modes_core::SessionId;
+use modes_core::sessions::SESSIONS;
+use modes_core::tags::{PARTITIONS, STRONG_COUNTERS};
+
+/// 128 bytes, in words.
+const GAP: usize = 16;
+
+/// The counters come after the 16 partition words, each with its gap.
+const COUNTERS_START: usize = PARTITIONS as usize * GAP;
+
+/// The sessions come after the 1,024 counters, with a gap: all sessions write the counters.
+const SESSIONS_START: usize = COUNTERS_START + STRONG_COUNTERS as usize + GAP;
+
+/// A session's 20 words, and a gap to the next session's. The words that others write come last, next to the
+/// gap: a grant or a wakeup then does not slow down the neighbour.
+const BLOCK: usize = 20 + GAP;
+
+/// How many words the table has.
+pub const TABLE_WORDS: usize = SESSIONS_START + BLOCK * SESSIONS as usize;
+
+/// How far apart the contents of two partitions lie, in slots: with a content behind one pointer a slot has
+/// 16 bytes, so that is 128 bytes.
+const CONTENT_GAP: usize = 8;
+
+/// How many slots the table has for contents.
+pub const CONTENT_SLOTS: usize = PARTITIONS as usize * CONTENT_GAP;
+
+/// The index of a partition's lightweight lock. Each is on a line of its own, as `LWLockPadded` in lwlock.h has
+/// it: sessions that work on different partitions don't wait for each other.
+pub fn partition_word(partition: u8) -> usize
+    requires exists { partition < 16 }
+    ensures index { result ≡ index_of_word (Partition partition) }
+    ensures within { result < TABLE_WORDS }
+{
+    GAP * partition as usize
+}
+
+/// The index of a strong lock counter. The counters are packed, as in `FastPathStrongRelationLockData` in lock.c:
+/// they are seldom written, and each request that takes the fast path reads one.
+pub fn strong_word(index: u16) -> usize
+    requires exists { index < 1024 }
+    ensures index { result ≡ index_of_word (Strong index) }
+    ensures within { result < TABLE_WORDS }
+{
+    COUNTERS_START + index as usize
+}
+
+/// The index of the lightweight lock of a session's fast-path slots (`fpInfoLock` in proc.h), the first word of
+/// the session's block. Mostly the session alone takes it, for each lock that goes by the fast path, so no
+/// other session's words are near. In PostgreSQL a `PGPROC` is many lines long, which keeps them apart.
+pub fn fast_word(session: SessionId) -> usize
+    ensures index { result ≡ index_of_word (Fast session) }
+    ensures within { result < TABLE_WORDS }
+{
+    block(session)
+}
+
+/// The index of the word with a session's database (`databaseId` in proc.h), beside the lightweight lock.
+pub fn database_word(session: SessionId) -> usize
+    ensures index { result ≡ index_of_word (Database session) }
+    ensures within { result < TABLE_WORDS }
+{
+    block(session) + 1
+}
+
+/// The index of a fast-path slot of a session (`fpRelId` in proc.h). The 16 slots come after the database: who
+/// has the lightweight lock reads all of them.
+pub fn slot_word(session: SessionId, slot: u8) -> usize
+    requires exists { slot < 16 }
+    ensures index { result ≡ index_of_word (Slot session slot) }
+    ensures within { result < TABLE_WORDS }
+{
+    block(session) + 2 + slot as usize
+}
+
+/// The index of a session's wait word (`waitStatus` in proc.h). Others write it while the session waits, or to
+/// cancel its wait, and the session does not use its slots meanwhile: they may share a line.
+pub fn wait_word(session: SessionId) -> usize
+    ensures index { result ≡ index_of_word (Wait session) }
+    ensures within { result < TABLE_WORDS }
+{
+    block(session) + 18
+}
+
+/// The index of a session's sleep word (`lwWaiting` in proc.h), beside the wait word for the same reason.
+pub fn sleep_word(session: SessionId) -> usize
+    ensures index { result ≡ index_of_word (Sleep session) }
+    ensures within { result < TABLE_WORDS }
+{
+    block(session) + 19
+}
+
+/// The slot of the table in which a partition's content lies while nobody has it in hand. Two partitions'
+/// contents lie on different lines, as their words do; the slots between stay unused.
+pub fn content_slot(partition: u8) -> usize
+    requires exists { partition < 16 }
+    ensures slot { result ≡ content_slot_of partition }
+    ensures within { result < CONTENT_SLOTS }
+{
+    CONTENT_GAP * partition as usize
+}
+
+// Where a session's block begins.
+fn block(session: SessionId) -> usize
+    ensures start { result ≡ block_start session }
+    ensures within { result + BLOCK ≤ TABLE_WORDS }
+{
+    SESSIONS_START + BLOCK * session.number() as usize
+}
