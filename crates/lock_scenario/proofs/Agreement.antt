@@ -24,7 +24,7 @@ use Rattle.lock_table.proofs.HoldLemmas.{SetHoldAt, IsTheHold, here, elsewhere, 
 use Rattle.lock_table.proofs.QueueLaws.{woken-split}
 use Rattle.lock_scenario.specs.declared.sessions.DeskWait.{DeskWait}
 use Rattle.lock_scenario.specs.Sessions.{as_granted, marked, has_grant, is_awaiting}
-use Rattle.lock_scenario.specs.Waiting.{is_wait_of, AgreesOn, Agrees}
+use Rattle.lock_scenario.specs.Waiting.{is_wait_of, AgreesWithDesk, Agrees}
 
 -- ---- counts
 
@@ -196,9 +196,9 @@ told own t queue granted left s split counts m =
 -- ---- the object of a change
 
 -- After a wakeup the object's content and the sessions told of it agree.
-pub AgreesOn-wakes : (before after : Content) (t : Tag) (granted : List Wait) (entries : ℕ → List Entry) (waits : ℕ → Option DeskWait) →
-    AgreesOn before t entries waits → Wakes before t granted after → AgreesOn after t entries (marked granted waits)
-AgreesOn-wakes before after t granted entries waits agrees wakes =
+pub AgreesWithDesk-wakes : (before after : Content) (t : Tag) (granted : List Wait) (entries : ℕ → List Entry) (waits : ℕ → Option DeskWait) →
+    AgreesWithDesk before t entries waits → Wakes before t granted after → AgreesWithDesk after t entries (marked granted waits)
+AgreesWithDesk-wakes before after t granted entries waits agrees wakes =
     let split = woken-split before t granted after wakes in
     record {
       held = λ s m.
@@ -212,11 +212,11 @@ AgreesOn-wakes before after t granted entries waits agrees wakes =
       regroup false b c = refl
 
 -- One hold set or gone, together with the session's entry.
-pub AgreesOn-set : (before after : Content) (t : Tag) (entries : ℕ → List Entry) (waits : ℕ → Option DeskWait) (s : ℕ) (m : Mode) (there : Bool) (es : List Entry) →
-    AgreesOn before t entries waits → after.holds ≡ set_hold before.holds s t m there → after.waits ≡ before.waits →
+pub AgreesWithDesk-set : (before after : Content) (t : Tag) (entries : ℕ → List Entry) (waits : ℕ → Option DeskWait) (s : ℕ) (m : Mode) (there : Bool) (es : List Entry) →
+    AgreesWithDesk before t entries waits → after.holds ≡ set_hold before.holds s t m there → after.waits ≡ before.waits →
     ((n : Mode) → has_entry es t n ≡ (if mode_eq n m then there else has_entry (entries s) t n)) → has_grant (waits s) t m ≡ false →
-    AgreesOn after t (set_at entries s es) waits
-AgreesOn-set before after t entries waits s m there es agrees holds queues keys not_pending =
+    AgreesWithDesk after t (set_at entries s es) waits
+AgreesWithDesk-set before after t entries waits s m there es agrees holds queues keys not_pending =
     record {
       held = λ k n. ap (λ (all : Holds). all k t n) holds ∙ at k n (set_hold-at before.holds s t m there k t n);
       awaited = λ k n. ap (λ (all : Tag → List Wait). count_by (is_wait_of k n) (all t)) queues ∙ agrees.awaited k n;
@@ -271,7 +271,7 @@ pub record SameElsewhere (entries entries_after : ℕ → List Entry) (waits wai
 -- Where they agree after a change of one object on that object, they agree on all.
 pub Agrees-change : (contents : ℕ → Content) (entries entries_after : ℕ → List Entry) (waits waits_after : ℕ → Option DeskWait) (p : ℕ) (t : Tag) (after : Content) →
     Agrees contents entries waits → p ≡ partition_of t → ChangesOnly (contents p) after t → SameElsewhere entries entries_after waits waits_after t →
-    AgreesOn after t entries_after waits_after → Agrees (set_at contents p after) entries_after waits_after
+    AgreesWithDesk after t entries_after waits_after → Agrees (set_at contents p after) entries_after waits_after
 Agrees-change contents entries entries_after waits waits_after p t after agrees partition only same on_it =
     record {
       own_holds = λ q s o m. elim (cases_eq q p) [
@@ -297,19 +297,19 @@ Agrees-change contents entries entries_after waits waits_after p t after agrees 
           ]
 
       elsewhere_agrees : (o : Tag) → tag_eq o t ≡ false → (now : Content) → ((s : ℕ) (m : Mode) → now.holds s o m ≡ (contents (partition_of o)).holds s o m) → now.waits o ≡ (contents (partition_of o)).waits o →
-          AgreesOn now o entries_after waits_after
+          AgreesWithDesk now o entries_after waits_after
       elsewhere_agrees o other now holds queue = record {
         held = λ s m. holds s m ∙ (agrees.on_object o).held s m ∙ sym (same.held s o m other);
         awaited = λ s m. ap (count_by (is_wait_of s m)) queue ∙ (agrees.on_object o).awaited s m ∙ ap (λ b. if b then 1 else 0) (sym (same.awaited s o m other));
       }
 
-      on_object : (o : Tag) → AgreesOn (set_at contents p after (partition_of o)) o entries_after waits_after
+      on_object : (o : Tag) → AgreesWithDesk (set_at contents p after (partition_of o)) o entries_after waits_after
       on_object o =
           elim (cases_Bool (tag_eq o t)) [
             | inl alike ↦
                 let is : o ≡ t = tag_eq-same o t alike in
-                subst (λ (x : Tag). AgreesOn (set_at contents p after (partition_of x)) x entries_after waits_after) (sym is)
-                (subst (λ (c : Content). AgreesOn c t entries_after waits_after) (sym (set_at-here contents p after (partition_of t) (sym partition))) on_it)
+                subst (λ (x : Tag). AgreesWithDesk (set_at contents p after (partition_of x)) x entries_after waits_after) (sym is)
+                (subst (λ (c : Content). AgreesWithDesk c t entries_after waits_after) (sym (set_at-here contents p after (partition_of t) (sym partition))) on_it)
             | inr other ↦
                 elsewhere_agrees o other (set_at contents p after (partition_of o)) (λ s m. hold_at o other s m (cases_eq (partition_of o) p)) (queue_at o other (cases_eq (partition_of o) p))
           ] where
@@ -360,7 +360,7 @@ told_elsewhere (Some own) t o n m other e =
       and-false false = refl
 
 pub marked_elsewhere : (before after : Content) (t : Tag) (granted : List Wait) (entries : ℕ → List Entry) (waits : ℕ → Option DeskWait) →
-    AgreesOn before t entries waits → Wakes before t granted after → (s : ℕ) (o : Tag) (m : Mode) → tag_eq o t ≡ false → SameOn (waits s) (marked granted waits s) o m
+    AgreesWithDesk before t entries waits → Wakes before t granted after → (s : ℕ) (o : Tag) (m : Mode) → tag_eq o t ≡ false → SameOn (waits s) (marked granted waits s) o m
 marked_elsewhere before after t granted entries waits agrees wakes s o m other =
     elim (cases_Bool (waits_there granted s)) [
       | inl some ↦
@@ -375,7 +375,7 @@ marked-none waits granted none = ap (λ (some : List Wait). marked some waits) n
 -- A wakeup after a change of the object that keeps them in agreement on it.
 pub Agrees-wakes : (contents : ℕ → Content) (entries entries_after : ℕ → List Entry) (waits waits_between : ℕ → Option DeskWait) (p : ℕ) (t : Tag) (between after : Content) (granted : List Wait) →
     Agrees contents entries waits → p ≡ partition_of t → ChangesOnly (contents p) between t → SameElsewhere entries entries_after waits waits_between t →
-    AgreesOn between t entries_after waits_between → Wakes between t granted after →
+    AgreesWithDesk between t entries_after waits_between → Wakes between t granted after →
     Agrees (set_at contents p after) entries_after (marked granted waits_between)
 Agrees-wakes contents entries entries_after waits waits_between p t between after granted agrees partition only same on_it wakes =
     Agrees-change contents entries entries_after waits (marked granted waits_between) p t after agrees partition
@@ -384,7 +384,7 @@ Agrees-wakes contents entries entries_after waits waits_between p t between afte
       held = λ s o m other. ap (λ b. has_entry (entries_after s) o m || b) (marked_elsewhere between after t granted entries_after waits_between on_it wakes s o m other).pending ∙ same.held s o m other;
       awaited = λ s o m other. (marked_elsewhere between after t granted entries_after waits_between on_it wakes s o m other).awaiting ∙ same.awaited s o m other;
     })
-    (AgreesOn-wakes between after t granted entries_after waits_between on_it wakes)
+    (AgreesWithDesk-wakes between after t granted entries_after waits_between on_it wakes)
 
 -- Entries that differ at this object and mode alone.
 pub record GoneAt (entries after : List Entry) (t : Tag) (m : Mode) (there : Bool) : Type 0 where
@@ -422,7 +422,7 @@ Agrees-set contents entries waits p s t m there es after agrees partition holds 
     Agrees-change contents entries (set_at entries s es) waits waits p t after agrees partition
     (ChangesOnly-set (contents p) after s t m there holds queues)
     (SameElsewhere-set entries waits s es t m there gone)
-    (AgreesOn-set (contents p) after t entries waits s m there es (subst (λ q. AgreesOn (contents q) t entries waits) (sym partition) (agrees.on_object t)) holds queues (keys_on (entries s) es t m there gone) not_pending)
+    (AgreesWithDesk-set (contents p) after t entries waits s m there es (subst (λ q. AgreesWithDesk (contents q) t entries waits) (sym partition) (agrees.on_object t)) holds queues (keys_on (entries s) es t m there gone) not_pending)
 
 either : (b : Bool) (P Q : Type 0) → MatchBool b P Q → P ⊎ Q
 either true P Q is = inl is
@@ -440,7 +440,7 @@ Agrees-released contents entries waits p s t m es granted after agrees partition
           Agrees-wakes contents entries (set_at entries s es) waits waits p t (remove_hold (contents p) s t m) after granted agrees partition
           (ChangesOnly-set (contents p) (remove_hold (contents p) s t m) s t m false refl refl)
           (SameElsewhere-set entries waits s es t m false gone)
-          (AgreesOn-set (contents p) (remove_hold (contents p) s t m) t entries waits s m false es (subst (λ q. AgreesOn (contents q) t entries waits) (sym partition) (agrees.on_object t)) refl refl (keys_on (entries s) es t m false gone) not_pending)
+          (AgreesWithDesk-set (contents p) (remove_hold (contents p) s t m) t entries waits s m false es (subst (λ q. AgreesWithDesk (contents q) t entries waits) (sym partition) (agrees.on_object t)) refl refl (keys_on (entries s) es t m false gone) not_pending)
           wakes
       at (inr none) =
           subst (λ (c : Content). Agrees (set_at contents p c) (set_at entries s es) (marked granted waits)) (sym none.1)

@@ -15,7 +15,7 @@ use Rattle.lock_table.specs.Queue.{Wakes, joined, joining_wait, add_wait, queue_
 use Rattle.lock_table.proofs.PutLemmas.{put_here, put_else, set_at-here, set_at-else}
 use Rattle.lock_scenario.specs.declared.sessions.DeskWait.{DeskWait}
 use Rattle.lock_scenario.specs.Sessions.{marked, has_grant, is_awaiting}
-use Rattle.lock_scenario.specs.Waiting.{is_wait_of, AgreesOn, Agrees}
+use Rattle.lock_scenario.specs.Waiting.{is_wait_of, AgreesWithDesk, Agrees}
 use Rattle.lock_scenario.proofs.Agreement.{count-cons, Agrees-change, Agrees-wakes, Agrees-same}
 use Rattle.local_locks.proofs.EntryLaws.{same_key, has_entry-with_one_more}
 
@@ -76,8 +76,8 @@ Agrees-join contents entries waits p s t m place own agrees partition none new =
           count-joined (is_wait_of k n) place (joining_wait (contents p) s t m) ((contents p).waits t) ∙
           sum k n (cases_eq k s);
     }) where
-      on_it : AgreesOn (contents p) t entries waits
-      on_it = subst (λ q. AgreesOn (contents q) t entries waits) (sym partition) (agrees.on_object t)
+      on_it : AgreesWithDesk (contents p) t entries waits
+      on_it = subst (λ q. AgreesWithDesk (contents q) t entries waits) (sym partition) (agrees.on_object t)
 
       pending : (k : ℕ) (o : Tag) (n : Mode) → has_grant (set_at waits s (Some own) k) o n ≡ has_grant (waits k) o n
       pending k o n =
@@ -202,8 +202,8 @@ Agrees-leave contents entries waits p s t own granted after agrees partition is 
           count-without ((contents p).waits t) s k n ∙ left k n (cases_eq k s);
     })
     wakes where
-      on_it : AgreesOn (contents p) t entries waits
-      on_it = subst (λ q. AgreesOn (contents q) t entries waits) (sym partition) (agrees.on_object t)
+      on_it : AgreesWithDesk (contents p) t entries waits
+      on_it = subst (λ q. AgreesWithDesk (contents q) t entries waits) (sym partition) (agrees.on_object t)
 
       pending : (k : ℕ) (o : Tag) (n : Mode) → has_grant (set_at waits s None k) o n ≡ has_grant (waits k) o n
       pending k o n =

@@ -18,7 +18,7 @@ use Rattle.lock_scenario.specs.declared.acquire.Started.{Started}
 use Rattle.lock_scenario.specs.declared.acquire.Started.TheVariants.{Granted, AlreadyHeld, Queued}
 use Rattle.lock_scenario.specs.declared.desk.Cancelled.{Cancelled}
 use Rattle.lock_scenario.specs.declared.desk.Cancelled.TheVariants.{Removed, WasGranted}
-use Rattle.lock_scenario.specs.Desk.{after_asking}
+use Rattle.lock_scenario.specs.Desk.{when_asked}
 use Rattle.lock_scenario.specs.Scene.{Tells}
 use Rattle.lock_scenario.specs.Started.{is_queued, wait_started}
 use Rattle.lock_scenario.specs.Sessions.{as_granted, marked}
@@ -86,17 +86,17 @@ Tells-cancelled waits waits' before after session (Some wait) WasGranted told e 
 
 -- A session that is asked to cancel waits still.
 pub Tells-asked :
-    (waits : ℕ → Bool) (recorded recorded' : ℕ → Option DeskWait) (session : ℕ) → Tells waits recorded → recorded' ≡ set_at recorded session (after_asking (recorded session)) → Tells waits recorded'
+    (waits : ℕ → Bool) (recorded recorded' : ℕ → Option DeskWait) (session : ℕ) → Tells waits recorded → recorded' ≡ set_at recorded session (when_asked (recorded session)) → Tells waits recorded'
 Tells-asked waits recorded recorded' session told e j = told j ∙ sym (ap (λ (r : ℕ → Option DeskWait). is_some (r j)) e ∙ same) where
-  asked : (wait : Option DeskWait) → is_some (after_asking wait) ≡ is_some wait
+  asked : (wait : Option DeskWait) → is_some (when_asked wait) ≡ is_some wait
   asked None = refl
   asked (Some wait) = refl
 
-  same : is_some (set_at recorded session (after_asking (recorded session)) j) ≡ is_some (recorded j)
+  same : is_some (set_at recorded session (when_asked (recorded session)) j) ≡ is_some (recorded j)
   same =
       elim (cases_eq j session) [
-        | inl here ↦ ap (λ (w : Option DeskWait). is_some w) (set_at-here recorded session (after_asking (recorded session)) j here) ∙ asked (recorded session) ∙ ap (λ (k : ℕ). is_some (recorded k)) (sym here)
-        | inr there ↦ ap (λ (w : Option DeskWait). is_some w) (set_at-else recorded session (after_asking (recorded session)) j there)
+        | inl here ↦ ap (λ (w : Option DeskWait). is_some w) (set_at-here recorded session (when_asked (recorded session)) j here) ∙ asked (recorded session) ∙ ap (λ (k : ℕ). is_some (recorded k)) (sym here)
+        | inr there ↦ ap (λ (w : Option DeskWait). is_some w) (set_at-else recorded session (when_asked (recorded session)) j there)
       ]
 
 -- whether one waits whose request was answered

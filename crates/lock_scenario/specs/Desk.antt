@@ -61,9 +61,9 @@ asked_as None = NotWaiting
 asked_as (Some wait) = if wait.is_granted then NotWaiting else Waiting
 
 -- its wait after it was asked
-abbrev pub after_asking : Option DeskWait → Option DeskWait
-after_asking None = None
-after_asking (Some wait) = Some (if wait.is_granted then wait else as_asked wait)
+abbrev pub when_asked : Option DeskWait → Option DeskWait
+when_asked None = None
+when_asked (Some wait) = Some (if wait.is_granted then wait else as_asked wait)
 
 -- what becomes of a wait that is cancelled
 abbrev pub cancelled_as : DeskWait → Cancelled

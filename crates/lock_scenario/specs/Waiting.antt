@@ -23,7 +23,7 @@ is_wait_of session mode wait = (wait.session == session) && mode_eq wait.mode mo
 
 -- On one object the content and the sessions agree: a session holds what it has entries for or was granted and has not
 -- taken over yet, and the queue has just the recorded waits that are not granted, each once.
-pub record AgreesOn (content : Content) (tag : Tag)
+pub record AgreesWithDesk (content : Content) (tag : Tag)
     (entries : ℕ → List Entry) (waits : ℕ → Option DeskWait) : Type 0 where
   pub held : (session : ℕ) (mode : Mode) → content.holds session tag mode ≡
       (has_entry (entries session) tag mode || has_grant (waits session) tag mode)
@@ -36,7 +36,7 @@ pub record Agrees (contents : ℕ → Content) (entries : ℕ → List Entry) (w
   pub own_holds : (p session : ℕ) (tag : Tag) (mode : Mode) →
       (contents p).holds session tag mode ≡ true → partition_of tag ≡ p
   pub own_waits : (p : ℕ) (tag : Tag) → partition_of tag ≢ p → (contents p).waits tag ≡ []
-  pub on_object : (tag : Tag) → AgreesOn (contents (partition_of tag)) tag entries waits
+  pub on_object : (tag : Tag) → AgreesWithDesk (contents (partition_of tag)) tag entries waits
 
 -- What the sessions share: the content of each partition, and whose wait was granted.
 pub record Shared : Type 0 where

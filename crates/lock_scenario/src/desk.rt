@@ -101,7 +101,7 @@ impl Model for Desk {
 }
 
 impl Desk {
-    ghost use Rattle.lock_scenario.specs.Desk.{issued_of, databases_of, entries_of, wait_of, contents_of, shared_of, polled_as, cancelled_as, asked_as, after_asking, is_in_range, part_and_entries, IsNew, IsUnchanged, LeavesAlone, LeavesOthers};
+    ghost use Rattle.lock_scenario.specs.Desk.{issued_of, databases_of, entries_of, wait_of, contents_of, shared_of, polled_as, cancelled_as, asked_as, when_asked, is_in_range, part_and_entries, IsNew, IsUnchanged, LeavesAlone, LeavesOthers};
 
     /// Takes a mode on an object for an owner, or refuses at once where it clashes (`LockAcquire` in
     /// lock.c with `dontWait`). After a refusal nothing has changed.
@@ -279,7 +279,7 @@ impl Desk {
         requires not_waiting { wait_of self.old _session ≡ None }
 
         ensures answer { result ≡ asked_as (wait_of self.old other) }
-        ensures waits { wait_of self.new ≡ set_at (wait_of self.old) other (after_asking (wait_of self.old other)) }
+        ensures waits { wait_of self.new ≡ set_at (wait_of self.old) other (when_asked (wait_of self.old other)) }
         ensures entries { entries_of self.new ≡ entries_of self.old }
         ensures contents { contents_of self.new ≡ contents_of self.old }
         ensures alone { LeavesAlone self.old self.new }
