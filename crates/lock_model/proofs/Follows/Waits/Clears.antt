@@ -188,6 +188,7 @@ module _ (m : Machine) (w : World) (safe : SafeWorld w) (shows : Shows m w) wher
               unrecorded = recorded_from w s p shown has ∙ unmoved;
               object = refl;
               own = tt;
+              counted = tt;
               moved = (
                 ap (λ (c : Content). waits_there (c.waits wait.tag) s) (sym same) ∙ stands,
                 subst (λ (c : Content). Wakes (remove_wait c s wait.tag) wait.tag granted (content_of part)) same woken,
