@@ -52,7 +52,7 @@ pub returns-in-StoreDatabase : goal.returns-in-StoreDatabase
 returns-in-StoreDatabase c = rw c.in-StoreDatabase.is c.store_database.ensures
 
 pub returns-in-Count : goal.returns-in-Count
-returns-in-Count c = rw c.in-Count.is c.count.ensures
+returns-in-Count c = rw c.in-Count.is c.count.ensures.followed
 
 pub returns-in-Uncount : goal.returns-in-Uncount
 returns-in-Uncount c = rw c.in-Uncount.is c.uncount.ensures
