@@ -34,6 +34,10 @@ counter machine index = count_by (λ c. index_of c.tag == index) machine.counted
 abbrev pub holds_fast : Machine → ℕ → ℕ → Bool
 holds_fast machine session owner = slice_index_or (slice_index_or machine.locks.fast_holders owner []) session false
 
+-- whether the session may be granted the mode on the object, or await it: a strong one must be counted, and past each session
+abbrev pub counted_for : Machine → ℕ → Tag → Mode → Bool
+counted_for machine session tag mode = not (is_strong_on tag mode) || list_any (is_by_at session 64 tag mode) machine.counted.items
+
 -- whether the session may count the mode on the object
 abbrev pub may_count : Machine → ℕ → Tag → Mode → Bool
 may_count machine session tag mode =

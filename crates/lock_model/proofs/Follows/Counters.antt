@@ -35,7 +35,7 @@ use Rattle.lock_model.specs.declared.machine.state.FastPath.{FastPath}
 use Rattle.lock_model.specs.declared.machine.state.Machine.{Machine}
 use Rattle.lock_model.specs.Shows.{Shows, ShowsWords, ShowsFastPath, ShowsCounted, counted_from, counted_of, makes_steps, awaits}
 use Rattle.lock_model.specs.SlotLooks.{slots_hold}
-use Rattle.lock_model.specs.CountedLists.{is_by, is_by_at, passed_by, counter, holds_fast, may_count, has_or_awaits, may_uncount, slots_show, may_pass, may_load_counter, reads_zero}
+use Rattle.lock_model.specs.CountedLists.{is_by, is_by_at, passed_by, counter, counted_for, holds_fast, may_count, has_or_awaits, may_uncount, slots_show, may_pass, may_load_counter, reads_zero}
 use Rattle.lock_model.proofs.CountedLists.{any-of_session, length-of_session, counted_of-push, counted_of-push_else, counted_of-without, counted_of-without_else, counted_of-map, total-of_sessions}
 use Rattle.lock_model.proofs.Shows.Changes.{fast_word-set}
 use Rattle.lock_model.proofs.Shows.Locks.{marks-set}
@@ -377,7 +377,7 @@ module _ (m : Machine) (w : World) (safe : SafeWorld w) (shows : Shows m w) wher
       ]
 
   -- A strong mode that is granted or queued is counted, and past each session.
-  pub counted_for_from : (s : ℕ) (t : Tag) (n : Mode) → (not (is_strong_on t n) || list_any (is_by_at s 64 t n) m.counted.items) ≡ true
+  pub counted_for_from : (s : ℕ) (t : Tag) (n : Mode) → counted_for m s t n ≡ true
       → is_strong_on t n ≡ true → is_done w.numbers.limit (w.sessions.counted s) t n ≡ true
   counted_for_from s t n for strong =
       ap (λ limit. is_at limit (w.sessions.counted s) t n) shows.numbers.limit
@@ -385,7 +385,7 @@ module _ (m : Machine) (w : World) (safe : SafeWorld w) (shows : Shows m w) wher
       ∙ sym (ap (λ b. not b || list_any (is_by_at s 64 t n) m.counted.items) strong) ∙ for
 
   pub counted_for_needs : (s : ℕ) (t : Tag) (n : Mode) → (is_strong_on t n ≡ true → is_done w.numbers.limit (w.sessions.counted s) t n ≡ true)
-      → (not (is_strong_on t n) || list_any (is_by_at s 64 t n) m.counted.items) ≡ true
+      → counted_for m s t n ≡ true
   counted_for_needs s t n done =
       elim (cases_Bool (is_strong_on t n)) [
         | inl strong ↦

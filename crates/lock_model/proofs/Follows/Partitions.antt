@@ -22,7 +22,10 @@ use Rattle.lock_world.specs.World.{World}
 use Rattle.lock_world.specs.Happens.{Lawful, Next}
 use Rattle.lock_world.specs.Happens.Partitions.{after_taking_partition, IsMadeByPutting, MayPutPartition, after_putting_partition, WaitIsOver, MayPutRecorded, after_putting_recorded}
 use Rattle.lock_world.specs.SafeWorld.{SafeWorld}
+use Rattle.lock_world.specs.Counted.{IsCountedFor}
 use Rattle.lock_model.specs.SlotLooks.{may_ask}
+use Rattle.lock_model.specs.CountedLists.{counted_for}
+use Rattle.lock_model.proofs.Follows.Counters.{counted_for_from, counted_for_needs}
 use Rattle.lock_model.specs.Shows.{Shows, is_unmarked_in, none_unmarked, makes_steps, hand_of, awaits, awaited_of, HasUnmoved, is_over, CannotMake}
 use Rattle.lock_model.proofs.Shows.Hands.{none_unmarked-each, each-none_unmarked}
 use Rattle.lock_model.proofs.Shows.Changes.{partition_word-set, hand-set, IsChangedAt, changed_nowhere, parts-changed}
@@ -154,10 +157,10 @@ module _ (m : Machine) (w : World) (safe : SafeWorld w) (shows : Shows m w) wher
 
   -- A put with a move that is made as it is put.
   made_put : (s p : ℕ) (done : Move) (content : Content) (changed : Contents) → HasUnmoved m s p → IsMadeByPutting done → IsInPartition p done → FitsOwn w.sessions.own (w.sessions.awaited s) s done
-      → Moves (contents_in m.contents.parts.items p) s done [] content → p < length m.words.partitions → IsChangedAt m.contents.parts.items changed.parts.items p content
+      → IsCountedFor w.numbers.limit (w.sessions.counted s) done → Moves (contents_in m.contents.parts.items p) s done [] content → p < length m.words.partitions → IsChangedAt m.contents.parts.items changed.parts.items p content
       → (v : World) × Next w (record { session = s; step = PutExclusive (Partition p) done }) v
       × Shows (put_by m p changed) v
-  made_put s p done content changed in_hand by_putting object own moves in_words at =
+  made_put s p done content changed in_hand by_putting object own counted moves in_words at =
       let has = hand_from m w safe shows s p in_hand.0 in_hand.1 in
       let may : MayPutPartition w s p done content = record {
         may_move = record {
@@ -166,6 +169,7 @@ module _ (m : Machine) (w : World) (safe : SafeWorld w) (shows : Shows m w) wher
           unrecorded = recorded_from w s p in_hand.0 has ∙ in_hand.2;
           object = object;
           own = own;
+          counted = counted;
           moved = subst (λ now. Moves now s done [] content) (shows.contents.now p has.exists) moves;
         };
         by_putting = by_putting;
@@ -179,25 +183,26 @@ module _ (m : Machine) (w : World) (safe : SafeWorld w) (shows : Shows m w) wher
       → (v : World) × Next w (record { session = s; step = PutExclusive (Partition p) Keep }) v
       × Shows (put_by m p m.contents) v
   kept s p in_hand in_words =
-      made_put s p Keep (contents_in m.contents.parts.items p) m.contents in_hand tt tt tt (refl, refl) in_words
+      made_put s p Keep (contents_in m.contents.parts.items p) m.contents in_hand tt tt tt tt (refl, refl) in_words
       (changed_nowhere m.contents.parts.items p (contents_in m.contents.parts.items p) refl (shows.contents.none_begun p))
 
   pub granted : (s p : ℕ) (t : Tag) (n : Mode) (changed : Contents) → HasUnmoved m s p → partition_of t ≡ p
-      → may_ask m s t n ≡ true
+      → may_ask m s t n ≡ true → counted_for m s t n ≡ true
       → WaitingAnswer (contents_in m.contents.parts.items p) s t n Granted → p < length m.words.partitions
       → IsChangedAt m.contents.parts.items changed.parts.items p (add_hold (contents_in m.contents.parts.items p) s t n)
       → (v : World) × Next w (record { session = s; step = PutExclusive (Partition p) (Grant t n) }) v
       × Shows (put_by m p changed) v
-  granted s p t n changed in_hand object asks answer in_words at =
-      made_put s p (Grant t n) (add_hold (contents_in m.contents.parts.items p) s t n) changed in_hand tt object (fits_from m w safe shows s t n asks) (answer, refl, refl) in_words at
+  granted s p t n changed in_hand object asks counted answer in_words at =
+      made_put s p (Grant t n) (add_hold (contents_in m.contents.parts.items p) s t n) changed in_hand tt object (fits_from m w safe shows s t n asks) (counted_for_from m w safe shows s t n counted) (answer, refl, refl) in_words at
 
   -- What a lawful grant needs.
   pub granting : (s p : ℕ) (t : Tag) (n : Mode) → HasUnmoved m s p → Lawful w (record { session = s; step = PutExclusive (Partition p) (Grant t n) })
-      → (partition_of t ≡ p) × (may_ask m s t n ≡ true) × WaitingAnswer (contents_in m.contents.parts.items p) s t n Granted
+      → (partition_of t ≡ p) × (may_ask m s t n ≡ true) × (counted_for m s t n ≡ true) × WaitingAnswer (contents_in m.contents.parts.items p) s t n Granted
   granting s p t n in_hand lawful =
       let may = (only_made s p (Grant t n) in_hand lawful).1.may_move in (
         may.object,
         from_fits m w safe shows s t n may.own.0 may.own.1,
+        counted_for_needs m w safe shows s t n may.counted,
         subst (λ now. WaitingAnswer now s t n Granted) (sym (shows.contents.now p (exists_from s p in_hand))) may.moved.0,
       )
 
@@ -209,7 +214,7 @@ module _ (m : Machine) (w : World) (safe : SafeWorld w) (shows : Shows m w) wher
       let held : (w.contents.now (partition_of t)).holds s t n ≡ true =
       sym (ap (λ c. c.holds s t n) (content_from m w safe shows t)) ∙ ap (λ q. (contents_in m.contents.parts.items q).holds s t n) object ∙ moves.0 in
       made_put s p (Release t n) content changed in_hand tt object
-      (own_in_content m w safe shows s t n held not_awaited) moves in_words at
+      (own_in_content m w safe shows s t n held not_awaited) tt moves in_words at
 
   -- What a lawful release needs.
   pub releasing : (s p : ℕ) (t : Tag) (n : Mode) → HasUnmoved m s p → Lawful w (record { session = s; step = PutExclusive (Partition p) (Release t n) })

@@ -65,13 +65,13 @@ impl Machine {
     ghost use Rattle.std.specs.Prelude.{◌≡◌, ◌==◌, ◌≤◌, ◌||◌, false, not, [], count_by, slice_set, slice_index_or, OnOk, OnErr, None, if◌then◌else◌, vec_len};
     ghost use Rattle.std.specs.List.{list_any};
     ghost use Rattle.std.specs.Vec.{vec_capacity};
-    ghost use Rattle.modes_core.specs.Tag.{is_strong_on, partition_of};
+    ghost use Rattle.modes_core.specs.Tag.{partition_of};
     ghost use Rattle.lw_word.specs.LightweightWord.{put_word};
     ghost use Rattle.lock_table.specs.Parts.{contents_in};
     ghost use Rattle.lock_world.specs.declared.events.Step.{Step};
     ghost use Rattle.lock_world.specs.World.{World};
     ghost use Rattle.lock_model.specs.Shows.{Shows, ShowsSafe, Follows};
-    ghost use Rattle.lock_model.specs.CountedLists.{counter, holds_fast, may_count, has_or_awaits, may_uncount, slots_show, may_pass, may_load_counter, reads_zero};
+    ghost use Rattle.lock_model.specs.CountedLists.{counter, counted_for, holds_fast, may_count, has_or_awaits, may_uncount, slots_show, may_pass, may_load_counter, reads_zero};
 
     /// Counts a strong lock, which is not counted yet, past nobody (`BeginStrongLockAcquire` in lock.c). After
     /// `NoMemory`, which comes only where the list was full, the machine shows what it showed.
@@ -127,8 +127,7 @@ impl Machine {
     /// Whether the session may be granted the mode on the object, or await it: a strong one must be counted, and
     /// past each session.
     pub fn is_counted_for(&self, session: SessionId, tag: Tag, mode: Mode) -> bool
-        ensures { result ≡ (not (is_strong_on tag mode)
-            || list_any (is_by_at session 64 tag mode) self.now.counted.items) }
+        ensures { result ≡ counted_for self.now session tag mode }
     {
         !is_strong(tag, mode) || self.is_counted_at(session, ALL_PASSED, tag, mode)
     }

@@ -138,6 +138,9 @@ impl Machine {
         if tag.partition() != partition || !self.may_ask(session, tag, mode) {
             return Ok(());
         }
+        if !self.is_counted_for(session, tag, mode) {
+            return Ok(());
+        }
         let index = usize::from(partition);
         let Answer::Granted = waiting_answer(&self.contents.parts[index], session, &tag, mode)
         else {

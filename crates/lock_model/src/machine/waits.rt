@@ -18,6 +18,7 @@ impl Machine {
     ghost use Rattle.lock_table.specs.Parts.{part_at, contents_in};
     ghost use Rattle.lock_world.specs.WaitWord.{wait_state};
     ghost use Rattle.lock_model.specs.SlotLooks.{slots_hold};
+    ghost use Rattle.lock_model.specs.CountedLists.{counted_for};
     ghost use Rattle.lock_model.specs.Shows.{ShowsSafe, Follows, FollowsMarking, IsWaking, IsOwnFor, CannotMake, makes_steps, hand_of};
 
     /// Asks the other session, whoever it is, to cancel: bit 2 of its wait word is set.
@@ -49,7 +50,10 @@ impl Machine {
         let Some(hand) = self.hand_of(session, partition) else {
             return Ok(());
         };
-        if hand.recorded.is_some() || !self.may_ask(session, tag, mode) {
+        if hand.recorded.is_some()
+            || !self.may_ask(session, tag, mode)
+            || !self.is_counted_for(session, tag, mode)
+        {
             return Ok(());
         }
         let part = &self.contents.parts[usize::from(partition)];
@@ -118,6 +122,7 @@ impl Machine {
         requires not_held { (contents_in self.old.contents.parts.items (partition_of tag)).holds session tag mode
             ≡ false }
         requires in_no_slot { slots_hold self.old session tag mode ≡ false }
+        requires counted { counted_for self.old session tag mode ≡ true }
         requires answer { WaitingAnswer (contents_in self.old.contents.parts.items (partition_of tag))
             session tag mode (Queued place) }
         ensures { OnOk result (Follows self.old session (Step.SetWaiting tag mode) self.new) }

@@ -188,6 +188,7 @@ module _ (m : Machine) (w : World) (safe : SafeWorld w) (shows : Shows m w) wher
               unrecorded = recorded_from w s p shown has ∙ unmoved;
               object = refl;
               own = tt;
+              counted = tt;
               moved = (
                 ap (λ (c : Content). waits_there (c.waits wait.tag) s) (sym same) ∙ stands,
                 subst (λ (c : Content). Wakes (remove_wait c s wait.tag) wait.tag granted (content_of part)) same woken,
@@ -245,3 +246,22 @@ module _ (m : Machine) (w : World) (safe : SafeWorld w) (shows : Shows m w) wher
       → ((r ≡ Leave t) → waits_there ((contents_in m.contents.parts.items (partition_of t)).waits t) s ≡ true) → (v : World) × Next w (record { session = s; step = ClearWait true }) v × Shows m v
   leave_after_move s a t shown r kept of_tag in_hand recorded stands =
       skipped m w safe shows s (ClearWait true) (λ lawful. not_leave_again s a t shown r kept of_tag in_hand recorded stands lawful.0 lawful.1)
+
+  -- Whoever has no wait in the queue has none to take out.
+  not_leave_nothing : (s : ℕ) (a : Awaited) (t : Tag) (shown : InHand) → get_or m.waits.awaited s None ≡ Some a → a.tag ≡ t → hand_of m s (partition_of t) ≡ Some shown → shown.recorded ≡ None
+      → waits_there ((contents_in m.contents.parts.items (partition_of t)).waits t) s ≡ false → (v : World) → HappensClearing w s true v → ⊥
+  not_leave_nothing s a t shown kept of_tag in_hand unmoved gone v (inl (wait, granted, content, may, after)) =
+      let tag = tag_of s a wait kept may.is_wait ∙ of_tag in
+      both_ways (waits_there ((w.contents.now (partition_of wait.tag)).waits wait.tag) s)
+      (ap (λ (c : Content). waits_there (c.waits wait.tag) s) (sym (content_from m w safe shows wait.tag))
+      ∙ ap (λ x. waits_there ((contents_in m.contents.parts.items (partition_of x)).waits x) s) tag ∙ gone) may.may_move.moved.0
+  not_leave_nothing s a t shown kept of_tag in_hand unmoved gone v (inr (wait, may, is_recorded, after)) =
+      let tag = tag_of s a wait kept may.is_wait ∙ of_tag in
+      let its = recorded_from w s (partition_of wait.tag) shown (hand_from m w safe shows s (partition_of wait.tag) shown (ap (λ x. hand_of m s (partition_of x)) tag ∙ in_hand)) in
+      let both : None ≡ Some (Leave wait.tag) = sym unmoved ∙ sym its ∙ is_recorded in
+      cc
+
+  pub leave_of_nothing : (s : ℕ) (a : Awaited) (t : Tag) (shown : InHand) → get_or m.waits.awaited s None ≡ Some a → a.tag ≡ t → hand_of m s (partition_of t) ≡ Some shown → shown.recorded ≡ None
+      → waits_there ((contents_in m.contents.parts.items (partition_of t)).waits t) s ≡ false → (v : World) × Next w (record { session = s; step = ClearWait true }) v × Shows m v
+  leave_of_nothing s a t shown kept of_tag in_hand unmoved gone =
+      skipped m w safe shows s (ClearWait true) (λ lawful. not_leave_nothing s a t shown kept of_tag in_hand unmoved gone lawful.0 lawful.1)

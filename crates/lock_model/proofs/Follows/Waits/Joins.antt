@@ -17,6 +17,8 @@ use Rattle.lock_table.specs.Parts.{contents_in}
 use Rattle.lock_table.specs.PartView.{PartView, content_of}
 use Rattle.lock_table.specs.Queue.{WaitingAnswer, add_wait}
 use Rattle.lock_world.specs.World.{World}
+use Rattle.lock_model.specs.CountedLists.{counted_for}
+use Rattle.lock_model.proofs.Follows.Counters.{counted_for_from, counted_for_needs}
 use Rattle.lock_world.specs.Happens.Partitions.{MayMove}
 use Rattle.lock_world.specs.Happens.Waits.{after_setting_waiting}
 use Rattle.lock_world.specs.Happens.{Next}
@@ -37,7 +39,7 @@ queued_not c s t m what place is not_queued answer = not_queued place (waiting_a
 
 module _ (m : Machine) (w : World) (safe : SafeWorld w) (shows : Shows m w) where
   pub was_set_waiting : (s : ℕ) (t : Tag) (n : Mode) (shown : InHand) (place : ℕ) (part : PartView) (marks : List Bool) → hand_of m s (partition_of t) ≡ Some shown → shown.recorded ≡ None
-      → is_none (get_or m.waits.awaited s None) ≡ true → (contents_in m.contents.parts.items (partition_of t)).holds s t n ≡ false → slots_hold m s t n ≡ false → WaitingAnswer (contents_in m.contents.parts.items (partition_of t)) s t n (Queued place)
+      → is_none (get_or m.waits.awaited s None) ≡ true → (contents_in m.contents.parts.items (partition_of t)).holds s t n ≡ false → slots_hold m s t n ≡ false → counted_for m s t n ≡ true → WaitingAnswer (contents_in m.contents.parts.items (partition_of t)) s t n (Queued place)
       → content_of part ≡ add_wait (contents_in m.contents.parts.items (partition_of t)) s t n place → part.begun ≡ None → ((k : ℕ) → is_unmarked_in marks k ≡ false) → s < 64
       → (v : World) × Next w (record { session = s; step = SetWaiting t n }) v
       × Shows
@@ -49,7 +51,7 @@ module _ (m : Machine) (w : World) (safe : SafeWorld w) (shows : Shows m w) wher
         };
         waits = record { awaited = set m.waits.awaited s (Some (record { tag = t; mode = n })); seen = set m.waits.seen s false };
       }) v
-  was_set_waiting s t n shown place part marks in_hand unmoved none not_held not_shown answer is begun unmarked below = (
+  was_set_waiting s t n shown place part marks in_hand unmoved none not_held not_shown counted answer is begun unmarked below = (
     after_setting_waiting w s t n content,
     inl (content, may, refl),
     record {
@@ -87,6 +89,7 @@ module _ (m : Machine) (w : World) (safe : SafeWorld w) (shows : Shows m w) wher
         no_wait_from m w safe shows s none,
         own_nowhere m w safe shows s t n (sym (ap (λ (c : Content). c.holds s t n) same) ∙ not_held) not_shown,
       );
+      counted = counted_for_from m w safe shows s t n counted;
       moved = (place, subst (λ (c : Content). WaitingAnswer c s t n (Queued place)) same answer, refl, refl);
     }
 
@@ -105,6 +108,11 @@ module _ (m : Machine) (w : World) (safe : SafeWorld w) (shows : Shows m w) wher
   join_may_not s t n shown in_hand may_not =
       skipped m w safe shows s (SetWaiting t n)
       (λ lawful. both_ways (may_ask m s t n) may_not (from_fits m w safe shows s t n lawful.1.1.own.0 lawful.1.1.own.1))
+
+  pub join_not_counted : (s : ℕ) (t : Tag) (n : Mode) → counted_for m s t n ≡ false → (v : World) × Next w (record { session = s; step = SetWaiting t n }) v × Shows m v
+  join_not_counted s t n not_counted =
+      skipped m w safe shows s (SetWaiting t n)
+      (λ lawful. both_ways (counted_for m s t n) not_counted (counted_for_needs m w safe shows s t n lawful.1.1.counted))
 
   pub join_not_answered : (s : ℕ) (t : Tag) (n : Mode) (what : Answer) → WaitingAnswer (contents_in m.contents.parts.items (partition_of t)) s t n what → ((k : ℕ) → what ≡ Queued k → ⊥)
       → (v : World) × Next w (record { session = s; step = SetWaiting t n }) v × Shows m v

@@ -18,6 +18,7 @@ use Rattle.lock_table.specs.PartView.{content_of}
 use Rattle.lock_table.specs.Queue.{waits_there}
 use Rattle.lock_world.specs.WaitWord.{wait_state, granted_word}
 use Rattle.lock_world.specs.World.{World, recorded_in, is_unmarked}
+use Rattle.lock_world.specs.Counted.{IsCountedFor}
 use Rattle.lock_world.specs.Happens.Partitions.{MayMove}
 use Rattle.lock_world.specs.Happens.Waits.{MayMark, without, after_marking_first, after_marking_next, HappensMarkingIn}
 use Rattle.lock_world.specs.SafeWorld.{SafeWorld}
@@ -129,6 +130,14 @@ module _ (m : Machine) (w : World) (safe : SafeWorld w) (shows : Shows m w) wher
   moves_there : (s p : ℕ) (done : Move) (granted : List Wait) (after : Content) → p < 16 → Moves (contents_in m.contents.parts.items p) s done granted after → Moves (w.contents.now p) s done granted after
   moves_there s p done granted after below moves = subst (λ (c : Content). Moves c s done granted after) (shows.contents.now p below) moves
 
+  -- A release and a leave ask nothing of the counts.
+  waking_uncounted : (s : ℕ) (done : Move) → IsWaking done → IsCountedFor w.numbers.limit (w.sessions.counted s) done
+  waking_uncounted s Keep wakes = tt
+  waking_uncounted s (Grant t n) wakes = absurd wakes
+  waking_uncounted s (Join t n) wakes = absurd wakes
+  waking_uncounted s (Release t n) wakes = tt
+  waking_uncounted s (Leave t) wakes = tt
+
   fits_own : (s p : ℕ) (done : Move) (granted : List Wait) (after : Content) → IsInPartition p done → IsWaking done → IsOwnFor (get_or m.waits.awaited s None) done → Moves (w.contents.now p) s done granted after
       → FitsOwn w.sessions.own (w.sessions.awaited s) s done
   fits_own s p Keep granted after object wakes own moves = absurd wakes
@@ -175,6 +184,7 @@ module _ (m : Machine) (w : World) (safe : SafeWorld w) (shows : Shows m w) wher
       unrecorded = recorded_from w s p hand has ∙ unmoved;
       object = object;
       own = fits_own s p done moved.granted (content_of after.part) object wakes own moves;
+      counted = waking_uncounted s done wakes;
       moved = moves;
     }
 

@@ -52,6 +52,6 @@ returns c = λ w safe shows.
     let part = part_read now.contents.parts.items c.from.result (partition_of c.args.tag) c.index_mut-part.result.now place within c.index_mut-part.ensures.value in
     let below_64 : c.args.session < 64 = omega arith in
     rw (c.begin_wait.ensures, c.record.ensures, place, c.partition-partition.ensures.value)
-    (was_set_waiting now w safe shows c.args.session c.args.tag c.args.mode c.args.hand c.args.place c.join.new.self _ c.requires.in_hand c.requires.unmoved c.requires.no_wait c.requires.not_held c.requires.in_no_slot c.requires.answer
+    (was_set_waiting now w safe shows c.args.session c.args.tag c.args.mode c.args.hand c.args.place c.join.new.self _ c.requires.in_hand c.requires.unmoved c.requires.no_wait c.requires.not_held c.requires.in_no_slot c.requires.counted c.requires.answer
     (c.join.ensures.content ∙ ap (λ (x : Content). add_wait x c.args.session c.args.tag c.args.mode c.args.place) (c.begin.ensures.content ∙ ap content_of part))
     c.join.ensures.ended (λ k. get_or-one_value 64 false k) below_64)

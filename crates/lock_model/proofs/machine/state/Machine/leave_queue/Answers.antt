@@ -8,7 +8,7 @@ use Rattle.lock_table.specs.Queue.{waits_there}
 use Rattle.lock_model.specs.Shows.{hand_of}
 use Rattle.lock_model.proofs.Shows.Places.{part_read}
 use Rattle.lock_table.proofs.MoveTests.{move_eq-same, move_eq-refl}
-use Rattle.lock_model.proofs.Follows.Waits.Clears.{left_before, leave_without_hand, leave_after_move}
+use Rattle.lock_model.proofs.Follows.Waits.Clears.{left_before, leave_without_hand, leave_after_move, leave_of_nothing}
 use Rattle.lock_model.proofs.machine.state.Machine.leave_queue.Goals as goal
 use Rattle.lock_model.proofs.machine.state.Machine.leave_queue.Goals.{else-is_same-via-then-is_same+else-not-waits, else-is_same-via-else-is_same}
 
@@ -48,3 +48,15 @@ returns-else-is_same c = λ w safe shows.
       | else-is_same-via-then-is_same+else-not-waits b ↦ ap (λ (x : PartView). waits_there ((content_of x).waits c.args.tag) c.args.session) (sym part) ∙ sym b.if-not-waits.ensures
       | else-is_same-via-else-is_same b ↦ absurd (both_ways (move_eq c.in-Some-recorded.recorded (Leave c.args.tag)) (sym b.if-is_same.ensures) (ap (λ x. move_eq x (Leave c.args.tag)) same ∙ move_eq-refl (Leave c.args.tag)))
     ])
+
+pub returns-else-waits : goal.returns-else-waits
+returns-else-waits c = λ w safe shows.
+    let now = c.args.self.now in
+    let place : c.from.result ≡ partition_of c.args.tag = c.from.ensures ∙ c.partition-partition.ensures.value in
+    let below = c.partition-partition.ensures.within in
+    let sixteen : length now.contents.parts.items ≡ 16 = shows.contents.sixteen in
+    let within : c.from.result < length now.contents.parts.items = omega arith in
+    let part = part_read now.contents.parts.items c.from.result (partition_of c.args.tag) c.index.result.now place within c.index.ensures in
+    leave_of_nothing now w safe shows c.args.session c.requires.awaited.0 c.args.tag c.in-Some.hand c.requires.awaited.1 c.requires.awaited.2
+    (ap (hand_of now c.args.session) (sym c.partition-partition.ensures.value) ∙ sym c.in-Some.ensures) c.in_default-recorded.is
+    (ap (λ (x : PartView). waits_there ((content_of x).waits c.args.tag) c.args.session) (sym part) ∙ sym c.if-waits.ensures)

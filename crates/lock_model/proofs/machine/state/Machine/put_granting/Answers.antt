@@ -34,6 +34,13 @@ returns-then-partition c = λ w safe shows.
       | then-partition-via-else-partition+then-not-may_ask b ↦ both_ways _ (sym b.may_ask.ensures ∙ b.if-not-may_ask.true) needs.1
     ])
 
+pub returns-then-not-is_counted_for : goal.returns-then-not-is_counted_for
+returns-then-not-is_counted_for c = λ w safe shows.
+    let now = c.args.self.now in
+    skipped now w safe shows c.args.session (PutExclusive (Partition c.args.partition) (Grant c.args.tag c.args.mode))
+    (λ lawful. let needs = granting now w safe shows c.args.session c.args.partition c.args.tag c.args.mode c.requires.in_hand lawful in
+    both_ways _ (sym c.if-not-is_counted_for.ensures) needs.2)
+
 pub returns-in_default : goal.returns-in_default
 returns-in_default c = λ w safe shows.
     let now = c.args.self.now in
@@ -43,7 +50,7 @@ returns-in_default c = λ w safe shows.
     skipped now w safe shows c.args.session (PutExclusive (Partition c.args.partition) (Grant c.args.tag c.args.mode))
     (λ lawful. let needs = granting now w safe shows c.args.session c.args.partition c.args.tag c.args.mode c.requires.in_hand lawful in
     c.in_default.not-Granted (waiting_answer-one (contents_in now.contents.parts.items c.args.partition) c.args.session c.args.tag c.args.mode c.waiting_answer.result Granted
-    (subst (λ part. WaitingAnswer (content_of part) c.args.session c.args.tag c.args.mode c.waiting_answer.result) read c.waiting_answer.ensures) needs.2))
+    (subst (λ part. WaitingAnswer (content_of part) c.args.session c.args.tag c.args.mode c.waiting_answer.result) read c.waiting_answer.ensures) needs.3))
 
 pub begin-requires-clause-not_awaited : goal.begin-requires-clause-not_awaited
 begin-requires-clause-not_awaited c =
@@ -71,7 +78,7 @@ returns c = λ w safe shows.
     let changed : Contents = record (now.contents) { parts = with_item now.contents.parts c.from-index.result c.grant.new.self } in
     let P : Machine → Type 0 = λ m. (v : World) × Next w (record { session = c.args.session; step = PutExclusive (Partition c.args.partition) (Grant c.args.tag c.args.mode) }) v × Shows m v in
     subst P (sym c.set_free.ensures)
-    (granted now w safe shows c.args.session c.args.partition c.args.tag c.args.mode changed in_hand object (sym c.may_ask.ensures ∙ c.if-not-may_ask.false)
+    (granted now w safe shows c.args.session c.args.partition c.args.tag c.args.mode changed in_hand object (sym c.may_ask.ensures ∙ c.if-not-may_ask.false) (sym c.is_counted_for.ensures ∙ c.if-not-is_counted_for.false)
     (subst (λ part. WaitingAnswer (content_of part) c.args.session c.args.tag c.args.mode Granted) looked c.in-Granted.ensures) in_words
     (changed_there now.contents.parts.items c.from-index.result c.args.partition c.grant.new.self (add_hold (contents_in now.contents.parts.items c.args.partition) c.args.session c.args.tag c.args.mode)
     c.from-index.ensures in_parts content c.grant.ensures.ended))

@@ -5,9 +5,9 @@ use Rattle.lock_table.specs.Queue.{WaitingAnswer}
 use Rattle.lock_model.specs.Shows.{hand_of}
 use Rattle.lock_model.proofs.Shows.Places.{part_read}
 use Rattle.lock_model.proofs.Shows.Looks.{asks_new}
-use Rattle.lock_model.proofs.Follows.Waits.Joins.{join_without_hand, join_after_move, join_may_not, join_not_answered}
+use Rattle.lock_model.proofs.Follows.Waits.Joins.{join_without_hand, join_after_move, join_may_not, join_not_counted, join_not_answered}
 use Rattle.lock_model.proofs.machine.state.Machine.set_waiting.Goals as goal
-use Rattle.lock_model.proofs.machine.state.Machine.set_waiting.Goals.{then-is_some-via-then-is_some, then-is_some-via-else-is_some+then-not-may_ask}
+use Rattle.lock_model.proofs.machine.state.Machine.set_waiting.Goals.{then-is_some-via-then-is_some, then-is_some-via-else-is_some+then-not-may_ask, then-is_some-via-else-is_some+else-not-may_ask+then-not-is_counted_for}
 
 pub returns-in_default : goal.returns-in_default
 returns-in_default c = λ w safe shows.
@@ -22,6 +22,7 @@ returns-then-is_some c = λ w safe shows.
     elim c.then-is_some.branch [
       | then-is_some-via-then-is_some b ↦ join_after_move now w safe shows c.args.session c.args.tag c.args.mode c.in-Some.hand hand (sym b.if-is_some.ensures)
       | then-is_some-via-else-is_some+then-not-may_ask b ↦ join_may_not now w safe shows c.args.session c.args.tag c.args.mode c.in-Some.hand hand (sym b.if-not-may_ask.ensures)
+      | then-is_some-via-else-is_some+else-not-may_ask+then-not-is_counted_for b ↦ join_not_counted now w safe shows c.args.session c.args.tag c.args.mode (sym b.if-not-is_counted_for.ensures)
     ]
 
 pub returns-in_default-waiting_answer : goal.returns-in_default-waiting_answer
