@@ -55,7 +55,7 @@ opening-shown m issued live kept_by words fast_words wait_words holders sharers 
     sixty_four_databases = ap length databases ∙ length-replicate {A = ℕ} 64 0;
     sixty_four = ap length slots ∙ length-replicate {A = List ℕ} 64 (replicate 16 0);
     sixteen = λ s below.
-    ap (λ list. length (get_or list s [])) slots ∙ ap length (get_or-replicate 64 s (replicate 16 0) [] below) ∙ length-replicate {A = ℕ} 16 0;
+        ap (λ list. length (get_or list s [])) slots ∙ ap length (get_or-replicate 64 s (replicate 16 0) [] below) ∙ length-replicate {A = ℕ} 16 0;
     sixty_four_zeros = ap length zeros ∙ length-replicate {A = Option ℕ} 64 None;
     database = λ s. ap (λ list. get_or list s 0) databases ∙ get_or-one_value 64 0 s;
     slot = λ s place. ap (λ list. get_or (get_or list s []) place 0) slots ∙ no_slot s place;

@@ -101,10 +101,13 @@ to_grant_from slots slot relation place sixteen same within takes = record {
     | inl its ↦ inl (ap (λ word. is_slot_of word relation) (sym (same place)) ∙ its)
     | inr unused ↦
         let both = and_parts _ _ unused in
-        inr (ap in_use (sym (same place)) ∙ not-true _ both.0, λ other below.
-        false_from_ne_true (is_slot_of (slot other) relation) (λ its.
-        both_ways (list_any (λ word. is_slot_of word relation) slots) (not-true _ both.1)
-        (found_within (λ word. is_slot_of word relation) slots other 0 refl (ap (λ word. is_slot_of word relation) (same other) ∙ its))))
+        inr (
+          ap in_use (sym (same place)) ∙ not-true _ both.0,
+          λ other below.
+              false_from_ne_true (is_slot_of (slot other) relation) (λ its.
+              both_ways (list_any (λ word. is_slot_of word relation) slots) (not-true _ both.1)
+              (found_within (λ word. is_slot_of word relation) slots other 0 refl (ap (λ word. is_slot_of word relation) (same other) ∙ its))),
+        )
   ];
 }
 

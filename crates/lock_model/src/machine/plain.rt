@@ -46,7 +46,8 @@ impl Plain {
     ghost use Rattle.lock_model.specs.Plain.{holds_of, waits_of, word_of};
     ghost use Rattle.lock_world.specs.World.{WordExists};
 
-    /// The holds, by session, then by the tag's numbers, then by the mode's number, then by where they stand.
+    /// The holds in the lock table, by session, then by the tag's numbers, then by the mode's number, then by
+    /// where they stand. Those in fast-path slots the words of the slots tell.
     pub fn holds(&self) -> &[Hold]
         ensures { result.now ≡ holds_of self.now }
     {
@@ -89,7 +90,7 @@ impl Plain {
             }
             Word::Slot(session, place) => self.slot(session, place),
             Word::Wait(session) => u64::from(self.words.waits[usize::from(session.number())]),
-            Word::Strong(_) => 0,
+            Word::Strong(index) => self.counted_at(index),
             Word::Sleep(_) => 0,
         }
     }
@@ -102,6 +103,21 @@ impl Plain {
         let index = usize::from(place);
         if index < 16 {
             self.fast_path.slots[usize::from(session.number())][index].number()
+        } else {
+            0
+        }
+    }
+
+    /// What a strong lock counter shows, and 0 where there is no counter of this index.
+    fn counted_at(&self, index: u16) -> u64
+        ensures shown { index < 1024 → result ≡ word_of self.now (Strong index) }
+        ensures absent { 1024 ≤ index → result ≡ 0 }
+    {
+        if index < 1024 {
+            self.counted
+                .iter()
+                .filter(|c| c.tag.strong_index() == index)
+                .count() as u64
         } else {
             0
         }

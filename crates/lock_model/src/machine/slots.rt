@@ -98,8 +98,7 @@ impl Machine {
     /// of the machine keeps what a load showed.
     pub fn load_word(&mut self, session: SessionId, word: Word, shown: u64)
         ensures { Follows self.old session (Step.LoadWord word shown) self.new }
-    {
-    }
+    {}
 
     /// Sets the mode in the session's slot, with the lock of its slots held, after its counter was read as 0
     /// (`FastPathGrantRelationLock` in lock.c).

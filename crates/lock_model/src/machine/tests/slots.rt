@@ -196,19 +196,9 @@ fn slots_are_set_after_a_zero_read_with_the_own_lock(rt: HostRuntime) -> Result<
     let another = sets(a, 0, other_index(), Mode::RowShare);
     shows_slot(&rt, &[another], 0, 0)?;
     // It was read before the lock was taken, or with another session's lock alone.
-    let before = [
-        stores(a, 5),
-        reads_zero(a, table()),
-        takes_fast(a, a),
-        set,
-    ];
+    let before = [stores(a, 5), reads_zero(a, table()), takes_fast(a, a), set];
     shows(&rt, &before, Word::Slot(a, 0), 0)?;
-    let by_another = [
-        stores(a, 5),
-        takes_fast(a, b),
-        reads_zero(a, table()),
-        set,
-    ];
+    let by_another = [stores(a, 5), takes_fast(a, b), reads_zero(a, table()), set];
     shows(&rt, &by_another, Word::Slot(a, 0), 0)?;
     // The own lock was put since, and even taken again.
     let put = [puts_fast(a, a), set, takes_fast(a, a), set];
@@ -233,10 +223,7 @@ fn slots_are_set_for_what_is_eligible(rt: HostRuntime) -> Result<(), Fail> {
     let strong = sets(a, 0, table(), Mode::ShareUpdateExclusive);
     shows_slot(&rt, &[strong], 0, 0)?;
     let object = Tag::object(5, 100, 0, 0);
-    let not_relation = [
-        reads_zero(a, object),
-        sets(a, 0, object, Mode::AccessShare),
-    ];
+    let not_relation = [reads_zero(a, object), sets(a, 0, object, Mode::AccessShare)];
     shows_slot(&rt, &not_relation, 0, 0)?;
     // Another database, and none.
     let elsewhere = Tag::relation(6, 100);
