@@ -1,4 +1,4 @@
-use Rattle.std.proofs.Common.{◌≡◌, ◌≢◌, ℕ, zero, suc, ◌+◌, ◌<◌, Bool, true, false, not, ◌&&◌, ◌||◌, nat_eq, nat_lt, List, [], ◌∷◌, ◌++◌, map, length, get_or, Option, Some, None, refl, sym, ap, ◌∙◌, subst, inl, inr, arith}
+use Rattle.std.proofs.Common.{◌≡◌, ◌≢◌, ℕ, zero, suc, ◌+◌, ◌<◌, Bool, true, false, not, ◌&&◌, ◌||◌, nat_eq, nat_lt, List, [], ◌∷◌, ◌++◌, map, length, get_or, Some, None, refl, sym, ap, ◌∙◌, subst, inl, inr, arith}
 use Rattle.std.specs.Prelude.{◌==◌, nat_le, filter, All, count_by, if◌then◌else◌}
 use Rattle.std.specs.List.{list_any}
 use Rattle.std.proofs.Math.ListN.{set}
@@ -21,13 +21,13 @@ use Rattle.lock_world.specs.declared.events.Step.TheVariants.{Count, Uncount, Pu
 use Rattle.lock_world.specs.declared.events.Word.TheVariants.{Strong}
 use Rattle.lock_world.specs.Total.{total}
 use Rattle.lock_world.proofs.Totals.{total-same}
-use Rattle.lock_world.specs.Counted.{Counted, is_of, counting, uncounting, passed, passing, count_at, is_counted, is_at, is_done, IsCountedFor}
+use Rattle.lock_world.specs.Counted.{Counted, is_of, counting, uncounting, passed, passing, count_at, is_counted, is_at, is_done}
 use Rattle.lock_world.specs.World.{World}
 use Rattle.lock_world.specs.World as world
 use Rattle.lock_world.specs.Happens.{Next}
-use Rattle.lock_world.specs.Happens.Slots.{zero_after_putting, zero_after_reading, after_reading_counter, MayLoad}
+use Rattle.lock_world.specs.Happens.Slots.{zero_after_reading, after_reading_counter, MayLoad}
 use Rattle.lock_world.specs.Happens.Counters.{most_counted, MayCount, after_counting, MayUncount, after_uncounting, MayPass, after_passing}
-use Rattle.lock_world.specs.SafeWorld.{SafeWorld, slots_of}
+use Rattle.lock_world.specs.SafeWorld.{SafeWorld}
 use Rattle.lock_world.specs.SlotHolds.{slot_holds}
 use Rattle.lock_model.specs.declared.machine.state.CountedBy.{CountedBy}
 use Rattle.lock_model.specs.declared.machine.state.Words.{Words}
@@ -40,7 +40,7 @@ use Rattle.lock_model.proofs.CountedLists.{any-of_session, length-of_session, co
 use Rattle.lock_model.proofs.Shows.Changes.{fast_word-set}
 use Rattle.lock_model.proofs.Shows.Locks.{marks-set}
 use Rattle.lock_model.proofs.Shows.SlotLooks.{zero-set}
-use Rattle.lock_model.proofs.Shows.Looks.{steps_from, steps_kept, awaits_from, slots_from, own_from, own_in_content, own_nowhere, not_awaited_own, content_from}
+use Rattle.lock_model.proofs.Shows.Looks.{steps_from, steps_kept, awaits_from, slots_from, own_from, own_in_content, own_nowhere, content_from}
 use Rattle.lock_model.proofs.Follows.Skipped.{skipped}
 
 -- The machine's steps on strong lock counters.
@@ -124,6 +124,10 @@ weak_only database slot (Relation own relation) n strong =
     and_left (is_eligible_for database (Relation own relation) n) _ (and_right (nat_eq own database) _ (and_right (not (nat_eq own 0)) (nat_le (number_of n) 3) strong))
 weak_only database slot (Object own class object sub_object) n strong = refl
 
+nothing_listed : {X : Type 0} (xs : List X) → length xs ≡ 0 → xs ≡ []
+nothing_listed [] none = refl
+nothing_listed (x ∷ xs) none = absurd (omega (arith, none))
+
 module _ (m : Machine) (w : World) (safe : SafeWorld w) (shows : Shows m w) where
   -- What the machine finds in its list is what the session has counted.
   is_counted_from : (s : ℕ) (t : Tag) (n : Mode) → list_any (is_by s t n) m.counted.items ≡ is_counted (w.sessions.counted s) t n
@@ -133,8 +137,14 @@ module _ (m : Machine) (w : World) (safe : SafeWorld w) (shows : Shows m w) wher
   is_at_from s position t n =
       any-of_session s (λ (c : Counted). is_of t n c && nat_eq c.position position) m.counted.items ∙ ap (λ list. is_at position list t n) (shows.counted.each s)
 
-  pub how_many_from : (s : ℕ) → count_by (λ c. c.session == s) m.counted.items ≡ length (w.sessions.counted s)
+  how_many_from : (s : ℕ) → count_by (λ c. c.session == s) m.counted.items ≡ length (w.sessions.counted s)
   how_many_from s = sym (length-of_session s m.counted.items) ∙ ap length (shows.counted.each s)
+
+  pub nothing_from : (s : ℕ) → (count_by (λ c. c.session == s) m.counted.items == 0) ≡ true → w.sessions.counted s ≡ []
+  nothing_from s none = nothing_listed (w.sessions.counted s) (sym (how_many_from s) ∙ eqb-true _ 0 none)
+
+  pub nothing_needs : (s : ℕ) → w.sessions.counted s ≡ [] → (count_by (λ c. c.session == s) m.counted.items == 0) ≡ true
+  nothing_needs s none = eq-eqb _ 0 (how_many_from s ∙ ap length none)
 
   -- A counter is how much the list has at its index.
   pub counter_from : (index : ℕ) → counter m index ≡ w.words.strong index

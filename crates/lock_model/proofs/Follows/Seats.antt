@@ -1,8 +1,8 @@
-use Rattle.std.proofs.Common.{◌≡◌, ◌≢◌, ℕ, ◌+◌, ◌<◌, Bool, true, false, not, ◌||◌, List, length, get_or, Option, Some, None, is_none, refl, sym, ap, ◌∙◌, subst, inl, inr}
-use Rattle.std.specs.Prelude.{◌==◌}
+use Rattle.std.proofs.Common.{◌≡◌, ◌≢◌, ℕ, ◌+◌, ◌<◌, Bool, true, false, ◌||◌, List, length, get_or, Option, Some, None, is_none, refl, sym, ap, ◌∙◌, subst, inl, inr}
+use Rattle.std.specs.Prelude.{◌==◌, count_by}
 use Rattle.std.specs.List.{list_any}
 use Rattle.std.proofs.Math.ListN.{set}
-use Rattle.std.proofs.lemmas.Bool.{cases_Bool, both_ways, false≢true, or_parts, and_parts, and_from, eq-eqb, eqb-true, false_from_ne_true}
+use Rattle.std.proofs.lemmas.Bool.{cases_Bool, both_ways, false≢true, or_parts, and_parts, eq-eqb, eqb-true, false_from_ne_true}
 use Rattle.std.proofs.lemmas.List.Folds.{list_any_at}
 use Rattle.modes_core.specs.declared.modes.Mode.{Mode}
 use Rattle.modes_core.specs.declared.tags.Tag.{Tag}
@@ -26,6 +26,7 @@ use Rattle.lock_model.proofs.Shows.Locks.{no_mark, some_mark}
 use Rattle.lock_table.proofs.PutLemmas.{written-at}
 use Rattle.lock_table.proofs.ListLemmas.{any_found, any_weaker, found_within}
 use Rattle.lock_table.proofs.Same.{same_triple-refl}
+use Rattle.lock_model.proofs.Follows.Counters.{nothing_from}
 use Rattle.lock_model.proofs.Shows.Looks.{hand_kept, kept_hand, steps_from, own_nowhere, own_in_content, content_from, awaits_from, no_wait_from}
 
 -- The events on session numbers, as the machine makes them, and what its tests of them say of the World.
@@ -192,9 +193,9 @@ module _ (m : Machine) (w : World) (safe : SafeWorld w) (shows : Shows m w) wher
       )
 
   pub was_closed : (s : ℕ) → makes_steps m s ≡ true → list_any (is_holder s) m.contents.hands ≡ false → has_a_mark s m.locks.fast_holders ≡ false → (has_a_mark s m.locks.fast_sharers || has_a_mark s m.locks.partition_sharers) ≡ false
-      → list_any (has_hold_of s) m.contents.parts.items ≡ false → list_any in_use (slots_at m s) ≡ false → is_none (get_or m.waits.awaited s None) ≡ true → list_any (is_number s) m.numbers.kept_by ≡ false → s < length m.numbers.live
+      → list_any (has_hold_of s) m.contents.parts.items ≡ false → list_any in_use (slots_at m s) ≡ false → is_none (get_or m.waits.awaited s None) ≡ true → list_any (is_number s) m.numbers.kept_by ≡ false → (count_by (λ c. c.session == s) m.counted.items == 0) ≡ true → s < length m.numbers.live
       → (v : World) × Next w (record { session = s; step = JoinSeat None }) v × Shows (record m { numbers = record (m.numbers) { live = set m.numbers.live s false } }) v
-  was_closed s steps no_hand no_fast no_shared none_held none_used no_wait keeps_none in_live =
+  was_closed s steps no_hand no_fast no_shared none_held none_used no_wait keeps_none none_counted in_live =
       let shares_none = or_parts (has_a_mark s m.locks.fast_sharers) (has_a_mark s m.locks.partition_sharers) no_shared in
       let may : MayClose w s = record {
         steps = steps_from m w safe shows s steps;
@@ -204,6 +205,7 @@ module _ (m : Machine) (w : World) (safe : SafeWorld w) (shows : Shows m w) wher
         no_shared_fast_word = no_mark m.locks.fast_sharers 64 w.sessions.shares_fast s shows.locks.fast_sharers shares_none.0;
         no_hold = no_hold s none_held none_used;
         no_wait = no_wait_from m w safe shows s no_wait;
+        no_count = nothing_from m w safe shows s none_counted;
         keeps_nobody = keeps_nobody s keeps_none;
       } in (
         after_closing w s,

@@ -60,6 +60,7 @@ impl Machine {
             && !self.has_a_slot(session)
             && self.waits.awaited[index].is_none()
             && !self.keeps_someone(session)
+            && self.counts_nothing(session)
         {
             self.numbers.live[index] = false;
         }
