@@ -33,15 +33,12 @@ pub(crate) fn key_hash(tag: &Tag, mode: Mode) -> u32
         .wrapping_add(u32::from(mode.number()))
 }
 
-/// Looks for the entry of an object and mode, first at the place looked at last.
+/// Looks for the entry of an object and mode through the index.
 #[inline(always)]
-pub(crate) fn look(slots: &[Entry], index: &PlaceIndex, last: usize, tag: &Tag, mode: Mode) -> Spot
+pub(crate) fn look_up(slots: &[Entry], index: &PlaceIndex, tag: &Tag, mode: Mode) -> Spot
     requires { IsIndexed (opened slots.now) index.now }
     ensures { IsSpot slots.now tag.now mode result }
 {
-    if last < slots.len() && slots[last].is_held() && slots[last].is_of(tag, mode) {
-        return Spot::At(last);
-    }
     let hash = key_hash(tag, mode);
     let is_it = |place: u32| -> bool
         requires { place < length slots.now }
@@ -51,6 +48,18 @@ pub(crate) fn look(slots: &[Entry], index: &PlaceIndex, last: usize, tag: &Tag, 
         Some(place) => Spot::At(place as usize),
         None => Spot::Free(hash),
     }
+}
+
+/// The same, but looks first at the place looked at last.
+#[inline(always)]
+pub(crate) fn look(slots: &[Entry], index: &PlaceIndex, last: usize, tag: &Tag, mode: Mode) -> Spot
+    requires { IsIndexed (opened slots.now) index.now }
+    ensures { IsSpot slots.now tag.now mode result }
+{
+    if last < slots.len() && slots[last].is_of(tag, mode) && slots[last].is_held() {
+        return Spot::At(last);
+    }
+    look_up(slots, index, tag, mode)
 }
 
 /// The same, but goes by the last look that found nothing, where it was for this object and mode.
