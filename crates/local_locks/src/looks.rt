@@ -33,15 +33,12 @@ pub(crate) fn key_hash(tag: &Tag, mode: Mode) -> u32
         .wrapping_add(u32::from(mode.number()))
 }
 
-/// Looks for the entry of an object and mode, first at the place looked at last.
+/// Looks for the entry of an object and mode through the index.
 #[inline(always)]
-pub(crate) fn look(slots: &[Entry], index: &PlaceIndex, last: usize, tag: &Tag, mode: Mode) -> Spot
+pub(crate) fn look_up(slots: &[Entry], index: &PlaceIndex, tag: &Tag, mode: Mode) -> Spot
     requires { IsIndexed (opened slots.now) index.now }
     ensures { IsSpot slots.now tag.now mode result }
 {
-    if last < slots.len() && slots[last].is_held() && slots[last].is_of(tag, mode) {
-        return Spot::At(last);
-    }
     let hash = key_hash(tag, mode);
     let is_it = |place: u32| -> bool
         requires { place < length slots.now }
@@ -53,12 +50,35 @@ pub(crate) fn look(slots: &[Entry], index: &PlaceIndex, last: usize, tag: &Tag, 
     }
 }
 
-/// The same, but goes by the last look that found nothing, where it was for this object and mode.
+/// The same in a function of its own, so that its caller stays small.
+#[cold]
+#[inline(never)]
+fn look_up_apart(slots: &[Entry], index: &PlaceIndex, tag: &Tag, mode: Mode) -> Spot
+    requires { IsIndexed (opened slots.now) index.now }
+    ensures { IsSpot slots.now tag.now mode result }
+{
+    look_up(slots, index, tag, mode)
+}
+
+/// The same, but looks first at the place looked at last.
+#[inline(always)]
+pub(crate) fn look(slots: &[Entry], index: &PlaceIndex, last: usize, tag: &Tag, mode: Mode) -> Spot
+    requires { IsIndexed (opened slots.now) index.now }
+    ensures { IsSpot slots.now tag.now mode result }
+{
+    if last < slots.len() && slots[last].is_of(tag, mode) && slots[last].is_held() {
+        return Spot::At(last);
+    }
+    look_up(slots, index, tag, mode)
+}
+
+/// The same after a `reserve`: goes by its look where it found nothing for this object and mode, and else looks
+/// first at the place where it found an entry.
 #[inline(always)]
 pub(crate) fn look_again(
     slots: &[Entry],
     index: &PlaceIndex,
-    last: usize,
+    reserved: usize,
     missing: &Option<Missing>,
     tag: &Tag,
     mode: Mode,
@@ -72,5 +92,8 @@ pub(crate) fn look_again(
             return Spot::Free(missing.hash);
         }
     }
-    look(slots, index, last, tag, mode)
+    if reserved < slots.len() && slots[reserved].is_of(tag, mode) && slots[reserved].is_held() {
+        return Spot::At(reserved);
+    }
+    look_up_apart(slots, index, tag, mode)
 }

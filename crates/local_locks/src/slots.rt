@@ -37,6 +37,7 @@ pub(crate) fn lower(slots: &mut Vec<Entry>, place: usize, owner: Owner)
 }
 
 /// Makes a last slot with this entry, for which there is room, and notes its place under the hash.
+#[inline(always)]
 pub(crate) fn push_entry(slots: &mut Vec<Entry>, index: &mut PlaceIndex, hash: u32, entry: Entry)
     requires indexed { IsIndexed (opened slots.old.items) index.old }
     requires hashed { hash ≡ key_hash entry.tag entry.mode }
@@ -57,6 +58,7 @@ pub(crate) fn push_entry(slots: &mut Vec<Entry>, index: &mut PlaceIndex, hash: u
 }
 
 /// Takes the entry out of its slot, and the slot away if it is the last one.
+#[inline(always)]
 pub(crate) fn take_out(slots: &mut Vec<Entry>, index: &mut PlaceIndex, place: usize)
     requires indexed { IsIndexed (opened slots.old.items) index.old }
     requires there { slot_at (opened slots.old.items) place ≡ Some (entry_at slots.old.items place) }
@@ -135,6 +137,8 @@ fn move_down(slots: &mut Vec<Entry>, index: &mut PlaceIndex, place: usize, to: u
 }
 
 /// Moves the entries together, so that no slot is empty, and notes their new places.
+#[cold]
+#[inline(never)]
 pub(crate) fn compact(slots: &mut Vec<Entry>, index: &mut PlaceIndex)
     requires indexed { IsIndexed (opened slots.old.items) index.old }
     requires few { length slots.old.items ≤ no_place }

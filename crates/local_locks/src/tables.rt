@@ -2,7 +2,7 @@ ghost use Rattle.std.specs.Prelude.{◌≡◌, ◌+◌, ◌<◌, ◌≤◌, ◌�
 ghost use Rattle.local_locks.specs.Owned.{max_count, has_entry, owner_count_of, total_of, with_one_more, with_one_less, acquired_as, ended_by, left_by, with_next_ended, IsWellOwned, IsReserved};
 
 use crate::ends::Progress;
-use crate::looks::{Missing, Spot, look, look_again};
+use crate::looks::{Missing, Spot, look, look_again, look_up};
 use crate::slots::{compact, lower, push_entry, raise, settle, take_out};
 use crate::{Acquired, End, Entries, Entry, Unlocked};
 use modes_core::{Mode, Owner, Refusal, Tag};
@@ -124,7 +124,7 @@ impl LocalTable {
         ensures max_local { self.new.max_local ≡ self.old.max_local }
         ensures well_owned { IsWellOwned self.new }
     {
-        match look(&self.slots, &self.index, self.last, &tag, mode) {
+        match look_up(&self.slots, &self.index, &tag, mode) {
             Spot::At(place) => {
                 self.last = place;
                 if self.slots[place].count_for(owner) == u16::MAX {
@@ -146,6 +146,7 @@ impl LocalTable {
     }
 
     /// Makes room for one more entry.
+    #[inline(never)]
     fn make_room(&mut self) -> Result<(), Refusal>
         ensures ok { OnOk result (0 < self.new.room) }
         ensures err { OnErr result (self.old.room ≡ 0) }

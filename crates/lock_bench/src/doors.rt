@@ -7,11 +7,13 @@ use std::collections::HashMap;
 /// What a local table was indexed by before: the library's hash map with the derived key.
 pub type KeyMap = HashMap<(Tag, Mode), u32>;
 
-/// A call that does nothing with what it gets.
+/// A call that counts what it gets, unless that is what no key is.
 #[inline(never)]
-pub fn pass(tag: Tag, mode: Mode, owner: Owner) -> bool {
-    let _ = (tag, mode, owner);
-    true
+pub fn pass(passed: u64, tag: Tag, mode: Mode, owner: Owner) -> u64 {
+    if tag != Tag::relation(0, 0) || mode != Mode::Share || owner != Owner::Session {
+        return passed.wrapping_add(1);
+    }
+    passed
 }
 
 #[inline(never)]

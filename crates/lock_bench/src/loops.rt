@@ -10,7 +10,7 @@ pub fn passes(keys: &[Key], owner: Owner, laps: u32) -> u64 {
     let mut passed = 0u64;
     for _ in 0..laps {
         for (tag, mode) in keys {
-            passed = passed.wrapping_add(u64::from(pass(*tag, *mode, owner)));
+            passed = pass(passed, *tag, *mode, owner);
         }
     }
     passed
@@ -21,8 +21,8 @@ pub fn double_passes(keys: &[Key], owner: Owner, laps: u32) -> u64 {
     let mut passed = 0u64;
     for _ in 0..laps {
         for (tag, mode) in keys {
-            passed = passed.wrapping_add(u64::from(pass(*tag, *mode, owner)));
-            passed = passed.wrapping_add(u64::from(pass(*tag, *mode, owner)));
+            passed = pass(passed, *tag, *mode, owner);
+            passed = pass(passed, *tag, *mode, owner);
         }
     }
     passed

@@ -56,6 +56,7 @@ impl PlaceIndex {
     }
 
     /// Makes room for one more note; nothing else takes memory.
+    #[inline(always)]
     pub fn reserve(&mut self) -> Result<(), AllocError>
         ensures ok { OnOk result (0 < self.new.room) }
         ensures full { OnErr result (self.old.room ≡ 0) }
@@ -70,6 +71,8 @@ impl PlaceIndex {
     }
 
     /// Moves the notes into twice as many cells.
+    #[cold]
+    #[inline(never)]
     fn grow(&mut self) -> Result<(), AllocError>
         requires { self.old.room ≡ 0 }
         ensures ok { OnOk result (0 < self.new.room) }
