@@ -63,20 +63,20 @@ counted_of-without s test (c ∷ list) =
     let keep = λ (e : CountedBy). not ((e.session == s) && test (counted_from e)) in
     elim (cases_Bool (c.session == s)) [
       | inl its ↦ elim (cases_Bool (test (counted_from c))) [
-          | inl passes ↦
-              let out : keep c ≡ false = ap (λ b. not (b && test (counted_from c))) its ∙ ap not passes in
-              ap (counted_of s) (cond-false (keep c) (c ∷ filter keep list) (filter keep list) out)
-              ∙ counted_of-without s test list
-              ∙ sym (cond-false (not (test (counted_from c))) (counted_from c ∷ filter (λ e. not (test e)) (counted_of s list)) (filter (λ e. not (test e)) (counted_of s list)) (ap not passes))
-              ∙ ap (filter (λ e. not (test e))) (sym (kept s c list its))
-          | inr fails ↦
-              let stays : keep c ≡ true = ap (λ b. not (b && test (counted_from c))) its ∙ ap not fails in
-              ap (counted_of s) (cond-true (keep c) (c ∷ filter keep list) (filter keep list) stays)
-              ∙ kept s c (filter keep list) its
-              ∙ ap (λ own. counted_from c ∷ own) (counted_of-without s test list)
-              ∙ sym (cond-true (not (test (counted_from c))) (counted_from c ∷ filter (λ e. not (test e)) (counted_of s list)) (filter (λ e. not (test e)) (counted_of s list)) (ap not fails))
-              ∙ ap (filter (λ e. not (test e))) (sym (kept s c list its))
-        ]
+        | inl passes ↦
+            let out : keep c ≡ false = ap (λ b. not (b && test (counted_from c))) its ∙ ap not passes in
+            ap (counted_of s) (cond-false (keep c) (c ∷ filter keep list) (filter keep list) out)
+            ∙ counted_of-without s test list
+            ∙ sym (cond-false (not (test (counted_from c))) (counted_from c ∷ filter (λ e. not (test e)) (counted_of s list)) (filter (λ e. not (test e)) (counted_of s list)) (ap not passes))
+            ∙ ap (filter (λ e. not (test e))) (sym (kept s c list its))
+        | inr fails ↦
+            let stays : keep c ≡ true = ap (λ b. not (b && test (counted_from c))) its ∙ ap not fails in
+            ap (counted_of s) (cond-true (keep c) (c ∷ filter keep list) (filter keep list) stays)
+            ∙ kept s c (filter keep list) its
+            ∙ ap (λ own. counted_from c ∷ own) (counted_of-without s test list)
+            ∙ sym (cond-true (not (test (counted_from c))) (counted_from c ∷ filter (λ e. not (test e)) (counted_of s list)) (filter (λ e. not (test e)) (counted_of s list)) (ap not fails))
+            ∙ ap (filter (λ e. not (test e))) (sym (kept s c list its))
+      ]
       | inr other ↦
           let stays : keep c ≡ true = ap (λ b. not (b && test (counted_from c))) other in
           ap (counted_of s) (cond-true (keep c) (c ∷ filter keep list) (filter keep list) stays)

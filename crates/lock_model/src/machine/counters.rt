@@ -1,11 +1,11 @@
 //! The plain machine's steps on strong lock counters.
 
+ghost use Rattle.std.specs.Prelude.{◌≡◌, not, map, filter};
+ghost use Rattle.lock_model.specs.CountedLists.{is_by, is_by_at, passed_by};
+
 use super::state::{CountedBy, Machine};
 use lock_table::{NoMemory, PartTable};
 use modes_core::{Mode, SessionId, Tag, is_strong};
-
-ghost use Rattle.std.specs.Prelude.{◌≡◌, not, map, filter};
-ghost use Rattle.lock_model.specs.CountedLists.{is_by, is_by_at, passed_by};
 
 /// How many strong locks a session may have counted.
 const MOST_COUNTED: usize = 65_536;
@@ -212,11 +212,11 @@ impl Machine {
           };
           locks = record (self.old.locks) {
             fast_holders = slice_set self.old.locks.fast_holders owner
-              (slice_set (slice_index_or self.old.locks.fast_holders owner []) session false);
+                (slice_set (slice_index_or self.old.locks.fast_holders owner []) session false);
           };
           fast_path = record (self.old.fast_path) {
             zeros = if owner == session
-              then slice_set self.old.fast_path.zeros session None else self.old.fast_path.zeros;
+                then slice_set self.old.fast_path.zeros session None else self.old.fast_path.zeros;
           };
         } }
     {
