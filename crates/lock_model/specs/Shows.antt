@@ -136,8 +136,8 @@ pub record ShowsWaits (shown : OwnWaits) (wait : ℕ → Option OwnWait) (has_se
   pub awaited : (session : ℕ) → slice_index_or shown.awaited session None ≡ option_map awaited_of (wait session)
   pub seen : (session : ℕ) → slice_index_or shown.seen session false ≡ has_seen session
 
--- What the machine keeps is what the World has. It keeps no own holds: a session's own are those of the contents but what
--- it awaits.
+-- What the machine keeps is what the World has. It keeps no own holds: a session's own are those that its slots show, and
+-- those of the contents but what it awaits.
 pub record Shows (machine : Machine) (w : World) : Type 0 where
   pub numbers : ShowsNumbers machine.numbers w.numbers
   pub words : ShowsWords machine.words w.words

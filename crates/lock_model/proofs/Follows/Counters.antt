@@ -1,4 +1,4 @@
-use Rattle.std.proofs.Common.{◌≡◌, ◌≢◌, ℕ, zero, suc, ◌+◌, ◌<◌, Bool, true, false, not, ◌&&◌, ◌||◌, nat_eq, nat_lt, List, [], ◌∷◌, ◌++◌, map, length, get_or, Option, Some, None, refl, sym, ap, ◌∙◌, subst, inl, inr, arith}
+use Rattle.std.proofs.Common.{◌≡◌, ◌≢◌, ℕ, zero, suc, ◌+◌, ◌<◌, Bool, true, false, not, ◌&&◌, ◌||◌, nat_eq, nat_lt, List, [], ◌∷◌, ◌++◌, map, length, get_or, Some, None, refl, sym, ap, ◌∙◌, subst, inl, inr, arith}
 use Rattle.std.specs.Prelude.{◌==◌, nat_le, filter, All, count_by, if◌then◌else◌}
 use Rattle.std.specs.List.{list_any}
 use Rattle.std.proofs.Math.ListN.{set}
@@ -21,13 +21,13 @@ use Rattle.lock_world.specs.declared.events.Step.TheVariants.{Count, Uncount, Pu
 use Rattle.lock_world.specs.declared.events.Word.TheVariants.{Strong}
 use Rattle.lock_world.specs.Total.{total}
 use Rattle.lock_world.proofs.Totals.{total-same}
-use Rattle.lock_world.specs.Counted.{Counted, is_of, counting, uncounting, passed, passing, count_at, is_counted, is_at, is_done, IsCountedFor}
+use Rattle.lock_world.specs.Counted.{Counted, is_of, counting, uncounting, passed, passing, count_at, is_counted, is_at, is_done}
 use Rattle.lock_world.specs.World.{World}
 use Rattle.lock_world.specs.World as world
 use Rattle.lock_world.specs.Happens.{Next}
-use Rattle.lock_world.specs.Happens.Slots.{zero_after_putting, zero_after_reading, after_reading_counter, MayLoad}
+use Rattle.lock_world.specs.Happens.Slots.{zero_after_reading, after_reading_counter, MayLoad}
 use Rattle.lock_world.specs.Happens.Counters.{most_counted, MayCount, after_counting, MayUncount, after_uncounting, MayPass, after_passing}
-use Rattle.lock_world.specs.SafeWorld.{SafeWorld, slots_of}
+use Rattle.lock_world.specs.SafeWorld.{SafeWorld}
 use Rattle.lock_world.specs.SlotHolds.{slot_holds}
 use Rattle.lock_model.specs.declared.machine.state.CountedBy.{CountedBy}
 use Rattle.lock_model.specs.declared.machine.state.Words.{Words}
@@ -40,7 +40,7 @@ use Rattle.lock_model.proofs.CountedLists.{any-of_session, length-of_session, co
 use Rattle.lock_model.proofs.Shows.Changes.{fast_word-set}
 use Rattle.lock_model.proofs.Shows.Locks.{marks-set}
 use Rattle.lock_model.proofs.Shows.SlotLooks.{zero-set}
-use Rattle.lock_model.proofs.Shows.Looks.{steps_from, steps_kept, awaits_from, slots_from, own_from, own_in_content, own_nowhere, not_awaited_own, content_from}
+use Rattle.lock_model.proofs.Shows.Looks.{steps_from, steps_kept, awaits_from, slots_from, own_from, own_in_content, own_nowhere, content_from}
 use Rattle.lock_model.proofs.Follows.Skipped.{skipped}
 
 -- The machine's steps on strong lock counters.

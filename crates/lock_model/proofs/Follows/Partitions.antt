@@ -1,6 +1,6 @@
-use Rattle.std.proofs.Common.{◌≡◌, ℕ, ◌<◌, Bool, true, false, not, ◌&&◌, is_none, option_map, List, [], length, get_or, Option, Some, None, refl, sym, ap, ◌∙◌, subst, inl, inr}
+use Rattle.std.proofs.Common.{◌≡◌, ℕ, ◌<◌, Bool, true, false, is_none, option_map, List, [], length, get_or, Option, Some, None, refl, sym, ap, ◌∙◌, subst, inl, inr}
 use Rattle.std.proofs.Math.ListN.{set}
-use Rattle.std.proofs.lemmas.Bool.{cases_Bool, both_ways, false≢true, and_parts, and_from, and_left, not-true, not_from_false, eqb-false, ne_eqb, true_from_ne_false, false_from_ne_true, MatchBool-at_true, MatchBool-at_false}
+use Rattle.std.proofs.lemmas.Bool.{cases_Bool, both_ways, false≢true, not-true, not_from_false, eqb-false, ne_eqb, MatchBool-at_true, MatchBool-at_false}
 use Rattle.modes_core.specs.declared.modes.Mode.{Mode}
 use Rattle.modes_core.specs.declared.tags.Tag.{Tag}
 use Rattle.modes_core.specs.Tag.{partition_of}
@@ -16,7 +16,7 @@ use Rattle.lw_word.specs.LightweightWord.{free_word, taken_word, put_word, IsHel
 use Rattle.lock_table.specs.Content.{Wait, Content, add_hold, remove_hold}
 use Rattle.lock_table.specs.Queue.{some_awaits_conflict, Wakes, WaitingAnswer}
 use Rattle.lock_table.specs.Moves.{Moves, WakesFor, IsInPartition, FitsOwn}
-use Rattle.lock_table.specs.OwnWait.{OwnWait, is_for}
+use Rattle.lock_table.specs.OwnWait.{OwnWait}
 use Rattle.lock_table.specs.Parts.{contents_in}
 use Rattle.lock_world.specs.World.{World}
 use Rattle.lock_world.specs.Happens.{Lawful, Next}

@@ -1,4 +1,4 @@
-use Rattle.std.proofs.Common.{◌≡◌, ◌≢◌, ℕ, ◌<◌, ◌≤◌, ◌-◌, Bool, true, false, not, ◌&&◌, ◌||◌, List, [], length, get_or, nat_eq, nat_lt, Option, Some, None, refl, sym, ap, ◌∙◌, subst, inl, inr, arith}
+use Rattle.std.proofs.Common.{◌≡◌, ◌≢◌, ℕ, ◌<◌, ◌≤◌, ◌-◌, true, false, not, ◌&&◌, List, [], length, get_or, nat_eq, Option, None, refl, sym, ap, ◌∙◌, subst, inl, inr, arith}
 use Rattle.std.proofs.Math.ListN.{set, length-set}
 use Rattle.std.specs.List.{list_any}
 use Rattle.std.specs.Int.{bit_at}
@@ -12,7 +12,7 @@ use Rattle.modes_core.specs.Mode.{number_of}
 use Rattle.modes_core.specs.Tag.{is_eligible_for}
 use Rattle.lw_word.specs.SlotWord.{mode_bits, relation_in, in_use, has_mode, shows}
 use Rattle.lock_world.specs.World.{World}
-use Rattle.lock_world.specs.SlotHolds.{slot_holds, relation_of, is_slot_of, IsSlotToGrant, NoSlotInUse}
+use Rattle.lock_world.specs.SlotHolds.{is_slot_of, IsSlotToGrant, NoSlotInUse}
 use Rattle.lock_world.specs.SafeWorld.{SafeWorld, slots_of}
 use Rattle.lock_world.proofs.Slots.Databases.{slot_holds-unused}
 use Rattle.lock_world.proofs.Slots.Eligible.{is_in-held}

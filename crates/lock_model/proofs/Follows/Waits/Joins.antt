@@ -1,7 +1,7 @@
-use Rattle.std.proofs.Common.{◌≡◌, ℕ, ◌<◌, Bool, true, false, not, ◌&&◌, List, [], get_or, Option, Some, None, is_none, is_some, option_map, refl, sym, ap, ◌∙◌, subst, inl}
+use Rattle.std.proofs.Common.{◌≡◌, ℕ, ◌<◌, Bool, true, false, List, [], get_or, Some, None, is_none, is_some, refl, sym, ap, ◌∙◌, subst, inl}
 use Rattle.std.specs.Vec.{with_item}
 use Rattle.std.proofs.Math.ListN.{set}
-use Rattle.std.proofs.lemmas.Bool.{both_ways, and_from, not_from_false, false_from_ne_true}
+use Rattle.std.proofs.lemmas.Bool.{both_ways}
 use Rattle.modes_core.specs.declared.modes.Mode.{Mode}
 use Rattle.modes_core.specs.declared.tags.Tag.{Tag}
 use Rattle.modes_core.specs.Tag.{partition_of}
@@ -10,7 +10,6 @@ use Rattle.lock_table.specs.declared.answering.Answer.TheVariants.{Queued}
 use Rattle.lock_table.specs.declared.moves.Move.TheVariants.{Join}
 use Rattle.lock_world.specs.declared.events.Step.TheVariants.{SetWaiting}
 use Rattle.lock_model.specs.declared.machine.hands.InHand.{InHand}
-use Rattle.lock_model.specs.declared.machine.own_waits.Awaited.{Awaited}
 use Rattle.lock_model.specs.declared.machine.state.Machine.{Machine}
 use Rattle.lock_table.specs.Content.{Content}
 use Rattle.lock_table.specs.Parts.{contents_in}
@@ -24,7 +23,7 @@ use Rattle.lock_world.specs.Happens.Waits.{after_setting_waiting}
 use Rattle.lock_world.specs.Happens.{Next}
 use Rattle.lock_world.specs.SafeWorld.{SafeWorld}
 use Rattle.lock_model.specs.SlotLooks.{slots_hold, may_ask}
-use Rattle.lock_model.specs.Shows.{Shows, is_unmarked_in, hand_of, awaits, awaited_of}
+use Rattle.lock_model.specs.Shows.{Shows, is_unmarked_in, hand_of}
 use Rattle.lock_model.proofs.Shows.Changes.{wait_word-set, hand-set, part-set, own_wait-set}
 use Rattle.lock_model.proofs.Shows.Hands.{recording-shown}
 use Rattle.lock_table.proofs.OneAnswer.{waiting_answer-one}

@@ -189,23 +189,45 @@ fn modes_are_set_in_slots(rt: HostRuntime) -> Result<(), Fail> {
 #[test]
 fn slots_are_set_after_a_zero_read_with_the_own_lock(rt: HostRuntime) -> Result<(), Fail> {
     let (a, b, c) = (session(&rt, 0), session(&rt, 1), session(&rt, 2));
-    let set = sets(a, 0, table(), Mode::RowShare);
     // Nothing was read as 0, or another counter.
-    let unread = [stores(a, 5), takes_fast(a, a), set];
+    let unread = [
+        stores(a, 5),
+        takes_fast(a, a),
+        sets(a, 0, table(), Mode::RowShare),
+    ];
     shows(&rt, &unread, Word::Slot(a, 0), 0)?;
-    let another = sets(a, 0, other_index(), Mode::RowShare);
-    shows_slot(&rt, &[another], 0, 0)?;
+    let another = [sets(a, 0, other_index(), Mode::RowShare)];
+    shows_slot(&rt, &another, 0, 0)?;
     // It was read before the lock was taken, or with another session's lock alone.
-    let before = [stores(a, 5), reads_zero(a, table()), takes_fast(a, a), set];
+    let before = [
+        stores(a, 5),
+        reads_zero(a, table()),
+        takes_fast(a, a),
+        sets(a, 0, table(), Mode::RowShare),
+    ];
     shows(&rt, &before, Word::Slot(a, 0), 0)?;
-    let by_another = [stores(a, 5), takes_fast(a, b), reads_zero(a, table()), set];
+    let by_another = [
+        stores(a, 5),
+        takes_fast(a, b),
+        reads_zero(a, table()),
+        sets(a, 0, table(), Mode::RowShare),
+    ];
     shows(&rt, &by_another, Word::Slot(a, 0), 0)?;
     // The own lock was put since, and even taken again.
-    let put = [puts_fast(a, a), set, takes_fast(a, a), set];
+    let put = [
+        puts_fast(a, a),
+        sets(a, 0, table(), Mode::RowShare),
+        takes_fast(a, a),
+        sets(a, 0, table(), Mode::RowShare),
+    ];
     shows_slot(&rt, &put[..2], 0, 0)?;
     shows_slot(&rt, &put, 0, 0)?;
     // Another lock that is put ends no read.
-    let other_put = [takes_fast(a, b), puts_fast(a, b), set];
+    let other_put = [
+        takes_fast(a, b),
+        puts_fast(a, b),
+        sets(a, 0, table(), Mode::RowShare),
+    ];
     shows_slot(&rt, &other_put, 0, ROW_SHARE + 100)?;
     // The session is not open.
     let not_open = [
@@ -375,10 +397,21 @@ fn a_database_is_stored_once(rt: HostRuntime) -> Result<(), Fail> {
 #[test]
 fn loads_change_nothing(rt: HostRuntime) -> Result<(), Fail> {
     let (a, b) = (session(&rt, 0), session(&rt, 1));
-    let word = Word::Slot(b, 3);
     let more = [
-        does(a, Step::LoadWord { word, shown: 0 }),
-        does(a, Step::LoadWord { word, shown: 7 }),
+        does(
+            a,
+            Step::LoadWord {
+                word: Word::Slot(b, 3),
+                shown: 0,
+            },
+        ),
+        does(
+            a,
+            Step::LoadWord {
+                word: Word::Slot(b, 3),
+                shown: 7,
+            },
+        ),
         does(
             a,
             Step::LoadWord {
@@ -387,7 +420,7 @@ fn loads_change_nothing(rt: HostRuntime) -> Result<(), Fail> {
             },
         ),
     ];
-    shows(&rt, &more, word, 0)?;
+    shows(&rt, &more, Word::Slot(b, 3), 0)?;
     shows(&rt, &more, Word::Strong(3), 0)
 }
 

@@ -1,4 +1,3 @@
-use Rattle.std.proofs.Common.{◌<◌, length, arith}
 use Rattle.lock_model.specs.CountedLists.{passed_by}
 use Rattle.lock_model.proofs.CountedLists.{mapped_more}
 use Rattle.lock_model.proofs.machine.counters.pass.Goals as goal

@@ -1,4 +1,4 @@
-use Rattle.std.proofs.Common.{◌≡◌, ◌<◌, true, [], length, get_or, sym, ap, ◌∙◌, subst, arith}
+use Rattle.std.proofs.Common.{◌≡◌, ◌<◌, true, length, get_or, sym, ap, ◌∙◌, subst, arith}
 use Rattle.lw_word.specs.SlotWord.{word_without}
 use Rattle.lock_model.specs.SlotLooks.{slots_at, may_clear_slot}
 use Rattle.lock_model.proofs.Follows.SlotSteps.{clear_is_eligible, clear_within, slot_read, slot_was_cleared, slot_not_cleared}

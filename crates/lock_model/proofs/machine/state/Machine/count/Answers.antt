@@ -1,4 +1,4 @@
-use Rattle.std.proofs.Common.{◌<◌, sym, arith}
+use Rattle.std.proofs.Common.{sym, arith}
 use Rattle.lock_model.specs.declared.machine.state.Machine.{Machine}
 use Rattle.lock_model.proofs.Follows.Counters.{was_counted, not_counted}
 use Rattle.lock_model.proofs.machine.state.Machine.count.Goals as goal

@@ -1,4 +1,4 @@
-use Rattle.std.proofs.Common.{◌≡◌, ◌<◌, ◌^◌, true, [], length, get_or, sym, ap, ◌∙◌, subst, arith}
+use Rattle.std.proofs.Common.{◌≡◌, ◌<◌, ◌^◌, true, length, get_or, sym, ap, ◌∙◌, subst, arith}
 use Rattle.lw_word.specs.SlotWord.{in_use, relation_in, word_with}
 use Rattle.lock_world.specs.SlotHolds.{relation_of}
 use Rattle.lock_model.specs.SlotLooks.{slots_at, may_set_slot}
