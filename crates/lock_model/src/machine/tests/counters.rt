@@ -176,8 +176,10 @@ fn strong_locks_are_counted(rt: HostRuntime) -> Result<(), Fail> {
 #[test]
 fn what_is_counted_is_counted_no_more(rt: HostRuntime) -> Result<(), Fail> {
     let (a, b, c) = (session(&rt, 0), session(&rt, 1), session(&rt, 2));
-    let uncount = uncounts(a, table(), Mode::Share);
-    let both = [counts(a, table(), Mode::Share), uncount];
+    let both = [
+        counts(a, table(), Mode::Share),
+        uncounts(a, table(), Mode::Share),
+    ];
     leads_to_count(&rt, &both, 0)?;
     let again = [both[0], both[1], both[0]];
     leads_to_count(&rt, &again, 1)?;
@@ -190,7 +192,7 @@ fn what_is_counted_is_counted_no_more(rt: HostRuntime) -> Result<(), Fail> {
         uncounts(c, table(), Mode::Share),
     ];
     leads_to_count(&rt, &others, 1)?;
-    let kept = [is_kept(a, b), uncount];
+    let kept = [is_kept(a, b), uncounts(a, table(), Mode::Share)];
     leads_to_count(&rt, &[others[0], kept[0], kept[1]], 1)?;
     // What it has, until it has it no more.
     let p = table().partition();
@@ -199,10 +201,10 @@ fn what_is_counted_is_counted_no_more(rt: HostRuntime) -> Result<(), Fail> {
     let held = [
         takes(a, p),
         puts(a, p, Move::Grant { tag, mode }),
-        uncount,
+        uncounts(a, table(), Mode::Share),
         takes(a, p),
         puts(a, p, Move::Release { tag, mode }),
-        uncount,
+        uncounts(a, table(), Mode::Share),
     ];
     leads_to_holds(&rt, 64, &held[..3], 1, 1, 0)?;
     leads_to_holds(&rt, 64, &held[..5], 1, 0, 0)?;
@@ -214,7 +216,7 @@ fn what_is_counted_is_counted_no_more(rt: HostRuntime) -> Result<(), Fail> {
         puts(b, p, Move::Grant { tag, mode }),
         takes(a, p),
         awaits(a, table(), Mode::Share),
-        uncount,
+        uncounts(a, table(), Mode::Share),
     ];
     leads_to_holds(&rt, 64, &awaited, 1, 1, 1)
 }
@@ -223,10 +225,9 @@ fn what_is_counted_is_counted_no_more(rt: HostRuntime) -> Result<(), Fail> {
 fn a_session_goes_past_others_in_turn(rt: HostRuntime) -> Result<(), Fail> {
     let (a, b, c) = (session(&rt, 0), session(&rt, 1), session(&rt, 2));
     let mode = Mode::Share;
-    let count = counts(a, table(), mode);
     // The lock is put where the session goes past, the own and those of sessions that are not open, too.
     let in_turn = [
-        count,
+        counts(a, table(), mode),
         takes_fast(a, a),
         passes(a, a, table(), mode),
         takes_fast(a, b),
@@ -239,10 +240,14 @@ fn a_session_goes_past_others_in_turn(rt: HostRuntime) -> Result<(), Fail> {
     shows(&rt, &in_turn[..5], Word::Fast(b), FREE)?;
     shows(&rt, &in_turn, Word::Fast(c), FREE)?;
     // The session is not the next, or was passed.
-    let skipping = [count, takes_fast(a, b), passes(a, b, table(), mode)];
+    let skipping = [
+        counts(a, table(), mode),
+        takes_fast(a, b),
+        passes(a, b, table(), mode),
+    ];
     shows(&rt, &skipping, Word::Fast(b), HELD)?;
     let twice = [
-        count,
+        counts(a, table(), mode),
         takes_fast(a, a),
         passes(a, a, table(), mode),
         takes_fast(a, a),
@@ -250,9 +255,10 @@ fn a_session_goes_past_others_in_turn(rt: HostRuntime) -> Result<(), Fail> {
     ];
     shows(&rt, &twice, Word::Fast(a), HELD)?;
     // Nothing, another mode or another object is counted, or another session counted it.
-    shows(&rt, &in_turn[1..3], Word::Fast(a), HELD)?;
+    let uncounted = [takes_fast(a, a), passes(a, a, table(), mode)];
+    shows(&rt, &uncounted, Word::Fast(a), HELD)?;
     let others = [
-        count,
+        counts(a, table(), mode),
         takes_fast(a, a),
         passes(a, a, table(), Mode::Exclusive),
         passes(a, a, same_index(), mode),
@@ -266,7 +272,11 @@ fn a_session_goes_past_others_in_turn(rt: HostRuntime) -> Result<(), Fail> {
     ];
     shows(&rt, &by_another, Word::Fast(a), HELD)?;
     // The lock is another session's.
-    let not_held = [count, takes_fast(b, a), passes(a, a, table(), mode)];
+    let not_held = [
+        counts(a, table(), mode),
+        takes_fast(b, a),
+        passes(a, a, table(), mode),
+    ];
     shows(&rt, &not_held, Word::Fast(a), HELD)
 }
 
@@ -373,20 +383,19 @@ fn whoever_has_counted_is_not_closed(rt: HostRuntime) -> Result<(), Fail> {
 fn slots_are_set_until_somebody_counts(rt: HostRuntime) -> Result<(), Fail> {
     let (a, b) = (session(&rt, 0), session(&rt, 1));
     let index = table().strong_index();
-    let count = counts(b, table(), Mode::Share);
     // The counter was read as 0 before another session counted, or was not 0 any more.
     let before = [
         stores(a),
         takes_fast(a, a),
         reads(a, index, 0),
-        count,
+        counts(b, table(), Mode::Share),
         sets(a, table()),
     ];
     shows(&rt, &before, Word::Slot(a, 0), IN_SLOT)?;
     let after = [
         stores(a),
         takes_fast(a, a),
-        count,
+        counts(b, table(), Mode::Share),
         reads(a, index, 0),
         reads(a, index, 1),
         sets(a, table()),
