@@ -5,6 +5,7 @@ use modes_core::{Mode, SessionId, Tag};
 use std::process::Abort;
 use std::test::Fail;
 
+mod counters;
 mod partitions;
 mod seats;
 mod sharing;
