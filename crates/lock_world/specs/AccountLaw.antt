@@ -1,4 +1,4 @@
-use Rattle.std.specs.Prelude.{◌≡◌, ℕ, ◌^◌, ◌<◌, Bool, true, false, List, [], length, Option, Some, None}
+use Rattle.std.specs.Prelude.{◌≡◌, ℕ, ◌^◌, ◌<◌, true, false, List, [], length, Some, None}
 use Rattle.modes_core.specs.declared.modes.Mode.{Mode}
 use Rattle.modes_core.specs.declared.tags.Tag.{Tag}
 use Rattle.modes_core.specs.Tag.{index_of, partition_of, is_eligible_for, is_strong_on}
@@ -9,7 +9,7 @@ use Rattle.lock_table.specs.Moves.{Moves, IsInPartition, FitsOwn}
 use Rattle.lock_table.specs.OwnWait.{OwnWait, is_for}
 use Rattle.lock_table.specs.Queue.{waits_there}
 use Rattle.lw_word.specs.SlotWord.{shows}
-use Rattle.lock_world.specs.SlotHolds.{slot_count, relation_of, NoSlotInUse, IsSlotToGrant}
+use Rattle.lock_world.specs.SlotHolds.{slot_count, relation_of, IsSlotToGrant}
 use Rattle.lock_world.specs.Counted.{IsCountedFor, is_counted, is_at}
 use Rattle.lock_world.specs.Happens.Partitions.{IsMadeByPutting, WaitIsOver}
 use Rattle.lock_world.specs.Happens.Counters.{most_counted}

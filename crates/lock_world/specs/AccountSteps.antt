@@ -1,4 +1,4 @@
-use Rattle.std.specs.Prelude.{◌≡◌, ℕ, ◌+◌, ◌-◌, ◌<◌, ◌==◌, ◌||◌, ◌&&◌, Bool, true, false, List, [], ◌∷◌, ◌++◌, Option, Some, None, is_some, if◌then◌else◌}
+use Rattle.std.specs.Prelude.{ℕ, ◌==◌, ◌&&◌, Bool, true, false, [], ◌∷◌, ◌++◌, Some, None, is_some, if◌then◌else◌}
 use Rattle.modes_core.specs.declared.modes.Mode.{Mode}
 use Rattle.modes_core.specs.declared.tags.Tag.{Tag}
 use Rattle.modes_core.specs.Mode.{mode_eq}
@@ -13,7 +13,7 @@ use Rattle.lock_world.specs.declared.events.Word.TheVariants.{Strong}
 use Rattle.lock_world.specs.SlotHolds.{relation_of}
 use Rattle.lock_world.specs.Counted.{counting, uncounting, passing}
 use Rattle.lock_world.specs.World.{TraceEntry, Took, Episode, Loaded}
-use Rattle.lock_world.specs.Account.{Account, FastAccount, InHand, SlotsInHand}
+use Rattle.lock_world.specs.Account.{Account, InHand, SlotsInHand}
 
 -- What each kind of step makes of the account of the session that makes it.
 

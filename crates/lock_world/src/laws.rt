@@ -257,8 +257,8 @@ pub fn a_listing_misses_no_hold_that_stands()
         SafeWorld w → RunsThrough w events worlds →
         (w.contents.now (partition_of tag)).holds session tag mode ≡ true →
         ((place : ℕ) (u : World) → slice_get worlds place ≡ Some u →
-            (slots_of u.words.database u.words.slot session tag mode ≡ true)
-            ⊎ ((u.contents.now (partition_of tag)).holds session tag mode ≡ true)) →
+        (slots_of u.words.database u.words.slot session tag mode ≡ true)
+        ⊎ ((u.contents.now (partition_of tag)).holds session tag mode ≡ true)) →
         (place : ℕ) (u : World) → slice_get worlds place ≡ Some u →
         (u.contents.now (partition_of tag)).holds session tag mode ≡ true }
     ensures taken { (w v : World) (session p : ℕ) →

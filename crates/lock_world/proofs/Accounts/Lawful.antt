@@ -1,6 +1,6 @@
 use Rattle.std.proofs.Common.{◌≡◌, ℕ, ◌<◌, Bool, true, false, List, [], Option, Some, None, refl, sym, ap, ◌∙◌, inl, inr, subst}
 use Rattle.std.specs.Prelude.{◌==◌}
-use Rattle.std.proofs.lemmas.Bool.{cases_Bool, cond-true, cond-false, eqb-true, eq-eqb, false_from_ne_true, both_ways}
+use Rattle.std.proofs.lemmas.Bool.{cases_Bool, cond-true, cond-false, eqb-true, eq-eqb}
 use Rattle.modes_core.specs.declared.modes.Mode.{Mode}
 use Rattle.modes_core.specs.declared.tags.Tag.{Tag}
 use Rattle.modes_core.specs.Tag.{partition_of}
@@ -13,7 +13,7 @@ use Rattle.lock_table.specs.Queue.{waits_there}
 use Rattle.lw_word.specs.SlotWord.{shows}
 use Rattle.lock_world.specs.SlotHolds.{slot_holds, relation_of, IsSlotToGrant}
 use Rattle.lock_world.specs.World.{World, Hand, MakesSteps, recorded_in, is_unmarked}
-use Rattle.lock_world.specs.Account.{Account, InHand, SlotsInHand, own_hand, known_slots, account}
+use Rattle.lock_world.specs.Account.{InHand, SlotsInHand, own_hand, known_slots, account}
 use Rattle.lock_world.specs.AccountLaw.{MayMoveBy, MayPutBy, MayPutRecordedBy, MayClearSeenBy, MayClearInHandBy, MayLeaveBy, MayPutFastBy, MayPassBy, MaySetSlotBy, MayClearSlotBy, MayCountBy, MayUncountBy}
 use Rattle.lock_world.specs.Happens.Partitions.{MayMove, MayPutPartition, MayPutRecorded}
 use Rattle.lock_world.specs.Happens.Waits.{MayClearSeen, MayClearInHand, MayLeave}

@@ -1,4 +1,4 @@
-use Rattle.std.proofs.Common.{◌≡◌, ◌≢◌, ℕ, Bool, true, false, List, Option, Some, None, refl, sym, ap, ◌∙◌, inl, inr}
+use Rattle.std.proofs.Common.{◌≡◌, ◌≢◌, ℕ, Bool, true, false, Option, Some, None, refl, sym, ap, ◌∙◌, inl, inr}
 use Rattle.std.specs.Prelude.{◌==◌}
 use Rattle.std.proofs.lemmas.Bool.{cases_eq, cond-true, eq-eqb}
 use Rattle.modes_core.specs.declared.modes.Mode.{Mode}
@@ -8,11 +8,10 @@ use Rattle.modes_core.specs.Tag.{tag_eq}
 use Rattle.lock_table.specs.declared.moves.Move.{Move}
 use Rattle.lock_table.specs.declared.moves.Move.TheVariants.{Keep, Grant, Join, Release, Leave}
 use Rattle.lock_table.specs.Content.{Content, Holds, set_hold}
-use Rattle.lock_table.specs.OwnWait.{OwnWait}
 use Rattle.lock_table.specs.Put.{put, set_at}
 use Rattle.lock_table.proofs.PutLemmas.{set_at-here, set_at-else}
-use Rattle.lock_world.specs.World.{World, Hand, TraceEntry}
-use Rattle.lock_world.specs.Account.{Account, FastAccount, InHand, own_hand, own_hands, fast_account, account}
+use Rattle.lock_world.specs.World.{World, Hand}
+use Rattle.lock_world.specs.Account.{Account, InHand, own_hand, own_hands, fast_account, account}
 use Rattle.lock_world.specs.AccountSteps.{own_with, own_moved, hand_recording}
 use Rattle.lock_world.specs.Happens.Partitions.{own_after}
 use Rattle.lock_world.specs.Happens.Waits.{recording}

@@ -1,4 +1,4 @@
-use Rattle.std.proofs.Common.{◌≡◌, ℕ, Bool, true, false, List, [], ◌∷◌, ◌++◌, Option, Some, None, is_some, refl, sym, ap, ◌∙◌, inl, inr}
+use Rattle.std.proofs.Common.{◌≡◌, ℕ, Bool, true, false, [], ◌∷◌, ◌++◌, Option, Some, None, is_some, refl, sym, ap, ◌∙◌, inl, inr}
 use Rattle.std.specs.Prelude.{◌==◌, ◌&&◌, if◌then◌else◌}
 use Rattle.std.proofs.lemmas.Bool.{cases_eq}
 use Rattle.modes_core.specs.declared.modes.Mode.{Mode}
@@ -9,11 +9,11 @@ use Rattle.lock_table.proofs.PutLemmas.{set_at-here, set_at-else}
 use Rattle.lock_world.specs.declared.events.Word.{Word}
 use Rattle.lock_world.specs.declared.events.Word.TheVariants.{Strong}
 use Rattle.lock_world.specs.SlotHolds.{slot_holds, relation_of}
-use Rattle.lock_world.specs.Counted.{Counted, counting, uncounting, passing}
-use Rattle.lock_world.specs.World.{World, TraceEntry, Loaded}
-use Rattle.lock_world.specs.Account.{Account, FastAccount, SlotsInHand, known_slots, slots_in_hand, fast_account, account}
-use Rattle.lock_world.specs.AccountSteps.{own_with, account_tracing, account_taking_fast, account_putting_fast, account_passing, account_counting, account_uncounting, account_storing, account_reading, account_setting, account_unsetting}
-use Rattle.lock_world.specs.Happens.Slots.{after_taking_fast, zero_after_putting, after_putting_fast, after_loading, zero_after_reading, after_reading_counter, MaySetSlot, after_setting_slot, MayClearSlot, after_clearing_slot, MayStoreDatabase, after_storing_database}
+use Rattle.lock_world.specs.Counted.{counting, uncounting, passing}
+use Rattle.lock_world.specs.World.{World, Loaded}
+use Rattle.lock_world.specs.Account.{FastAccount, SlotsInHand, known_slots, slots_in_hand, fast_account, account}
+use Rattle.lock_world.specs.AccountSteps.{account_tracing, account_taking_fast, account_putting_fast, account_passing, account_counting, account_uncounting, account_storing, account_reading, account_setting, account_unsetting}
+use Rattle.lock_world.specs.Happens.Slots.{after_taking_fast, zero_after_putting, after_putting_fast, after_loading, after_reading_counter, MaySetSlot, after_setting_slot, MayClearSlot, after_clearing_slot, MayStoreDatabase, after_storing_database}
 use Rattle.lock_world.specs.Happens.Counters.{after_counting, after_uncounting, after_passing}
 use Rattle.lock_world.specs.SafeWorld.{SafeWorld}
 use Rattle.lock_world.proofs.Slots.Setting.{slot_holds-set}

@@ -1,21 +1,20 @@
-use Rattle.std.proofs.Common.{◌≡◌, ℕ, Bool, true, false, List, [], ◌∷◌, ◌++◌, Option, Some, None, refl, sym, ap, ◌∙◌}
+use Rattle.std.proofs.Common.{◌≡◌, ℕ, Bool, true, false, List, [], ◌∷◌, ◌++◌, Some, None, refl}
 use Rattle.std.specs.Prelude.{◌==◌, ◌||◌, if◌then◌else◌}
 use Rattle.modes_core.specs.declared.modes.Mode.{Mode}
 use Rattle.modes_core.specs.declared.tags.Tag.{Tag}
 use Rattle.modes_core.specs.Tag.{partition_of}
 use Rattle.lock_table.specs.declared.moves.Move.{Move}
 use Rattle.lock_table.specs.declared.moves.Move.TheVariants.{Keep, Join, Leave}
-use Rattle.lock_table.specs.Content.{Wait, Content, Holds, set_hold}
+use Rattle.lock_table.specs.Content.{Wait, Content, set_hold}
 use Rattle.lock_table.specs.OwnWait.{OwnWait}
-use Rattle.lock_table.specs.Put.{set_at}
 use Rattle.lock_table.specs.Queue.{waits_there}
-use Rattle.lock_table.proofs.PutLemmas.{set_at-here, set_at-else}
+use Rattle.lock_table.proofs.PutLemmas.{set_at-here}
 use Rattle.lock_world.specs.declared.events.Word.TheVariants as word
 use Rattle.lock_world.specs.WaitWord.{wait_state}
 use Rattle.lock_world.specs.World.{World, Hand, AskedToCancel, Loaded, is_unmarked}
-use Rattle.lock_world.specs.Account.{Account, account}
+use Rattle.lock_world.specs.Account.{account}
 use Rattle.lock_world.specs.AccountSteps.{own_with, account_tracing, account_waiting, account_marking, account_clearing, account_leaving}
-use Rattle.lock_world.specs.Happens.Waits.{after_asking, after_loading_wait, without, after_setting_waiting, after_marking_first, after_marking_next, taken_over, after_clearing, after_leaving}
+use Rattle.lock_world.specs.Happens.Waits.{after_asking, after_loading_wait, without, after_setting_waiting, after_marking_first, after_marking_next, after_clearing, after_leaving}
 use Rattle.lock_world.proofs.Accounts.Parts.{account-by, mine, hands-recorded, hands-moved, own-set, own-moved}
 
 -- Asking a session to cancel.

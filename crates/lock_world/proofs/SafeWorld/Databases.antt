@@ -30,7 +30,6 @@ storing-slots w s d may = λ i k. at k i where
         | inr other ↦ ap (λ database. slot_holds database (w.words.slot k)) (set_at-else w.words.database s d k other)
       ]
 
-
 -- Storing a database is safe where no slot is in use.
 pub storing_database-safe_world : (w : World) (s d : ℕ) → SafeWorld w → MayStoreDatabase w s → SafeWorld (after_storing_database w s d)
 storing_database-safe_world w s d safe may = record {
