@@ -20,7 +20,7 @@ use Rattle.lock_table.proofs.PutLemmas.{set_at-here, set_at-else}
 use Rattle.lock_world.specs.declared.events.Step.TheVariants.{Count, Uncount, PutPassing, LoadStrong}
 use Rattle.lock_world.specs.declared.events.Word.TheVariants.{Strong}
 use Rattle.lock_world.specs.Total.{total}
-use Rattle.lock_world.proofs.Totals.{total-same}
+use Rattle.lock_model.proofs.Shows.Runs.{counter_shown}
 use Rattle.lock_world.specs.Counted.{Counted, is_of, counting, uncounting, passed, passing, count_at, is_counted, is_at, is_done}
 use Rattle.lock_world.specs.World.{World}
 use Rattle.lock_world.specs.World as world
@@ -36,7 +36,7 @@ use Rattle.lock_model.specs.declared.machine.state.Machine.{Machine}
 use Rattle.lock_model.specs.Shows.{Shows, ShowsWords, ShowsFastPath, ShowsCounted, counted_from, counted_of, makes_steps, awaits}
 use Rattle.lock_model.specs.SlotLooks.{slots_hold}
 use Rattle.lock_model.specs.CountedLists.{is_by, is_by_at, passed_by, counter, counted_for, holds_fast, may_count, has_or_awaits, may_uncount, slots_show, may_pass, may_load_counter, reads_zero}
-use Rattle.lock_model.proofs.CountedLists.{any-of_session, length-of_session, counted_of-push, counted_of-push_else, counted_of-without, counted_of-without_else, counted_of-map, total-of_sessions}
+use Rattle.lock_model.proofs.CountedLists.{any-of_session, length-of_session, counted_of-push, counted_of-push_else, counted_of-without, counted_of-without_else, counted_of-map}
 use Rattle.lock_model.proofs.Shows.Changes.{fast_word-set}
 use Rattle.lock_model.proofs.Shows.Locks.{marks-set}
 use Rattle.lock_model.proofs.Shows.SlotLooks.{zero-set}
@@ -145,14 +145,6 @@ module _ (m : Machine) (w : World) (safe : SafeWorld w) (shows : Shows m w) wher
 
   pub nothing_needs : (s : ℕ) → w.sessions.counted s ≡ [] → (count_by (λ c. c.session == s) m.counted.items == 0) ≡ true
   nothing_needs s none = eq-eqb _ 0 (how_many_from s ∙ ap length none)
-
-  -- A counter is how much the list has at its index.
-  pub counter_from : (index : ℕ) → counter m index ≡ w.words.strong index
-  counter_from index =
-      sym (total-of_sessions 64 (λ (c : Counted). nat_eq (index_of c.tag) index) m.counted.items shows.counted.within)
-      ∙ total-same 64 _ (λ s. count_at index (w.sessions.counted s)) (λ s _. ap (count_at index) (shows.counted.each s))
-      ∙ ap (λ limit. total limit (λ s. count_at index (w.sessions.counted s))) (sym shows.numbers.limit)
-      ∙ sym (safe.counters.shown index)
 
   -- Counting.
   may_count_from : (s : ℕ) (t : Tag) (n : Mode) → may_count m s t n ≡ true → MayCount w s t n
@@ -334,12 +326,12 @@ module _ (m : Machine) (w : World) (safe : SafeWorld w) (shows : Shows m w) wher
       record {
         steps = steps_from m w safe shows s first.0;
         exists = ltb-true index 1024 first.1;
-        is_shown = eqb-true shown (counter m index) all.1 ∙ counter_from index;
+        is_shown = eqb-true shown (counter m index) all.1 ∙ counter_shown m w safe shows index;
       }
 
   load_needs : (s index shown : ℕ) → MayLoad w s (Strong index) shown → may_load_counter m s index shown ≡ true
   load_needs s index shown may =
-      and_from _ _ (and_from _ _ (steps_kept m w safe shows s may.steps) (lt-ltb index 1024 may.exists)) (eq-eqb shown (counter m index) (may.is_shown ∙ sym (counter_from index)))
+      and_from _ _ (and_from _ _ (steps_kept m w safe shows s may.steps) (lt-ltb index 1024 may.exists)) (eq-eqb shown (counter m index) (may.is_shown ∙ sym (counter_shown m w safe shows index)))
 
   loaded : (s index shown : ℕ) (path : FastPath) → may_load_counter m s index shown ≡ true
       → ShowsFastPath path w.words.database w.words.slot (zero_after_reading w.sessions.zero w.sessions.holds_fast s index shown)

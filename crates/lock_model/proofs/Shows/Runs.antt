@@ -118,7 +118,7 @@ abbrev pub GathersWaits : List PartView → List QueuedWait → Type 0
 GathersWaits parts list = AreAtHome parts → (t : Tag) → map wait_of (filter (λ queued. tag_eq queued.tag t) list) ≡ (contents_in parts (partition_of t)).waits t
 
 -- A counter shows how many of all that is counted are at its index.
-counter_shown : (m : Machine) (w : World) → SafeWorld w → Shows m w → (i : ℕ) → count_by (λ c. index_of c.tag == i) m.counted.items ≡ w.words.strong i
+pub counter_shown : (m : Machine) (w : World) → SafeWorld w → Shows m w → (i : ℕ) → count_by (λ c. index_of c.tag == i) m.counted.items ≡ w.words.strong i
 counter_shown m w safe shows i =
     sym (total-of_sessions 64 (λ (c : Counted). index_of c.tag == i) m.counted.items shows.counted.within)
     ∙ ap (λ n. total n (λ s. count_at i (counted_of s m.counted.items))) (sym shows.numbers.limit)
