@@ -4,3 +4,4 @@ pub mod Partitions
 pub mod Waits
 pub mod Slots
 pub mod Lawful
+pub mod Marks

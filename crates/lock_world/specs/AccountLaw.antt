@@ -38,6 +38,17 @@ pub record MayPutRecordedBy (a : Account) (p : ℕ) (mine : InHand) (done : Move
   pub all_marked : (other : ℕ) → mine.unmarked other ≡ false
   pub wait_is_over : WaitIsOver a.awaited p done
 
+-- Marking granted a wait of somebody whom the move grants: by the first such step the move is made, by each further one it stands
+-- recorded. Whom it grants waits, and is another: that need not be asked.
+pub record MayMarkFirstBy (limit number : ℕ) (a : Account) (p : ℕ) (mine : InHand) (done : Move) (granted : List Wait) (content : Content) (other : ℕ) : Type 0 where
+  pub may_move : MayMoveBy limit number a p mine done granted content
+  pub among : waits_there granted other ≡ true
+
+pub record MayMarkNextBy (a : Account) (p : ℕ) (mine : InHand) (done : Move) (other : ℕ) : Type 0 where
+  pub in_hand : a.hand p ≡ Some mine
+  pub recorded : mine.recorded ≡ Some done
+  pub still_unmarked : mine.unmarked other ≡ true
+
 -- Clearing the own wait word: a grant was seen, or the wait is gone from the content in hand, or this step takes it out.
 pub record MayClearSeenBy (a : Account) (wait : OwnWait) : Type 0 where
   pub is_wait : a.awaited ≡ Some wait
