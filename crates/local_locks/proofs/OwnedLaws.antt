@@ -6,7 +6,7 @@ use Rattle.modes_core.specs.declared.tags.Tag.{Tag}
 use Rattle.modes_core.specs.declared.sessions.Owner.{Owner}
 use Rattle.modes_core.specs.declared.sessions.Owner.TheVariants.{Session, Transaction}
 use Rattle.local_locks.specs.declared.records.Entry.{Entry}
-use Rattle.local_locks.specs.Owned.{is_of, entry_for, has_entry, total_of, change, without, raised, lowered, new_entry, with_one_more, with_one_less}
+use Rattle.local_locks.specs.Owned.{is_of, entry_for, has_entry, total_of, change, entries_but, raised, lowered, new_entry, with_one_more, with_one_less}
 use Rattle.local_locks.specs.Slots.{is_key}
 use Rattle.local_locks.proofs.SlotLaws.{is_of-same, is_of-own, is_key-same, is_key-own, key-is_of}
 use Rattle.local_locks.proofs.TableSteps.{raised-key, lowered-key}
@@ -39,22 +39,22 @@ is_of-is_key e tag mode t m own =
                 ]
           ]
 
-pub has_entry-without : (es : List Entry) (tag : Tag) (mode : Mode) (t : Tag) (m : Mode) → has_entry (without es tag mode) t m ≡ (not (is_key tag mode (t, m)) && has_entry es t m)
-has_entry-without [] tag mode t m = and_false (not (is_key tag mode (t, m))) where
+pub has_entry-entries_but : (es : List Entry) (tag : Tag) (mode : Mode) (t : Tag) (m : Mode) → has_entry (entries_but es tag mode) t m ≡ (not (is_key tag mode (t, m)) && has_entry es t m)
+has_entry-entries_but [] tag mode t m = and_false (not (is_key tag mode (t, m))) where
   and_false : (b : Bool) → false ≡ (b && false)
   and_false true = refl
   and_false false = refl
-has_entry-without (e ∷ es) tag mode t m =
+has_entry-entries_but (e ∷ es) tag mode t m =
     elim (cases_Bool (is_of tag mode e)) [
       | inl own ↦
-          ap (λ b. has_entry (cond (not b) (e ∷ without es tag mode) (without es tag mode)) t m) own
-          ∙ (has_entry-without es tag mode t m
+          ap (λ b. has_entry (cond (not b) (e ∷ entries_but es tag mode) (entries_but es tag mode)) t m) own
+          ∙ (has_entry-entries_but es tag mode t m
           ∙ (drops (is_key tag mode (t, m)) (has_entry es t m)
           ∙ sym (ap (λ b. not (is_key tag mode (t, m)) && b) (has_entry-cons e es t m ∙ ap (λ b. b || has_entry es t m) (is_of-is_key e tag mode t m own)))))
       | inr other ↦
-          ap (λ b. has_entry (cond (not b) (e ∷ without es tag mode) (without es tag mode)) t m) other
-          ∙ (has_entry-cons e (without es tag mode) t m
-          ∙ (ap (λ b. is_of t m e || b) (has_entry-without es tag mode t m)
+          ap (λ b. has_entry (cond (not b) (e ∷ entries_but es tag mode) (entries_but es tag mode)) t m) other
+          ∙ (has_entry-cons e (entries_but es tag mode) t m
+          ∙ (ap (λ b. is_of t m e || b) (has_entry-entries_but es tag mode t m)
           ∙ (keeps (is_of t m e) (is_key tag mode (t, m)) (has_entry es t m) (apart other)
           ∙ sym (ap (λ b. not (is_key tag mode (t, m)) && b) (has_entry-cons e es t m)))))
     ] where
@@ -120,9 +120,9 @@ pub has_entry-with_one_less : (es : List Entry) (tag : Tag) (mode : Mode) (owner
 has_entry-with_one_less es tag mode owner t m =
     elim (cases_Bool (total_of es tag mode == 1)) [
       | inl one ↦
-          ap (λ b. has_entry (cond b (without es tag mode) (change (lowered owner) es tag mode)) t m) one
-          ∙ (has_entry-without es tag mode t m ∙ sym (ap (λ b. not (b && is_key tag mode (t, m)) && has_entry es t m) one))
+          ap (λ b. has_entry (cond b (entries_but es tag mode) (change (lowered owner) es tag mode)) t m) one
+          ∙ (has_entry-entries_but es tag mode t m ∙ sym (ap (λ b. not (b && is_key tag mode (t, m)) && has_entry es t m) one))
       | inr more ↦
-          ap (λ b. has_entry (cond b (without es tag mode) (change (lowered owner) es tag mode)) t m) more
+          ap (λ b. has_entry (cond b (entries_but es tag mode) (change (lowered owner) es tag mode)) t m) more
           ∙ (has_entry-change (lowered owner) (lowered-key owner) es tag mode t m ∙ sym (ap (λ b. not (b && is_key tag mode (t, m)) && has_entry es t m) more))
     ]

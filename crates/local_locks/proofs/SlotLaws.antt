@@ -7,7 +7,7 @@ use Rattle.modes_core.specs.declared.modes.Mode.{Mode}
 use Rattle.modes_core.specs.declared.tags.Tag.{Tag}
 use Rattle.modes_core.proofs.Laws.{tag_eq-refl, tag_eq-same, mode_eq-refl, mode_eq-same}
 use Rattle.local_locks.specs.declared.records.Entry.{Entry}
-use Rattle.local_locks.specs.Owned.{is_of, entry_for, change, without}
+use Rattle.local_locks.specs.Owned.{is_of, entry_for, change, entries_but}
 use Rattle.local_locks.specs.Slots.{Slots, slot_at, present, is_key}
 
 -- ---- options and tests
@@ -102,12 +102,12 @@ change-none f tag mode [] none = refl
 change-none f tag mode (None ∷ slots) none = change-none f tag mode slots (λ k. none (suc k))
 change-none f tag mode (Some e ∷ slots) none = λ i. cond (none zero i) (f e) e ∷ change-none f tag mode slots (λ k. none (suc k)) i
 
-without-none : (tag : Tag) (mode : Mode) (slots : Slots) → NoneOf tag mode slots → without (present slots) tag mode ≡ present slots
-without-none tag mode [] none = refl
-without-none tag mode (None ∷ slots) none = without-none tag mode slots (λ k. none (suc k))
-without-none tag mode (Some e ∷ slots) none =
-    ap (λ b. cond (not b) (e ∷ without (present slots) tag mode) (without (present slots) tag mode)) (none zero)
-    ∙ ap (λ l. e ∷ l) (without-none tag mode slots (λ k. none (suc k)))
+entries_but-none : (tag : Tag) (mode : Mode) (slots : Slots) → NoneOf tag mode slots → entries_but (present slots) tag mode ≡ present slots
+entries_but-none tag mode [] none = refl
+entries_but-none tag mode (None ∷ slots) none = entries_but-none tag mode slots (λ k. none (suc k))
+entries_but-none tag mode (Some e ∷ slots) none =
+    ap (λ b. cond (not b) (e ∷ entries_but (present slots) tag mode) (entries_but (present slots) tag mode)) (none zero)
+    ∙ ap (λ l. e ∷ l) (entries_but-none tag mode slots (λ k. none (suc k)))
 
 -- ---- the entry at a place, where no other slot has its object and mode
 
@@ -134,19 +134,19 @@ change-at f tag mode (Some x ∷ slots) (suc place) e at own none =
     let miss : is_of tag mode x ≡ false = none zero (λ q. omega arith) in
     λ i. sym (ap (λ b. cond b (f x) x) miss) i ∷ change-at f tag mode slots place e at own (rest_else tag mode (Some x) slots place none) i
 
-pub without-at : (tag : Tag) (mode : Mode) (slots : Slots) (place : ℕ) (e : Entry) → slot_at slots place ≡ Some e → is_of tag mode e ≡ true → NoneElse tag mode slots place → present (set slots place None) ≡ without (present slots) tag mode
-without-at tag mode [] place e at own none = absurd (let no : None ≡ Some e = at in cc)
-without-at tag mode (None ∷ slots) zero e at own none = absurd (let no : None ≡ Some e = at in cc)
-without-at tag mode (None ∷ slots) (suc place) e at own none = without-at tag mode slots place e at own (rest_else tag mode None slots place none)
-without-at tag mode (Some x ∷ slots) zero e at own none =
+pub entries_but-at : (tag : Tag) (mode : Mode) (slots : Slots) (place : ℕ) (e : Entry) → slot_at slots place ≡ Some e → is_of tag mode e ≡ true → NoneElse tag mode slots place → present (set slots place None) ≡ entries_but (present slots) tag mode
+entries_but-at tag mode [] place e at own none = absurd (let no : None ≡ Some e = at in cc)
+entries_but-at tag mode (None ∷ slots) zero e at own none = absurd (let no : None ≡ Some e = at in cc)
+entries_but-at tag mode (None ∷ slots) (suc place) e at own none = entries_but-at tag mode slots place e at own (rest_else tag mode None slots place none)
+entries_but-at tag mode (Some x ∷ slots) zero e at own none =
     let same : x ≡ e = cc in
     let hit : is_of tag mode x ≡ true = ap (is_of tag mode) same ∙ own in
-    sym (ap (λ b. cond (not b) (x ∷ without (present slots) tag mode) (without (present slots) tag mode)) hit
-    ∙ without-none tag mode slots (rest_none tag mode (Some x) slots none))
-without-at tag mode (Some x ∷ slots) (suc place) e at own none =
+    sym (ap (λ b. cond (not b) (x ∷ entries_but (present slots) tag mode) (entries_but (present slots) tag mode)) hit
+    ∙ entries_but-none tag mode slots (rest_none tag mode (Some x) slots none))
+entries_but-at tag mode (Some x ∷ slots) (suc place) e at own none =
     let miss : is_of tag mode x ≡ false = none zero (λ q. omega arith) in
-    ap (λ l. x ∷ l) (without-at tag mode slots place e at own (rest_else tag mode (Some x) slots place none))
-    ∙ sym (ap (λ b. cond (not b) (x ∷ without (present slots) tag mode) (without (present slots) tag mode)) miss)
+    ap (λ l. x ∷ l) (entries_but-at tag mode slots place e at own (rest_else tag mode (Some x) slots place none))
+    ∙ sym (ap (λ b. cond (not b) (x ∷ entries_but (present slots) tag mode) (entries_but (present slots) tag mode)) miss)
 
 -- ---- how many entries
 

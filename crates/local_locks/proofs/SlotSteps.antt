@@ -4,9 +4,9 @@ use Rattle.std.proofs.lemmas.Bool.{cases_eq}
 use Rattle.std.proofs.lemmas.List.{length-set}
 use Rattle.place_index.specs.Notes.{Notes}
 use Rattle.local_locks.specs.declared.records.Entry.{Entry}
-use Rattle.local_locks.specs.Owned.{without}
+use Rattle.local_locks.specs.Owned.{entries_but}
 use Rattle.local_locks.specs.Slots.{Slots, slot_at, present, IsIndexed}
-use Rattle.local_locks.proofs.SlotLaws.{is_of-own, without-at, length-present_clear, present-take, slot_at-take, slot_at-past, slot_at-within, slot_at-set, slot_at-set_other}
+use Rattle.local_locks.proofs.SlotLaws.{is_of-own, entries_but-at, length-present_clear, present-take, slot_at-take, slot_at-past, slot_at-within, slot_at-set, slot_at-set_other}
 use Rattle.local_locks.proofs.IndexLaws.{none_else}
 
 -- ---- an entry leaves its slot
@@ -37,10 +37,10 @@ module _ (slots slots' : Slots) (index : Notes) (place used : ℕ) (e : Entry)
   left_present : present slots' ≡ present (set slots place None)
   left_present = ap present is ∙ present-take used (set slots place None) (empty_past slots place used (slot_at-within slots place e there) cut)
 
-  pub left-entries : present slots' ≡ without (present slots) e.tag e.mode
+  pub left-entries : present slots' ≡ entries_but (present slots) e.tag e.mode
   left-entries =
       left_present
-      ∙ without-at e.tag e.mode slots place e there (is_of-own e) (none_else slots index indexed e.tag e.mode place e there (is_of-own e))
+      ∙ entries_but-at e.tag e.mode slots place e there (is_of-own e) (none_else slots index indexed e.tag e.mode place e there (is_of-own e))
 
   pub left-number : length (present slots) ≡ length (present slots') + 1
   left-number = length-present_clear slots place e there ∙ (ap (λ s. suc (length s)) (sym left_present) ∙ sym (add-one (length (present slots'))))

@@ -12,7 +12,7 @@ use Rattle.place_index.specs.Notes.{Notes}
 use Rattle.local_locks.specs.declared.records.Entry.{Entry}
 use Rattle.local_locks.specs.declared.ends.End.{End}
 use Rattle.local_locks.specs.declared.ends.Progress.{Progress}
-use Rattle.local_locks.specs.Owned.{IsCounted, count_for, count_in_all, raised, lowered, new_entry, max_count, is_of, entry_for, has_entry, owner_count_of, total_of, change, without, with_one_more, with_one_less}
+use Rattle.local_locks.specs.Owned.{IsCounted, count_for, count_in_all, raised, lowered, new_entry, max_count, is_of, entry_for, has_entry, owner_count_of, total_of, change, entries_but, with_one_more, with_one_less}
 use Rattle.local_locks.specs.Slots.{Slots, slot_at, present, IsIndexed, IsPast, IsKept, reached, back_to}
 use Rattle.local_locks.proofs.SlotLaws.{change-at, length-present_set, slot_at-set, slot_at-set_other, slot_at-push_before, slot_at-past, slot_at-push, slot_at-within, present-push}
 use Rattle.local_locks.proofs.IndexLaws.{none_else, found_entry, indexed-change}
@@ -31,14 +31,14 @@ total-at es tag mode e at = ap (λ o. option_map_or count_in_all o 0) at
 pub total-none : (es : List Entry) (tag : Tag) (mode : Mode) → entry_for es tag mode ≡ None → total_of es tag mode ≡ 0
 total-none es tag mode none = ap (λ o. option_map_or count_in_all o 0) none
 
-pub entry_of-without : (es : List Entry) (tag : Tag) (mode : Mode) → entry_for (without es tag mode) tag mode ≡ None
-entry_of-without [] tag mode = refl
-entry_of-without (e ∷ es) tag mode =
+pub entry_of-entries_but : (es : List Entry) (tag : Tag) (mode : Mode) → entry_for (entries_but es tag mode) tag mode ≡ None
+entry_of-entries_but [] tag mode = refl
+entry_of-entries_but (e ∷ es) tag mode =
     elim (cases_Bool (is_of tag mode e)) [
-      | inl own ↦ ap (λ b. entry_for (cond (not b) (e ∷ without es tag mode) (without es tag mode)) tag mode) own ∙ entry_of-without es tag mode
+      | inl own ↦ ap (λ b. entry_for (cond (not b) (e ∷ entries_but es tag mode) (entries_but es tag mode)) tag mode) own ∙ entry_of-entries_but es tag mode
       | inr other ↦
-          ap (λ b. entry_for (cond (not b) (e ∷ without es tag mode) (without es tag mode)) tag mode) other
-          ∙ (ap (λ b. cond b (Some e) (entry_for (without es tag mode) tag mode)) other ∙ entry_of-without es tag mode)
+          ap (λ b. entry_for (cond (not b) (e ∷ entries_but es tag mode) (entries_but es tag mode)) tag mode) other
+          ∙ (ap (λ b. cond b (Some e) (entry_for (entries_but es tag mode) tag mode)) other ∙ entry_of-entries_but es tag mode)
     ]
 
 -- ---- one count more or less
@@ -184,7 +184,7 @@ entries-lowered slots index tag mode owner place e indexed at own more =
     let found = found_entry slots index indexed tag mode place e at own in
     let total = total-at (present slots) tag mode e found in
     change-at (lowered owner) tag mode slots place e at own (none_else slots index indexed tag mode place e at own)
-    ∙ sym (ap (λ b. cond b (without (present slots) tag mode) (change (lowered owner) (present slots) tag mode))
+    ∙ sym (ap (λ b. cond b (entries_but (present slots) tag mode) (change (lowered owner) (present slots) tag mode))
     (ne_eqb (total_of (present slots) tag mode) 1 (λ one. more (sym total ∙ one))))
 
 -- the total after it

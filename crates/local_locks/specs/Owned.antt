@@ -78,8 +78,8 @@ abbrev pub change : (Entry → Entry) → List Entry → Tag → Mode → List E
 change f entries tag mode = map (λ entry. if is_of tag mode entry then f entry else entry) entries
 
 -- the entries without the one of the object and mode
-abbrev pub without : List Entry → Tag → Mode → List Entry
-without entries tag mode = filter (λ entry. not (is_of tag mode entry)) entries
+abbrev pub entries_but : List Entry → Tag → Mode → List Entry
+entries_but entries tag mode = filter (λ entry. not (is_of tag mode entry)) entries
 
 -- the entries after one acquire: the owner's count is raised, in a new last entry if there was none
 abbrev pub with_one_more : List Entry → Tag → Mode → Owner → List Entry
@@ -89,7 +89,7 @@ with_one_more entries tag mode owner =
 -- the entries after one release: the owner's count is lowered, and an entry whose total was 1 is gone
 abbrev pub with_one_less : List Entry → Tag → Mode → Owner → List Entry
 with_one_less entries tag mode owner =
-    if total_of entries tag mode == 1 then without entries tag mode else change (lowered owner) entries tag mode
+    if total_of entries tag mode == 1 then entries_but entries tag mode else change (lowered owner) entries tag mode
 
 -- how an acquire is answered
 abbrev pub acquired_as : List Entry → Tag → Mode → Acquired

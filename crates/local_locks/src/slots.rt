@@ -1,7 +1,7 @@
 ghost use Rattle.std.specs.Prelude.{◌≡◌, ◌≢◌, ◌+◌, ◌-◌, ◌<◌, ◌≤◌, ℕ, true, false, Some, None, IfSome, IsSomeAnd, [], ◌∷◌, ◌++◌, length, slice_set, vec_capacity};
 ghost use Rattle.std.specs.Option.{option_map};
 ghost use Rattle.place_index.specs.Notes.{no_place};
-ghost use Rattle.local_locks.specs.Owned.{count_for, raised, lowered, max_count, count_in_all, without, is_ended, after_end};
+ghost use Rattle.local_locks.specs.Owned.{count_for, raised, lowered, max_count, count_in_all, entries_but, is_ended, after_end};
 ghost use Rattle.local_locks.specs.Slots.{opened, entry_at, slot_at, present, key_at, key_hash, IsIndexed, IsPast};
 
 use crate::looks::key_hash;
@@ -64,7 +64,7 @@ pub(crate) fn take_out(slots: &mut Vec<Entry>, index: &mut PlaceIndex, place: us
     requires there { slot_at (opened slots.old.items) place ≡ Some (entry_at slots.old.items place) }
     requires few { length slots.old.items ≤ no_place }
     ensures entries { present (opened slots.new.items)
-        ≡ without (present (opened slots.old.items))
+        ≡ entries_but (present (opened slots.old.items))
         (entry_at slots.old.items place).tag (entry_at slots.old.items place).mode }
     ensures number { length (present (opened slots.old.items)) ≡ length (present (opened slots.new.items)) + 1 }
     ensures gone { slot_at (opened slots.new.items) place ≡ None }

@@ -31,7 +31,7 @@ use Rattle.lock_table.specs.Parts.{no_part, part_at, contents_in, AreAtHome}
 use Rattle.lock_model.specs.PlainLists.{table_hold_of, queued_of}
 use Rattle.lock_model.specs.Shows.{is_hold, ListsHolds, AreInTable}
 use Rattle.lock_model.specs.declared.machine.plain.Spot.TheVariants.{Table}
-use Rattle.lock_model.specs.Plain.{wait_of}
+use Rattle.lock_model.specs.Plain.{as_wait}
 use Rattle.lock_table.proofs.Same.{same_triple-comm}
 use Rattle.lock_table.proofs.HoldLists.{take_one_more}
 use Rattle.lock_table.proofs.ListLemmas.{any_weaker}
@@ -160,11 +160,11 @@ tag_eq_comm x y =
     ]
 
 -- The waits of the plain list on an object are its queue.
-queue-queued : (ws : List PartWait) (o : Tag) → map wait_of (filter (λ queued. tag_eq queued.tag o) (map queued_of ws)) ≡ queues_in ws o
+queue-queued : (ws : List PartWait) (o : Tag) → map as_wait (filter (λ queued. tag_eq queued.tag o) (map queued_of ws)) ≡ queues_in ws o
 queue-queued [] o = refl
 queue-queued (w ∷ ws) o =
     elim (cases_Bool (tag_eq o w.tag)) [
-      | inl on ↦ let too : tag_eq w.tag o ≡ true = tag_eq_comm w.tag o ∙ on in rw (on, too) (ap (λ q. wait_of (queued_of w) ∷ q) (queue-queued ws o))
+      | inl on ↦ let too : tag_eq w.tag o ≡ true = tag_eq_comm w.tag o ∙ on in rw (on, too) (ap (λ q. as_wait (queued_of w) ∷ q) (queue-queued ws o))
       | inr off ↦ let too : tag_eq w.tag o ≡ false = tag_eq_comm w.tag o ∙ off in rw (off, too) (queue-queued ws o)
     ]
 
@@ -174,13 +174,13 @@ map-nothing f (x ∷ xs) e = absurd cc
 
 pub waits-gathered :
     (parts : List PartView) → AreAtHome parts → (o : Tag) →
-    map wait_of (filter (λ queued. tag_eq queued.tag o) (flat_map queued_waits_of parts)) ≡ (contents_in parts (partition_of o)).waits o
+    map as_wait (filter (λ queued. tag_eq queued.tag o) (flat_map queued_waits_of parts)) ≡ (contents_in parts (partition_of o)).waits o
 waits-gathered parts home o =
-    ap (map wait_of) (filter-one (λ queued. tag_eq queued.tag o) queued_waits_of parts no_part (partition_of o) refl none_elsewhere)
+    ap (map as_wait) (filter-one (λ queued. tag_eq queued.tag o) queued_waits_of parts no_part (partition_of o) refl none_elsewhere)
     ∙ queue-queued (part_at parts (partition_of o)).waits o where
       none_elsewhere : (r : ℕ) → r ≢ partition_of o → filter (λ queued. tag_eq queued.tag o) (queued_waits_of (part_at parts r)) ≡ []
       none_elsewhere r apart =
-          map-nothing wait_of _ (queue-queued (part_at parts r).waits o ∙ home.waits r o (λ e. apart (sym e)))
+          map-nothing as_wait _ (queue-queued (part_at parts r).waits o ∙ home.waits r o (λ e. apart (sym e)))
 
 -- Two tags that the order does not tell apart are the same one.
 tag_order : IsTotalOrder (on numbers_of (slice_cmp nat_cmp))
@@ -218,10 +218,10 @@ queue-sorted before after stable o =
 pub waits-sorted :
     (parts : List PartView) (before after : List QueuedWait) → before ≡ flat_map queued_waits_of parts →
     IsStableByKey (λ queued. queued.tag) (on numbers_of (slice_cmp nat_cmp)) before after → AreAtHome parts → (o : Tag) →
-    map wait_of (filter (λ queued. tag_eq queued.tag o) after) ≡ (contents_in parts (partition_of o)).waits o
+    map as_wait (filter (λ queued. tag_eq queued.tag o) after) ≡ (contents_in parts (partition_of o)).waits o
 waits-sorted parts before after all stable home o =
-    ap (map wait_of) (queue-sorted before after stable o)
-    ∙ ap (λ list. map wait_of (filter (λ queued. tag_eq queued.tag o) list)) all
+    ap (map as_wait) (queue-sorted before after stable o)
+    ∙ ap (λ list. map as_wait (filter (λ queued. tag_eq queued.tag o) list)) all
     ∙ waits-gathered parts home o
 
 -- All parts are gathered once the loop is past the last one.

@@ -25,8 +25,8 @@ use Rattle.lock_model.specs.Shows.{ListsHolds, AreInTable}
 abbrev pub holds_of : Plain → List Hold
 holds_of plain = plain.holds.items
 
-abbrev pub waits_of : Plain → List QueuedWait
-waits_of plain = plain.waits.items
+abbrev pub listed_waits : Plain → List QueuedWait
+listed_waits plain = plain.waits.items
 
 abbrev pub word_of : Plain → Word → ℕ
 word_of plain (Partition p) = slice_index_or plain.words.partitions p free_word
@@ -53,8 +53,8 @@ hold_cmp =
     (on (λ (hold : Hold). hold.spot) spot_cmp)))
 
 -- the wait that an entry of the list of waits is
-abbrev pub wait_of : QueuedWait → content.Wait
-wait_of queued = record { session = queued.session; mode = queued.mode; held = set_has queued.held }
+abbrev pub as_wait : QueuedWait → content.Wait
+as_wait queued = record { session = queued.session; mode = queued.mode; held = set_has queued.held }
 
 -- all holds of the contents
 abbrev pub table_holds : World → Holds
@@ -65,6 +65,6 @@ table_holds w session tag mode = (w.contents.now (partition_of tag)).holds sessi
 pub record IsPlainOf (plain : Plain) (w : World) : Type 0 where
   pub holds : ListsHolds (holds_of plain) (table_holds w)
   pub in_table : AreInTable (holds_of plain)
-  pub waits : (tag : Tag) → map wait_of (filter (λ queued. tag_eq queued.tag tag) (waits_of plain)) ≡ (w.contents.now (partition_of tag)).waits tag
-  pub waits_by_tag : IsSortedByKey (λ queued. queued.tag) (on numbers_of (slice_cmp nat_cmp)) (waits_of plain)
+  pub waits : (tag : Tag) → map as_wait (filter (λ queued. tag_eq queued.tag tag) (listed_waits plain)) ≡ (w.contents.now (partition_of tag)).waits tag
+  pub waits_by_tag : IsSortedByKey (λ queued. queued.tag) (on numbers_of (slice_cmp nat_cmp)) (listed_waits plain)
   pub words : (word : Word) → WordExists word → word_of plain word ≡ word_in w.words word

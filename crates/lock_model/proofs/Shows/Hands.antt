@@ -11,7 +11,7 @@ use Rattle.lock_table.specs.declared.moves.Move.{Move}
 use Rattle.lock_model.specs.declared.machine.own_waits.Awaited.{Awaited}
 use Rattle.lock_table.specs.Content.{Wait}
 use Rattle.lock_table.specs.OwnWait.{OwnWait}
-use Rattle.lock_world.specs.Happens.Waits.{recording, without}
+use Rattle.lock_world.specs.Happens.Waits.{recording, unmarked_but}
 use Rattle.lock_table.specs.Queue.{waits_there}
 use Rattle.lock_table.proofs.ListLemmas.{found_within}
 use Rattle.lock_model.specs.Shows.{ShowsHandIfAny, is_unmarked_in, none_unmarked, names_in, awaited_of}
@@ -50,7 +50,7 @@ names_in-granted [] k = refl
 names_in-granted (wait ∷ granted) k = ap (λ b. (wait.session == k) || b) (names_in-granted granted k)
 
 -- Marks without one are those of all but this one.
-pub marks-without : (marks : List Bool) (unmarked : ℕ → Bool) (marked : ℕ) → marked < length marks → ((k : ℕ) → is_unmarked_in marks k ≡ unmarked k) → (k : ℕ) → is_unmarked_in (set marks marked false) k ≡ without unmarked marked k
+pub marks-without : (marks : List Bool) (unmarked : ℕ → Bool) (marked : ℕ) → marked < length marks → ((k : ℕ) → is_unmarked_in marks k ≡ unmarked k) → (k : ℕ) → is_unmarked_in (set marks marked false) k ≡ unmarked_but unmarked marked k
 marks-without marks unmarked marked within is k =
     elim (cases_eq k marked) [
       | inl same ↦

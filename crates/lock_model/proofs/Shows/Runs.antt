@@ -20,7 +20,7 @@ use Rattle.lock_table.specs.Content.{empty_content}
 use Rattle.lw_word.specs.LightweightWord.{free_word}
 use Rattle.lock_table.specs.Parts.{AreAtHome, no_part, part_at, contents_in}
 use Rattle.lock_table.specs.PartView.{PartView, content_of}
-use Rattle.lock_model.specs.Plain.{IsPlainOf, word_of, holds_of, waits_of, wait_of}
+use Rattle.lock_model.specs.Plain.{IsPlainOf, word_of, holds_of, listed_waits, as_wait}
 use Rattle.lock_world.specs.World.{WordExists, word_in, World, opening}
 use Rattle.lock_world.specs.SafeWorld.{SafeWorld}
 use Rattle.lock_world.specs.Counted.{Counted, count_at}
@@ -115,7 +115,7 @@ abbrev pub GathersHolds : List PartView → List Hold → Type 0
 GathersHolds parts list = AreAtHome parts → ListsHolds list (λ s t n. (contents_in parts (partition_of t)).holds s t n)
 
 abbrev pub GathersWaits : List PartView → List QueuedWait → Type 0
-GathersWaits parts list = AreAtHome parts → (t : Tag) → map wait_of (filter (λ queued. tag_eq queued.tag t) list) ≡ (contents_in parts (partition_of t)).waits t
+GathersWaits parts list = AreAtHome parts → (t : Tag) → map as_wait (filter (λ queued. tag_eq queued.tag t) list) ≡ (contents_in parts (partition_of t)).waits t
 
 -- A counter shows how many of all that is counted are at its index.
 pub counter_shown : (m : Machine) (w : World) → SafeWorld w → Shows m w → (i : ℕ) → count_by (λ c. index_of c.tag == i) m.counted.items ≡ w.words.strong i
@@ -127,8 +127,8 @@ counter_shown m w safe shows i =
 
 -- What the machine gives in the end is what the World has.
 pub plain-shown : (m : Machine) (w : World) → SafeWorld w → Shows m w → (plain : Plain) (parts parts_2 : List PartView) → parts ≡ m.contents.parts.items → parts_2 ≡ m.contents.parts.items
-    → GathersHolds parts (holds_of plain) → AreInTable (holds_of plain) → GathersWaits parts_2 (waits_of plain)
-    → IsSortedByKey (λ queued. queued.tag) (on numbers_of (slice_cmp nat_cmp)) (waits_of plain)
+    → GathersHolds parts (holds_of plain) → AreInTable (holds_of plain) → GathersWaits parts_2 (listed_waits plain)
+    → IsSortedByKey (λ queued. queued.tag) (on numbers_of (slice_cmp nat_cmp)) (listed_waits plain)
     → plain.words ≡ m.words → plain.fast_path ≡ m.fast_path → plain.counted ≡ m.counted → IsPlainOf plain w
 plain-shown m w safe shows plain parts parts_2 these those gathered in_table gathered_waits by_tag same same_path same_counted = record {
   holds = λ s t n. holds at_home s t n ∙ ap (λ c. cond (c.holds s t n) 1 0) (content_from m w safe shows t);
@@ -143,8 +143,8 @@ plain-shown m w safe shows plain parts parts_2 these those gathered in_table gat
   holds : GathersHolds m.contents.parts.items (holds_of plain)
   holds = subst (λ items. GathersHolds items (holds_of plain)) these gathered
 
-  waits : GathersWaits m.contents.parts.items (waits_of plain)
-  waits = subst (λ items. GathersWaits items (waits_of plain)) those gathered_waits
+  waits : GathersWaits m.contents.parts.items (listed_waits plain)
+  waits = subst (λ items. GathersWaits items (listed_waits plain)) those gathered_waits
 
   word_shown : (word : Word) → WordExists word → word_of plain word ≡ word_in w.words word
   word_shown (Partition p) exists = ap (λ words. get_or words.partitions p free_word) same ∙ shows.words.partition p

@@ -43,7 +43,7 @@ pub struct Plain {
 impl Plain {
     ghost use Rattle.std.specs.Prelude.{◌≡◌, ◌<◌, ◌≤◌};
     ghost use Rattle.lock_world.specs.declared.events.Word.TheVariants.{Slot, Strong};
-    ghost use Rattle.lock_model.specs.Plain.{holds_of, waits_of, word_of};
+    ghost use Rattle.lock_model.specs.Plain.{holds_of, listed_waits, word_of};
     ghost use Rattle.lock_world.specs.World.{WordExists};
 
     /// The holds in the lock table, by session, then by the tag's numbers, then by the mode's number, then by
@@ -56,7 +56,7 @@ impl Plain {
 
     /// The waits, by tag, and those of one object in the order of its queue.
     pub fn waits(&self) -> &[QueuedWait]
-        ensures { result.now ≡ waits_of self.now }
+        ensures { result.now ≡ listed_waits self.now }
     {
         self.waits.as_slice()
     }

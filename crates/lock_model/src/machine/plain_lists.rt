@@ -8,7 +8,7 @@ ghost use Rattle.modes_core.specs.declared.tags.Tag.{Tag};
 ghost use Rattle.modes_core.specs.Tag.{tag_eq, numbers_of, partition_of};
 ghost use Rattle.lock_model.specs.Shows.{ListsHolds, AreInTable};
 ghost use Rattle.lock_table.specs.PartWaits.{EachOnce};
-ghost use Rattle.lock_model.specs.Plain.{hold_cmp, wait_of};
+ghost use Rattle.lock_model.specs.Plain.{hold_cmp, as_wait};
 ghost use Rattle.lock_table.specs.Parts.{AreAtHome, contents_in};
 ghost use Rattle.lock_model.specs.PlainLists.{table_hold_of, queued_of};
 
@@ -39,7 +39,7 @@ pub fn gather_holds(alloc: Global, parts: &[PlainPart]) -> Result<Vec<Hold>, NoM
 /// one object are its queue, in its order.
 pub fn gather_waits(alloc: Global, parts: &[PlainPart]) -> Result<Vec<QueuedWait>, NoMemory>
     ensures all { IfOk result (λ list. AreAtHome parts.now → (tag : Tag) →
-        map wait_of (filter (λ queued. tag_eq queued.tag tag) list.items)
+        map as_wait (filter (λ queued. tag_eq queued.tag tag) list.items)
         ≡ (contents_in parts.now (partition_of tag)).waits tag) }
     ensures by_tag { IfOk result (λ list.
         IsSortedByKey (λ queued. queued.tag) (on numbers_of (slice_cmp nat_cmp)) list.items) }

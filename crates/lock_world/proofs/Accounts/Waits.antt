@@ -14,7 +14,7 @@ use Rattle.lock_world.specs.WaitWord.{wait_state}
 use Rattle.lock_world.specs.World.{World, Hand, AskedToCancel, Loaded, is_unmarked}
 use Rattle.lock_world.specs.Account.{account}
 use Rattle.lock_world.specs.AccountSteps.{own_with, account_tracing, account_waiting, account_marking, account_clearing, account_leaving}
-use Rattle.lock_world.specs.Happens.Waits.{after_asking, after_loading_wait, without, after_setting_waiting, after_marking_first, after_marking_next, after_clearing, after_leaving}
+use Rattle.lock_world.specs.Happens.Waits.{after_asking, after_loading_wait, unmarked_but, after_setting_waiting, after_marking_first, after_marking_next, after_clearing, after_leaving}
 use Rattle.lock_world.proofs.Accounts.Parts.{account-by, mine, hands-recorded, hands-moved, own-set, own-moved}
 
 -- Asking a session to cancel.
@@ -47,21 +47,21 @@ account-waiting w s t m content hand is whose =
 pub account-marking_first :
     (w : World) (s k p : ℕ) (done : Move) (granted : List Wait) (content : Content) (hand : Hand) → w.contents.hand p ≡ Some hand → hand.holder ≡ s
     → account (after_marking_first w s k p done granted content) s
-    ≡ account_marking (account w s) p (mine hand (w.contents.now p)) content done done (without (waits_there granted) k)
+    ≡ account_marking (account w s) p (mine hand (w.contents.now p)) content done done (unmarked_but (waits_there granted) k)
 account-marking_first w s k p done granted content hand is whose =
     account-by (after_marking_first w s k p done granted content) s
-    (account_marking (account w s) p (mine hand (w.contents.now p)) content done done (without (waits_there granted) k))
+    (account_marking (account w s) p (mine hand (w.contents.now p)) content done done (unmarked_but (waits_there granted) k))
     (own-moved w.sessions.own s done) refl refl
-    (hands-moved w.contents.hand w.contents.now p hand done content (without (waits_there granted) k) s is whose) refl refl refl
+    (hands-moved w.contents.hand w.contents.now p hand done content (unmarked_but (waits_there granted) k) s is whose) refl refl refl
 
 pub account-marking_next :
     (w : World) (s k p : ℕ) (done : Move) (hand : Hand) → w.contents.hand p ≡ Some hand → hand.holder ≡ s
     → account (after_marking_next w k p done) s
-    ≡ account_marking (account w s) p (mine hand (w.contents.now p)) (w.contents.now p) Keep done (without (is_unmarked (w.contents.hand p)) k)
+    ≡ account_marking (account w s) p (mine hand (w.contents.now p)) (w.contents.now p) Keep done (unmarked_but (is_unmarked (w.contents.hand p)) k)
 account-marking_next w s k p done hand is whose =
     account-by (after_marking_next w k p done) s
-    (account_marking (account w s) p (mine hand (w.contents.now p)) (w.contents.now p) Keep done (without (is_unmarked (w.contents.hand p)) k)) refl refl refl
-    (hands-recorded w.contents.hand w.contents.now w.contents.now p hand done (without (is_unmarked (w.contents.hand p)) k) s is whose (λ q _. refl)) refl refl refl
+    (account_marking (account w s) p (mine hand (w.contents.now p)) (w.contents.now p) Keep done (unmarked_but (is_unmarked (w.contents.hand p)) k)) refl refl refl
+    (hands-recorded w.contents.hand w.contents.now w.contents.now p hand done (unmarked_but (is_unmarked (w.contents.hand p)) k) s is whose (λ q _. refl)) refl refl refl
 
 -- Clearing the own wait word.
 pub account-clearing :

@@ -10,7 +10,7 @@ use Rattle.lock_table.specs.Put.{set_at}
 use Rattle.lock_world.specs.World.{World, MakesSteps, AskedToCancel, Loaded, is_unmarked}
 use Rattle.lock_world.specs.declared.events.Word.TheVariants as word
 use Rattle.lock_world.specs.Happens.Partitions.{MayMove}
-use Rattle.lock_world.specs.Happens.Waits.{after_asking, after_loading_wait, recording, without, after_setting_waiting, MayMarkFirst, after_marking_first, MayMarkNext, after_marking_next, MayClearSeen, MayClearInHand, after_clearing, MayLeave, after_leaving}
+use Rattle.lock_world.specs.Happens.Waits.{after_asking, after_loading_wait, recording, unmarked_but, after_setting_waiting, MayMarkFirst, after_marking_first, MayMarkNext, after_marking_next, MayClearSeen, MayClearInHand, after_clearing, MayLeave, after_leaving}
 use Rattle.lock_table.specs.Queue.{waits_there}
 use Rattle.lock_world.specs.Safe.{SafeButSlots, TracesTell}
 use Rattle.lock_world.proofs.Safe.Partitions.{live-given, holding-hand}
@@ -57,7 +57,7 @@ pub marking_first-safe : (w : World) (s k p : ℕ) (done : Move) (granted : List
 marking_first-safe w s k p done granted content grants safe may = record {
   table = marking_first-table w s k p done granted content grants safe.table may;
   locks = safe.locks;
-  traces = recording-traces w s p done granted content (without (waits_there granted) k) safe may.may_move;
+  traces = recording-traces w s p done granted content (unmarked_but (waits_there granted) k) safe may.may_move;
 }
 
 pub marking_next-safe : (w : World) (s k p : ℕ) (done : Move) → SafeButSlots w → MayMarkNext w s k p done → SafeButSlots (after_marking_next w k p done)
@@ -70,7 +70,7 @@ marking_next-safe w s k p done safe may = record {
       (recorded-again w.contents w.sessions.trace w.numbers.issued safe.traces p done unmarked may.recorded));
 } where
   unmarked : ℕ → Bool
-  unmarked = without (is_unmarked (w.contents.hand p)) k
+  unmarked = unmarked_but (is_unmarked (w.contents.hand p)) k
 
 -- Clearing the own wait word is safe.
 pub clearing_seen-safe : (w : World) (s : ℕ) (wait : OwnWait) → SafeButSlots w → MayClearSeen w s wait → SafeButSlots (after_clearing w s wait)

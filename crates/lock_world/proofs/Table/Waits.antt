@@ -4,7 +4,7 @@ use Rattle.std.proofs.lemmas.Bool.{eqb-true, or_cases, cases_Bool, cond-true, co
 use Rattle.lock_world.specs.WaitWord.{wait_state, asked_word, granted_word}
 use Rattle.lock_world.specs.World.{World, Hand, recorded_in, is_unmarked}
 use Rattle.lock_table.specs.Put.{set_at}
-use Rattle.lock_world.specs.Happens.Waits.{after_asking, after_loading_wait, recording, without, after_setting_waiting, MayMarkFirst, after_marking_first, MayMarkNext, after_marking_next, MayClearSeen, MayClearInHand, taken_over, after_clearing, MayLeave, after_leaving}
+use Rattle.lock_world.specs.Happens.Waits.{after_asking, after_loading_wait, recording, unmarked_but, after_setting_waiting, MayMarkFirst, after_marking_first, MayMarkNext, after_marking_next, MayClearSeen, MayClearInHand, taken_over, after_clearing, MayLeave, after_leaving}
 use Rattle.lock_world.specs.Safe.{TableIsSafe, is_hand_of, stage_of, stages}
 use Rattle.lock_table.proofs.PutLemmas.{set_at-each, set_at-here, set_at-else, set_at-twice}
 use Rattle.lock_world.proofs.Words.Wait.{asked_word-state}
@@ -68,7 +68,7 @@ module _ (w : World) (s k p : ℕ) (done : Move) (granted : List Wait) (content 
   all_unmarked = recording (hand p) done (waits_there granted)
 
   abbrev one_marked : Option Hand
-  one_marked = recording (hand p) done (without (waits_there granted) k)
+  one_marked = recording (hand p) done (unmarked_but (waits_there granted) k)
 
   its : is_hand_of (hand p) s ≡ true
   its = sym (safe.carriers.hands p s) ∙ may.may_move.holding
@@ -87,9 +87,9 @@ module _ (w : World) (s k p : ℕ) (done : Move) (granted : List Wait) (content 
       (set_at (set_at hand p all_unmarked) p one_marked)
   marked = marking-safe (set_at w.contents.now p content) (own_after w.sessions.own s done) w.sessions.awaited w.sessions.seen w.words.wait (set_at hand p all_unmarked) recorded p k one_marked
       (all_unmarked_ones k ∙ may.among)
-      (λ j. recording-unmarked (hand p) done (without (waits_there granted) k) s its j ∙ ap (λ b. b && not (j == k)) (sym (all_unmarked_ones j)))
-      (λ j. ap (λ h. is_hand_of h j) here ∙ recording-hand (hand p) done (waits_there granted) j ∙ sym (recording-hand (hand p) done (without (waits_there granted) k) j))
-      (ap recorded_in here ∙ recording-recorded (hand p) done (waits_there granted) s its ∙ sym (recording-recorded (hand p) done (without (waits_there granted) k) s its))
+      (λ j. recording-unmarked (hand p) done (unmarked_but (waits_there granted) k) s its j ∙ ap (λ b. b && not (j == k)) (sym (all_unmarked_ones j)))
+      (λ j. ap (λ h. is_hand_of h j) here ∙ recording-hand (hand p) done (waits_there granted) j ∙ sym (recording-hand (hand p) done (unmarked_but (waits_there granted) k) j))
+      (ap recorded_in here ∙ recording-recorded (hand p) done (waits_there granted) s its ∙ sym (recording-recorded (hand p) done (unmarked_but (waits_there granted) k) s its))
 
   -- Marking the first wait granted is safe.
   pub marking_first-table : TableIsSafe (after_marking_first w s k p done granted content)
@@ -98,7 +98,7 @@ module _ (w : World) (s k p : ℕ) (done : Move) (granted : List Wait) (content 
       (set_at-twice hand p all_unmarked one_marked) marked)
       (SpentHaveNothing-own w.numbers.live w.sessions.own (own_after w.sessions.own s done) w.sessions.awaited w.sessions.awaited w.sessions.holds_partition s may.may_move.steps.live
       (own_after-else w.sessions.own s done) (λ _ _. refl) safe.promise.spent)
-      (recording-holders hand p done (without (waits_there granted) k))
+      (recording-holders hand p done (unmarked_but (waits_there granted) k))
 
 -- Marking one more wait granted is safe.
 pub marking_next-table : (w : World) (s k p : ℕ) (done : Move) → TableIsSafe w → MayMarkNext w s k p done → TableIsSafe (after_marking_next w k p done)
@@ -108,7 +108,7 @@ marking_next-table w s k p done safe may = with_waits-table w w.contents.now w.s
     (may.recorded ∙ sym (recording-recorded (w.contents.hand p) done rest s of_s)))
     safe.promise.spent (recording-holders w.contents.hand p done rest) where
       rest : ℕ → Bool
-      rest = without (is_unmarked (w.contents.hand p)) k
+      rest = unmarked_but (is_unmarked (w.contents.hand p)) k
 
       of_s : is_hand_of (w.contents.hand p) s ≡ true
       of_s = sym (safe.carriers.hands p s) ∙ may.holding

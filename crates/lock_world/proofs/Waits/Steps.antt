@@ -15,7 +15,7 @@ use Rattle.lock_world.specs.WaitWord.{wait_state, granted_word}
 use Rattle.lock_world.specs.World.{Hand, recorded_in, is_unmarked}
 use Rattle.lock_table.specs.Put.{set_at}
 use Rattle.lock_world.specs.Happens.Partitions.{own_after, IsMadeByPutting}
-use Rattle.lock_world.specs.Happens.Waits.{recording, without}
+use Rattle.lock_world.specs.Happens.Waits.{recording, unmarked_but}
 use Rattle.lock_world.specs.Safe.{is_hand_of, is_leave_of, stage_by_hand, stage_of, NoConflictingHolds, AreInOnePlace, NobodyIsFree, WaitWordsShowWaits, UnmarkedByItsMove}
 use Rattle.lock_table.proofs.PutLemmas.{set_at-here, set_at-else, set_at-each}
 use Rattle.lock_world.proofs.Moves.Moved.{stage_by_move, stage_after, awaited_after, Moved, StoodInQueue, AreInOnePlace-stage, moved, granted-stood, granted-another, taken-one_place, left-one_place, queued-stood}
@@ -104,13 +104,13 @@ ShowsWait-set word awaited seen s n o b here there k =
     ]
 
 -- Those to be marked without one: the others are as they were.
-without-else : (unmarked : ℕ → Bool) (marked k : ℕ) → k ≢ marked → without unmarked marked k ≡ unmarked k
+without-else : (unmarked : ℕ → Bool) (marked k : ℕ) → k ≢ marked → unmarked_but unmarked marked k ≡ unmarked k
 without-else unmarked marked k other = ap (λ b. unmarked k && not b) (ne_eqb k marked other) ∙ and_true (unmarked k) where
   and_true : (b : Bool) → (b && true) ≡ b
   and_true true = refl
   and_true false = refl
 
-without-parts : (unmarked : ℕ → Bool) (marked k : ℕ) → without unmarked marked k ≡ true → (k ≢ marked) × (unmarked k ≡ true)
+without-parts : (unmarked : ℕ → Bool) (marked k : ℕ) → unmarked_but unmarked marked k ≡ true → (k ≢ marked) × (unmarked k ≡ true)
 without-parts unmarked marked k is =
     let parts = and_parts (unmarked k) (not (k == marked)) is in
     (λ same. both_ways (not (k == marked)) (ap not (eq-eqb k marked same)) parts.1, parts.0)
@@ -319,7 +319,7 @@ module _ (now : ℕ → Content) (own : Holds) (awaited : ℕ → Option OwnWait
     }
 
   -- A session that is unmarked in a hand is marked.
-  module _ (p k : ℕ) (marked : Option Hand) (stands_unmarked : is_unmarked (hand p) k ≡ true) (unmarked_less : (j : ℕ) → is_unmarked marked j ≡ without (is_unmarked (hand p)) k j)
+  module _ (p k : ℕ) (marked : Option Hand) (stands_unmarked : is_unmarked (hand p) k ≡ true) (unmarked_less : (j : ℕ) → is_unmarked marked j ≡ unmarked_but (is_unmarked (hand p)) k j)
       (same_holder : (j : ℕ) → is_hand_of (hand p) j ≡ is_hand_of marked j) (same_move : recorded_in (hand p) ≡ recorded_in marked) where
     abbrev word_marked : ℕ → ℕ
     word_marked = set_at word k (granted_word (word k))

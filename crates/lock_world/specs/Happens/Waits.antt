@@ -49,8 +49,8 @@ recording None done unmarked = None
 recording (Some hand) done unmarked = Some (record hand { recorded = Some done; unmarked = unmarked })
 
 -- those unmarked, without one who is marked
-abbrev pub without : (ℕ → Bool) → ℕ → ℕ → Bool
-without unmarked marked session = unmarked session && not (session == marked)
+abbrev pub unmarked_but : (ℕ → Bool) → ℕ → ℕ → Bool
+unmarked_but unmarked marked session = unmarked session && not (session == marked)
 
 -- Setting the own wait word to waiting: the join is made, the wait recorded.
 abbrev pub after_setting_waiting : World → ℕ → Tag → Mode → Content → World
@@ -88,7 +88,7 @@ after_marking_first w session other partition done granted content = record {
   words = record (w.words) { wait = set_at w.words.wait other (granted_word (w.words.wait other)) };
   contents = record {
     now = set_at w.contents.now partition content;
-    hand = set_at w.contents.hand partition (recording (w.contents.hand partition) done (without (waits_there granted) other));
+    hand = set_at w.contents.hand partition (recording (w.contents.hand partition) done (unmarked_but (waits_there granted) other));
   };
   sessions = record (w.sessions) { own = own_after w.sessions.own session done };
   numbers = w.numbers;
@@ -106,7 +106,7 @@ after_marking_next w other partition done = record {
   words = record (w.words) { wait = set_at w.words.wait other (granted_word (w.words.wait other)) };
   contents = record (w.contents) {
     hand = set_at w.contents.hand partition
-        (recording (w.contents.hand partition) done (without (is_unmarked (w.contents.hand partition)) other));
+        (recording (w.contents.hand partition) done (unmarked_but (is_unmarked (w.contents.hand partition)) other));
   };
   sessions = w.sessions;
   numbers = w.numbers;

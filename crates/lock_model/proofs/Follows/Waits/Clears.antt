@@ -82,8 +82,8 @@ module _ (m : Machine) (w : World) (safe : SafeWorld w) (shows : Shows m w) wher
       cc)
 
   -- The wait that the machine keeps is the World's.
-  wait_of : (s : ℕ) (a : Awaited) → get_or m.waits.awaited s None ≡ Some a → (wait : OwnWait) × (w.sessions.awaited s ≡ Some wait) × (wait.tag ≡ a.tag)
-  wait_of s a kept = let found = awaited-some (w.sessions.awaited s) a (sym kept ∙ shows.waits.awaited s) in (found.0, found.1, found.2)
+  as_wait : (s : ℕ) (a : Awaited) → get_or m.waits.awaited s None ≡ Some a → (wait : OwnWait) × (w.sessions.awaited s ≡ Some wait) × (wait.tag ≡ a.tag)
+  as_wait s a kept = let found = awaited-some (w.sessions.awaited s) a (sym kept ∙ shows.waits.awaited s) in (found.0, found.1, found.2)
 
   tag_of : (s : ℕ) (a : Awaited) (wait : OwnWait) → get_or m.waits.awaited s None ≡ Some a → w.sessions.awaited s ≡ Some wait → wait.tag ≡ a.tag
   tag_of s a wait kept is = same_wait wait a (sym kept ∙ shows.waits.awaited s ∙ ap (option_map awaited_of) is)
@@ -130,7 +130,7 @@ module _ (m : Machine) (w : World) (safe : SafeWorld w) (shows : Shows m w) wher
       → (v : World) × Next w (record { session = s; step = ClearWait false }) v
       × Shows (ended_by m s) v
   cleared_seen s a steps kept seen below =
-      let wait = wait_of s a kept in
+      let wait = as_wait s a kept in
       let may : MayClearSeen w s wait.0 = record { steps = steps_from m w safe shows s steps; is_wait = wait.1; seen = sym (shows.waits.seen s) ∙ seen } in
       (after_clearing w s wait.0, inl (wait.0, inl may, refl), ended s wait.0 below)
 
@@ -139,7 +139,7 @@ module _ (m : Machine) (w : World) (safe : SafeWorld w) (shows : Shows m w) wher
       → (v : World) × Next w (record { session = s; step = ClearWait false }) v
       × Shows (ended_by m s) v
   cleared_gone s a kept gone below =
-      let wait = wait_of s a kept in
+      let wait = as_wait s a kept in
       (after_clearing w s wait.0, inl (wait.0, inr (gone_may s a.tag wait.0 wait.2 wait.1 gone), refl), ended s wait.0 below)
 
   not_clear : (s : ℕ) (a : Awaited) → get_or m.waits.awaited s None ≡ Some a → get_or m.waits.seen s false ≡ false
@@ -158,7 +158,7 @@ module _ (m : Machine) (w : World) (safe : SafeWorld w) (shows : Shows m w) wher
       → (v : World) × Next w (record { session = s; step = ClearWait true }) v
       × Shows (ended_by m s) v
   left_before s a t shown r kept of_tag in_hand recorded is_leave gone below =
-      let wait = wait_of s a kept in
+      let wait = as_wait s a kept in
       let tag : wait.0.tag ≡ t = wait.2 ∙ of_tag in
       let hand : hand_of m s (partition_of wait.0.tag) ≡ Some shown = ap (λ x. hand_of m s (partition_of x)) tag ∙ in_hand in
       let may = in_hand_gone s wait.0 shown wait.1 hand (ap (λ x. waits_there ((contents_in m.contents.parts.items (partition_of x)).waits x) s) tag ∙ gone) in
@@ -173,7 +173,7 @@ module _ (m : Machine) (w : World) (safe : SafeWorld w) (shows : Shows m w) wher
       → (v : World) × Next w (record { session = s; step = ClearWait true }) v
       × Shows (left_by m s t shown part marks) v
   left s a t shown part granted marks kept of_tag in_hand unmoved there wakes begun marked below =
-      at (wait_of s a kept).0 (wait_of s a kept).1 ((wait_of s a kept).2 ∙ of_tag) where
+      at (as_wait s a kept).0 (as_wait s a kept).1 ((as_wait s a kept).2 ∙ of_tag) where
         by_wait : (wait : OwnWait) → w.sessions.awaited s ≡ Some wait → hand_of m s (partition_of wait.tag) ≡ Some shown
             → waits_there ((contents_in m.contents.parts.items (partition_of wait.tag)).waits wait.tag) s ≡ true → Wakes (remove_wait (contents_in m.contents.parts.items (partition_of wait.tag)) s wait.tag) wait.tag granted (content_of part)
             → (v : World) × Next w (record { session = s; step = ClearWait true }) v

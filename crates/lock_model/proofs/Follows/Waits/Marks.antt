@@ -19,7 +19,7 @@ use Rattle.lock_world.specs.WaitWord.{wait_state, granted_word}
 use Rattle.lock_world.specs.World.{World, recorded_in, is_unmarked}
 use Rattle.lock_world.specs.Counted.{IsCountedFor}
 use Rattle.lock_world.specs.Happens.Partitions.{MayMove}
-use Rattle.lock_world.specs.Happens.Waits.{MayMark, without, after_marking_first, after_marking_next, HappensMarkingIn}
+use Rattle.lock_world.specs.Happens.Waits.{MayMark, unmarked_but, after_marking_first, after_marking_next, HappensMarkingIn}
 use Rattle.lock_world.specs.SafeWorld.{SafeWorld}
 use Rattle.lock_model.specs.Shows.{Shows, is_unmarked_in, names_in, hand_of, awaits, IsWaking, IsOwnFor, CannotMake}
 use Rattle.lock_model.proofs.Shows.Changes.{wait_word-set, hand-set, part-set}
@@ -117,7 +117,7 @@ module _ (m : Machine) (w : World) (safe : SafeWorld w) (shows : Shows m w) wher
       asleep = shows.asleep;
       locks = shows.locks;
       contents = hand-set m.contents w.contents p _ _ shows.contents has.exists
-          (recording-shown (w.contents.hand p) has.hand hand.holder done (set hand.unmarked k false) (without (is_unmarked (w.contents.hand p)) k) has.is_hand has.shows.holder
+          (recording-shown (w.contents.hand p) has.hand hand.holder done (set hand.unmarked k false) (unmarked_but (is_unmarked (w.contents.hand p)) k) has.is_hand has.shows.holder
           (marks-without hand.unmarked (is_unmarked (w.contents.hand p)) k (unmarked_within hand.unmarked k unmarked) (λ j. sym (unmarked_from w s p hand has j))));
       waits = shows.waits;
     },
@@ -162,7 +162,7 @@ module _ (m : Machine) (w : World) (safe : SafeWorld w) (shows : Shows m w) wher
       locks = shows.locks;
       contents = hand-set _ _ p _ _
           (part-set m.contents w.contents p after.part (content_of after.part) shows.contents has.exists refl (moved.begun ∙ shows.contents.none_begun p)) has.exists
-          (recording-shown (w.contents.hand p) has.hand hand.holder done (set unmarked k false) (without (waits_there moved.granted) k) has.is_hand has.shows.holder
+          (recording-shown (w.contents.hand p) has.hand hand.holder done (set unmarked k false) (unmarked_but (waits_there moved.granted) k) has.is_hand has.shows.holder
           (marks-without unmarked (waits_there moved.granted) k (unmarked_within unmarked k (marks k ∙ among)) (λ j. marks j ∙ granted_named j)));
       waits = shows.waits;
     },

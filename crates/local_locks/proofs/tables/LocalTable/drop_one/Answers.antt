@@ -1,12 +1,12 @@
 use Rattle.std.proofs.Common.{◌≡◌, ◌≢◌, ◌<◌, List, refl, sym, ap, subst, ◌∙◌, arith}
 use Rattle.std.proofs.lemmas.List.{get_or_default}
 use Rattle.local_locks.specs.declared.answers.Unlocked.TheVariants.{Released, StillHeld}
-use Rattle.local_locks.specs.Owned.{IsWellOwned, count_for, count_in_all, total_of, without, with_one_less}
+use Rattle.local_locks.specs.Owned.{IsWellOwned, count_for, count_in_all, total_of, entries_but, with_one_less}
 use Rattle.local_locks.specs.Slots.{Slots, IsKept, IsPlaceOf, opened, entry_at, present}
 use Rattle.local_locks.specs.declared.records.Entry.{Entry}
 use Rattle.local_locks.proofs.SlotLaws.{is_of-same}
 use Rattle.local_locks.proofs.KeptLaws.{well_owned}
-use Rattle.local_locks.proofs.TableSteps.{kept-lowered, kept-taken, entries-lowered, total-lowered, total-none, entry_of-without, IsCounted-lowered}
+use Rattle.local_locks.proofs.TableSteps.{kept-lowered, kept-taken, entries-lowered, total-lowered, total-none, entry_of-entries_but, IsCounted-lowered}
 use Rattle.local_locks.proofs.tables.LocalTable.drop_one.Goals as goal
 
 pub returns-in_default-clause-well_owned : goal.returns-in_default-clause-well_owned
@@ -30,10 +30,10 @@ returns-then-total-eq1-clause-answer c =
     let at = subst (λ (l : List Entry). IsPlaceOf l c.args.tag c.args.mode c.in-At.place) c.deref.ensures.value (c.in-At.ensures {u = tt}) in
     let read : entry_at es c.in-At.place ≡ c.index-entry.result.now = sym (c.index-entry.ensures ∙ get_or_default es c.in-At.place c.index-entry.result.now _ at.within) in
     let both = is_of-same c.args.tag c.args.mode (entry_at es c.in-At.place) at.own in
-    let others = c.take_out.ensures.entries ∙ (λ i. without (present (opened c.self.inside.slots.items)) (both.0 i) (both.1 i)) in
+    let others = c.take_out.ensures.entries ∙ (λ i. entries_but (present (opened c.self.inside.slots.items)) (both.0 i) (both.1 i)) in
     let none : total_of (present (opened c.take_out.new.slots.items)) c.args.tag c.args.mode ≡ 0 =
     ap (λ (l : List Entry). total_of l c.args.tag c.args.mode) others
-    ∙ total-none (without (present (opened c.self.inside.slots.items)) c.args.tag c.args.mode) c.args.tag c.args.mode (entry_of-without (present (opened c.self.inside.slots.items)) c.args.tag c.args.mode) in
+    ∙ total-none (entries_but (present (opened c.self.inside.slots.items)) c.args.tag c.args.mode) c.args.tag c.args.mode (entry_of-entries_but (present (opened c.self.inside.slots.items)) c.args.tag c.args.mode) in
     (λ same. absurd (let bad : Released ≡ StillHeld = same in cc), λ some. absurd (omega (arith, none, some)))
 
 -- ---- other counts are left
