@@ -21,9 +21,9 @@ use Rattle.lock_world.specs.Happens.Seats.{HappensJoining}
 use Rattle.lock_world.specs.Happens.Slots.{MaySetSlot, after_setting_slot, MayClearSlot, after_clearing_slot}
 use Rattle.lock_world.specs.Happens.Waits.{HappensMarking, HappensMarkingIn, HappensClearing}
 use Rattle.lock_world.specs.SafeWorld.{SafeWorld, slots_of}
-use Rattle.lock_world.proofs.SafeWorld.Setting.{setting-slots}
-use Rattle.lock_world.proofs.SafeWorld.Clearing.{clearing-slots}
-use Rattle.lock_world.proofs.SafeWorld.Databases.{storing-slots}
+use Rattle.lock_world.proofs.SafeWorld.Slots.Setting.{setting-slots}
+use Rattle.lock_world.proofs.SafeWorld.Slots.Clearing.{clearing-slots}
+use Rattle.lock_world.proofs.SafeWorld.Slots.Databases.{storing-slots}
 use Rattle.lock_world.proofs.SafeWorld.Runs.{Next-safe}
 use Rattle.lock_world.proofs.FromSafeWorld.{held-in_table, shown-in_no_content}
 

@@ -3,12 +3,9 @@ pub mod OneSession
 pub mod Seats
 pub mod Partitions
 pub mod Waits
-pub mod Locks
+pub mod Sharing
+pub mod Slots
 pub mod Changes
-pub mod Setting
-pub mod Clearing
-pub mod Databases
-pub mod Reading
 pub mod Counters
 pub mod Opening
 pub mod Runs

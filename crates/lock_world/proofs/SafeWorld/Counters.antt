@@ -18,7 +18,7 @@ use Rattle.lock_world.proofs.Counters.Uncounting.{is_past-uncounting, is_at-unco
 use Rattle.lock_world.proofs.Counters.Passing.{is_past-passing, is_at-passing_else, AtMostOnce-passing}
 use Rattle.lock_world.proofs.Counters.Sums.{counter-counting, counter-uncounting, counter-passing}
 use Rattle.lock_world.proofs.SafeWorld.Changes.{with_fast_path-safe}
-use Rattle.lock_world.proofs.SafeWorld.Locks.{zero-after, putting_fast-safe_world}
+use Rattle.lock_world.proofs.SafeWorld.Slots.Locks.{zero-after, putting_fast-safe_world}
 
 -- What one session has counted changes: what has to be shown of its list.
 module _ (counted : ℕ → List Counted) (s : ℕ) (list : List Counted) where

@@ -17,11 +17,12 @@ use Rattle.lock_world.proofs.Waits.Steps.{GrantsOthers}
 use Rattle.lock_world.proofs.SafeWorld.Partitions.{taking_partition-safe_world, putting_partition-safe_world, putting_recorded-safe_world}
 use Rattle.lock_world.proofs.SafeWorld.Seats.{issuing-safe_world, going_on-safe_world, keeping_apart-safe_world, closing-safe_world}
 use Rattle.lock_world.proofs.SafeWorld.Waits.{asking-safe_world, loading_wait-safe_world, setting_waiting-safe_world, marking_first-safe_world, marking_next-safe_world, clearing_seen-safe_world, clearing_in_hand-safe_world, leaving-safe_world}
-use Rattle.lock_world.proofs.SafeWorld.Locks.{sharing_partition-safe_world, unsharing_partition-safe_world, sharing_fast-safe_world, unsharing_fast-safe_world, taking_fast-safe_world, putting_fast-safe_world}
-use Rattle.lock_world.proofs.SafeWorld.Setting.{setting_slot-safe_world}
-use Rattle.lock_world.proofs.SafeWorld.Clearing.{clearing_slot-safe_world}
-use Rattle.lock_world.proofs.SafeWorld.Databases.{storing_database-safe_world}
-use Rattle.lock_world.proofs.SafeWorld.Reading.{loading-safe_world, reading_counter-safe_world}
+use Rattle.lock_world.proofs.SafeWorld.Sharing.{sharing_partition-safe_world, unsharing_partition-safe_world, sharing_fast-safe_world, unsharing_fast-safe_world}
+use Rattle.lock_world.proofs.SafeWorld.Slots.Locks.{taking_fast-safe_world, putting_fast-safe_world}
+use Rattle.lock_world.proofs.SafeWorld.Slots.Setting.{setting_slot-safe_world}
+use Rattle.lock_world.proofs.SafeWorld.Slots.Clearing.{clearing_slot-safe_world}
+use Rattle.lock_world.proofs.SafeWorld.Slots.Databases.{storing_database-safe_world}
+use Rattle.lock_world.proofs.SafeWorld.Slots.Reading.{loading-safe_world, reading_counter-safe_world}
 use Rattle.lock_world.proofs.SafeWorld.Counters.{counting-safe_world, uncounting-safe_world, passing-safe_world}
 
 taking-safe : (w : World) (s : ℕ) (word : Word) (v : World) → SafeWorld w → HappensTaking w s word v → SafeWorld v

@@ -1,0 +1,5 @@
+pub mod Locks
+pub mod Setting
+pub mod Clearing
+pub mod Databases
+pub mod Reading
