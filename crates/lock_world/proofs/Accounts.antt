@@ -5,3 +5,4 @@ pub mod Waits
 pub mod Slots
 pub mod Lawful
 pub mod Marks
+pub mod Facts

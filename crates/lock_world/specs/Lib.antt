@@ -8,5 +8,6 @@ pub mod Account
 pub mod AccountSteps
 pub mod Happens
 pub mod AccountLaw
+pub mod AccountFacts
 pub mod Safe
 pub mod SafeWorld

@@ -42,7 +42,7 @@ hand-known (Some h) now s its known =
       | inr other ↦ let none : own_hand (Some h) now s ≡ None = cond-false (h.holder == s) (Some (mine h now)) None other in absurd (cc)
     ]
 
-slots-known : (has : Bool) (database : ℕ) (slot : ℕ → ℕ) (its : SlotsInHand) → known_slots has database slot ≡ Some its → (has ≡ true) × (its ≡ record { word = slot; holds = slot_holds database slot })
+pub slots-known : (has : Bool) (database : ℕ) (slot : ℕ → ℕ) (its : SlotsInHand) → known_slots has database slot ≡ Some its → (has ≡ true) × (its ≡ record { word = slot; holds = slot_holds database slot })
 slots-known true database slot its known = (refl, cc)
 slots-known false database slot its known = absurd (cc)
 

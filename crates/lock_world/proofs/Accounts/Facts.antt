@@ -1,0 +1,40 @@
+use Rattle.std.proofs.Common.{◌≡◌, ◌⊎◌, ℕ, true, false, not, ◌&&◌, Some, None, refl, sym, ap, ◌∙◌, inl, inr}
+use Rattle.std.proofs.lemmas.Bool.{and_parts, false_from_ne_true}
+use Rattle.modes_core.specs.declared.modes.Mode.{Mode}
+use Rattle.modes_core.specs.declared.tags.Tag.{Tag}
+use Rattle.modes_core.specs.Tag.{partition_of}
+use Rattle.lock_table.specs.OwnWait.{is_for}
+use Rattle.lock_table.specs.Queue.{waits_there}
+use Rattle.lock_world.specs.Account.{SlotsInHand, account}
+use Rattle.lock_world.specs.AccountFacts.{KnowsContent}
+use Rattle.lock_world.specs.World.{World}
+use Rattle.lock_world.specs.SafeWorld.{SafeWorld, slots_of, tabled}
+use Rattle.lock_world.proofs.FromSafe.{session-stands, stands-once}
+use Rattle.lock_world.proofs.FromSafeWorld.{held-in_table}
+use Rattle.lock_world.proofs.Accounts.Lawful.{slots-known}
+
+-- What a session knows of a content is so.
+module _ (w : World) (safe : SafeWorld w) (s p : ℕ) where
+  its : (t : Tag) (m : Mode) → (w.contents.now p).holds s t m ≡ true → (w.sessions.own s t m ≡ true) ⊎ (is_for (w.sessions.awaited s) t m ≡ true)
+  its t m has = elim ((held-in_table w safe p s t m).0 has).1 [
+    | inl own ↦ inl own.0
+    | inr pending ↦ inr pending.0
+  ]
+
+  own : (mine : SlotsInHand) (t : Tag) (m : Mode) → (account w s).fast.slots s ≡ Some mine → partition_of t ≡ p
+      → w.sessions.own s t m ≡ true → mine.holds t m ≡ false → (w.contents.now p).holds s t m ≡ true
+  own mine t m known home has not_shown =
+      let is = (slots-known (w.sessions.holds_fast s s) (w.words.database s) (w.words.slot s) mine known).1 in
+      (held-in_table w safe p s t m).1 (home, inl (has, ap (λ slots. slots.holds t m) (sym is) ∙ not_shown))
+
+  pub content-known : KnowsContent s (account w s) p (w.contents.now p)
+  content-known = record {
+    holds_of_it = λ k t m has. ((held-in_table w safe p k t m).0 has).0;
+    waits_of_it = λ k t there. (session-stands (tabled w) safe.but_slots p k t there).0;
+    its_holds = its;
+    own_holds = own;
+    no_wait = λ t none. false_from_ne_true (waits_there ((w.contents.now p).waits t) s) (λ there.
+        let stands = session-stands (tabled w) safe.but_slots p s t there in
+        let some : w.sessions.awaited s ≡ Some stands.1.1.wait = stands.1.1.is_wait in cc);
+    once = λ k t. stands-once (tabled w) safe.but_slots p k t;
+  }

@@ -1,0 +1,24 @@
+use Rattle.std.specs.Prelude.{◌≡◌, ◌⊎◌, ℕ, ◌≤◌, ◌==◌, true, false, count_by, Some, None}
+use Rattle.modes_core.specs.declared.modes.Mode.{Mode}
+use Rattle.modes_core.specs.declared.tags.Tag.{Tag}
+use Rattle.modes_core.specs.Tag.{partition_of}
+use Rattle.lock_table.specs.Content.{Content}
+use Rattle.lock_table.specs.OwnWait.{is_for}
+use Rattle.lock_table.specs.Queue.{waits_there}
+use Rattle.lock_world.specs.Account.{Account, SlotsInHand}
+
+-- What the session of this number knows of the content of a partition, by its own account: whoever takes a partition is told so of the
+-- content that comes with it.
+pub record KnowsContent (number : ℕ) (a : Account) (p : ℕ) (content : Content) : Type 0 where
+  -- the content has holds and waits on objects of the partition alone
+  pub holds_of_it : (session : ℕ) (tag : Tag) (mode : Mode) → content.holds session tag mode ≡ true → partition_of tag ≡ p
+  pub waits_of_it : (session : ℕ) (tag : Tag) → waits_there (content.waits tag) session ≡ true → partition_of tag ≡ p
+  -- its holds there are its own, or what it awaits
+  pub its_holds : (tag : Tag) (mode : Mode) → content.holds number tag mode ≡ true → (a.own tag mode ≡ true) ⊎ (is_for a.awaited tag mode ≡ true)
+  -- its own holds are there, or in its slots
+  pub own_holds :
+      (mine : SlotsInHand) (tag : Tag) (mode : Mode) → a.fast.slots number ≡ Some mine → partition_of tag ≡ p
+      → a.own tag mode ≡ true → mine.holds tag mode ≡ false → content.holds number tag mode ≡ true
+  -- where it has no wait it stands in no queue, and nobody stands twice in one
+  pub no_wait : (tag : Tag) → a.awaited ≡ None → waits_there (content.waits tag) number ≡ false
+  pub once : (session : ℕ) (tag : Tag) → count_by (λ wait. wait.session == session) (content.waits tag) ≤ 1
