@@ -32,7 +32,8 @@ use std::alloc::Global;
 /// Runs the events of up to 64 sessions from the opening World, one after another. An event that is not
 /// lawful where it comes is skipped. The World after them, and each one on the way, is safe.
 pub fn run_events(alloc: Global, events: &[Event]) -> Result<Plain, NoMemory>
-    ensures ran { IfOk result (λ plain. (w : World) × Runs (opening 64) events.now w × SafeWorld w × IsPlainOf plain w) }
+    ensures ran { IfOk result (λ plain.
+        (w : World) × Runs (opening 64) events.now w × SafeWorld w × IsPlainOf plain w) }
     ensures in_order { IfOk result (λ plain. IsSorted hold_cmp (holds_of plain)) }
 {
     let mut machine = Machine::new(alloc)?;

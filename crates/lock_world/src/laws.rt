@@ -106,7 +106,8 @@ pub fn counters_show_what_is_counted()
         is_strong_on tag mode ≡ true → is_for (w.sessions.awaited session) tag mode ≡ true →
         is_done w.numbers.limit (w.sessions.counted session) tag mode ≡ true }
     ensures past { (w : World) → SafeWorld w → (session other : ℕ) (tag : Tag) (mode : Mode) →
-        is_past (w.sessions.counted session) tag other ≡ true → slots_of w.words.database w.words.slot other tag mode ≡ false }
+        is_past (w.sessions.counted session) tag other ≡ true →
+        slots_of w.words.database w.words.slot other tag mode ≡ false }
 {}
 
 /// In a safe World a session that has read a strong lock counter as 0, and has not put the lock of its own slots
@@ -243,7 +244,8 @@ pub fn traces_tell_what_is_in_hand()
 /// In a safe World a number that was not given out has no trace; whoever is kept apart is live, and so is
 /// who keeps it apart.
 pub fn numbers_are_in_order()
-    ensures new { (w : World) → SafeWorld w → (session : ℕ) → w.numbers.issued ≤ session → w.sessions.trace session ≡ [] }
+    ensures new { (w : World) → SafeWorld w → (session : ℕ) →
+        w.numbers.issued ≤ session → w.sessions.trace session ≡ [] }
     ensures kept_apart { (w : World) → SafeWorld w → (session joiner : ℕ) → w.numbers.kept_by session ≡ Some joiner →
         (w.numbers.live session ≡ true) × (w.numbers.live joiner ≡ true) }
 {}
