@@ -255,8 +255,8 @@ pub fn numbers_are_in_order()
 /// did not show it. Then it stands in the content of its object's partition in each of these Worlds; and whoever
 /// takes a partition takes just the content that is there.
 pub fn a_listing_misses_no_hold_that_stands()
-    ensures stays_in_content { (w : World) (events : List Event) (worlds : List World) (session : ℕ) (tag : Tag) (mode : Mode) →
-        SafeWorld w → RunsThrough w events worlds →
+    ensures stays_in_content { (w : World) (events : List Event) (worlds : List World)
+        (session : ℕ) (tag : Tag) (mode : Mode) → SafeWorld w → RunsThrough w events worlds →
         (w.contents.now (partition_of tag)).holds session tag mode ≡ true →
         ((place : ℕ) (u : World) → slice_get worlds place ≡ Some u →
         (slots_of u.words.database u.words.slot session tag mode ≡ true)
