@@ -1,5 +1,5 @@
-use Rattle.std.proofs.Common.{◌≡◌, ◌⊎◌, ℕ, true, false, not, ◌&&◌, Some, None, refl, sym, ap, ◌∙◌, inl, inr}
-use Rattle.std.proofs.lemmas.Bool.{and_parts, false_from_ne_true}
+use Rattle.std.proofs.Common.{◌≡◌, ◌⊎◌, ℕ, true, false, Some, sym, ap, ◌∙◌, inl, inr}
+use Rattle.std.proofs.lemmas.Bool.{false_from_ne_true}
 use Rattle.modes_core.specs.declared.modes.Mode.{Mode}
 use Rattle.modes_core.specs.declared.tags.Tag.{Tag}
 use Rattle.modes_core.specs.Tag.{partition_of}
@@ -8,7 +8,7 @@ use Rattle.lock_table.specs.Queue.{waits_there}
 use Rattle.lock_world.specs.Account.{SlotsInHand, account}
 use Rattle.lock_world.specs.AccountFacts.{KnowsContent}
 use Rattle.lock_world.specs.World.{World}
-use Rattle.lock_world.specs.SafeWorld.{SafeWorld, slots_of, tabled}
+use Rattle.lock_world.specs.SafeWorld.{SafeWorld, tabled}
 use Rattle.lock_world.proofs.FromSafe.{session-stands, stands-once}
 use Rattle.lock_world.proofs.FromSafeWorld.{held-in_table}
 use Rattle.lock_world.proofs.Accounts.Lawful.{slots-known}
