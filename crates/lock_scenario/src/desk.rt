@@ -12,8 +12,8 @@ ghost use Rattle.lock_scenario.specs.Waiting.{Releases, ReleasesAll, Leaves};
 
 pub use crate::acquire::Started;
 use crate::acquire::acquire;
-use crate::give_up::{leave_queue, release_hold};
 pub use crate::sessions::{DeskSession, DeskWait};
+use crate::taking_out::{leave_queue, release_hold};
 use local_locks::{End, LocalTable, Unlocked};
 use lock_table::{PartTable, PlainPart, SlotRow, TableRow, empty_parts, list_parts};
 use modes_core::sessions::SESSIONS;

@@ -7,13 +7,13 @@ pub mod bytes;
 pub mod command;
 pub mod desk;
 pub mod faults;
-mod give_up;
 pub mod lines;
 pub mod names;
 pub mod output;
 pub mod program;
 pub mod script;
 pub mod sessions;
+mod taking_out;
 pub mod words;
 
 use program::run_program;

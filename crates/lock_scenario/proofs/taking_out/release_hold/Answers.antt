@@ -8,7 +8,7 @@ use Rattle.lock_table.specs.PartView.{PartView, content_of}
 use Rattle.lock_table.specs.Parts.{no_part}
 use Rattle.lock_scenario.specs.Sessions.{marked_all}
 use Rattle.lock_scenario.proofs.DeskLemmas.{part_here}
-use Rattle.lock_scenario.proofs.give_up.release_hold.Goals as goal
+use Rattle.lock_scenario.proofs.taking_out.release_hold.Goals as goal
 
 pub release-woken-requires : goal.release-woken-requires
 release-woken-requires c =
