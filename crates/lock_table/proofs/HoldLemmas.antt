@@ -1,4 +1,4 @@
-use Rattle.std.proofs.Common.{◌≡◌, ◌≢◌, ℕ, Bool, true, refl, sym, ap, ◌∙◌, inl, inr}
+use Rattle.std.proofs.Common.{◌≡◌, ◌≢◌, ◌⊎◌, ℕ, Bool, true, false, refl, sym, ap, ◌∙◌, inl, inr}
 use Rattle.std.proofs.lemmas.Bool.{cases_eq, cases_Bool, both_ways}
 use Rattle.modes_core.specs.declared.modes.Mode.{Mode}
 use Rattle.modes_core.specs.declared.tags.Tag.{Tag}
@@ -61,3 +61,22 @@ set_hold-here h s t m b = at (set_hold-at h s t m b s t m) where
   at : SetHoldAt h s t m b s t m → set_hold h s t m b s t m ≡ b
   at (here it is) = is
   at (elsewhere not_it is) = absurd (not_it (record { session = refl; tag = refl; mode = refl }))
+
+-- A hold that is there after one was taken away was there; each that was is there after one was added, and no other but that.
+pub set_hold-was : (h : Holds) (s : ℕ) (t : Tag) (m : Mode) (o : Tag) (n : Mode) → set_hold h s t m false s o n ≡ true → h s o n ≡ true
+set_hold-was h s t m o n has = at (set_hold-at h s t m false s o n) where
+  at : SetHoldAt h s t m false s o n → h s o n ≡ true
+  at (here it e) = absurd (both_ways (set_hold h s t m false s o n) e has)
+  at (elsewhere not_it e) = sym e ∙ has
+
+pub set_hold-still : (h : Holds) (s : ℕ) (t : Tag) (m : Mode) (o : Tag) (n : Mode) → h s o n ≡ true → set_hold h s t m true s o n ≡ true
+set_hold-still h s t m o n has = at (set_hold-at h s t m true s o n) where
+  at : SetHoldAt h s t m true s o n → set_hold h s t m true s o n ≡ true
+  at (here it e) = e
+  at (elsewhere not_it e) = e ∙ has
+
+pub set_hold-new : (h : Holds) (s : ℕ) (t : Tag) (m : Mode) (o : Tag) (n : Mode) → set_hold h s t m true s o n ≡ true → (h s o n ≡ true) ⊎ ((o ≡ t) × (n ≡ m))
+set_hold-new h s t m o n has = at (set_hold-at h s t m true s o n) where
+  at : SetHoldAt h s t m true s o n → (h s o n ≡ true) ⊎ ((o ≡ t) × (n ≡ m))
+  at (here it e) = inr (it.tag, it.mode)
+  at (elsewhere not_it e) = inl (sym e ∙ has)

@@ -3,7 +3,7 @@ use Rattle.std.proofs.lemmas.Bool.{cases_Bool, MatchBool-at_true, MatchBool-at_f
 use Rattle.modes_core.specs.declared.modes.Mode.{Mode}
 use Rattle.modes_core.specs.declared.tags.Tag.{Tag}
 use Rattle.lock_table.specs.declared.moves.Move.{Move}
-use Rattle.lock_table.specs.declared.moves.Move.TheVariants.{Keep, Grant, Join, Release, Leave}
+use Rattle.lock_table.specs.declared.moves.Move.TheVariants.{Keep, Grant, Join, Release, Leave, Adopt}
 use Rattle.lock_table.specs.Content.{Wait, Content, remove_hold}
 use Rattle.lock_table.specs.declared.answering.Answer.TheVariants.{Queued}
 use Rattle.lock_table.specs.Queue.{WaitingAnswer, some_awaits_conflict, Wakes, add_wait, remove_wait}
@@ -36,3 +36,4 @@ one_moved before s (Join t m) granted granted' after after' one two =
     (one.2 ∙ sym two.2, one.3 ∙ ap (add_wait before s t m) (one_joined before s t m one.0 two.0 one.1 two.1) ∙ sym two.3)
 one_moved before s (Release t m) granted granted' after after' one two = one_woken m (remove_hold before s t m) t granted granted' after after' one.1 two.1
 one_moved before s (Leave t) granted granted' after after' one two = one_wakes (remove_wait before s t) t granted granted' after after' one.1 two.1
+one_moved before s (Adopt k i) granted granted' after after' one two = absurd one

@@ -5,24 +5,26 @@ use Rattle.modes_core.specs.declared.modes.Mode.{Mode}
 use Rattle.modes_core.specs.declared.tags.Tag.{Tag}
 use Rattle.modes_core.specs.Tag.{partition_of}
 use Rattle.lock_table.specs.declared.moves.Move.{Move}
-use Rattle.lock_table.specs.declared.moves.Move.TheVariants.{Keep, Grant, Join, Release, Leave}
+use Rattle.lock_table.specs.declared.moves.Move.TheVariants.{Keep, Grant, Join, Release, Leave, Adopt}
 use Rattle.lock_table.specs.Content.{Holds}
 use Rattle.lock_table.specs.OwnWait.{is_for}
 use Rattle.lock_table.proofs.HoldLemmas.{SetHoldAt, here, elsewhere, set_hold-at}
 use Rattle.lock_table.specs.Content.{set_hold}
 use Rattle.lock_world.specs.declared.events.Event.{Event}
 use Rattle.lock_world.specs.declared.events.Step.{Step}
-use Rattle.lock_world.specs.declared.events.Step.TheVariants.{TakeExclusive, PutExclusive, TakeShared, PutShared, SplitSeat, JoinSeat, AskCancel, LoadWait, SetWaiting, MarkGranted, ClearWait, PutPassing, LoadStrong, LoadWord, SetSlot, ClearSlot, StoreDatabase, Count, Uncount}
+use Rattle.lock_world.specs.declared.events.Step.TheVariants.{TakeExclusive, PutExclusive, TakeShared, PutShared, SplitSeat, JoinSeat, AskCancel, LoadWait, SetWaiting, MarkGranted, ClearWait, PutPassing, LoadStrong, LoadWord, SetSlot, ClearSlot, StoreDatabase, Count, Uncount, TransferSlot}
 use Rattle.lock_world.specs.declared.events.Word.{Word}
 use Rattle.lock_world.specs.declared.events.Word.TheVariants.{Partition, Fast, Database, Slot, Wait, Strong, Sleep}
 use Rattle.lock_world.specs.World.{World}
 use Rattle.lock_world.specs.Happens.{HappensStep, HappensTaking, HappensPutting, HappensSharing, HappensUnsharing, HappensLoading, Next, RunsThrough}
 use Rattle.lock_world.specs.Happens.Seats.{HappensJoining}
 use Rattle.lock_world.specs.Happens.Slots.{MaySetSlot, after_setting_slot, MayClearSlot, after_clearing_slot}
+use Rattle.lock_world.specs.Happens.Transfers.{MayTransfer, after_transferring}
 use Rattle.lock_world.specs.Happens.Waits.{HappensMarking, HappensMarkingIn, HappensClearing}
 use Rattle.lock_world.specs.SafeWorld.{SafeWorld, slots_of}
 use Rattle.lock_world.proofs.SafeWorld.Slots.Setting.{setting-slots}
 use Rattle.lock_world.proofs.SafeWorld.Slots.Clearing.{clearing-slots}
+use Rattle.lock_world.proofs.SafeWorld.Slots.Transferring.{transferring-slots}
 use Rattle.lock_world.proofs.SafeWorld.Slots.Databases.{storing-slots}
 use Rattle.lock_world.proofs.SafeWorld.Runs.{Next-safe}
 use Rattle.lock_world.proofs.FromSafeWorld.{held-in_table, shown-in_no_content}
@@ -101,6 +103,7 @@ marking w s marked (Grant t n) v k o m h shown = absurd h
 marking w s marked (Join t n) v k o m h shown = absurd h
 marking w s marked (Release t n) v k o m h shown = marking_in w s marked (partition_of t) (Release t n) v k o m h shown
 marking w s marked (Leave t) v k o m h shown = marking_in w s marked (partition_of t) (Leave t) v k o m h shown
+marking w s marked (Adopt q i) v k o m h shown = absurd h
 
 clearing : (w : World) (s : ℕ) (leaving : Bool) (v : World) (k : ℕ) (o : Tag) (m : Mode) → HappensClearing w s leaving v → shown_in v k o m ≡ true → IsOldOrNew w k o m
 clearing w s false v k o m h shown = old w _ v k o m h.2 shown (λ e. e)
@@ -120,6 +123,7 @@ setting w s i t n safe may k o m shown = at (set_hold-at (shown_in w) s t n true
   )
   at (elsewhere _ e) = inl (sym e ∙ now)
 
+-- A slot cleared shows none that was not there.
 unsetting : (w : World) (s i : ℕ) (t : Tag) (n : Mode) → SafeWorld w → MayClearSlot w s i t n → (k : ℕ) (o : Tag) (m : Mode) → shown_in (after_clearing_slot w s i t n) k o m ≡ true → IsOldOrNew w k o m
 unsetting w s i t n safe may k o m shown = at (set_hold-at (shown_in w) s t n false k o m) where
   now : set_hold (shown_in w) s t n false k o m ≡ true
@@ -127,6 +131,16 @@ unsetting w s i t n safe may k o m shown = at (set_hold-at (shown_in w) s t n fa
 
   at : SetHoldAt (shown_in w) s t n false k o m → IsOldOrNew w k o m
   at (here it e) = absurd (both_ways (set_hold (shown_in w) s t n false k o m) e now)
+  at (elsewhere _ e) = inl (sym e ∙ now)
+
+-- So does one of which a mode has gone to the table.
+moving : (w : World) (s q i : ℕ) (t : Tag) (n strong : Mode) → SafeWorld w → MayTransfer w s q i t n strong → (k : ℕ) (o : Tag) (m : Mode) → shown_in (after_transferring w q i t n) k o m ≡ true → IsOldOrNew w k o m
+moving w s q i t n strong safe may k o m shown = at (set_hold-at (shown_in w) q t n false k o m) where
+  now : set_hold (shown_in w) q t n false k o m ≡ true
+  now = sym (λ x. transferring-slots w s q i t n strong safe may x k o m) ∙ shown
+
+  at : SetHoldAt (shown_in w) q t n false k o m → IsOldOrNew w k o m
+  at (here it e) = absurd (both_ways (set_hold (shown_in w) q t n false k o m) e now)
   at (elsewhere _ e) = inl (sym e ∙ now)
 
 step : (w : World) (s : ℕ) (made : Step) (v : World) (k : ℕ) (o : Tag) (m : Mode) → SafeWorld w → HappensStep w s made v → shown_in v k o m ≡ true → IsOldOrNew w k o m
@@ -150,6 +164,7 @@ step w s (ClearSlot i t n) v k o m safe h shown = unsetting w s i t n safe h.0 k
 step w s (StoreDatabase d) v k o m safe h shown = old w _ v k o m h.1 shown (λ e. sym (λ x. storing-slots w s d h.0 x k o m) ∙ e)
 step w s (Count t n) v k o m safe h shown = old w _ v k o m h.1 shown (λ e. e)
 step w s (Uncount t n) v k o m safe h shown = old w _ v k o m h.1 shown (λ e. e)
+step w s (TransferSlot q i t n x) v k o m safe h shown = moving w s q i t n x safe h.0 k o m (subst (λ (z : World). shown_in z k o m ≡ true) h.1 shown)
 
 -- So where a hold stands in a content, no event puts it in a slot.
 pub stays-out : (w v : World) (event : Event) (k : ℕ) (o : Tag) (m : Mode) → SafeWorld w → Next w event v → (w.contents.now (partition_of o)).holds k o m ≡ true → shown_in v k o m ≡ true → ⊥

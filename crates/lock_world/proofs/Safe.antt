@@ -3,4 +3,5 @@ pub mod Seats
 pub mod Partitions
 pub mod Waits
 pub mod Sharing
+pub mod Transfers
 pub mod Slots

@@ -1,15 +1,20 @@
 use Rattle.std.proofs.Common.{◌≡◌, ◌≢◌, ◌⊎◌, ℕ, ◌<◌, ◌≤◌, Bool, true, false, List, [], ◌∷◌, ◌++◌, Option, Some, None, refl, sym, ap, ◌∙◌, subst, inl, inr, arith}
 use Rattle.std.specs.Prelude.{◌==◌}
 use Rattle.std.proofs.lemmas.Bool.{cases_eq, cond-true, cond-false, eqb-true, eq-eqb, ne_eqb}
+use Rattle.modes_core.specs.declared.modes.Mode.{Mode}
+use Rattle.modes_core.specs.declared.tags.Tag.{Tag}
 use Rattle.lock_table.specs.declared.moves.Move.{Move}
-use Rattle.lock_table.specs.Content.{Wait, Content}
-use Rattle.lock_table.specs.Moves.{Moves}
+use Rattle.lock_table.specs.declared.moves.Move.TheVariants.{Adopt}
+use Rattle.lock_table.specs.Content.{Wait, Content, add_hold}
+use Rattle.lock_table.specs.Moves.{Moves, Adopts}
 use Rattle.lock_table.specs.Put.{set_at}
 use Rattle.lock_world.specs.World.{Hand, Contents, TraceEntry, Took, Episode, AskedToCancel, Loaded, recorded_in}
 use Rattle.lock_world.specs.Happens.Partitions.{content_taken}
 use Rattle.lock_world.specs.Happens.Waits.{recording}
+use Rattle.lock_world.specs.Happens.Transfers.{MayAdopt}
 use Rattle.lock_world.specs.Safe.{taken_after, taken_by, IsOneMove, EntryIsSound, EpisodesAreMoves, taken_in, IsMadeBy, HandIsOneMove, TracesTell, is_hand_of}
 use Rattle.lock_table.proofs.PutLemmas.{set_at-here, set_at-else, set_at-each}
+use Rattle.lock_table.proofs.HoldLemmas.{set_hold-still}
 
 -- A trace with one entry more.
 
@@ -211,7 +216,7 @@ module _ (contents : Contents) (trace : ℕ → List TraceEntry) (issued : ℕ) 
   moved-taken s p done holds recorded = at (contents.hand p) holds recorded (tell.one_move p) where
     made : (recorded : Option Move) (taken : Content) (holder : ℕ) → recorded ≡ Some done → IsMadeBy recorded taken holder (contents.now p) → IsOneMove taken holder (contents.now p)
     made None taken holder some is = absurd (cc)
-    made (Some other) taken holder some is = (other, is.0, is.1)
+    made (Some other) taken holder some is = (other, is)
 
     at : (hand : Option Hand) → is_hand_of hand s ≡ true → recorded_in hand ≡ Some done → HandIsOneMove hand (contents.now p)
         → (taken : Content) × (taken_in hand s ≡ Some taken) × IsOneMove taken s (contents.now p)
@@ -229,11 +234,39 @@ module _ (contents : Contents) (trace : ℕ → List TraceEntry) (issued : ℕ) 
 
     at : (hand : Option Hand) → is_hand_of hand s ≡ true → recorded_in hand ≡ None → HandIsOneMove hand (contents.now p) → HandIsOneMove (recording hand done unmarked) content
     at None here none is = tt
-    at (Some h) here none is = (
+    at (Some h) here none is = inl (
       granted,
       subst (λ taken. Moves taken h.holder done granted content) (made h.recorded h.taken h.holder none is)
           (subst (λ k. Moves (contents.now p) k done granted content) (sym (eqb-true h.holder s here)) moves),
     )
+
+  -- A mode added by an adopt of one slot, the first one or one more, stands in the hand so.
+  pub recorded-adopted :
+      (p owner slot : ℕ) (t : Tag) (m : Mode) (unmarked : ℕ → Bool) → MayAdopt (recorded_in (contents.hand p)) owner slot
+      → HandIsOneMove (recording (contents.hand p) (Adopt owner slot) unmarked) (add_hold (contents.now p) owner t m)
+  recorded-adopted p owner slot t m unmarked may = at (contents.hand p) may (tell.one_move p) where
+    before : (recorded : Option Move) (taken : Content) (holder : ℕ) → MayAdopt recorded owner slot → IsMadeBy recorded taken holder (contents.now p) → Adopts taken owner (contents.now p)
+    before None taken holder free is = record {
+      more = λ o n had. (λ i. (is i).holds owner o n) ∙ had;
+      others = λ k other. ap (λ c. c.holds k) is;
+      waits = ap (λ c. c.waits) is;
+    }
+    before (Some done) taken holder same (inl made) = absurd (subst (λ it. Moves taken holder it made.0 (contents.now p)) same made.1)
+    before (Some done) taken holder same (inr made) =
+        let its : Adopt owner slot ≡ Adopt made.0 made.1 = sym same ∙ made.2 in
+        let whose : made.0 ≡ owner = cc in
+        subst (λ k. Adopts taken k (contents.now p)) whose made.3
+
+    at : (hand : Option Hand) → MayAdopt (recorded_in hand) owner slot → HandIsOneMove hand (contents.now p)
+        → HandIsOneMove (recording hand (Adopt owner slot) unmarked) (add_hold (contents.now p) owner t m)
+    at None may is = tt
+    at (Some h) may is =
+        let already = before h.recorded h.taken h.holder may is in
+        inr (owner, slot, refl, record {
+          more = λ o n had. set_hold-still (contents.now p).holds owner t m o n (already.more o n had);
+          others = λ k other. set_at-else (contents.now p).holds owner _ k other ∙ already.others k other;
+          waits = already.waits;
+        })
 
   -- A recorded move that is recorded again, with others unmarked, stands as before.
   pub recorded-again : (p : ℕ) (done : Move) (unmarked : ℕ → Bool) → recorded_in (contents.hand p) ≡ Some done → HandIsOneMove (recording (contents.hand p) done unmarked) (contents.now p)

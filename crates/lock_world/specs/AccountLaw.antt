@@ -13,6 +13,7 @@ use Rattle.lock_world.specs.SlotHolds.{slot_count, relation_of, IsSlotToGrant}
 use Rattle.lock_world.specs.Counted.{IsCountedFor, is_counted, is_at}
 use Rattle.lock_world.specs.Happens.Partitions.{IsMadeByPutting, WaitIsOver}
 use Rattle.lock_world.specs.Happens.Counters.{most_counted}
+use Rattle.lock_world.specs.Happens.Transfers.{MayAdopt}
 use Rattle.lock_world.specs.Account.{Account, InHand, SlotsInHand}
 
 -- Where a step is lawful, by the account of the session that makes it. That it makes steps of its own is not asked here. `number` is
@@ -88,6 +89,17 @@ pub record MayClearSlotBy (number : ℕ) (a : Account) (mine : SlotsInHand) (pla
   pub eligible : is_eligible_for a.fast.database tag mode ≡ true
   pub within : place < slot_count
   pub shown : shows (mine.word place) (relation_of tag) mode ≡ true
+
+-- Moving a mode from a slot to the content in hand of the object's partition.
+pub record MayTransferBy (limit : ℕ) (a : Account) (owner place : ℕ) (its : SlotsInHand) (mine : InHand) (tag : Tag) (mode strong : Mode) : Type 0 where
+  pub its_slots : a.fast.slots owner ≡ Some its
+  pub in_hand : a.hand (partition_of tag) ≡ Some mine
+  pub exists : owner < limit
+  pub next : is_at owner a.fast.counted tag strong ≡ true
+  pub may_adopt : MayAdopt mine.recorded owner place
+  pub held : its.holds tag mode ≡ true
+  pub within : place < slot_count
+  pub shown : shows (its.word place) (relation_of tag) mode ≡ true
 
 -- Counting a strong lock, and counting it no more.
 pub record MayCountBy (a : Account) (tag : Tag) (mode : Mode) : Type 0 where

@@ -4,8 +4,8 @@ use Rattle.modes_core.specs.declared.tags.Tag.{Tag}
 use Rattle.modes_core.specs.Mode.{mode_eq}
 use Rattle.modes_core.specs.Tag.{tag_eq, partition_of}
 use Rattle.lock_table.specs.declared.moves.Move.{Move}
-use Rattle.lock_table.specs.declared.moves.Move.TheVariants.{Keep, Grant, Join, Release, Leave}
-use Rattle.lock_table.specs.Content.{Content}
+use Rattle.lock_table.specs.declared.moves.Move.TheVariants.{Keep, Grant, Join, Release, Leave, Adopt}
+use Rattle.lock_table.specs.Content.{Content, add_hold}
 use Rattle.lock_table.specs.OwnWait.{OwnWait}
 use Rattle.lock_table.specs.Put.{put, set_at}
 use Rattle.lw_word.specs.SlotWord.{word_with, word_without}
@@ -32,6 +32,7 @@ own_moved own (Grant tag mode) = own_with own tag mode true
 own_moved own (Join tag mode) = own
 own_moved own (Release tag mode) = own_with own tag mode false
 own_moved own (Leave tag) = own
+own_moved own (Adopt owner slot) = own
 
 -- Partitions.
 
@@ -149,6 +150,19 @@ account_unsetting number a mine place tag mode = record a {
     slots = set_at a.fast.slots number (Some (record {
       word = set_at mine.word place (word_without (mine.word place) mode);
       holds = own_with mine.holds tag mode false;
+    }));
+  };
+}
+
+-- moving a mode from a slot, with the lock of its session's slots held, to the content in hand of the object's partition
+abbrev pub account_transferring : Account → ℕ → ℕ → SlotsInHand → InHand → Tag → Mode → Account
+account_transferring a owner place its mine tag mode = record a {
+  hand = set_at a.hand (partition_of tag)
+      (Some (hand_recording mine (add_hold mine.now owner tag mode) (Adopt owner place) mine.unmarked));
+  fast = record (a.fast) {
+    slots = set_at a.fast.slots owner (Some (record {
+      word = set_at its.word place (word_without (its.word place) mode);
+      holds = own_with its.holds tag mode false;
     }));
   };
 }

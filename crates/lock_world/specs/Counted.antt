@@ -5,7 +5,7 @@ use Rattle.modes_core.specs.declared.tags.Tag.{Tag}
 use Rattle.modes_core.specs.Mode.{mode_eq}
 use Rattle.modes_core.specs.Tag.{tag_eq, index_of, is_strong_on}
 use Rattle.lock_table.specs.declared.moves.Move.{Move}
-use Rattle.lock_table.specs.declared.moves.Move.TheVariants.{Keep, Grant, Join, Release, Leave}
+use Rattle.lock_table.specs.declared.moves.Move.TheVariants.{Keep, Grant, Join, Release, Leave, Adopt}
 use Rattle.lock_table.specs.Content.{Holds}
 use Rattle.lock_table.specs.OwnWait.{OwnWait, is_for}
 use Rattle.lock_world.specs.Total.{total}
@@ -89,3 +89,4 @@ IsCountedFor limit counted (Grant tag mode) = is_strong_on tag mode ≡ true →
 IsCountedFor limit counted (Join tag mode) = is_strong_on tag mode ≡ true → is_done limit counted tag mode ≡ true
 IsCountedFor limit counted (Release tag mode) = Unit {0}
 IsCountedFor limit counted (Leave tag) = Unit {0}
+IsCountedFor limit counted (Adopt owner slot) = Unit {0}

@@ -4,11 +4,12 @@ pub mod Waits
 pub mod Sharing
 pub mod Slots
 pub mod Counters
+pub mod Transfers
 use Rattle.std.specs.Prelude.{◌≡◌, ℕ, List, ◌⊎◌, [], ◌∷◌}
 use Rattle.lock_world.specs.World.{World, MakesSteps}
 use Rattle.lock_world.specs.declared.events.Event.{Event}
 use Rattle.lock_world.specs.declared.events.Step.{Step}
-use Rattle.lock_world.specs.declared.events.Step.TheVariants.{TakeExclusive, PutExclusive, TakeShared, PutShared, SplitSeat, JoinSeat, AskCancel, LoadWait, SetWaiting, MarkGranted, ClearWait, PutPassing, LoadStrong, LoadWord, SetSlot, ClearSlot, StoreDatabase, Count, Uncount}
+use Rattle.lock_world.specs.declared.events.Step.TheVariants.{TakeExclusive, PutExclusive, TakeShared, PutShared, SplitSeat, JoinSeat, AskCancel, LoadWait, SetWaiting, MarkGranted, ClearWait, PutPassing, LoadStrong, LoadWord, SetSlot, ClearSlot, StoreDatabase, Count, Uncount, TransferSlot}
 use Rattle.lock_world.specs.Happens.Seats.{HappensSplitting, HappensJoining}
 use Rattle.lock_table.specs.declared.moves.Move.{Move}
 use Rattle.lock_table.specs.declared.moves.Move.TheVariants.{Keep}
@@ -18,6 +19,7 @@ use Rattle.lock_world.specs.Happens.Partitions.{HappensTakingPartition, HappensP
 use Rattle.lock_world.specs.Happens.Sharing.{HappensSharingPartition, HappensUnsharingPartition, HappensSharingFast, HappensUnsharingFast}
 use Rattle.lock_world.specs.Happens.Slots.{HappensTakingFast, HappensPuttingFast, MayLoad, after_loading, after_reading_counter, MaySetSlot, after_setting_slot, MayClearSlot, after_clearing_slot, MayStoreDatabase, after_storing_database}
 use Rattle.lock_world.specs.Happens.Counters.{MayCount, after_counting, MayUncount, after_uncounting, MayPass, after_passing}
+use Rattle.lock_world.specs.Happens.Transfers.{MayTransfer, after_transferring}
 use Rattle.lock_world.specs.Happens.Waits.{after_asking, MayLoadWait, after_loading_wait, HappensSetting, HappensMarking, HappensClearing}
 
 -- Lightweight locks: the words of partitions and of sessions' fast-path slots. With the latter no move is made.
@@ -89,6 +91,8 @@ HappensStep w session (ClearSlot place tag mode) v = MayClearSlot w session plac
 HappensStep w session (StoreDatabase database) v = MayStoreDatabase w session × (v ≡ after_storing_database w session database)
 HappensStep w session (Count tag mode) v = MayCount w session tag mode × (v ≡ after_counting w session tag mode)
 HappensStep w session (Uncount tag mode) v = MayUncount w session tag mode × (v ≡ after_uncounting w session tag mode)
+HappensStep w session (TransferSlot owner place tag mode strong) v =
+    MayTransfer w session owner place tag mode strong × (v ≡ after_transferring w owner place tag mode)
 
 -- The event is lawful in the World w, and v is the World after it.
 abbrev pub Happens : World → Event → World → Type 0

@@ -4,14 +4,14 @@ use Rattle.modes_core.specs.declared.tags.Tag.{Tag}
 use Rattle.modes_core.specs.Conflict.{conflict}
 use Rattle.modes_core.specs.Tag.{tag_eq, partition_of}
 use Rattle.lock_table.specs.declared.moves.Move.{Move}
-use Rattle.lock_table.specs.declared.moves.Move.TheVariants.{Keep, Grant, Join, Release, Leave}
+use Rattle.lock_table.specs.declared.moves.Move.TheVariants.{Keep, Grant, Join, Release, Leave, Adopt}
 use Rattle.lock_table.specs.Content.{Holds, Wait, Content}
 use Rattle.lw_word.specs.LightweightWord.{IsHeldExclusively, shared_count}
 use Rattle.lock_table.specs.OwnWait.{OwnWait, Stage, InQueue, WasGranted, HasLeft, is_for, is_pending, queued_by}
 use Rattle.lock_table.specs.Queue.{NoneFree}
 use Rattle.lock_world.specs.Total.{how_many}
 use Rattle.lock_world.specs.WaitWord.{wait_state}
-use Rattle.lock_table.specs.Moves.{Moves}
+use Rattle.lock_table.specs.Moves.{Moves, Adopts}
 use Rattle.lock_table.specs.Put.{set_at}
 use Rattle.lock_world.specs.World.{World, Hand, Contents, Numbers, TraceEntry, Took, Episode, AskedToCancel, Loaded, recorded_in, is_unmarked}
 
@@ -32,6 +32,7 @@ is_leave_of (Some (Grant other mode)) tag = false
 is_leave_of (Some (Join other mode)) tag = false
 is_leave_of (Some (Release other mode)) tag = false
 is_leave_of (Some (Leave other)) tag = tag_eq other tag
+is_leave_of (Some (Adopt owner slot)) tag = false
 
 -- the stage of a wait by the hand alone: granted where the grant stands unmarked in the hand, and left where its own session's hand has
 -- recorded that
@@ -156,9 +157,14 @@ abbrev pub taken_by : (ℕ → Option Content) → List TraceEntry → ℕ → O
 taken_by taken [] = taken
 taken_by taken (entry ∷ trace) = taken_by (taken_after taken entry) trace
 
+-- The move of the session, in all its steps, leads from the one content to the other.
+abbrev pub Makes : Content → ℕ → Move → Content → Type 0
+Makes taken session done now =
+    ((granted : List Wait) × Moves taken session done granted now) ⊎ ((owner : ℕ) × (slot : ℕ) × (done ≡ Adopt owner slot) × Adopts taken owner now)
+
 -- One move of the session leads from the one content to the other.
 abbrev pub IsOneMove : Content → ℕ → Content → Type 0
-IsOneMove taken session now = (done : Move) × (granted : List Wait) × Moves taken session done granted now
+IsOneMove taken session now = (done : Move) × Makes taken session done now
 
 -- An episode is of a partition that the session had in hand, with the content that it took, and puts what one move makes of it.
 abbrev pub EntryIsSound : ℕ → (ℕ → Option Content) → TraceEntry → Type 0
@@ -179,7 +185,7 @@ taken_in (Some hand) session = if hand.holder == session then Some hand.taken el
 -- The content in hand is the one taken, or what the recorded move has made of it.
 abbrev pub IsMadeBy : Option Move → Content → ℕ → Content → Type 0
 IsMadeBy None taken session now = now ≡ taken
-IsMadeBy (Some done) taken session now = (granted : List Wait) × Moves taken session done granted now
+IsMadeBy (Some done) taken session now = Makes taken session done now
 
 abbrev pub HandIsOneMove : Option Hand → Content → Type 0
 HandIsOneMove None now = Unit {0}

@@ -133,6 +133,16 @@ pub enum Step {
         tag: Tag,
         mode: Mode,
     },
+    /// Move a mode that a slot of the session has to the object's content in hand, for a strong lock that is counted
+    /// and on whose way that session is next, with the lock of its slots held (the inner loop of
+    /// `FastPathTransferRelationLocks` in lock.c).
+    TransferSlot {
+        owner: SessionId,
+        slot: u8,
+        tag: Tag,
+        mode: Mode,
+        strong: Mode,
+    },
 }
 
 /// One atomic step of one session.

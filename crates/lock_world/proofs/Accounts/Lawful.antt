@@ -1,23 +1,24 @@
 use Rattle.std.proofs.Common.{◌≡◌, ℕ, ◌<◌, Bool, true, false, List, [], Option, Some, None, refl, sym, ap, ◌∙◌, inl, inr, subst}
 use Rattle.std.specs.Prelude.{◌==◌}
-use Rattle.std.proofs.lemmas.Bool.{cases_Bool, cond-true, cond-false, eqb-true, eq-eqb}
+use Rattle.std.proofs.lemmas.Bool.{cases_Bool, cond-true, cond-false, eqb-true, eq-eqb, and_parts}
 use Rattle.modes_core.specs.declared.modes.Mode.{Mode}
 use Rattle.modes_core.specs.declared.tags.Tag.{Tag}
-use Rattle.modes_core.specs.Tag.{partition_of}
+use Rattle.modes_core.specs.Tag.{partition_of, is_eligible_for}
 use Rattle.lock_table.specs.declared.moves.Move.{Move}
-use Rattle.lock_table.specs.declared.moves.Move.TheVariants.{Keep, Grant, Join, Release, Leave}
+use Rattle.lock_table.specs.declared.moves.Move.TheVariants.{Keep, Grant, Join, Release, Leave, Adopt}
 use Rattle.lock_table.specs.Content.{Wait, Content, Holds}
 use Rattle.lock_table.specs.Moves.{Moves, FitsOwn}
 use Rattle.lock_table.specs.OwnWait.{OwnWait}
 use Rattle.lock_table.specs.Queue.{waits_there}
 use Rattle.lw_word.specs.SlotWord.{shows}
-use Rattle.lock_world.specs.SlotHolds.{slot_holds, relation_of, IsSlotToGrant}
+use Rattle.lock_world.specs.SlotHolds.{slot_count, slot_holds, relation_of, any_below, IsSlotToGrant}
 use Rattle.lock_world.specs.World.{World, Hand, MakesSteps, recorded_in, is_unmarked}
 use Rattle.lock_world.specs.Account.{InHand, SlotsInHand, own_hand, known_slots, account}
-use Rattle.lock_world.specs.AccountLaw.{MayMoveBy, MayPutBy, MayPutRecordedBy, MayClearSeenBy, MayClearInHandBy, MayLeaveBy, MayPutFastBy, MayPassBy, MaySetSlotBy, MayClearSlotBy, MayCountBy, MayUncountBy}
+use Rattle.lock_world.specs.AccountLaw.{MayMoveBy, MayPutBy, MayPutRecordedBy, MayClearSeenBy, MayClearInHandBy, MayLeaveBy, MayPutFastBy, MayPassBy, MaySetSlotBy, MayClearSlotBy, MayTransferBy, MayCountBy, MayUncountBy}
 use Rattle.lock_world.specs.Happens.Partitions.{MayMove, MayPutPartition, MayPutRecorded}
 use Rattle.lock_world.specs.Happens.Waits.{MayClearSeen, MayClearInHand, MayLeave}
 use Rattle.lock_world.specs.Happens.Slots.{MayPutFast, MaySetSlot, MayClearSlot}
+use Rattle.lock_world.specs.Happens.Transfers.{MayAdopt, MayTransfer}
 use Rattle.lock_world.specs.Happens.Counters.{MayCount, MayUncount, MayPass}
 use Rattle.lock_world.specs.Safe.{is_hand_of}
 use Rattle.lock_world.specs.SafeWorld.{SafeWorld}
@@ -53,6 +54,7 @@ fits-own own awaited s (Grant t m) fits = fits
 fits-own own awaited s (Join t m) fits = fits
 fits-own own awaited s (Release t m) fits = fits
 fits-own own awaited s (Leave t) fits = tt
+fits-own own awaited s (Adopt k i) fits = tt
 
 module _ (w : World) (safe : SafeWorld w) (s : ℕ) (steps : MakesSteps w.numbers s) where
   holding : (p : ℕ) (its : InHand) → IsMine (w.contents.hand p) (w.contents.now p) s its → w.sessions.holds_partition s p ≡ true
@@ -142,6 +144,24 @@ module _ (w : World) (safe : SafeWorld w) (s : ℕ) (steps : MakesSteps w.number
       shown = ap (λ slots. shows (slots.word i) (relation_of t) m) (sym (known s its may.in_hand).1) ∙ may.shown;
     };
   }
+
+  pub transfer-lawful : (o i : ℕ) (its : SlotsInHand) (held : InHand) (t : Tag) (m strong : Mode) → MayTransferBy w.numbers.limit (account w s) o i its held t m strong → MayTransfer w s o i t m strong
+  transfer-lawful o i its held t m strong may =
+      let own = hand-known (w.contents.hand (partition_of t)) (w.contents.now (partition_of t)) s held may.in_hand in
+      record {
+        steps = steps;
+        holding_slots = (known o its may.its_slots).0;
+        holding = holding (partition_of t) held own;
+        exists = may.exists;
+        next = may.next;
+        may_adopt = subst (λ made. MayAdopt made o i) (ap (λ known. known.recorded) own.as_known ∙ sym (ap recorded_in own.is_hand)) may.may_adopt;
+        held_in = record {
+          eligible = (and_parts (is_eligible_for (w.words.database o) t m) (any_below slot_count (λ k. shows (w.words.slot o k) (relation_of t) m))
+              (ap (λ slots. slots.holds t m) (sym (known o its may.its_slots).1) ∙ may.held)).0;
+          within = may.within;
+          shown = ap (λ slots. shows (slots.word i) (relation_of t) m) (sym (known o its may.its_slots).1) ∙ may.shown;
+        };
+      }
 
   pub count-lawful : (t : Tag) (m : Mode) → MayCountBy (account w s) t m → MayCount w s t m
   count-lawful t m may = record { steps = steps; strong = may.strong; new = may.new; few = may.few }

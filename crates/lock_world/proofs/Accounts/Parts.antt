@@ -6,7 +6,7 @@ use Rattle.modes_core.specs.declared.tags.Tag.{Tag}
 use Rattle.modes_core.specs.Mode.{mode_eq}
 use Rattle.modes_core.specs.Tag.{tag_eq}
 use Rattle.lock_table.specs.declared.moves.Move.{Move}
-use Rattle.lock_table.specs.declared.moves.Move.TheVariants.{Keep, Grant, Join, Release, Leave}
+use Rattle.lock_table.specs.declared.moves.Move.TheVariants.{Keep, Grant, Join, Release, Leave, Adopt}
 use Rattle.lock_table.specs.Content.{Content, Holds, set_hold}
 use Rattle.lock_table.specs.Put.{put, set_at}
 use Rattle.lock_table.proofs.PutLemmas.{set_at-here, set_at-else}
@@ -89,3 +89,4 @@ own-moved own s (Grant t m) = own-set own s t m true
 own-moved own s (Join t m) = refl
 own-moved own s (Release t m) = own-set own s t m false
 own-moved own s (Leave t) = refl
+own-moved own s (Adopt k i) = refl

@@ -3,23 +3,28 @@ use Rattle.std.specs.Prelude.{◌==◌, ◌&&◌, if◌then◌else◌}
 use Rattle.std.proofs.lemmas.Bool.{cases_eq}
 use Rattle.modes_core.specs.declared.modes.Mode.{Mode}
 use Rattle.modes_core.specs.declared.tags.Tag.{Tag}
+use Rattle.modes_core.specs.Tag.{partition_of}
 use Rattle.lw_word.specs.SlotWord.{word_with, word_without}
+use Rattle.lock_table.specs.declared.moves.Move.TheVariants.{Adopt}
+use Rattle.lock_table.specs.Content.{Content, add_hold}
 use Rattle.lock_table.specs.Put.{set_at}
 use Rattle.lock_table.proofs.PutLemmas.{set_at-here, set_at-else}
 use Rattle.lock_world.specs.declared.events.Word.{Word}
 use Rattle.lock_world.specs.declared.events.Word.TheVariants.{Strong}
 use Rattle.lock_world.specs.SlotHolds.{slot_holds, relation_of}
 use Rattle.lock_world.specs.Counted.{counting, uncounting, passing}
-use Rattle.lock_world.specs.World.{World, Loaded}
-use Rattle.lock_world.specs.Account.{FastAccount, SlotsInHand, known_slots, slots_in_hand, fast_account, account}
-use Rattle.lock_world.specs.AccountSteps.{account_tracing, account_taking_fast, account_putting_fast, account_passing, account_counting, account_uncounting, account_storing, account_reading, account_setting, account_unsetting}
+use Rattle.lock_world.specs.World.{World, Hand, Loaded, is_unmarked}
+use Rattle.lock_world.specs.Account.{FastAccount, SlotsInHand, Account, known_slots, slots_in_hand, own_hands, fast_account, account}
+use Rattle.lock_world.specs.AccountSteps.{account_tracing, account_taking_fast, account_putting_fast, account_passing, account_counting, account_uncounting, account_storing, account_reading, account_setting, account_unsetting, account_transferring}
 use Rattle.lock_world.specs.Happens.Slots.{after_taking_fast, zero_after_putting, after_putting_fast, after_loading, after_reading_counter, MaySetSlot, after_setting_slot, MayClearSlot, after_clearing_slot, MayStoreDatabase, after_storing_database}
 use Rattle.lock_world.specs.Happens.Counters.{after_counting, after_uncounting, after_passing}
+use Rattle.lock_world.specs.Happens.Waits.{recording}
+use Rattle.lock_world.specs.Happens.Transfers.{MayTransfer, after_transferring}
 use Rattle.lock_world.specs.SafeWorld.{SafeWorld}
 use Rattle.lock_world.proofs.Slots.Setting.{slot_holds-set}
 use Rattle.lock_world.proofs.Slots.Clearing.{slot_holds-clear}
 use Rattle.lock_world.proofs.Others.Slots.{slots_in_hand-set, slots_in_hand-stored}
-use Rattle.lock_world.proofs.Accounts.Parts.{account-by, own-set}
+use Rattle.lock_world.proofs.Accounts.Parts.{account-by, own-set, mine, hands-moved}
 
 -- What a session knows of slots and counters is this part by part.
 fast-by :
@@ -113,7 +118,7 @@ account-reading w s index n =
       set true false = refl
       set false has = refl
 
--- The own slots are written while their lock is held.
+-- Slots are written while their lock is held.
 slots-written :
     (has : ℕ → Bool) (database : ℕ → ℕ) (slot : ℕ → ℕ → ℕ) (s : ℕ) (after : ℕ → ℕ) → has s ≡ true
     → slots_in_hand has database (set_at slot s after) ≡ set_at (slots_in_hand has database slot) s (Some (record { word = after; holds = slot_holds (database s) after }))
@@ -134,17 +139,17 @@ slots-written has database slot s after own = λ i q. at q i where
             ∙ sym (set_at-else (slots_in_hand has database slot) s (Some mine) q other)
       ]
 
--- the own slots, as a session that has their lock knows them
-abbrev pub own_slots : World → ℕ → SlotsInHand
-own_slots w s = record { word = w.words.slot s; holds = slot_holds (w.words.database s) (w.words.slot s) }
+-- a session's slots, as whoever has their lock knows them
+abbrev pub slots_now : World → ℕ → SlotsInHand
+slots_now w s = record { word = w.words.slot s; holds = slot_holds (w.words.database s) (w.words.slot s) }
 
 -- Setting and clearing a mode in an own slot.
 pub account-setting :
     (w : World) (s i : ℕ) (t : Tag) (m : Mode) → SafeWorld w → MaySetSlot w s i t m
-    → account (after_setting_slot w s i t m) s ≡ account_setting s (account w s) (own_slots w s) i t m
+    → account (after_setting_slot w s i t m) s ≡ account_setting s (account w s) (slots_now w s) i t m
 account-setting w s i t m safe may =
-    account-by (after_setting_slot w s i t m) s (account_setting s (account w s) (own_slots w s) i t m) (own-set w.sessions.own s t m true) refl refl refl refl
-    (fast-by (after_setting_slot w s i t m) s (account_setting s (account w s) (own_slots w s) i t m).fast
+    account-by (after_setting_slot w s i t m) s (account_setting s (account w s) (slots_now w s) i t m) (own-set w.sessions.own s t m true) refl refl refl refl
+    (fast-by (after_setting_slot w s i t m) s (account_setting s (account w s) (slots_now w s) i t m).fast
     (slots-written (w.sessions.holds_fast s) w.words.database w.words.slot s after may.holding
     ∙ ap (λ holds. set_at (slots_in_hand (w.sessions.holds_fast s) w.words.database w.words.slot) s (Some (record { word = after; holds = holds })))
     (slot_holds-set (w.words.database s) (w.words.slot s) t m i may.eligible may.fits may.takes))
@@ -155,10 +160,10 @@ account-setting w s i t m safe may =
 
 pub account-unsetting :
     (w : World) (s i : ℕ) (t : Tag) (m : Mode) → SafeWorld w → MayClearSlot w s i t m
-    → account (after_clearing_slot w s i t m) s ≡ account_unsetting s (account w s) (own_slots w s) i t m
+    → account (after_clearing_slot w s i t m) s ≡ account_unsetting s (account w s) (slots_now w s) i t m
 account-unsetting w s i t m safe may =
-    account-by (after_clearing_slot w s i t m) s (account_unsetting s (account w s) (own_slots w s) i t m) (own-set w.sessions.own s t m false) refl refl refl refl
-    (fast-by (after_clearing_slot w s i t m) s (account_unsetting s (account w s) (own_slots w s) i t m).fast
+    account-by (after_clearing_slot w s i t m) s (account_unsetting s (account w s) (slots_now w s) i t m) (own-set w.sessions.own s t m false) refl refl refl refl
+    (fast-by (after_clearing_slot w s i t m) s (account_unsetting s (account w s) (slots_now w s) i t m).fast
     (slots-written (w.sessions.holds_fast s) w.words.database w.words.slot s after may.holding
     ∙ ap (λ holds. set_at (slots_in_hand (w.sessions.holds_fast s) w.words.database w.words.slot) s (Some (record { word = after; holds = holds })))
     (slot_holds-clear (w.words.database s) (w.words.slot s) t m i (safe.slots.one_each s) may.held_in))
@@ -174,3 +179,29 @@ account-storing w s d may =
     (fast-by (after_storing_database w s d) s (account_storing (account w s) d).fast
     (slots_in_hand-stored (w.sessions.holds_fast s) w.words.database w.words.slot s d may.unused)
     (slots_in_hand-stored (w.sessions.shares_fast s) w.words.database w.words.slot s d may.unused) (set_at-here w.words.database s d s refl) refl refl) refl
+
+-- Moving a mode from a slot to the content in hand.
+pub account-transferring :
+    (w : World) (s o i : ℕ) (t : Tag) (m strong : Mode) (old : Hand) → SafeWorld w → MayTransfer w s o i t m strong → w.contents.hand (partition_of t) ≡ Some old → old.holder ≡ s
+    → account (after_transferring w o i t m) s ≡ account_transferring (account w s) o i (slots_now w o) (mine old (w.contents.now (partition_of t))) t m
+account-transferring w s o i t m strong old safe may is whose =
+    account-by (after_transferring w o i t m) s after refl refl refl
+    (ap (λ unmarked. own_hands (set_at w.contents.hand p (recording (w.contents.hand p) (Adopt o i) unmarked)) (set_at w.contents.now p content) s) (ap is_unmarked is)
+    ∙ hands-moved w.contents.hand w.contents.now p old (Adopt o i) content old.unmarked s is whose) refl
+    (fast-by (after_transferring w o i t m) s after.fast
+    (slots-written (w.sessions.holds_fast s) w.words.database w.words.slot o words may.holding_slots
+    ∙ ap (λ holds. set_at (slots_in_hand (w.sessions.holds_fast s) w.words.database w.words.slot) o (Some (record { word = words; holds = holds })))
+    (slot_holds-clear (w.words.database o) (w.words.slot o) t m i (safe.slots.one_each o) may.held_in))
+    (slots_in_hand-set (w.sessions.shares_fast s) w.words.database w.words.slot o words ((safe.but_slots.locks.fast_words o).never_both s s may.holding_slots)) refl refl refl)
+    refl where
+      p : ℕ
+      p = partition_of t
+
+      content : Content
+      content = add_hold (w.contents.now p) o t m
+
+      words : ℕ → ℕ
+      words = set_at (w.words.slot o) i (word_without (w.words.slot o i) m)
+
+      after : Account
+      after = account_transferring (account w s) o i (slots_now w o) (mine old (w.contents.now p)) t m

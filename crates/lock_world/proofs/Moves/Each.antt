@@ -7,6 +7,7 @@ use Rattle.modes_core.specs.Mode.{mode_eq}
 use Rattle.modes_core.specs.Tag.{tag_eq, partition_of}
 use Rattle.modes_core.proofs.Laws.{both_true, mode_eq-same, tag_eq-refl, tag_eq-same}
 use Rattle.lock_table.specs.Content.{Holds, Wait, Content, set_hold, add_hold, remove_hold}
+use Rattle.lock_table.specs.Clash.{NoConflictingHolder}
 use Rattle.lock_table.specs.Put.{set_at}
 use Rattle.lock_table.specs.OwnWait.{OwnWait, Stage, InQueue, HasLeft, entry_of, is_for, is_pending, queued_by}
 use Rattle.lock_table.specs.declared.answering.Answer.TheVariants.{Granted, Queued}
@@ -46,13 +47,12 @@ module _ (now : ℕ → Content) (own : Holds) (awaited : ℕ → Option OwnWait
   on_it : AgreesOn (now p) t own awaited stage
   on_it = on_the_object now own awaited stage p t safe.one_place object
 
-  -- a grant
-  pub LeavesSafe-granted : (m : Mode) → WaitingAnswer (now p) s t m Granted → awaited s ≡ None → LeavesSafe (set_at now p (add_hold (now p) s t m)) (set_hold own s t m true) awaited stage
-  LeavesSafe-granted m answer none =
+  -- a hold that conflicts with no other session's is added to the content and to the own holds
+  pub LeavesSafe-added : (m : Mode) → NoConflictingHolder (now p).holds s t m → is_for (awaited s) t m ≡ false → LeavesSafe (set_at now p (add_hold (now p) s t m)) (set_hold own s t m true) awaited stage
+  LeavesSafe-added m free not_for =
       let only = ChangesOnly-set (now p) (add_hold (now p) s t m) s t m true refl refl in
-      let not_for : is_for (awaited s) t m ≡ false = ap (λ w. is_for w t m) none in
       record {
-        no_conflict = NoConflictingHolds-set now p (add_hold (now p) s t m) (NoConflictIn-added (now p) s t m (add_hold (now p) s t m) refl (granted-no_holder (now p) s t m answer) (safe.no_conflict p)) safe.no_conflict;
+        no_conflict = NoConflictingHolds-set now p (add_hold (now p) s t m) (NoConflictIn-added (now p) s t m (add_hold (now p) s t m) refl free (safe.no_conflict p)) safe.no_conflict;
         one_place = AreInOnePlace-change now own (set_hold own s t m true) awaited awaited stage stage p t (add_hold (now p) s t m) safe.one_place object only
             (SameElsewhere-set own awaited stage s t m true)
             (AgreesOn-set (now p) (add_hold (now p) s t m) t own awaited stage s m true on_it refl refl (not_pending (awaited s) (stage s) t m not_for))
@@ -63,6 +63,10 @@ module _ (now : ℕ → Content) (own : Holds) (awaited : ℕ → Option OwnWait
             (safe.none_free p))
             safe.none_free;
       }
+
+  -- a grant
+  pub LeavesSafe-granted : (m : Mode) → WaitingAnswer (now p) s t m Granted → awaited s ≡ None → LeavesSafe (set_at now p (add_hold (now p) s t m)) (set_hold own s t m true) awaited stage
+  LeavesSafe-granted m answer none = LeavesSafe-added m (granted-no_holder (now p) s t m answer) (ap (λ w. is_for w t m) none)
 
   -- a release, before the wakeup
   module _ (m : Mode) (owns : own s t m ≡ true) where

@@ -7,7 +7,7 @@ use Rattle.modes_core.specs.Mode.{mode_eq}
 use Rattle.modes_core.specs.Tag.{tag_eq, partition_of}
 use Rattle.modes_core.proofs.Laws.{both_true, mode_eq-refl, mode_eq-same, tag_eq-refl, tag_eq-same}
 use Rattle.lock_table.specs.declared.moves.Move.{Move}
-use Rattle.lock_table.specs.declared.moves.Move.TheVariants.{Keep, Grant, Join, Release, Leave}
+use Rattle.lock_table.specs.declared.moves.Move.TheVariants.{Keep, Grant, Join, Release, Leave, Adopt}
 use Rattle.lock_table.specs.Content.{Holds, Wait, Content, set_hold, add_hold, remove_hold}
 use Rattle.lock_table.specs.Queue.{Wakes, waits_there, some_awaits_conflict, add_wait, remove_wait, queue_without}
 use Rattle.lock_table.specs.Moves.{Moves, WakesFor, IsInPartition, FitsOwn}
@@ -32,6 +32,7 @@ awaited_after before awaited s (Grant t m) = awaited
 awaited_after before awaited s (Join t m) = set_at awaited s (Some (record { tag = t; mode = m; held = before.holds s t }))
 awaited_after before awaited s (Release t m) = awaited
 awaited_after before awaited s (Leave t) = awaited
+awaited_after before awaited s (Adopt k i) = awaited
 
 -- the stages after a move, but of those whom it granted
 abbrev pub stage_by_move : (ℕ → Stage) → ℕ → Move → ℕ → Stage
@@ -40,6 +41,7 @@ stage_by_move stage s (Grant t m) k = stage k
 stage_by_move stage s (Join t m) k = if k == s then InQueue else stage k
 stage_by_move stage s (Release t m) k = stage k
 stage_by_move stage s (Leave t) k = if k == s then HasLeft else stage k
+stage_by_move stage s (Adopt j i) k = stage k
 
 -- the stages after a move
 abbrev pub stage_after : (ℕ → Stage) → ℕ → Move → List Wait → ℕ → Stage
@@ -168,6 +170,7 @@ LeavesSafe-moved now own awaited stage p s safe (Release t m) granted content ob
 LeavesSafe-moved now own awaited stage p s safe (Leave t) granted content object fits moves =
     let wait = stood now own awaited stage p s t safe.one_place object (there-some s ((now p).waits t) moves.0) in
     LeavesSafe-left now own awaited stage p s t safe object wait.0 wait.1 wait.2 wait.3 granted content moves.1
+LeavesSafe-moved now own awaited stage p s safe (Adopt k i) granted content object fits moves = absurd moves
 
 -- Nobody is granted, where nobody is.
 not_granted : (k : ℕ) (granted : List Wait) → granted ≡ [] → waits_there granted k ≡ false
@@ -204,6 +207,7 @@ module _ (now : ℕ → Content) (own : Holds) (awaited : ℕ → Option OwnWait
         | inr none ↦ absurd (both_ways (waits_there granted k) (not_granted k granted none.1) among)
       ]
   stood-moved k (Leave t) granted content object moves among = stood_in_queue k t object (left-some (now p) s k t (woken-some k (remove_wait (now p) s t) t granted content moves.1 among))
+  stood-moved k (Adopt j i) granted content object moves among = absurd moves
 
   another-moved : NobodyIsFree now → (done : Move) (granted : List Wait) (content : Content) → Moves (now p) s done granted content → waits_there granted s ≡ false
   another-moved none_free Keep granted content moves = not_granted s granted moves.0
@@ -217,6 +221,7 @@ module _ (now : ℕ → Content) (own : Holds) (awaited : ℕ → Option OwnWait
   another-moved none_free (Leave t) granted content moves =
       granted-there s ((remove_wait (now p) s t).waits t) granted (content.waits t) (woken-split (remove_wait (now p) s t) t granted content moves.1)
       (ap (of_session s) (queue_left (now p) s t) ∙ without-its s ((now p).waits t))
+  another-moved none_free (Adopt k i) granted content moves = absurd moves
 
 module _ (now : ℕ → Content) (own : Holds) (awaited : ℕ → Option OwnWait) (stage : ℕ → Stage) (p s : ℕ) (done : Move) (granted : List Wait) (content : Content)
     (one : AreInOnePlace now own awaited stage) (none_free : NobodyIsFree now) (object : IsInPartition p done) (fits : FitsOwn own (awaited s) s done) (moves : Moves (now p) s done granted content) where

@@ -1,7 +1,7 @@
 use Rattle.std.proofs.Common.{◌≢◌, ℕ, refl}
 use Rattle.lock_world.specs.declared.events.Event.{Event}
 use Rattle.lock_world.specs.declared.events.Step.{Step}
-use Rattle.lock_world.specs.declared.events.Step.TheVariants.{TakeExclusive, PutExclusive, TakeShared, PutShared, SplitSeat, JoinSeat, AskCancel, LoadWait, SetWaiting, MarkGranted, ClearWait, PutPassing, LoadStrong, LoadWord, SetSlot, ClearSlot, StoreDatabase, Count, Uncount}
+use Rattle.lock_world.specs.declared.events.Step.TheVariants.{TakeExclusive, PutExclusive, TakeShared, PutShared, SplitSeat, JoinSeat, AskCancel, LoadWait, SetWaiting, MarkGranted, ClearWait, PutPassing, LoadStrong, LoadWord, SetSlot, ClearSlot, StoreDatabase, Count, Uncount, TransferSlot}
 use Rattle.lock_world.specs.World.{World}
 use Rattle.lock_world.specs.Account.{IsLeftAlone}
 use Rattle.lock_world.specs.Happens.{Happens, HappensStep, HappensTaking, HappensPutting, HappensSharing, HappensUnsharing, HappensLoading}
@@ -14,7 +14,7 @@ use Rattle.lock_world.specs.declared.events.Word.{Word}
 use Rattle.lock_world.specs.declared.events.Word.TheVariants.{Partition, Fast, Database, Slot, Wait, Strong, Sleep}
 use Rattle.lock_world.proofs.Others.Partitions.{taking_partition-others, putting_partition-others}
 use Rattle.lock_world.proofs.Others.Sharing.{sharing_partition-others, unsharing_partition-others, sharing_fast-others, unsharing_fast-others}
-use Rattle.lock_world.proofs.Others.Slots.{taking_fast-others, putting_fast-others, loading-others, reading_counter-others, setting_slot-others, clearing_slot-others, storing_database-others}
+use Rattle.lock_world.proofs.Others.Slots.{transferring-others, taking_fast-others, putting_fast-others, loading-others, reading_counter-others, setting_slot-others, clearing_slot-others, storing_database-others}
 use Rattle.lock_world.proofs.Others.Counters.{counting-others, uncounting-others, passing-others}
 use Rattle.lock_world.proofs.Others.Waits.{setting-others, marking-others, clearing-others}
 
@@ -85,6 +85,7 @@ step-others w s (ClearSlot i t m) v k safe other h = IsLeftAlone-same k w _ v h.
 step-others w s (StoreDatabase d) v k safe other h = IsLeftAlone-same k w _ v h.1 (storing_database-others w s d k other h.0)
 step-others w s (Count t m) v k safe other h = IsLeftAlone-same k w _ v h.1 (counting-others w s t m k other)
 step-others w s (Uncount t m) v k safe other h = IsLeftAlone-same k w _ v h.1 (uncounting-others w s t m k other)
+step-others w s (TransferSlot o i t m x) v k safe other h = IsLeftAlone-same k w _ v h.1 (transferring-others w s o i t m x k safe other h.0)
 
 -- An event leaves other sessions alone.
 pub event-others : (w v : World) (event : Event) (other : ℕ) → SafeWorld w → Happens w event v → other ≢ event.session → IsLeftAlone w v other

@@ -3,17 +3,21 @@ use Rattle.std.specs.Prelude.{◌==◌, ◌&&◌, if◌then◌else◌}
 use Rattle.std.proofs.lemmas.Bool.{cases_eq, cond-false, false_from_ne_true}
 use Rattle.modes_core.specs.declared.modes.Mode.{Mode}
 use Rattle.modes_core.specs.declared.tags.Tag.{Tag}
+use Rattle.modes_core.specs.Tag.{partition_of}
+use Rattle.lock_table.specs.declared.moves.Move.TheVariants.{Adopt}
 use Rattle.lock_table.specs.Put.{set_at}
 use Rattle.lock_table.proofs.HoldLemmas.{set_hold-other_session}
 use Rattle.lock_table.proofs.PutLemmas.{set_at-here, set_at-else}
 use Rattle.lock_world.specs.declared.events.Word.{Word}
 use Rattle.lw_word.specs.SlotWord.{word_with, word_without}
 use Rattle.lock_world.specs.SlotHolds.{slot_holds, relation_of, NoSlotInUse}
-use Rattle.lock_world.specs.World.{World}
+use Rattle.lock_world.specs.World.{World, is_unmarked}
 use Rattle.lock_world.specs.Account.{known_slots, slots_in_hand, IsLeftAlone}
 use Rattle.lock_world.specs.Happens.Slots.{HappensTakingFast, after_taking_fast, HappensPuttingFast, after_putting_fast, zero_after_putting, after_loading, zero_after_reading, after_reading_counter, MaySetSlot, after_setting_slot, MayClearSlot, after_clearing_slot, MayStoreDatabase, after_storing_database}
+use Rattle.lock_world.specs.Happens.Transfers.{MayTransfer, after_transferring}
 use Rattle.lock_world.specs.SafeWorld.{SafeWorld}
 use Rattle.lock_world.proofs.Slots.Databases.{slot_holds-stored}
+use Rattle.lock_world.proofs.Others.Waits.{recorded-others}
 use Rattle.lock_world.proofs.Others.Hands.{IsLeftAlone-same, IsLeftAlone-by, fast_account-by}
 
 -- A counter read as 0 by another session is as it was.
@@ -67,23 +71,32 @@ slots_in_hand-set has database slot s after not_his = λ i o. at o i where
       ]
 
 -- Whoever does not hold a lock that somebody else holds exclusively does not share it either.
-not_held : (w : World) (s k : ℕ) → SafeWorld w → k ≢ s → w.sessions.holds_fast s s ≡ true → w.sessions.holds_fast k s ≡ false
-not_held w s k safe other holding =
-    false_from_ne_true (w.sessions.holds_fast k s) (λ held. other ((safe.but_slots.locks.fast_words s).by_one k s held holding))
+not_held : (w : World) (s o k : ℕ) → SafeWorld w → k ≢ s → w.sessions.holds_fast s o ≡ true → w.sessions.holds_fast k o ≡ false
+not_held w s o k safe other holding =
+    false_from_ne_true (w.sessions.holds_fast k o) (λ held. other ((safe.but_slots.locks.fast_words o).by_one k s held holding))
 
 -- Setting and clearing a slot.
 pub setting_slot-others : (w : World) (s i : ℕ) (t : Tag) (m : Mode) (k : ℕ) → SafeWorld w → k ≢ s → MaySetSlot w s i t m → IsLeftAlone w (after_setting_slot w s i t m) k
 setting_slot-others w s i t m k safe other may =
     IsLeftAlone-by w (after_setting_slot w s i t m) k (λ x o n. set_hold-other_session w.sessions.own s t m true k o n other x) refl refl refl refl
-    (fast_account-by w (after_setting_slot w s i t m) k (slots_in_hand-set (w.sessions.holds_fast k) w.words.database w.words.slot s (set_at (w.words.slot s) i (word_with (w.words.slot s i) (relation_of t) m)) (not_held w s k safe other may.holding))
+    (fast_account-by w (after_setting_slot w s i t m) k (slots_in_hand-set (w.sessions.holds_fast k) w.words.database w.words.slot s (set_at (w.words.slot s) i (word_with (w.words.slot s i) (relation_of t) m)) (not_held w s s k safe other may.holding))
     (slots_in_hand-set (w.sessions.shares_fast k) w.words.database w.words.slot s (set_at (w.words.slot s) i (word_with (w.words.slot s i) (relation_of t) m)) ((safe.but_slots.locks.fast_words s).never_both s k may.holding)) refl refl refl)
     refl refl refl
 
 pub clearing_slot-others : (w : World) (s i : ℕ) (t : Tag) (m : Mode) (k : ℕ) → SafeWorld w → k ≢ s → MayClearSlot w s i t m → IsLeftAlone w (after_clearing_slot w s i t m) k
 clearing_slot-others w s i t m k safe other may =
     IsLeftAlone-by w (after_clearing_slot w s i t m) k (λ x o n. set_hold-other_session w.sessions.own s t m false k o n other x) refl refl refl refl
-    (fast_account-by w (after_clearing_slot w s i t m) k (slots_in_hand-set (w.sessions.holds_fast k) w.words.database w.words.slot s (set_at (w.words.slot s) i (word_without (w.words.slot s i) m)) (not_held w s k safe other may.holding))
+    (fast_account-by w (after_clearing_slot w s i t m) k (slots_in_hand-set (w.sessions.holds_fast k) w.words.database w.words.slot s (set_at (w.words.slot s) i (word_without (w.words.slot s i) m)) (not_held w s s k safe other may.holding))
     (slots_in_hand-set (w.sessions.shares_fast k) w.words.database w.words.slot s (set_at (w.words.slot s) i (word_without (w.words.slot s i) m)) ((safe.but_slots.locks.fast_words s).never_both s k may.holding)) refl refl refl)
+    refl refl refl
+
+-- Moving a mode from a slot to the table.
+pub transferring-others : (w : World) (s o i : ℕ) (t : Tag) (m strong : Mode) (k : ℕ) → SafeWorld w → k ≢ s → MayTransfer w s o i t m strong → IsLeftAlone w (after_transferring w o i t m) k
+transferring-others w s o i t m strong k safe other may =
+    IsLeftAlone-by w (after_transferring w o i t m) k refl refl refl
+    (recorded-others w s (partition_of t) (Adopt o i) (is_unmarked (w.contents.hand (partition_of t))) _ k safe other may.holding (set_at-else w.contents.now (partition_of t) _)) refl
+    (fast_account-by w (after_transferring w o i t m) k (slots_in_hand-set (w.sessions.holds_fast k) w.words.database w.words.slot o (set_at (w.words.slot o) i (word_without (w.words.slot o i) m)) (not_held w s o k safe other may.holding_slots))
+    (slots_in_hand-set (w.sessions.shares_fast k) w.words.database w.words.slot o (set_at (w.words.slot o) i (word_without (w.words.slot o i) m)) ((safe.but_slots.locks.fast_words o).never_both s k may.holding_slots)) refl refl refl)
     refl refl refl
 
 -- Storing a database: slots of which none is in use show nothing before and after.

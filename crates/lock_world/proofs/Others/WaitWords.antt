@@ -3,9 +3,9 @@ use Rattle.std.proofs.lemmas.Bool.{cases_eq}
 use Rattle.modes_core.specs.Tag.{partition_of}
 use Rattle.lock_world.specs.declared.events.Event.{Event}
 use Rattle.lock_table.specs.declared.moves.Move.{Move}
-use Rattle.lock_table.specs.declared.moves.Move.TheVariants.{Keep, Grant, Join, Release, Leave}
+use Rattle.lock_table.specs.declared.moves.Move.TheVariants.{Keep, Grant, Join, Release, Leave, Adopt}
 use Rattle.lock_world.specs.declared.events.Step.{Step}
-use Rattle.lock_world.specs.declared.events.Step.TheVariants.{TakeExclusive, PutExclusive, TakeShared, PutShared, SplitSeat, JoinSeat, AskCancel, LoadWait, SetWaiting, MarkGranted, ClearWait, PutPassing, LoadStrong, LoadWord, SetSlot, ClearSlot, StoreDatabase, Count, Uncount}
+use Rattle.lock_world.specs.declared.events.Step.TheVariants.{TakeExclusive, PutExclusive, TakeShared, PutShared, SplitSeat, JoinSeat, AskCancel, LoadWait, SetWaiting, MarkGranted, ClearWait, PutPassing, LoadStrong, LoadWord, SetSlot, ClearSlot, StoreDatabase, Count, Uncount, TransferSlot}
 use Rattle.lock_world.specs.declared.events.Word.{Word}
 use Rattle.lock_world.specs.declared.events.Word.TheVariants.{Partition, Fast, Database, Slot, Wait, Strong, Sleep}
 use Rattle.lock_world.specs.WaitWord.{wait_state, asked_word, granted_word}
@@ -82,6 +82,7 @@ word-marking w s marked (Grant t m) v k h = absurd h
 word-marking w s marked (Join t m) v k h = absurd h
 word-marking w s marked (Release t m) v k h = word-marking_in w s marked (partition_of t) (Release t m) v k h
 word-marking w s marked (Leave t) v k h = word-marking_in w s marked (partition_of t) (Leave t) v k h
+word-marking w s marked (Adopt j i) v k h = absurd h
 
 word-clearing : (w : World) (s : ℕ) (leaving : Bool) (v : World) (k : ℕ) → k ≢ s → HappensClearing w s leaving v → IsLeftOrMarked (w.words.wait k) (v.words.wait k)
 word-clearing w s false v k other h = word k w _ v h.2 (inl (set_at-else w.words.wait s 0 k other))
@@ -118,6 +119,7 @@ word-step_by w s (ClearSlot i t m) v k other h = word k w _ v h.1 (inl refl)
 word-step_by w s (StoreDatabase d) v k other h = word k w _ v h.1 (inl refl)
 word-step_by w s (Count t m) v k other h = word k w _ v h.1 (inl refl)
 word-step_by w s (Uncount t m) v k other h = word k w _ v h.1 (inl refl)
+word-step_by w s (TransferSlot o i t m x) v k other h = word k w _ v h.1 (inl refl)
 
 pub left_or_marked : (w v : World) (event : Event) (other : ℕ) → Happens w event v → other ≢ event.session → IsLeftOrMarked (w.words.wait other) (v.words.wait other)
 left_or_marked w v event other h apart = word-step_by w event.session event.step v other apart h

@@ -4,7 +4,7 @@ use Rattle.modes_core.specs.declared.modes.Mode.{Mode}
 use Rattle.modes_core.specs.declared.tags.Tag.{Tag}
 use Rattle.modes_core.specs.Tag.{partition_of}
 use Rattle.lock_table.specs.declared.moves.Move.{Move}
-use Rattle.lock_table.specs.declared.moves.Move.TheVariants.{Keep, Grant, Join, Release, Leave}
+use Rattle.lock_table.specs.declared.moves.Move.TheVariants.{Keep, Grant, Join, Release, Leave, Adopt}
 use Rattle.lock_table.specs.Content.{Holds, Content, set_hold}
 use Rattle.lock_table.specs.Put.{set_at}
 use Rattle.lock_table.specs.OwnWait.{OwnWait}
@@ -21,7 +21,7 @@ use Rattle.lock_world.proofs.Others.Hands.{another's, own_hand-set, IsLeftAlone-
 use Rattle.lock_world.proofs.Others.Partitions.{own_after-others}
 
 -- A move recorded in the stepping session's hand leaves the hands of others.
-recorded-others : (w : World) (s p : ℕ) (done : Move) (unmarked : ℕ → Bool) (now' : ℕ → Content) (k : ℕ) → SafeWorld w → k ≢ s → w.sessions.holds_partition s p ≡ true → ((q : ℕ) → q ≢ p → now' q ≡ w.contents.now q)
+pub recorded-others : (w : World) (s p : ℕ) (done : Move) (unmarked : ℕ → Bool) (now' : ℕ → Content) (k : ℕ) → SafeWorld w → k ≢ s → w.sessions.holds_partition s p ≡ true → ((q : ℕ) → q ≢ p → now' q ≡ w.contents.now q)
     → own_hands (set_at w.contents.hand p (recording (w.contents.hand p) done unmarked)) now' k ≡ own_hands w.contents.hand w.contents.now k
 recorded-others w s p done unmarked now' k safe other holding elsewhere =
     own_hand-set w.contents.hand w.contents.now now' p (recording (w.contents.hand p) done unmarked) k elsewhere
@@ -51,6 +51,7 @@ marking-others w s marked (Grant t m) v k safe other h = absurd h
 marking-others w s marked (Join t m) v k safe other h = absurd h
 marking-others w s marked (Release t m) v k safe other h = marking_in-others w s marked (partition_of t) (Release t m) v k safe other h
 marking-others w s marked (Leave t) v k safe other h = marking_in-others w s marked (partition_of t) (Leave t) v k safe other h
+marking-others w s marked (Adopt j i) v k safe other h = absurd h
 
 -- What a session takes over leaves the own holds of others.
 taken_stays : (own : Holds) (s : ℕ) (o : Tag) (n : Mode) (taken : Bool) (k : ℕ) → k ≢ s → (if taken then set_hold own s o n true else own) k ≡ own k

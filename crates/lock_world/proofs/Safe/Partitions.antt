@@ -1,4 +1,4 @@
-use Rattle.std.proofs.Common.{◌≡◌, ℕ, ◌<◌, true, [], Some, sym, ◌∙◌, subst}
+use Rattle.std.proofs.Common.{◌≡◌, ℕ, ◌<◌, true, [], Some, sym, ◌∙◌, subst, inl}
 use Rattle.lock_table.specs.declared.moves.Move.{Move}
 use Rattle.lock_table.specs.Content.{Content}
 use Rattle.lock_table.specs.Moves.{Moves}
@@ -29,7 +29,7 @@ putting_partition-safe w s p done content safe may = record {
   table = putting_partition-table w s p done content safe.table may;
   locks = safe.locks;
   traces = TracesTell-put w.contents w.sessions.trace w.numbers.issued safe.traces s p (live-given w s safe may.may_move.steps.live) holds
-      (content_taken (w.contents.now p) (w.contents.hand p)) content (taken_in-content (w.contents.hand p) (w.contents.now p) s holds) (done, [], moved);
+      (content_taken (w.contents.now p) (w.contents.hand p)) content (taken_in-content (w.contents.hand p) (w.contents.now p) s holds) (done, inl ([], moved));
 } where
   holds : is_hand_of (w.contents.hand p) s ≡ true
   holds = holding-hand w s p safe may.may_move.holding

@@ -6,11 +6,11 @@ use Rattle.modes_core.specs.Mode.{mode_eq}
 use Rattle.modes_core.specs.Tag.{tag_eq, is_strong_on}
 use Rattle.modes_core.proofs.Laws.{mode_eq-refl, mode_eq-same, tag_eq-refl, tag_eq-same}
 use Rattle.lock_table.specs.declared.moves.Move.{Move}
-use Rattle.lock_table.specs.declared.moves.Move.TheVariants.{Keep, Grant, Join, Release, Leave}
+use Rattle.lock_table.specs.declared.moves.Move.TheVariants.{Keep, Grant, Join, Release, Leave, Adopt}
 use Rattle.lock_table.specs.Content.{Holds, set_hold}
 use Rattle.lock_table.specs.OwnWait.{OwnWait, is_for}
 use Rattle.lock_table.specs.Moves.{FitsOwn}
-use Rattle.lock_table.proofs.HoldLemmas.{SetHoldAt, here, elsewhere, set_hold-at}
+use Rattle.lock_table.proofs.HoldLemmas.{SetHoldAt, here, elsewhere, set_hold-at, set_hold-was, set_hold-still, set_hold-new}
 use Rattle.lock_world.specs.Counted.{IsCountedFor, Counted, is_done, StrongIsDone}
 use Rattle.lock_world.specs.Happens.Partitions.{own_after}
 use Rattle.lock_world.specs.SafeWorld.{SlotsAreOwn, OwnIsInOrder, slots_of}
@@ -69,25 +69,6 @@ is_for-same wait o n awaits =
 pub is_for-itself : (wait : OwnWait) → is_for (Some wait) wait.tag wait.mode ≡ true
 is_for-itself wait = and_from (tag_eq wait.tag wait.tag) (mode_eq wait.mode wait.mode) (tag_eq-refl wait.tag) (mode_eq-refl wait.mode)
 
--- A hold that is not this very one is own where it was; so is each that was, where one is added.
-pub set_hold-was : (own : Holds) (s : ℕ) (t : Tag) (m : Mode) (o : Tag) (n : Mode) → set_hold own s t m false s o n ≡ true → own s o n ≡ true
-set_hold-was own s t m o n has = at (set_hold-at own s t m false s o n) where
-  at : SetHoldAt own s t m false s o n → own s o n ≡ true
-  at (here it e) = absurd (both_ways (set_hold own s t m false s o n) e has)
-  at (elsewhere not_it e) = sym e ∙ has
-
-pub set_hold-still : (own : Holds) (s : ℕ) (t : Tag) (m : Mode) (o : Tag) (n : Mode) → own s o n ≡ true → set_hold own s t m true s o n ≡ true
-set_hold-still own s t m o n has = at (set_hold-at own s t m true s o n) where
-  at : SetHoldAt own s t m true s o n → set_hold own s t m true s o n ≡ true
-  at (here it e) = e
-  at (elsewhere not_it e) = e ∙ has
-
-pub set_hold-new : (own : Holds) (s : ℕ) (t : Tag) (m : Mode) (o : Tag) (n : Mode) → set_hold own s t m true s o n ≡ true → (own s o n ≡ true) ⊎ ((o ≡ t) × (n ≡ m))
-set_hold-new own s t m o n has = at (set_hold-at own s t m true s o n) where
-  at : SetHoldAt own s t m true s o n → (own s o n ≡ true) ⊎ ((o ≡ t) × (n ≡ m))
-  at (here it e) = inr (it.tag, it.mode)
-  at (elsewhere not_it e) = inl (sym e ∙ has)
-
 -- Own holds after a move of the session.
 module _ (own : Holds) (awaited : ℕ → Option OwnWait) (s : ℕ) where
   pub own_after-shown :
@@ -101,6 +82,7 @@ module _ (own : Holds) (awaited : ℕ → Option OwnWait) (s : ℕ) where
     at (here it e) = absurd (both_ways (slots_of database slot s t m) (free t m refl) ((λ i. slots_of database slot s (sym it.tag i) (sym it.mode i)) ∙ shown))
     at (elsewhere not_it e) = e ∙ has
   own_after-shown database slot (Leave t) free o n shown has = has
+  own_after-shown database slot (Adopt k i) free o n shown has = has
 
   pub own_after-awaited :
       (done : Move) → FitsOwn own (awaited s) s done → ((o : Tag) (n : Mode) → is_for (awaited s) o n ≡ true → own s o n ≡ false)
@@ -113,6 +95,7 @@ module _ (own : Holds) (awaited : ℕ → Option OwnWait) (s : ℕ) where
     at (here it e) = e
     at (elsewhere not_it e) = e ∙ old o n awaits
   own_after-awaited (Leave t) fits old o n awaits = old o n awaits
+  own_after-awaited (Adopt k i) fits old o n awaits = old o n awaits
 
   pub own_after-done :
       (limit : ℕ) (list : List Counted) (done : Move) → IsCountedFor limit list done
@@ -127,3 +110,4 @@ module _ (own : Holds) (awaited : ℕ → Option OwnWait) (s : ℕ) where
   own_after-done limit list (Join t m) counted old o n strong has = old o n strong has
   own_after-done limit list (Release t m) counted old o n strong has = old o n strong (set_hold-was own s t m o n has)
   own_after-done limit list (Leave t) counted old o n strong has = old o n strong has
+  own_after-done limit list (Adopt k i) counted old o n strong has = old o n strong has

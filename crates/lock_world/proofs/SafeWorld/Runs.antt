@@ -3,9 +3,9 @@ use Rattle.std.specs.Prelude.{slice_get}
 use Rattle.modes_core.specs.Tag.{partition_of}
 use Rattle.lock_world.specs.declared.events.Event.{Event}
 use Rattle.lock_table.specs.declared.moves.Move.{Move}
-use Rattle.lock_table.specs.declared.moves.Move.TheVariants.{Keep, Grant, Join, Release, Leave}
+use Rattle.lock_table.specs.declared.moves.Move.TheVariants.{Keep, Grant, Join, Release, Leave, Adopt}
 use Rattle.lock_world.specs.declared.events.Step.{Step}
-use Rattle.lock_world.specs.declared.events.Step.TheVariants.{TakeExclusive, PutExclusive, TakeShared, PutShared, SplitSeat, JoinSeat, AskCancel, LoadWait, SetWaiting, MarkGranted, ClearWait, PutPassing, LoadStrong, LoadWord, SetSlot, ClearSlot, StoreDatabase, Count, Uncount}
+use Rattle.lock_world.specs.declared.events.Step.TheVariants.{TakeExclusive, PutExclusive, TakeShared, PutShared, SplitSeat, JoinSeat, AskCancel, LoadWait, SetWaiting, MarkGranted, ClearWait, PutPassing, LoadStrong, LoadWord, SetSlot, ClearSlot, StoreDatabase, Count, Uncount, TransferSlot}
 use Rattle.lock_world.specs.declared.events.Word.{Word}
 use Rattle.lock_world.specs.declared.events.Word.TheVariants.{Partition, Fast, Database, Slot, Wait, Strong, Sleep}
 use Rattle.lock_world.specs.World.{World}
@@ -21,6 +21,7 @@ use Rattle.lock_world.proofs.SafeWorld.Sharing.{sharing_partition-safe_world, un
 use Rattle.lock_world.proofs.SafeWorld.Slots.Locks.{taking_fast-safe_world, putting_fast-safe_world}
 use Rattle.lock_world.proofs.SafeWorld.Slots.Setting.{setting_slot-safe_world}
 use Rattle.lock_world.proofs.SafeWorld.Slots.Clearing.{clearing_slot-safe_world}
+use Rattle.lock_world.proofs.SafeWorld.Slots.Transferring.{transferring-safe_world}
 use Rattle.lock_world.proofs.SafeWorld.Slots.Databases.{storing_database-safe_world}
 use Rattle.lock_world.proofs.SafeWorld.Slots.Reading.{loading-safe_world, reading_counter-safe_world}
 use Rattle.lock_world.proofs.SafeWorld.Counters.{counting-safe_world, uncounting-safe_world, passing-safe_world}
@@ -76,6 +77,7 @@ marking-safe w s k (Grant t m) v safe h = absurd h
 marking-safe w s k (Join t m) v safe h = absurd h
 marking-safe w s k (Release t m) v safe h = marking_in-safe w s k (partition_of t) (Release t m) v safe tt h
 marking-safe w s k (Leave t) v safe h = marking_in-safe w s k (partition_of t) (Leave t) v safe tt h
+marking-safe w s k (Adopt q i) v safe h = absurd h
 
 clearing-safe : (w : World) (s : ℕ) (leaving : Bool) (v : World) → SafeWorld w → HappensClearing w s leaving v → SafeWorld v
 clearing-safe w s false v safe h =
@@ -116,6 +118,7 @@ step-safe w s (ClearSlot i t m) v safe h = subst SafeWorld (sym h.1) (clearing_s
 step-safe w s (StoreDatabase d) v safe h = subst SafeWorld (sym h.1) (storing_database-safe_world w s d safe h.0)
 step-safe w s (Count t m) v safe h = subst SafeWorld (sym h.1) (counting-safe_world w s t m safe h.0)
 step-safe w s (Uncount t m) v safe h = subst SafeWorld (sym h.1) (uncounting-safe_world w s t m safe h.0)
+step-safe w s (TransferSlot k i t m x) v safe h = subst SafeWorld (sym h.1) (transferring-safe_world w s k i t m x safe h.0)
 
 -- Each event that is lawful leads from a safe World to a safe one.
 pub event-safe : (w : World) (event : Event) (v : World) → SafeWorld w → Happens w event v → SafeWorld v

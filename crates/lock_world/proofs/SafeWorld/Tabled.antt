@@ -4,7 +4,7 @@ use Rattle.modes_core.specs.declared.modes.Mode.{Mode}
 use Rattle.modes_core.specs.declared.tags.Tag.{Tag}
 use Rattle.modes_core.specs.Tag.{partition_of}
 use Rattle.lock_table.specs.declared.moves.Move.{Move}
-use Rattle.lock_table.specs.declared.moves.Move.TheVariants.{Keep, Grant, Join, Release, Leave}
+use Rattle.lock_table.specs.declared.moves.Move.TheVariants.{Keep, Grant, Join, Release, Leave, Adopt}
 use Rattle.lock_table.specs.Content.{Wait, Content, Holds, set_hold}
 use Rattle.lock_table.specs.OwnWait.{OwnWait, Stage, InQueue, WasGranted, HasLeft, is_for, is_pending}
 use Rattle.lock_table.specs.Moves.{Moves, FitsOwn, IsInPartition}
@@ -89,6 +89,7 @@ module _ (w : World) (safe : SafeWorld w) where
   fits s p (Release t m) granted content place moved own =
       in_content-own_but s t m own (ap (λ q. (w.contents.now q).holds s t m) place ∙ moved.0)
   fits s p (Leave t) granted content place moved own = tt
+  fits s p (Adopt k i) granted content place moved own = absurd moved
 
   pub MayMove-tabled : (s p : ℕ) (done : Move) (granted : List Wait) (content : Content) → MayMove w s p done granted content → MayMove (tabled w) s p done granted content
   MayMove-tabled s p done granted content may = record {
@@ -111,6 +112,7 @@ module _ (w : World) (safe : SafeWorld w) where
   own_but-after s p (Join t m) granted content place moved own = refl
   own_but-after s p (Release t m) granted content place moved own = sym (own_but-set_hold w.sessions.own slots s t m false false refl)
   own_but-after s p (Leave t) granted content place moved own = refl
+  own_but-after s p (Adopt k i) granted content place moved own = absurd moved
 
   pub tabled-after : (s p : ℕ) (done : Move) (granted : List Wait) (content : Content) → MayMove w s p done granted content
       → own_after (own_but w.sessions.own slots) s done ≡ own_but (own_after w.sessions.own s done) slots

@@ -10,7 +10,7 @@ use Rattle.lock_table.specs.Content.{Holds, Wait, Content, set_hold}
 use Rattle.lock_table.specs.OwnWait.{OwnWait, is_for}
 use Rattle.lock_table.specs.Put.{set_at}
 use Rattle.lock_table.proofs.PutLemmas.{set_at-here, set_at-else}
-use Rattle.lock_table.proofs.HoldLemmas.{set_hold-other_session}
+use Rattle.lock_table.proofs.HoldLemmas.{set_hold-other_session, set_hold-still, set_hold-new}
 use Rattle.lock_world.specs.Counted.{is_done}
 use Rattle.lock_world.specs.World.{World, MakesSteps}
 use Rattle.lock_world.specs.Happens.Partitions.{MayMove}
@@ -20,7 +20,7 @@ use Rattle.lock_world.specs.SafeWorld.{SafeWorld, slots_of, own_but, tabled}
 use Rattle.lock_world.proofs.Waits.Steps.{GrantsOthers}
 use Rattle.lock_world.proofs.Safe.Waits.{asking-safe, loading_wait-safe, setting_waiting-safe, marking_first-safe, marking_next-safe, clearing_seen-safe, clearing_in_hand-safe, leaving-safe}
 use Rattle.lock_world.proofs.SafeWorld.Tabled.{with_own-safe, own_but-set_hold, not_own-no_slot, MayMove-tabled, tabled-after}
-use Rattle.lock_world.proofs.SafeWorld.OneSession.{SlotsAreOwn-one, OwnIsInOrder-one, StrongIsDone-one, is_for-same, is_for-itself, set_hold-still, set_hold-new}
+use Rattle.lock_world.proofs.SafeWorld.OneSession.{SlotsAreOwn-one, OwnIsInOrder-one, StrongIsDone-one, is_for-same, is_for-itself}
 use Rattle.lock_world.proofs.SafeWorld.Partitions.{slots-moved, order-moved, done-moved}
 
 -- Asking a session to cancel is safe.

@@ -14,7 +14,7 @@ use Rattle.modes_core.specs.declared.modes.Mode.{Mode}
 use Rattle.modes_core.specs.declared.tags.Tag.{Tag}
 use Rattle.modes_core.specs.Tag.{partition_of}
 use Rattle.lock_table.specs.declared.moves.Move.{Move}
-use Rattle.lock_table.specs.declared.moves.Move.TheVariants.{Keep, Grant, Join, Release, Leave}
+use Rattle.lock_table.specs.declared.moves.Move.TheVariants.{Keep, Grant, Join, Release, Leave, Adopt}
 use Rattle.lock_table.specs.Content.{Holds, Content}
 use Rattle.lock_table.specs.OwnWait.{OwnWait}
 use Rattle.lw_word.specs.LightweightWord.{IsHeldByNobody, put_word}
@@ -94,6 +94,7 @@ own_after-else own s (Grant t m) k o n other = set_hold-other_session own s t m 
 own_after-else own s (Join t m) k o n other = refl
 own_after-else own s (Release t m) k o n other = set_hold-other_session own s t m false k o n other
 own_after-else own s (Leave t) k o n other = refl
+own_after-else own s (Adopt j i) k o n other = refl
 
 -- A World of which a partition has gone home, and of which contents, own holds and traces may have changed.
 abbrev with_put : World → ℕ → ℕ → (ℕ → Content) → Holds → (ℕ → List TraceEntry) → World
@@ -170,6 +171,7 @@ over-no_leave o p (Grant t m) wait over is here = refl
 over-no_leave o p (Join t m) wait over is here = refl
 over-no_leave o p (Release t m) wait over is here = refl
 over-no_leave o p (Leave t) wait over is here = absurd (over wait is here)
+over-no_leave o p (Adopt k i) wait over is here = refl
 
 -- Putting a partition with a move recorded is safe: nobody is unmarked, and no wait of it has left and is not over.
 pub putting_recorded-table : (w : World) (s p : ℕ) (done : Move) → TableIsSafe w → MayPutRecorded w s p done → TableIsSafe (after_putting_recorded w s p)

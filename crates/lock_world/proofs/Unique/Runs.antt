@@ -1,7 +1,7 @@
 use Rattle.std.proofs.Common.{◌≡◌, ℕ, List, [], ◌∷◌, sym, ◌∙◌, subst, inl, inr, refl}
 use Rattle.lock_world.specs.declared.events.Event.{Event}
 use Rattle.lock_world.specs.declared.events.Step.{Step}
-use Rattle.lock_world.specs.declared.events.Step.TheVariants.{TakeExclusive, PutExclusive, TakeShared, PutShared, SplitSeat, JoinSeat, AskCancel, LoadWait, SetWaiting, MarkGranted, ClearWait, PutPassing, LoadStrong, LoadWord, SetSlot, ClearSlot, StoreDatabase, Count, Uncount}
+use Rattle.lock_world.specs.declared.events.Step.TheVariants.{TakeExclusive, PutExclusive, TakeShared, PutShared, SplitSeat, JoinSeat, AskCancel, LoadWait, SetWaiting, MarkGranted, ClearWait, PutPassing, LoadStrong, LoadWord, SetSlot, ClearSlot, StoreDatabase, Count, Uncount, TransferSlot}
 use Rattle.lock_world.specs.World.{World}
 use Rattle.lock_table.specs.declared.moves.Move.{Move}
 use Rattle.lock_world.specs.declared.events.Word.{Word}
@@ -78,6 +78,7 @@ one_step w s (ClearSlot i t m) u v safe one two = one.1 ∙ sym two.1
 one_step w s (StoreDatabase d) u v safe one two = one.1 ∙ sym two.1
 one_step w s (Count t m) u v safe one two = one.1 ∙ sym two.1
 one_step w s (Uncount t m) u v safe one two = one.1 ∙ sym two.1
+one_step w s (TransferSlot k i t m x) u v safe one two = one.1 ∙ sym two.1
 
 one_next : (w : World) (event : Event) (u v : World) → SafeWorld w → Next w event u → Next w event v → u ≡ v
 one_next w event u v safe (inl one) (inl two) = one_step w event.session event.step u v safe one two

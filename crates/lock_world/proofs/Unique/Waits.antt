@@ -3,7 +3,7 @@ use Rattle.modes_core.specs.declared.modes.Mode.{Mode}
 use Rattle.modes_core.specs.declared.tags.Tag.{Tag}
 use Rattle.modes_core.specs.Tag.{partition_of}
 use Rattle.lock_table.specs.declared.moves.Move.{Move}
-use Rattle.lock_table.specs.declared.moves.Move.TheVariants.{Keep, Grant, Join, Release, Leave}
+use Rattle.lock_table.specs.declared.moves.Move.TheVariants.{Keep, Grant, Join, Release, Leave, Adopt}
 use Rattle.lock_table.specs.Content.{Content}
 use Rattle.lock_table.specs.Content as content
 use Rattle.lock_table.specs.OwnWait.{OwnWait}
@@ -27,6 +27,7 @@ one_marking w s k (Grant t m) u v one two = absurd one
 one_marking w s k (Join t m) u v one two = absurd one
 one_marking w s k (Release t m) u v one two = one_marking_in w s k (partition_of t) (Release t m) u v one two
 one_marking w s k (Leave t) u v one two = one_marking_in w s k (partition_of t) (Leave t) u v one two
+one_marking w s k (Adopt j i) u v one two = absurd one
 
 -- The wait that is cleared is the one that the session has.
 wait_cleared : (w : World) (s : ℕ) (wait : OwnWait) → MayClearSeen w s wait ⊎ MayClearInHand w s wait → w.sessions.awaited s ≡ Some wait

@@ -6,7 +6,7 @@ use Rattle.modes_core.specs.declared.tags.Tag.{Tag}
 use Rattle.modes_core.specs.Tag.{tag_eq, partition_of}
 use Rattle.modes_core.proofs.Laws.{tag_eq-refl}
 use Rattle.lock_table.specs.declared.moves.Move.{Move}
-use Rattle.lock_table.specs.declared.moves.Move.TheVariants.{Keep, Grant, Join, Release, Leave}
+use Rattle.lock_table.specs.declared.moves.Move.TheVariants.{Keep, Grant, Join, Release, Leave, Adopt}
 use Rattle.lock_table.specs.Content.{Holds, Wait, Content, set_hold}
 use Rattle.lock_table.specs.Queue.{waits_there}
 use Rattle.lock_table.specs.Moves.{Moves, IsInPartition, FitsOwn}
@@ -122,6 +122,7 @@ GrantsOthers (Grant t m) = ⊥
 GrantsOthers (Join t m) = ⊥
 GrantsOthers (Release t m) = Unit {0}
 GrantsOthers (Leave t) = Unit {0}
+GrantsOthers (Adopt k i) = ⊥
 
 module _ (now : ℕ → Content) (own : Holds) (awaited : ℕ → Option OwnWait) (seen : ℕ → Bool) (word : ℕ → ℕ) (hand : ℕ → Option Hand) (safe : WaitsAreSafe now own awaited seen word hand) where
   abbrev stage : ℕ → Stage
@@ -214,6 +215,7 @@ module _ (now : ℕ → Content) (own : Holds) (awaited : ℕ → Option OwnWait
     one (Join t m) by_it it = absurd by_it
     one (Release t m) by_it it = it
     one (Leave t) by_it it = absurd by_it
+    one (Adopt k i) by_it it = absurd by_it
 
   -- A move of a release or a leave is recorded, and all whom it grants are unmarked.
   module _ (p s : ℕ) (done : Move) (granted : List Wait) (content : Content) (grants : GrantsOthers done) (unrecorded : recorded_in (hand p) ≡ None) (its : is_hand_of (hand p) s ≡ true)
@@ -268,6 +270,7 @@ module _ (now : ℕ → Content) (own : Holds) (awaited : ℕ → Option OwnWait
     stage_by_made Keep is by_it k not_among = absurd by_it
     stage_by_made (Grant t m) is by_it k not_among = absurd by_it
     stage_by_made (Join t m) is by_it k not_among = absurd by_it
+    stage_by_made (Adopt k' i) is by_it k not_among = absurd by_it
     stage_by_made (Release t m) is by_it k not_among =
         stage_kept k not_among (λ o. and_right (is_hand_of new k) (is_leave_of (recorded_in new) o) (ap (λ made. is_leave_of made o) (recorded ∙ ap Some is)))
     stage_by_made (Leave t) is by_it k not_among =
@@ -292,6 +295,7 @@ module _ (now : ℕ → Content) (own : Holds) (awaited : ℕ → Option OwnWait
     same_waits (Join t m) by_it = absurd by_it
     same_waits (Release t m) by_it = refl
     same_waits (Leave t) by_it = refl
+    same_waits (Adopt k i) by_it = absurd by_it
 
     unmarked_well : UnmarkedWell word awaited p new
     unmarked_well k stands_unmarked =
@@ -341,7 +345,7 @@ module _ (now : ℕ → Content) (own : Holds) (awaited : ℕ → Option OwnWait
               ∙ stage-granted (word_marked j) (set_at hand p marked) j wait (ap wait_state (set_at-here word k (granted_word (word k)) j same) ∙ is_told))
           | inr other ↦
               stage_of-set (word j) hand p marked j (awaited j)
-              (λ its_wait _ _. hand-same (hand p) marked j its_wait.tag (sym (unmarked_less j ∙ without-else (is_unmarked (hand p)) k j other)) (same_holder j) same_move)
+              (λ its_wait _ _. hand-same (hand p) marked j its_wait.tag (sym (unmarked_less j ∙ without-else (is_unmarked (hand p)) k j other)) (same_holder j) (ap (λ made. is_leave_of made its_wait.tag) same_move))
               ∙ ap (λ n. stage_of n (set_at hand p marked) j (awaited j)) (sym (set_at-else word k (granted_word (word k)) j other))
         ]
 

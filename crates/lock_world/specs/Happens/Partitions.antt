@@ -1,7 +1,7 @@
 use Rattle.std.specs.Prelude.{◌≡◌, ◌≢◌, ℕ, true, false, List, Option, Some, None, ◌⊎◌, ◌<◌, [], ◌∷◌, ◌++◌}
 use Rattle.modes_core.specs.Tag.{partition_of}
 use Rattle.lock_table.specs.declared.moves.Move.{Move}
-use Rattle.lock_table.specs.declared.moves.Move.TheVariants.{Keep, Grant, Join, Release, Leave}
+use Rattle.lock_table.specs.declared.moves.Move.TheVariants.{Keep, Grant, Join, Release, Leave, Adopt}
 use Rattle.lock_table.specs.Content.{Holds, Content, set_hold}
 use Rattle.lock_table.specs.Content as content
 use Rattle.lock_table.specs.Moves.{Moves, IsInPartition, FitsOwn}
@@ -54,6 +54,7 @@ own_after own session (Grant tag mode) = set_hold own session tag mode true
 own_after own session (Join tag mode) = own
 own_after own session (Release tag mode) = set_hold own session tag mode false
 own_after own session (Leave tag) = own
+own_after own session (Adopt owner slot) = own
 
 -- Putting a partition after one move of the session's own on its content, by which nobody is granted.
 -- A join and a leave stand recorded before the partition is put.
@@ -63,6 +64,7 @@ IsMadeByPutting (Grant tag mode) = Unit {0}
 IsMadeByPutting (Join tag mode) = ⊥
 IsMadeByPutting (Release tag mode) = Unit {0}
 IsMadeByPutting (Leave tag) = ⊥
+IsMadeByPutting (Adopt owner slot) = ⊥
 
 pub record MayPutPartition (w : World) (session partition : ℕ) (done : Move) (content : Content) : Type 0 where
   pub may_move : MayMove w session partition done [] content
@@ -95,6 +97,7 @@ WaitIsOver awaited partition (Grant tag mode) = Unit {0}
 WaitIsOver awaited partition (Join tag mode) = Unit {0}
 WaitIsOver awaited partition (Release tag mode) = Unit {0}
 WaitIsOver awaited partition (Leave tag) = (wait : OwnWait) → awaited ≡ Some wait → partition_of wait.tag ≢ partition
+WaitIsOver awaited partition (Adopt owner slot) = Unit {0}
 
 pub record MayPutRecorded (w : World) (session partition : ℕ) (done : Move) : Type 0 where
   pub steps : MakesSteps w.numbers session

@@ -3,7 +3,7 @@ use Rattle.modes_core.specs.declared.modes.Mode.{Mode}
 use Rattle.modes_core.specs.declared.tags.Tag.{Tag}
 use Rattle.modes_core.specs.Tag.{partition_of}
 use Rattle.lock_table.specs.declared.moves.Move.{Move}
-use Rattle.lock_table.specs.declared.moves.Move.TheVariants.{Keep, Grant, Join, Release, Leave}
+use Rattle.lock_table.specs.declared.moves.Move.TheVariants.{Keep, Grant, Join, Release, Leave, Adopt}
 use Rattle.lock_table.specs.Content.{Holds, Wait, Content, set_hold}
 use Rattle.lock_table.specs.Queue.{waits_there}
 use Rattle.lock_table.specs.OwnWait.{OwnWait}
@@ -125,6 +125,7 @@ HappensMarking w session other (Grant tag mode) v = ⊥
 HappensMarking w session other (Join tag mode) v = ⊥
 HappensMarking w session other (Release tag mode) v = HappensMarkingIn w session other (partition_of tag) (Release tag mode) v
 HappensMarking w session other (Leave tag) v = HappensMarkingIn w session other (partition_of tag) (Leave tag) v
+HappensMarking w session other (Adopt owner slot) v = ⊥
 
 -- Clearing the own wait word: the session has seen the grant, or it has the partition in hand and its wait is not in the
 -- queue. What was granted is its own from then on.

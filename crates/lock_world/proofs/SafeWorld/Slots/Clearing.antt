@@ -6,7 +6,7 @@ use Rattle.lw_word.specs.SlotWord.{word_without}
 use Rattle.lock_table.specs.Content.{Holds, set_hold}
 use Rattle.lock_table.specs.Put.{set_at}
 use Rattle.lock_table.proofs.PutLemmas.{set_at-each}
-use Rattle.lock_table.proofs.HoldLemmas.{SetHoldAt, here, elsewhere, set_hold-at, set_hold-other_session}
+use Rattle.lock_table.proofs.HoldLemmas.{SetHoldAt, here, elsewhere, set_hold-at, set_hold-other_session, set_hold-was}
 use Rattle.lock_world.specs.SlotHolds.{OneSlotEach, InUseHasDatabase}
 use Rattle.lock_world.specs.Counted.{PastHasNoSlot}
 use Rattle.lock_world.specs.World.{World}
@@ -16,7 +16,7 @@ use Rattle.lock_world.proofs.Slots.Eligible.{eligible-is, is_in-held}
 use Rattle.lock_world.proofs.Slots.Clearing.{slot_holds-clear, OneSlotEach-clear}
 use Rattle.lock_world.proofs.Slots.Databases.{InUseHasDatabase-eligible}
 use Rattle.lock_world.proofs.SafeWorld.Tabled.{with_own-safe}
-use Rattle.lock_world.proofs.SafeWorld.OneSession.{OwnIsInOrder-one, StrongIsDone-one, set_hold-was}
+use Rattle.lock_world.proofs.SafeWorld.OneSession.{OwnIsInOrder-one, StrongIsDone-one}
 use Rattle.lock_world.proofs.SafeWorld.Changes.{with_fast_path-safe, slots_of-set, own_but-both, are_own-both}
 
 -- Clearing a mode in an own slot is safe.

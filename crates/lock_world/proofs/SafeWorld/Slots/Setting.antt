@@ -10,7 +10,7 @@ use Rattle.lock_table.specs.Content.{Holds, set_hold}
 use Rattle.lock_table.specs.OwnWait.{is_for}
 use Rattle.lock_table.specs.Put.{set_at}
 use Rattle.lock_table.proofs.PutLemmas.{set_at-each}
-use Rattle.lock_table.proofs.HoldLemmas.{SetHoldAt, here, elsewhere, set_hold-at, set_hold-other_session}
+use Rattle.lock_table.proofs.HoldLemmas.{SetHoldAt, here, elsewhere, set_hold-at, set_hold-other_session, set_hold-new}
 use Rattle.lock_world.specs.SlotHolds.{relation_of, OneSlotEach, InUseHasDatabase}
 use Rattle.lock_world.specs.Counted.{is_past, PastHasNoSlot}
 use Rattle.lock_world.specs.World.{World}
@@ -20,7 +20,7 @@ use Rattle.lock_world.proofs.Slots.Eligible.{eligible-is}
 use Rattle.lock_world.proofs.Slots.Setting.{slot_holds-set, OneSlotEach-set}
 use Rattle.lock_world.proofs.Slots.Databases.{InUseHasDatabase-eligible}
 use Rattle.lock_world.proofs.SafeWorld.Tabled.{with_own-safe, own_but-false}
-use Rattle.lock_world.proofs.SafeWorld.OneSession.{OwnIsInOrder-one, StrongIsDone-one, set_hold-new}
+use Rattle.lock_world.proofs.SafeWorld.OneSession.{OwnIsInOrder-one, StrongIsDone-one}
 use Rattle.lock_world.proofs.SafeWorld.Changes.{with_fast_path-safe, slots_of-set, own_but-both, are_own-both}
 
 -- An eligible mode is not strong.
