@@ -2,6 +2,7 @@
 
 ghost use Rattle.std.specs.Prelude.{◌≡◌, ℕ};
 ghost use Rattle.lock_model.specs.Shows.{is_unmarked_in, none_unmarked, names_in};
+ghost use Rattle.lock_model.specs.Transfers.{may_adopt};
 
 use super::state::Machine;
 use lock_table::{Move, Woken};
@@ -30,6 +31,16 @@ impl InHand {
         ensures { result ≡ is_unmarked_in self.now.unmarked session }
     {
         self.unmarked[usize::from(session.number())]
+    }
+
+    /// Whether a mode may be moved from the owner's slot to the content: no move is recorded, or the adopt of this slot.
+    pub fn may_adopt(&self, owner: SessionId, slot: u8) -> bool
+        ensures { result ≡ may_adopt self.now.recorded owner slot }
+    {
+        match self.recorded {
+            Some(done) => done.is_same(Move::Adopt { owner, slot }),
+            None => true,
+        }
     }
 }
 

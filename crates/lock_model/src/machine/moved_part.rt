@@ -100,6 +100,7 @@ impl Machine {
                 }
             }
             Move::Leave { tag } => after_leaving(part, session, tag),
+            Move::Adopt { owner: _, slot: _ } => Ok(None),
         }
     }
 }

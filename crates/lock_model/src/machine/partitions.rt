@@ -119,6 +119,7 @@ impl Machine {
             Move::Join { tag: _, mode: _ } => Ok(()),
             Move::Release { tag, mode } => self.put_releasing(session, partition, tag, mode),
             Move::Leave { tag: _ } => Ok(()),
+            Move::Adopt { owner: _, slot: _ } => Ok(()),
         }
     }
 

@@ -82,6 +82,7 @@ impl Machine {
             Move::Join { tag: _, mode: _ } => Ok(()),
             Move::Release { tag, mode: _ } => self.mark_in(session, other, tag.partition(), done),
             Move::Leave { tag } => self.mark_in(session, other, tag.partition(), done),
+            Move::Adopt { owner: _, slot: _ } => Ok(()),
         }
     }
 
