@@ -85,6 +85,7 @@ module _ (w : World) (s owner i : ℕ) (t : Tag) (m strong : Mode) (safe : SafeW
         (own_but-moved own slots owner t m is_own ∙ ap (own_but own) (sym transferring-slots))
         (with_fast_path-safe (with_adopted (tabled w) owner i t m) w.words.database (set_at w.words.slot owner words') w.words.strong w.sessions.counted w.sessions.zero w.sessions.trace
         adopted adopted.traces);
+    lists = safe.lists;
     slots = record {
       are_own = subst (λ after. (k : ℕ) (o : Tag) (n : Mode) → after k o n ≡ true → own k o n ≡ true) (sym transferring-slots) (λ k o n has. safe.slots.are_own k o n (fewer k o n has));
       one_each = set_at-each (λ k words. OneSlotEach words) w.words.slot owner words'
