@@ -1,7 +1,7 @@
 use Rattle.std.proofs.Common.{◌≡◌, ◌≢◌, ℕ, ◌+◌, ◌*◌, ◌/◌, ◌%◌, ◌^◌, Bool, Option, Some, None, refl, sym, ap, ◌∙◌, subst, inl, inr, arith}
 use Rattle.std.specs.Prelude.{◌==◌}
 use Rattle.std.proofs.lemmas.Bool.{cases_eq, cond-true, cond-false, eq-eqb, ne_eqb}
-use Rattle.lw_word.specs.LightweightWord.{IsListLocked, list_locked_word, FlagsStay}
+use Rattle.lw_word.specs.LightweightWord.{list_locked_word, FlagsStay}
 use Rattle.lw_word.proofs.FlagLemmas.{list_locked_word-locked}
 use Rattle.lw_word.proofs.WordLemmas.{flags-list_locked}
 use Rattle.lock_table.specs.Put.{set_at}

@@ -35,12 +35,13 @@ pub record Sleepers : Type 0 where
   -- whom each session has taken off a list and not told yet
   pub off : ℕ → ℕ → Bool
 
--- A session stands only in the list that its account names, once, and with a sleep word that shows waiting; whom somebody has taken off
--- and not told shows that, and nobody else has it to tell.
+-- A session stands only in the list that its account names, once, and with a sleep word that shows waiting; where its account names
+-- none, the word shows 0. Whom somebody has taken off and not told shows that, and nobody else has it to tell.
 pub record SleepersAreInOrder (s : Sleepers) : Type 0 where
   pub named : (lock session : ℕ) → stands_in session (s.list lock) ≡ true → s.stands session ≡ Some lock
   pub waiting : (lock session : ℕ) → stands_in session (s.list lock) ≡ true → s.sleep session ≡ 1
   pub once : (lock session : ℕ) → times_in session (s.list lock) ≤ 1
+  pub idle : (session : ℕ) → s.stands session ≡ None → s.sleep session ≡ 0
   pub taken_off : (session other : ℕ) → s.off session other ≡ true → s.sleep other ≡ 2
   pub by_one : (session another other : ℕ) → s.off session other ≡ true → s.off another other ≡ true → session ≡ another
 

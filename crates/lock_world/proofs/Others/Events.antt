@@ -65,8 +65,8 @@ loaded-others w s (Strong i) n v k other h = absurd h
 loaded-others w s (Sleep o) n v k other h = absurd h
 
 locking_list-others : (w : World) (s : ℕ) (word : Word) (v : World) (k : ℕ) → SafeWorld w → k ≢ s → HappensLockingList w s word v → IsLeftAlone w v k
-locking_list-others w s (Partition p) v k safe other h = IsLeftAlone-same k w _ v h.2 (locking_partition_list-others w s k p safe other h.1)
-locking_list-others w s (Fast o) v k safe other h = IsLeftAlone-same k w _ v h.2 (locking_fast_list-others w s k o safe other h.1)
+locking_list-others w s (Partition p) v k safe other h = IsLeftAlone-same k w _ v h.2 (locking_partition_list-others w s k safe other p)
+locking_list-others w s (Fast o) v k safe other h = IsLeftAlone-same k w _ v h.2 (locking_fast_list-others w s k safe other o)
 locking_list-others w s (Database o) v k safe other h = absurd h
 locking_list-others w s (Slot o i) v k safe other h = absurd h
 locking_list-others w s (Wait o) v k safe other h = absurd h
@@ -74,8 +74,8 @@ locking_list-others w s (Strong i) v k safe other h = absurd h
 locking_list-others w s (Sleep o) v k safe other h = absurd h
 
 unlocking_list-others : (w : World) (s : ℕ) (word : Word) (waiters release : Bool) (v : World) (k : ℕ) → SafeWorld w → k ≢ s → HappensUnlockingList w s word waiters release v → IsLeftAlone w v k
-unlocking_list-others w s (Partition p) waiters release v k safe other h = IsLeftAlone-same k w _ v h.1 (unlocking_partition_list-others w s k p waiters release safe other)
-unlocking_list-others w s (Fast o) waiters release v k safe other h = IsLeftAlone-same k w _ v h.1 (unlocking_fast_list-others w s k o waiters release safe other)
+unlocking_list-others w s (Partition p) waiters release v k safe other h = IsLeftAlone-same k w _ v h.1 (unlocking_partition_list-others w s k safe other p waiters release)
+unlocking_list-others w s (Fast o) waiters release v k safe other h = IsLeftAlone-same k w _ v h.1 (unlocking_fast_list-others w s k safe other o waiters release)
 unlocking_list-others w s (Database o) waiters release v k safe other h = absurd h
 unlocking_list-others w s (Slot o i) waiters release v k safe other h = absurd h
 unlocking_list-others w s (Wait o) waiters release v k safe other h = absurd h
@@ -108,9 +108,9 @@ step-others w s (PutShared word) v k safe other h = unsharing-others w s word v 
 step-others w s SplitSeat v k safe other h = splitting-others w s v k other h
 step-others w s (JoinSeat joiner) v k safe other h = joining-others w s joiner v k other h
 step-others w s (AskCancel o) v k safe other h =
-    IsLeftAlone-same k w _ v h.1 (IsLeftAlone-by w _ k refl refl refl refl refl refl (set_at-else w.sessions.trace s _ k other) refl refl)
+    IsLeftAlone-same k w _ v h.1 (IsLeftAlone-by w _ k refl refl refl refl refl refl refl (set_at-else w.sessions.trace s _ k other) refl refl)
 step-others w s (LoadWait n) v k safe other h =
-    IsLeftAlone-same k w _ v h.1 (IsLeftAlone-by w _ k refl refl (set_at-else w.sessions.seen s _ k other) refl refl refl (set_at-else w.sessions.trace s _ k other) refl refl)
+    IsLeftAlone-same k w _ v h.1 (IsLeftAlone-by w _ k refl refl refl (set_at-else w.sessions.seen s _ k other) refl refl refl (set_at-else w.sessions.trace s _ k other) refl refl)
 step-others w s (SetWaiting t m) v k safe other h = setting-others w s t m v k safe other h
 step-others w s (MarkGranted marked done) v k safe other h = marking-others w s marked done v k safe other h
 step-others w s (ClearWait leaving) v k safe other h = clearing-others w s leaving v k safe other h
@@ -125,11 +125,11 @@ step-others w s (Uncount t m) v k safe other h = IsLeftAlone-same k w _ v h.1 (u
 step-others w s (TransferSlot o i t m x) v k safe other h = IsLeftAlone-same k w _ v h.1 (transferring-others w s o i t m x k safe other h.0)
 step-others w s (LockList word) v k safe other h = locking_list-others w s word v k safe other h
 step-others w s (UnlockList word waiters release) v k safe other h = unlocking_list-others w s word waiters release v k safe other h
-step-others w s (JoinList mode) v k safe other h = IsLeftAlone-same k w _ v h.2 (joining_list-others w s k mode h.0 safe other h.1)
-step-others w s LeaveList v k safe other h = IsLeftAlone-same k w _ v h.2 (leaving_list-others w s k h.0 safe other h.1)
-step-others w s (TakeOff o) v k safe other h = IsLeftAlone-same k w _ v h.2 (taking_off-others w s k o h.0 safe other h.1)
-step-others w s (Tell o) v k safe other h = IsLeftAlone-same k w _ v h.1 (telling-others w s k o safe other)
-step-others w s (LoadSleep n) v k safe other h = IsLeftAlone-same k w _ v h.1 (loading_sleep-others w s k n safe other)
+step-others w s (JoinList mode) v k safe other h = IsLeftAlone-same k w _ v h.2 (joining_list-others w s k safe other mode h.0 h.1)
+step-others w s LeaveList v k safe other h = IsLeftAlone-same k w _ v h.2 (leaving_list-others w s k safe other h.0 h.1)
+step-others w s (TakeOff o) v k safe other h = IsLeftAlone-same k w _ v h.2 (taking_off-others w s k safe other o h.0 h.1)
+step-others w s (Tell o) v k safe other h = IsLeftAlone-same k w _ v h.1 (telling-others w s k safe other o)
+step-others w s (LoadSleep n) v k safe other h = IsLeftAlone-same k w _ v h.1 (loading_sleep-others w s k safe other n)
 step-others w s (SetReleaseOk word n) v k safe other h = setting_release_ok-others w s word n v k h
 step-others w s (SetHasWaiters word n) v k safe other h = setting_has_waiters-others w s word n v k h
 

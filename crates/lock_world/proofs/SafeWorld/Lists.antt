@@ -1,9 +1,9 @@
-use Rattle.std.proofs.Common.{◌≡◌, ◌≢◌, ℕ, ◌/◌, ◌%◌, ◌^◌, Bool, true, false, Option, Some, None, refl, sym, ap, ◌∙◌, subst}
+use Rattle.std.proofs.Common.{◌≡◌, ℕ, ◌/◌, ◌%◌, ◌^◌, Bool, true, false, Option, Some, None, refl, sym, ap, ◌∙◌, subst}
 use Rattle.std.specs.Prelude.{◌==◌, if◌then◌else◌}
-use Rattle.std.proofs.lemmas.Bool.{both_ways, cases_Bool, eqb-true}
+use Rattle.std.proofs.lemmas.Bool.{both_ways, eqb-true}
 use Rattle.lw_word.specs.declared.words.LwMode.{LwMode}
-use Rattle.lw_word.specs.LightweightWord.{list_locked_word, list_unlocked_word, release_ok_word, has_waiters_word, HoldersStay}
-use Rattle.lw_word.proofs.FlagLemmas.{list_locked_word-holders, list_unlocked_word-list_locked, list_unlocked_word-holders, release_ok_word-holders, release_ok_word-list_locked, has_waiters_word-holders, has_waiters_word-list_locked}
+use Rattle.lw_word.specs.LightweightWord.{list_locked_word, list_unlocked_word, HoldersStay}
+use Rattle.lw_word.proofs.FlagLemmas.{list_locked_word-holders, list_unlocked_word-list_locked, list_unlocked_word-holders}
 use Rattle.lock_table.specs.Put.{set_at}
 use Rattle.lock_table.proofs.PutLemmas.{set_at-else, set_at-each}
 use Rattle.lock_world.specs.World.{World}

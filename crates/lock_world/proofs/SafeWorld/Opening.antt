@@ -95,6 +95,7 @@ opening-safe limit few = record {
       named = λ lock k there. absurd (false≢true there);
       waiting = λ lock k there. absurd (false≢true there);
       once = λ lock k. omega arith;
+      idle = λ k none. refl;
       taken_off = λ k j off. absurd (false≢true off);
       by_one = λ i j k off its. absurd (false≢true off);
     };

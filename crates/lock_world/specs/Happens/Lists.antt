@@ -1,7 +1,6 @@
-use Rattle.std.specs.Prelude.{◌≡◌, ℕ, ◌/◌, ◌%◌, ◌^◌, ◌<◌, ◌==◌, Bool, true, Option, Some, None, if◌then◌else◌}
-use Rattle.lw_word.specs.declared.wait_lists.LwWaiter.{LwWaiter}
+use Rattle.std.specs.Prelude.{◌≡◌, ℕ, ◌/◌, ◌%◌, ◌^◌, ◌==◌, Bool, true, Option, Some, None, if◌then◌else◌}
 use Rattle.lw_word.specs.declared.words.LwMode.{LwMode}
-use Rattle.lw_word.specs.LightweightWord.{list_locked_word, list_unlocked_word, release_ok_word, has_waiters_word}
+use Rattle.lw_word.specs.LightweightWord.{list_locked_word, list_unlocked_word}
 use Rattle.lw_word.specs.WaitList.{stands_in}
 use Rattle.lock_table.specs.Put.{set_at}
 use Rattle.lock_world.specs.World.{World, Numbers, MakesSteps}

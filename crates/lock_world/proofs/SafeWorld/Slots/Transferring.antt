@@ -1,4 +1,4 @@
-use Rattle.std.proofs.Common.{◌≡◌, ℕ, Bool, true, false, not, ◌&&◌, refl, sym, ap, ◌∙◌, subst, inl, inr}
+use Rattle.std.proofs.Common.{◌≡◌, ℕ, true, false, not, ◌&&◌, sym, ap, ◌∙◌, subst, inl, inr}
 use Rattle.std.proofs.lemmas.Bool.{both_ways, false_from_ne_true, cases_Bool}
 use Rattle.modes_core.specs.declared.modes.Mode.{Mode}
 use Rattle.modes_core.specs.declared.tags.Tag.{Tag}
@@ -8,7 +8,7 @@ use Rattle.lock_table.specs.Content.{Holds, set_hold}
 use Rattle.lock_table.specs.OwnWait.{is_for}
 use Rattle.lock_table.specs.Put.{set_at}
 use Rattle.lock_table.proofs.PutLemmas.{set_at-each}
-use Rattle.lock_table.proofs.HoldLemmas.{SetHoldAt, here, elsewhere, set_hold-at, set_hold-was}
+use Rattle.lock_table.proofs.HoldLemmas.{SetHoldAt, here, elsewhere, set_hold-at}
 use Rattle.lock_world.specs.SlotHolds.{OneSlotEach, InUseHasDatabase}
 use Rattle.lock_world.specs.Counted.{PastHasNoSlot}
 use Rattle.lock_world.specs.World.{World}
