@@ -3,6 +3,7 @@ pub mod Parts
 pub mod Partitions
 pub mod Waits
 pub mod Slots
+pub mod Lists
 pub mod Lawful
 pub mod Marks
 pub mod Facts

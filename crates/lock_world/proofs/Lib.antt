@@ -16,3 +16,4 @@ pub mod SafeWorld
 pub mod FromSafeWorld
 pub mod Listing
 pub mod WaitLists
+pub mod ListWords

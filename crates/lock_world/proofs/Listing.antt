@@ -12,11 +12,11 @@ use Rattle.lock_table.proofs.HoldLemmas.{SetHoldAt, here, elsewhere, set_hold-at
 use Rattle.lock_table.specs.Content.{set_hold}
 use Rattle.lock_world.specs.declared.events.Event.{Event}
 use Rattle.lock_world.specs.declared.events.Step.{Step}
-use Rattle.lock_world.specs.declared.events.Step.TheVariants.{TakeExclusive, PutExclusive, TakeShared, PutShared, SplitSeat, JoinSeat, AskCancel, LoadWait, SetWaiting, MarkGranted, ClearWait, PutPassing, LoadStrong, LoadWord, SetSlot, ClearSlot, StoreDatabase, Count, Uncount, TransferSlot}
+use Rattle.lock_world.specs.declared.events.Step.TheVariants.{TakeExclusive, PutExclusive, TakeShared, PutShared, SplitSeat, JoinSeat, AskCancel, LoadWait, SetWaiting, MarkGranted, ClearWait, PutPassing, LoadStrong, LoadWord, SetSlot, ClearSlot, StoreDatabase, Count, Uncount, TransferSlot, LockList, UnlockList, JoinList, LeaveList, TakeOff, Tell, LoadSleep, SetReleaseOk, SetHasWaiters}
 use Rattle.lock_world.specs.declared.events.Word.{Word}
 use Rattle.lock_world.specs.declared.events.Word.TheVariants.{Partition, Fast, Database, Slot, Wait, Strong, Sleep}
 use Rattle.lock_world.specs.World.{World}
-use Rattle.lock_world.specs.Happens.{HappensStep, HappensTaking, HappensPutting, HappensSharing, HappensUnsharing, HappensLoading, Next, RunsThrough}
+use Rattle.lock_world.specs.Happens.{HappensStep, HappensTaking, HappensPutting, HappensSharing, HappensUnsharing, HappensLoading, HappensLockingList, HappensUnlockingList, HappensSettingReleaseOk, HappensSettingHasWaiters, Next, RunsThrough}
 use Rattle.lock_world.specs.Happens.Seats.{HappensJoining}
 use Rattle.lock_world.specs.Happens.Slots.{MaySetSlot, after_setting_slot, MayClearSlot, after_clearing_slot}
 use Rattle.lock_world.specs.Happens.Transfers.{MayTransfer, after_transferring}
@@ -110,6 +110,42 @@ clearing w s false v k o m h shown = old w _ v k o m h.2 shown (λ e. e)
 clearing w s true v k o m (inl h) shown = old w _ v k o m h.4 shown (λ e. e)
 clearing w s true v k o m (inr h) shown = old w _ v k o m h.3 shown (λ e. e)
 
+locking_list : (w : World) (s : ℕ) (lock : Word) (v : World) (k : ℕ) (o : Tag) (m : Mode) → HappensLockingList w s lock v → shown_in v k o m ≡ true → IsOldOrNew w k o m
+locking_list w s (Partition p) v k o m h shown = old w _ v k o m h.2 shown (λ e. e)
+locking_list w s (Fast q) v k o m h shown = old w _ v k o m h.2 shown (λ e. e)
+locking_list w s (Database q) v k o m h shown = absurd h
+locking_list w s (Slot q i) v k o m h shown = absurd h
+locking_list w s (Wait q) v k o m h shown = absurd h
+locking_list w s (Strong i) v k o m h shown = absurd h
+locking_list w s (Sleep q) v k o m h shown = absurd h
+
+unlocking_list : (w : World) (s : ℕ) (lock : Word) (waiters release : Bool) (v : World) (k : ℕ) (o : Tag) (m : Mode) → HappensUnlockingList w s lock waiters release v → shown_in v k o m ≡ true → IsOldOrNew w k o m
+unlocking_list w s (Partition p) waiters release v k o m h shown = old w _ v k o m h.1 shown (λ e. e)
+unlocking_list w s (Fast q) waiters release v k o m h shown = old w _ v k o m h.1 shown (λ e. e)
+unlocking_list w s (Database q) waiters release v k o m h shown = absurd h
+unlocking_list w s (Slot q i) waiters release v k o m h shown = absurd h
+unlocking_list w s (Wait q) waiters release v k o m h shown = absurd h
+unlocking_list w s (Strong i) waiters release v k o m h shown = absurd h
+unlocking_list w s (Sleep q) waiters release v k o m h shown = absurd h
+
+setting_release_ok : (w : World) (s : ℕ) (lock : Word) (n : ℕ) (v : World) (k : ℕ) (o : Tag) (m : Mode) → HappensSettingReleaseOk w s lock n v → shown_in v k o m ≡ true → IsOldOrNew w k o m
+setting_release_ok w s (Partition p) n v k o m h shown = old w _ v k o m h.2 shown (λ e. e)
+setting_release_ok w s (Fast q) n v k o m h shown = old w _ v k o m h.2 shown (λ e. e)
+setting_release_ok w s (Database q) n v k o m h shown = absurd h
+setting_release_ok w s (Slot q i) n v k o m h shown = absurd h
+setting_release_ok w s (Wait q) n v k o m h shown = absurd h
+setting_release_ok w s (Strong i) n v k o m h shown = absurd h
+setting_release_ok w s (Sleep q) n v k o m h shown = absurd h
+
+setting_has_waiters : (w : World) (s : ℕ) (lock : Word) (n : ℕ) (v : World) (k : ℕ) (o : Tag) (m : Mode) → HappensSettingHasWaiters w s lock n v → shown_in v k o m ≡ true → IsOldOrNew w k o m
+setting_has_waiters w s (Partition p) n v k o m h shown = old w _ v k o m h.1 shown (λ e. e)
+setting_has_waiters w s (Fast q) n v k o m h shown = old w _ v k o m h.1 shown (λ e. e)
+setting_has_waiters w s (Database q) n v k o m h shown = absurd h
+setting_has_waiters w s (Slot q i) n v k o m h shown = absurd h
+setting_has_waiters w s (Wait q) n v k o m h shown = absurd h
+setting_has_waiters w s (Strong i) n v k o m h shown = absurd h
+setting_has_waiters w s (Sleep q) n v k o m h shown = absurd h
+
 -- A slot set shows one hold more, which was new.
 setting : (w : World) (s i : ℕ) (t : Tag) (n : Mode) → SafeWorld w → MaySetSlot w s i t n → (k : ℕ) (o : Tag) (m : Mode) → shown_in (after_setting_slot w s i t n) k o m ≡ true → IsOldOrNew w k o m
 setting w s i t n safe may k o m shown = at (set_hold-at (shown_in w) s t n true k o m) where
@@ -165,6 +201,15 @@ step w s (StoreDatabase d) v k o m safe h shown = old w _ v k o m h.1 shown (λ 
 step w s (Count t n) v k o m safe h shown = old w _ v k o m h.1 shown (λ e. e)
 step w s (Uncount t n) v k o m safe h shown = old w _ v k o m h.1 shown (λ e. e)
 step w s (TransferSlot q i t n x) v k o m safe h shown = moving w s q i t n x safe h.0 k o m (subst (λ (z : World). shown_in z k o m ≡ true) h.1 shown)
+step w s (LockList lock) v k o m safe h shown = locking_list w s lock v k o m h shown
+step w s (UnlockList lock waiters release) v k o m safe h shown = unlocking_list w s lock waiters release v k o m h shown
+step w s (JoinList mode) v k o m safe h shown = old w _ v k o m h.2 shown (λ e. e)
+step w s LeaveList v k o m safe h shown = old w _ v k o m h.2 shown (λ e. e)
+step w s (TakeOff q) v k o m safe h shown = old w _ v k o m h.2 shown (λ e. e)
+step w s (Tell q) v k o m safe h shown = old w _ v k o m h.1 shown (λ e. e)
+step w s (LoadSleep n) v k o m safe h shown = old w _ v k o m h.1 shown (λ e. e)
+step w s (SetReleaseOk lock n) v k o m safe h shown = setting_release_ok w s lock n v k o m h shown
+step w s (SetHasWaiters lock n) v k o m safe h shown = setting_has_waiters w s lock n v k o m h shown
 
 -- So where a hold stands in a content, no event puts it in a slot.
 pub stays-out : (w v : World) (event : Event) (k : ℕ) (o : Tag) (m : Mode) → SafeWorld w → Next w event v → (w.contents.now (partition_of o)).holds k o m ≡ true → shown_in v k o m ≡ true → ⊥

@@ -6,5 +6,6 @@ pub mod Waits
 pub mod Sharing
 pub mod Slots
 pub mod Counters
+pub mod Lists
 pub mod Events
 pub mod WaitWords

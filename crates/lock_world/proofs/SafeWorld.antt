@@ -4,6 +4,7 @@ pub mod Seats
 pub mod Partitions
 pub mod Waits
 pub mod Sharing
+pub mod Lists
 pub mod Slots
 pub mod Changes
 pub mod Counters

@@ -262,11 +262,16 @@ module _ (contents : Contents) (trace : ℕ → List TraceEntry) (issued : ℕ) 
     at None may is = tt
     at (Some h) may is =
         let already = before h.recorded h.taken h.holder may is in
-        inr (owner, slot, refl, record {
-          more = λ o n had. set_hold-still (contents.now p).holds owner t m o n (already.more o n had);
-          others = λ k other. set_at-else (contents.now p).holds owner _ k other ∙ already.others k other;
-          waits = already.waits;
-        })
+        inr (
+          owner,
+          slot,
+          refl,
+          record {
+            more = λ o n had. set_hold-still (contents.now p).holds owner t m o n (already.more o n had);
+            others = λ k other. set_at-else (contents.now p).holds owner _ k other ∙ already.others k other;
+            waits = already.waits;
+          },
+        )
 
   -- A recorded move that is recorded again, with others unmarked, stands as before.
   pub recorded-again : (p : ℕ) (done : Move) (unmarked : ℕ → Bool) → recorded_in (contents.hand p) ≡ Some done → HandIsOneMove (recording (contents.hand p) done unmarked) (contents.now p)

@@ -61,6 +61,10 @@ joining_list-safe s lock x order idle = record {
     | inr other ↦ set_at-else s.sleep x.session 1 k other ∙ order.waiting l k (was l k other there)
   ];
   once = λ l k. set_at-each (λ _ xs. times_in k xs ≤ 1) s.list lock joined (once k) (λ l _. order.once l k) l;
+  idle = λ k none. elim (cases_eq k x.session) [
+    | inl same ↦ let some : Some lock ≡ None = sym (set_at-here s.stands x.session (Some lock) k same) ∙ none in absurd (cc)
+    | inr other ↦ set_at-else s.sleep x.session 1 k other ∙ order.idle k (sym (set_at-else s.stands x.session (Some lock) k other) ∙ none)
+  ];
   taken_off = λ j k off. set_at-else s.sleep x.session 1 k (λ same. let none : s.sleep k ≡ 0 = ap s.sleep same ∙ idle in let two = order.taken_off j k off in omega (arith, none, two)) ∙ order.taken_off j k off;
   by_one = order.by_one;
 } where
@@ -130,6 +134,10 @@ leaving_list-safe s lock k order stood = record {
   named = λ l j there. set_at-else s.stands k None j (not_gone s lock k order stood l j there) ∙ order.named l j (still s lock k order l j there);
   waiting = λ l j there. set_at-else s.sleep k 0 j (not_gone s lock k order stood l j there) ∙ order.waiting l j (still s lock k order l j there);
   once = once-left s lock k order;
+  idle = λ j none. elim (cases_eq j k) [
+    | inl same ↦ set_at-here s.sleep k 0 j same
+    | inr other ↦ set_at-else s.sleep k 0 j other ∙ order.idle j (sym (set_at-else s.stands k None j other) ∙ none)
+  ];
   taken_off = λ i j off. set_at-else s.sleep k 0 j (λ same. let one : s.sleep j ≡ 1 = ap s.sleep same ∙ order.waiting lock k stood in let two = order.taken_off i j off in omega (arith, one, two)) ∙ order.taken_off i j off;
   by_one = order.by_one;
 }
@@ -140,6 +148,10 @@ taking_off-safe s lock i k order stood = record {
   named = λ l j there. order.named l j (still s lock k order l j there);
   waiting = λ l j there. set_at-else s.sleep k 2 j (not_gone s lock k order stood l j there) ∙ order.waiting l j (still s lock k order l j there);
   once = once-left s lock k order;
+  idle = λ j none. elim (cases_eq j k) [
+    | inl same ↦ let some : Some lock ≡ None = sym (order.named lock k stood) ∙ ap s.stands (sym same) ∙ none in absurd (cc)
+    | inr other ↦ set_at-else s.sleep k 2 j other ∙ order.idle j none
+  ];
   taken_off = λ h j off. elim (cases_eq j k) [
     | inl same ↦ set_at-here s.sleep k 2 j same
     | inr other ↦ set_at-else s.sleep k 2 j other ∙ order.taken_off h j (was h j other off)
@@ -172,6 +184,10 @@ telling-safe s i k order mine = record {
   named = order.named;
   waiting = λ l j there. set_at-else s.sleep k 0 j (λ same. let one = order.waiting l j there in let two : s.sleep j ≡ 2 = ap s.sleep same ∙ order.taken_off i k mine in omega (arith, one, two)) ∙ order.waiting l j there;
   once = order.once;
+  idle = λ j none. elim (cases_eq j k) [
+    | inl same ↦ set_at-here s.sleep k 0 j same
+    | inr other ↦ set_at-else s.sleep k 0 j other ∙ order.idle j none
+  ];
   taken_off = λ h j off. set_at-else s.sleep k 0 j (told h j off) ∙ order.taken_off h j (was h j off);
   by_one = λ h g j off its. order.by_one h g j (was h j off) (was g j its);
 } where
@@ -194,10 +210,14 @@ telling-safe s i k order mine = record {
 
 -- Seeing that one's sleep word shows 0.
 pub seeing_none-safe : (s : Sleepers) (k : ℕ) → SleepersAreInOrder s → s.sleep k ≡ 0 → SleepersAreInOrder (after_seeing_none s k)
-seeing_none-safe s k order idle = record {
-  named = λ l j there. set_at-else s.stands k None j (λ same. let one = order.waiting l j there in let none : s.sleep j ≡ 0 = ap s.sleep same ∙ idle in omega (arith, one, none)) ∙ order.named l j there;
+seeing_none-safe s k order zero = record {
+  named = λ l j there. set_at-else s.stands k None j (λ same. let one = order.waiting l j there in let none : s.sleep j ≡ 0 = ap s.sleep same ∙ zero in omega (arith, one, none)) ∙ order.named l j there;
   waiting = order.waiting;
   once = order.once;
+  idle = λ j none. elim (cases_eq j k) [
+    | inl same ↦ ap s.sleep same ∙ zero
+    | inr other ↦ order.idle j (sym (set_at-else s.stands k None j other) ∙ none)
+  ];
   taken_off = order.taken_off;
   by_one = order.by_one;
 }

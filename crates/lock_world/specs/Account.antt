@@ -4,6 +4,7 @@ use Rattle.modes_core.specs.declared.tags.Tag.{Tag}
 use Rattle.lock_table.specs.declared.moves.Move.{Move}
 use Rattle.lock_table.specs.Content.{Content}
 use Rattle.lock_table.specs.OwnWait.{OwnWait}
+use Rattle.lw_word.specs.declared.wait_lists.LwWaiter.{LwWaiter}
 use Rattle.lock_world.specs.SlotHolds.{slot_holds}
 use Rattle.lock_world.specs.Counted.{Counted}
 use Rattle.lock_world.specs.World.{World, Hand, TraceEntry}
@@ -38,6 +39,19 @@ pub record FastAccount : Type 0 where
   -- the strong locks that it has counted
   pub counted : List Counted
 
+-- the wait list in the session's own hand: whose, and who stands in it
+pub record ListInHand : Type 0 where
+  pub lock : ℕ
+  pub waiters : List LwWaiter
+
+-- What a session knows of the wait lists of lightweight locks.
+pub record ListAccount : Type 0 where
+  pub in_hand : Option ListInHand
+  -- the lock in whose list it stands
+  pub stands : Option ℕ
+  -- whom it has taken off a list and not told yet
+  pub off : ℕ → Bool
+
 pub record Account : Type 0 where
   -- its own holds
   pub own : Tag → Mode → Bool
@@ -50,6 +64,7 @@ pub record Account : Type 0 where
   -- the partitions whose words it shares
   pub shares : ℕ → Bool
   pub fast : FastAccount
+  pub lists : ListAccount
   pub trace : List TraceEntry
 
 -- the hand as its session knows it; nothing of the hand of another
@@ -79,6 +94,18 @@ fast_account w session = record {
   counted = w.sessions.counted session;
 }
 
+-- the list of the lock in hand, as it stands
+abbrev pub list_in_hand : Option ℕ → (ℕ → List LwWaiter) → Option ListInHand
+list_in_hand None list = None
+list_in_hand (Some lock) list = Some (record { lock = lock; waiters = list lock })
+
+abbrev pub list_account : World → ℕ → ListAccount
+list_account w session = record {
+  in_hand = list_in_hand (w.sessions.has_list session) w.words.list;
+  stands = w.sessions.stands session;
+  off = w.sessions.off session;
+}
+
 -- the session's account in the World
 abbrev pub account : World → ℕ → Account
 account w session = record {
@@ -88,6 +115,7 @@ account w session = record {
   hand = own_hands w.contents.hand w.contents.now session;
   shares = w.sessions.shares_partition session;
   fast = fast_account w session;
+  lists = list_account w session;
   trace = w.sessions.trace session;
 }
 

@@ -14,7 +14,8 @@ use Rattle.lock_world.specs.Counted.{IsCountedFor, is_counted, is_at}
 use Rattle.lock_world.specs.Happens.Partitions.{IsMadeByPutting, WaitIsOver}
 use Rattle.lock_world.specs.Happens.Counters.{most_counted}
 use Rattle.lock_world.specs.Happens.Transfers.{MayAdopt}
-use Rattle.lock_world.specs.Account.{Account, InHand, SlotsInHand}
+use Rattle.lw_word.specs.WaitList.{stands_in}
+use Rattle.lock_world.specs.Account.{Account, InHand, SlotsInHand, ListInHand}
 
 -- Where a step is lawful, by the account of the session that makes it. That it makes steps of its own is not asked here. `number` is
 -- the session's, and `limit` how many sessions there can be.
@@ -111,3 +112,23 @@ pub record MayUncountBy (a : Account) (tag : Tag) (mode : Mode) : Type 0 where
   pub is : is_counted a.fast.counted tag mode ≡ true
   pub not_own : a.own tag mode ≡ false
   pub not_awaited : is_for a.awaited tag mode ≡ false
+
+-- Wait lists: locking one asks that none is in hand, the rest that one is. That a list's words show what they should need not be
+-- asked, since a session in no list has a sleep word of 0, and whoever stands in one waits.
+pub record MayLockListBy (a : Account) : Type 0 where
+  pub no_list : a.lists.in_hand ≡ None
+
+pub record MayJoinListBy (a : Account) (mine : ListInHand) : Type 0 where
+  pub in_hand : a.lists.in_hand ≡ Some mine
+  pub in_none : a.lists.stands ≡ None
+
+pub record MayLeaveListBy (number : ℕ) (a : Account) (mine : ListInHand) : Type 0 where
+  pub in_hand : a.lists.in_hand ≡ Some mine
+  pub stands : stands_in number mine.waiters ≡ true
+
+pub record MayTakeOffBy (a : Account) (mine : ListInHand) (other : ℕ) : Type 0 where
+  pub in_hand : a.lists.in_hand ≡ Some mine
+  pub stands : stands_in other mine.waiters ≡ true
+
+pub record MayTellBy (a : Account) (other : ℕ) : Type 0 where
+  pub taken_off : a.lists.off other ≡ true

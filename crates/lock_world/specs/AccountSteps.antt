@@ -1,4 +1,4 @@
-use Rattle.std.specs.Prelude.{ℕ, ◌==◌, ◌&&◌, Bool, true, false, [], ◌∷◌, ◌++◌, Some, None, is_some, if◌then◌else◌}
+use Rattle.std.specs.Prelude.{ℕ, ◌==◌, ◌&&◌, Bool, true, false, List, [], ◌∷◌, ◌++◌, Some, None, is_some, if◌then◌else◌}
 use Rattle.modes_core.specs.declared.modes.Mode.{Mode}
 use Rattle.modes_core.specs.declared.tags.Tag.{Tag}
 use Rattle.modes_core.specs.Mode.{mode_eq}
@@ -13,7 +13,9 @@ use Rattle.lock_world.specs.declared.events.Word.TheVariants.{Strong}
 use Rattle.lock_world.specs.SlotHolds.{relation_of}
 use Rattle.lock_world.specs.Counted.{counting, uncounting, passing}
 use Rattle.lock_world.specs.World.{TraceEntry, Took, Episode, Loaded}
-use Rattle.lock_world.specs.Account.{Account, InHand, SlotsInHand}
+use Rattle.lw_word.specs.declared.wait_lists.LwWaiter.{LwWaiter}
+use Rattle.lw_word.specs.WaitList.{without}
+use Rattle.lock_world.specs.Account.{Account, InHand, SlotsInHand, ListInHand}
 
 -- What each kind of step makes of the account of the session that makes it.
 
@@ -166,3 +168,36 @@ account_transferring a owner place its mine tag mode = record a {
     }));
   };
 }
+
+-- Wait lists.
+
+-- locking the list of a lock, in which these stand, and unlocking it
+abbrev pub account_locking_list : Account → ℕ → List LwWaiter → Account
+account_locking_list a lock waiters = record a { lists = record (a.lists) { in_hand = Some (record { lock = lock; waiters = waiters }) } }
+
+abbrev pub account_unlocking_list : Account → Account
+account_unlocking_list a = record a { lists = record (a.lists) { in_hand = None } }
+
+-- joining the list in hand, and leaving it
+abbrev pub account_joining_list : Account → ListInHand → LwWaiter → Account
+account_joining_list a mine waiter = record a {
+  lists = record (a.lists) { in_hand = Some (record mine { waiters = mine.waiters ++ waiter ∷ [] }); stands = Some mine.lock };
+}
+
+abbrev pub account_leaving_list : Account → ListInHand → ℕ → Account
+account_leaving_list a mine number = record a {
+  lists = record (a.lists) { in_hand = Some (record mine { waiters = without number mine.waiters }); stands = None };
+}
+
+-- taking a session off it, and telling one that was taken off
+abbrev pub account_taking_off : Account → ListInHand → ℕ → Account
+account_taking_off a mine other = record a {
+  lists = record (a.lists) { in_hand = Some (record mine { waiters = without other mine.waiters }); off = set_at a.lists.off other true };
+}
+
+abbrev pub account_telling : Account → ℕ → Account
+account_telling a other = record a { lists = record (a.lists) { off = set_at a.lists.off other false } }
+
+-- loading the own sleep word
+abbrev pub account_loading_sleep : Account → ℕ → Account
+account_loading_sleep a shown = record a { lists = record (a.lists) { stands = if shown == 0 then None else a.lists.stands } }

@@ -5,11 +5,12 @@ pub mod Sharing
 pub mod Slots
 pub mod Counters
 pub mod Transfers
-use Rattle.std.specs.Prelude.{◌≡◌, ℕ, List, ◌⊎◌, [], ◌∷◌}
+pub mod Lists
+use Rattle.std.specs.Prelude.{◌≡◌, ℕ, ◌<◌, Bool, List, ◌⊎◌, [], ◌∷◌}
 use Rattle.lock_world.specs.World.{World, MakesSteps}
 use Rattle.lock_world.specs.declared.events.Event.{Event}
 use Rattle.lock_world.specs.declared.events.Step.{Step}
-use Rattle.lock_world.specs.declared.events.Step.TheVariants.{TakeExclusive, PutExclusive, TakeShared, PutShared, SplitSeat, JoinSeat, AskCancel, LoadWait, SetWaiting, MarkGranted, ClearWait, PutPassing, LoadStrong, LoadWord, SetSlot, ClearSlot, StoreDatabase, Count, Uncount, TransferSlot}
+use Rattle.lock_world.specs.declared.events.Step.TheVariants.{TakeExclusive, PutExclusive, TakeShared, PutShared, SplitSeat, JoinSeat, AskCancel, LoadWait, SetWaiting, MarkGranted, ClearWait, PutPassing, LoadStrong, LoadWord, SetSlot, ClearSlot, StoreDatabase, Count, Uncount, TransferSlot, LockList, UnlockList, JoinList, LeaveList, TakeOff, Tell, LoadSleep, SetReleaseOk, SetHasWaiters}
 use Rattle.lock_world.specs.Happens.Seats.{HappensSplitting, HappensJoining}
 use Rattle.lock_table.specs.declared.moves.Move.{Move}
 use Rattle.lock_table.specs.declared.moves.Move.TheVariants.{Keep}
@@ -20,6 +21,9 @@ use Rattle.lock_world.specs.Happens.Sharing.{HappensSharingPartition, HappensUns
 use Rattle.lock_world.specs.Happens.Slots.{HappensTakingFast, HappensPuttingFast, MayLoad, after_loading, after_reading_counter, MaySetSlot, after_setting_slot, MayClearSlot, after_clearing_slot, MayStoreDatabase, after_storing_database}
 use Rattle.lock_world.specs.Happens.Counters.{MayCount, after_counting, MayUncount, after_uncounting, MayPass, after_passing}
 use Rattle.lock_world.specs.Happens.Transfers.{MayTransfer, after_transferring}
+use Rattle.lw_word.specs.LightweightWord.{release_ok_word, has_waiters_word}
+use Rattle.lock_world.specs.WaitLists.{partition_lock, fast_lock}
+use Rattle.lock_world.specs.Happens.Lists.{MayLockList, after_locking_partition_list, after_locking_fast_list, HasList, after_unlocking_partition_list, after_unlocking_fast_list, MayJoinList, after_joining_list, MayLeaveList, after_leaving_the_list, MayTakeOff, after_taking_off_the_list, MayTell, after_telling_one, MayLoadSleep, after_loading_sleep, MaySetReleaseOk, MaySetHasWaiters, after_flagging_partition, after_flagging_fast}
 use Rattle.lock_world.specs.Happens.Waits.{after_asking, MayLoadWait, after_loading_wait, HappensSetting, HappensMarking, HappensClearing}
 
 -- Lightweight locks: the words of partitions and of sessions' fast-path slots. With the latter no move is made.
@@ -70,6 +74,58 @@ HappensLoading w session (Wait owner) shown v = ⊥
 HappensLoading w session (Strong index) shown v = ⊥
 HappensLoading w session (Sleep owner) shown v = ⊥
 
+-- Wait lists of lightweight locks: locking one, unlocking it, and setting the flags of its word.
+
+abbrev pub HappensLockingList : World → ℕ → Word → World → Type 0
+HappensLockingList w session (Partition partition) v =
+    (partition < 16) × MayLockList w.numbers (w.words.partition partition) w.sessions.has_list session
+    × (v ≡ after_locking_partition_list w session partition)
+HappensLockingList w session (Fast owner) v =
+    (owner < w.numbers.limit) × MayLockList w.numbers (w.words.fast owner) w.sessions.has_list session
+    × (v ≡ after_locking_fast_list w session owner)
+HappensLockingList w session (Database owner) v = ⊥
+HappensLockingList w session (Slot owner place) v = ⊥
+HappensLockingList w session (Wait owner) v = ⊥
+HappensLockingList w session (Strong index) v = ⊥
+HappensLockingList w session (Sleep owner) v = ⊥
+
+abbrev pub HappensUnlockingList : World → ℕ → Word → Bool → Bool → World → Type 0
+HappensUnlockingList w session (Partition partition) has_waiters release_ok v =
+    HasList w session (partition_lock partition) × (v ≡ after_unlocking_partition_list w session partition has_waiters release_ok)
+HappensUnlockingList w session (Fast owner) has_waiters release_ok v =
+    HasList w session (fast_lock owner) × (v ≡ after_unlocking_fast_list w session owner has_waiters release_ok)
+HappensUnlockingList w session (Database owner) has_waiters release_ok v = ⊥
+HappensUnlockingList w session (Slot owner place) has_waiters release_ok v = ⊥
+HappensUnlockingList w session (Wait owner) has_waiters release_ok v = ⊥
+HappensUnlockingList w session (Strong index) has_waiters release_ok v = ⊥
+HappensUnlockingList w session (Sleep owner) has_waiters release_ok v = ⊥
+
+abbrev pub HappensSettingReleaseOk : World → ℕ → Word → ℕ → World → Type 0
+HappensSettingReleaseOk w session (Partition partition) shown v =
+    (partition < 16) × MaySetReleaseOk w.numbers (w.words.partition partition) session shown
+    × (v ≡ after_flagging_partition w partition (release_ok_word (w.words.partition partition)))
+HappensSettingReleaseOk w session (Fast owner) shown v =
+    (owner < w.numbers.limit) × MaySetReleaseOk w.numbers (w.words.fast owner) session shown
+    × (v ≡ after_flagging_fast w owner (release_ok_word (w.words.fast owner)))
+HappensSettingReleaseOk w session (Database owner) shown v = ⊥
+HappensSettingReleaseOk w session (Slot owner place) shown v = ⊥
+HappensSettingReleaseOk w session (Wait owner) shown v = ⊥
+HappensSettingReleaseOk w session (Strong index) shown v = ⊥
+HappensSettingReleaseOk w session (Sleep owner) shown v = ⊥
+
+abbrev pub HappensSettingHasWaiters : World → ℕ → Word → ℕ → World → Type 0
+HappensSettingHasWaiters w session (Partition partition) shown v =
+    MaySetHasWaiters w (w.words.partition partition) session (partition_lock partition) shown
+    × (v ≡ after_flagging_partition w partition (has_waiters_word (w.words.partition partition)))
+HappensSettingHasWaiters w session (Fast owner) shown v =
+    MaySetHasWaiters w (w.words.fast owner) session (fast_lock owner) shown
+    × (v ≡ after_flagging_fast w owner (has_waiters_word (w.words.fast owner)))
+HappensSettingHasWaiters w session (Database owner) shown v = ⊥
+HappensSettingHasWaiters w session (Slot owner place) shown v = ⊥
+HappensSettingHasWaiters w session (Wait owner) shown v = ⊥
+HappensSettingHasWaiters w session (Strong index) shown v = ⊥
+HappensSettingHasWaiters w session (Sleep owner) shown v = ⊥
+
 -- The step by the session is lawful in the World w, and v is the World after it.
 abbrev pub HappensStep : World → ℕ → Step → World → Type 0
 HappensStep w session (TakeExclusive word) v = HappensTaking w session word v
@@ -93,6 +149,15 @@ HappensStep w session (Count tag mode) v = MayCount w session tag mode × (v ≡
 HappensStep w session (Uncount tag mode) v = MayUncount w session tag mode × (v ≡ after_uncounting w session tag mode)
 HappensStep w session (TransferSlot owner place tag mode strong) v =
     MayTransfer w session owner place tag mode strong × (v ≡ after_transferring w owner place tag mode)
+HappensStep w session (LockList word) v = HappensLockingList w session word v
+HappensStep w session (UnlockList word has_waiters release_ok) v = HappensUnlockingList w session word has_waiters release_ok v
+HappensStep w session (JoinList mode) v = (lock : ℕ) × MayJoinList w session lock × (v ≡ after_joining_list w session lock mode)
+HappensStep w session LeaveList v = (lock : ℕ) × MayLeaveList w session lock × (v ≡ after_leaving_the_list w session lock)
+HappensStep w session (TakeOff other) v = (lock : ℕ) × MayTakeOff w session other lock × (v ≡ after_taking_off_the_list w session other lock)
+HappensStep w session (Tell other) v = MayTell w session other × (v ≡ after_telling_one w session other)
+HappensStep w session (LoadSleep shown) v = MayLoadSleep w session shown × (v ≡ after_loading_sleep w session shown)
+HappensStep w session (SetReleaseOk word shown) v = HappensSettingReleaseOk w session word shown v
+HappensStep w session (SetHasWaiters word shown) v = HappensSettingHasWaiters w session word shown v
 
 -- The event is lawful in the World w, and v is the World after it.
 abbrev pub Happens : World → Event → World → Type 0

@@ -7,6 +7,8 @@ use Rattle.lock_table.specs.OwnWait.{OwnWait, is_for}
 use Rattle.lock_world.specs.SlotHolds.{slot_holds, OneSlotEach, InUseHasDatabase}
 use Rattle.lock_world.specs.Counted.{Counted, AtMostOnce, counter, is_past, PastHasNoSlot, StrongIsDone}
 use Rattle.lock_world.specs.World.{World}
+use Rattle.lock_world.specs.WaitLists.{ListsAreSafe}
+use Rattle.lock_world.specs.Happens.Lists.{sleepers}
 use Rattle.lock_world.specs.Safe.{SafeButSlots}
 
 -- What holds between any two atomic steps, with fast-path slots: a hold stands in a slot or in a content, and what stands in a
@@ -57,6 +59,7 @@ pub record ZeroIsAPermission (zero : ℕ → Option ℕ) (holds_fast : ℕ → �
 
 pub record SafeWorld (w : World) : Type 0 where
   pub but_slots : SafeButSlots (tabled w)
+  pub lists : ListsAreSafe w.words.partition w.words.fast (sleepers w) w.sessions.has_list w.numbers.live
   pub slots : SlotsAreOwn w.words.database w.words.slot w.sessions.own
   pub order : OwnIsInOrder w.numbers.live w.sessions.own w.sessions.awaited w.sessions.counted
   pub counters : CountersAreCounts w.numbers.limit w.words.strong w.sessions.counted

@@ -4,6 +4,7 @@ use Rattle.lock_world.specs.declared.events.Word.{Word}
 use Rattle.lock_world.specs.declared.events.Word.TheVariants.{Partition, Fast, Database, Slot, Wait, Strong, Sleep}
 use Rattle.lock_table.specs.Content.{Holds, Content, empty_content}
 use Rattle.lw_word.specs.LightweightWord.{free_word}
+use Rattle.lw_word.specs.declared.wait_lists.LwWaiter.{LwWaiter}
 use Rattle.lock_table.specs.OwnWait.{OwnWait}
 use Rattle.lock_world.specs.Counted.{Counted}
 
@@ -24,8 +25,10 @@ pub record Words : Type 0 where
   pub wait : ℕ → ℕ
   -- the strong lock counters
   pub strong : ℕ → ℕ
-  -- each session's sleep word
+  -- each session's sleep word: 0 not waiting for a lightweight lock, 1 waiting, 2 taken off the list and to be told
   pub sleep : ℕ → ℕ
+  -- who waits for each lightweight lock, first come first, by the lock's number
+  pub list : ℕ → List LwWaiter
 
 -- A partition's content in a session's hand: whose hand it is, the content as it was taken, and what the session has made
 -- of it.
@@ -73,6 +76,11 @@ pub record Sessions : Type 0 where
   pub counted : ℕ → List Counted
   -- the index of the strong lock counter that it has read as 0, for as long as that lets it set a slot
   pub zero : ℕ → Option ℕ
+  -- the lightweight lock whose wait list it has in hand, and the one in whose list it stands, by their numbers
+  pub has_list : ℕ → Option ℕ
+  pub stands : ℕ → Option ℕ
+  -- whom it has taken off a list and not told yet
+  pub off : ℕ → ℕ → Bool
   pub trace : ℕ → List TraceEntry
 
 -- The session numbers.
@@ -118,9 +126,10 @@ opening limit = record {
     wait = λ _. 0;
     strong = λ _. 0;
     sleep = λ _. 0;
+    list = λ _. [];
   };
   contents = record { now = λ _. empty_content; hand = λ _. None };
-  sessions = record { own = λ _ _ _. false; holds_partition = λ _ _. false; shares_partition = λ _ _. false; holds_fast = λ _ _. false; shares_fast = λ _ _. false; awaited = λ _. None; seen = λ _. false; counted = λ _. []; zero = λ _. None; trace = λ _. [] };
+  sessions = record { own = λ _ _ _. false; holds_partition = λ _ _. false; shares_partition = λ _ _. false; holds_fast = λ _ _. false; shares_fast = λ _ _. false; awaited = λ _. None; seen = λ _. false; counted = λ _. []; zero = λ _. None; has_list = λ _. None; stands = λ _. None; off = λ _ _. false; trace = λ _. [] };
   numbers = record { limit = limit; issued = 0; live = λ _. false; kept_by = λ _. None };
 }
 

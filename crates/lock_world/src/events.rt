@@ -1,4 +1,5 @@
 use lock_table::Move;
+use lw_word::LwMode;
 use modes_core::{Mode, SessionId, Tag};
 
 /// A word of the shared table. Every atomic step is on one word.
@@ -142,6 +143,52 @@ pub enum Step {
         tag: Tag,
         mode: Mode,
         strong: Mode,
+    },
+    /// Lock the wait list of a lightweight lock, by a fetch-or of bit 28 of its word, which was not set
+    /// (`LWLockWaitListLock` in lwlock.c).
+    LockList {
+        word: Word,
+    },
+    /// Unlock the wait list that the session has in hand, by a fetch-and; has-waiters and release-ok go where they are
+    /// not to stay (`LWLockWaitListUnlock` and the end of `LWLockWakeup` in lwlock.c).
+    UnlockList {
+        word: Word,
+        has_waiters: bool,
+        release_ok: bool,
+    },
+    /// Store in the own sleep word that the session waits, and join the wait list in hand, behind all others
+    /// (`LWLockQueueSelf` in lwlock.c).
+    JoinList {
+        mode: LwMode,
+    },
+    /// Store in the own sleep word that the session waits no more, and leave the wait list in hand, where it still
+    /// stands in it (`LWLockDequeueSelf` in lwlock.c).
+    LeaveList,
+    /// Store in a session's sleep word that it is taken off and to be told, and take it off the wait list in hand
+    /// (the first loop of `LWLockWakeup` in lwlock.c, which sets `LW_WS_PENDING_WAKEUP`).
+    TakeOff {
+        other: SessionId,
+    },
+    /// Store in the sleep word of a session that this one took off that it waits no more (the second loop of
+    /// `LWLockWakeup`).
+    Tell {
+        other: SessionId,
+    },
+    /// Load the own sleep word, which shows this value (the sleep in `LWLockAcquire`).
+    LoadSleep {
+        shown: u8,
+    },
+    /// Set release-ok in the word of a lightweight lock, by a fetch-or; it showed this value before (`LWLockAcquire`,
+    /// once it was woken).
+    SetReleaseOk {
+        word: Word,
+        shown: u64,
+    },
+    /// Set has-waiters in the word of the lightweight lock whose wait list is in hand, by a fetch-or; it showed this
+    /// value before (`LWLockQueueSelf` in lwlock.c).
+    SetHasWaiters {
+        word: Word,
+        shown: u64,
     },
 }
 

@@ -11,12 +11,14 @@ ghost use Rattle.lock_world.specs.declared.events.Event.{Event};
 ghost use Rattle.lock_world.specs.declared.events.Step.{Step};
 ghost use Rattle.lock_world.specs.declared.events.Word.{Word};
 ghost use Rattle.lock_table.specs.Content.{Wait, Content};
-ghost use Rattle.lw_word.specs.LightweightWord.{IsHeldExclusively, shared_count};
+ghost use Rattle.lw_word.specs.LightweightWord.{IsHeldExclusively, IsListLocked, shared_count};
+ghost use Rattle.lw_word.specs.WaitList.{stands_in, times_in};
 ghost use Rattle.lock_table.specs.OwnWait.{OwnWait, entry_of, is_for};
 ghost use Rattle.lock_table.specs.Queue.{NoneFree, waits_there};
 ghost use Rattle.lock_world.specs.Total.{how_many};
 ghost use Rattle.lock_world.specs.SlotHolds.{IsHeldIn};
 ghost use Rattle.lock_world.specs.Counted.{AtMostOnce, counter, is_done, is_past};
+ghost use Rattle.lock_world.specs.WaitLists.{partition_lock, fast_lock};
 ghost use Rattle.lock_world.specs.WaitWord.{wait_state, is_asked, asked_word, granted_word};
 ghost use Rattle.lock_world.specs.World.{World, TraceEntry, Took, Episode, opening, is_unmarked};
 ghost use Rattle.lock_world.specs.Happens.{Happens, RunsThrough, Runs};
@@ -194,6 +196,26 @@ pub fn lightweight_words_show_who_holds_them()
         w.sessions.holds_fast session owner ≡ true → w.sessions.shares_fast other owner ≡ false }
 {}
 
+/// In a safe World the word of a lightweight lock shows that its wait list is locked exactly where a session has
+/// that list in hand, and no more than one has it. A session stands only in the list that its own account names,
+/// once, and its sleep word shows that it waits; where the account names none, that word shows 0. Whoever was
+/// taken off a list and not told yet shows that.
+pub fn wait_lists_are_in_order()
+    ensures partition_locked { (w : World) → SafeWorld w → (p : ℕ) →
+        IsListLocked (w.words.partition p) ↔ ((session : ℕ) × (w.sessions.has_list session ≡ Some (partition_lock p))) }
+    ensures fast_locked { (w : World) → SafeWorld w → (owner : ℕ) →
+        IsListLocked (w.words.fast owner) ↔ ((session : ℕ) × (w.sessions.has_list session ≡ Some (fast_lock owner))) }
+    ensures in_one_hand { (w : World) → SafeWorld w → (lock session other : ℕ) →
+        w.sessions.has_list session ≡ Some lock → w.sessions.has_list other ≡ Some lock → session ≡ other }
+    ensures named { (w : World) → SafeWorld w → (lock session : ℕ) → stands_in session (w.words.list lock) ≡ true →
+        (w.sessions.stands session ≡ Some lock) × (w.words.sleep session ≡ 1) }
+    ensures once { (w : World) → SafeWorld w → (lock session : ℕ) → times_in session (w.words.list lock) ≤ 1 }
+    ensures idle { (w : World) → SafeWorld w → (session : ℕ) →
+        w.sessions.stands session ≡ None → w.words.sleep session ≡ 0 }
+    ensures taken_off { (w : World) → SafeWorld w → (session other : ℕ) →
+        w.sessions.off session other ≡ true → w.words.sleep other ≡ 2 }
+{}
+
 /// In a safe World no two sessions have one partition in hand.
 pub fn one_hand_at_a_time()
     ensures { (w : World) → SafeWorld w →
@@ -202,8 +224,8 @@ pub fn one_hand_at_a_time()
 {}
 
 /// In a safe World a session number that is not live has no hold, by its own account, in each content and in its
-/// slots, no wait, recorded or in a queue, no partition in hand, no lightweight lock, exclusively or shared, and
-/// nothing counted.
+/// slots, no wait, recorded or in a queue, no partition in hand, no lightweight lock, exclusively or shared,
+/// nothing counted, no wait list in hand, and stands in none.
 pub fn spent_sessions_have_nothing()
     ensures no_hold { (w : World) → SafeWorld w →
         (session p : ℕ) (tag : Tag) (mode : Mode) → w.numbers.live session ≡ false →
@@ -220,6 +242,9 @@ pub fn spent_sessions_have_nothing()
         (session lock : ℕ) → w.numbers.live session ≡ false →
         (w.sessions.shares_partition session lock ≡ false) × (w.sessions.holds_fast session lock ≡ false)
         × (w.sessions.shares_fast session lock ≡ false) }
+    ensures no_list { (w : World) → SafeWorld w →
+        (session lock : ℕ) → w.numbers.live session ≡ false →
+        (w.sessions.has_list session ≡ None) × (stands_in session (w.words.list lock) ≡ false) }
 {}
 
 /// In a safe World each episode of a trace put what one move of its session makes of the content that it
@@ -277,8 +302,8 @@ pub fn asking_sets_one_bit()
 {}
 
 /// An event leaves every session alone that does not make it: its account, that is its own holds, its wait
-/// and what it has seen of that, what it has in hand with its contents, and its trace; the words that it
-/// holds; and whether its number is live and kept apart. Its wait word the event leaves, or asks it there to
+/// and what it has seen of that, what it has in hand with its contents, what it knows of slots, counters and wait
+/// lists, and its trace; the words that it holds; and whether its number is live and kept apart. Its wait word the event leaves, or asks it there to
 /// cancel, or turns waiting into granted.
 pub fn others_are_untouched()
     ensures account { (w v : World) (event : Event) (other : ℕ) →

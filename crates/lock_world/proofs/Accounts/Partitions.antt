@@ -11,7 +11,7 @@ use Rattle.lock_world.proofs.Accounts.Parts.{account-by, hands-taken, hands-home
 -- Taking a partition.
 pub account-taking : (w : World) (s p : ℕ) → account (after_taking_partition w s p) s ≡ account_taking (account w s) p (w.contents.now p)
 account-taking w s p =
-    account-by (after_taking_partition w s p) s (account_taking (account w s) p (w.contents.now p)) refl refl refl
+    account-by (after_taking_partition w s p) s (account_taking (account w s) p (w.contents.now p)) refl refl refl refl
     (hands-taken w.contents.hand w.contents.now p (record { holder = s; taken = w.contents.now p; recorded = None; unmarked = λ _. false }) s refl)
     refl refl (set_at-here w.sessions.trace s (w.sessions.trace s ++ Took p (w.contents.now p) ∷ []) s refl)
 
@@ -20,7 +20,7 @@ pub account-putting :
     (w : World) (s p : ℕ) (done : Move) (content : Content)
     → account (after_putting_partition w s p done content) s ≡ account_putting (account w s) p (content_taken (w.contents.now p) (w.contents.hand p)) content done
 account-putting w s p done content =
-    account-by (after_putting_partition w s p done content) s (account_putting (account w s) p (content_taken (w.contents.now p) (w.contents.hand p)) content done)
+    account-by (after_putting_partition w s p done content) s (account_putting (account w s) p (content_taken (w.contents.now p) (w.contents.hand p)) content done) refl
     (own-moved w.sessions.own s done) refl refl
     (hands-home w.contents.hand w.contents.now _ p s (set_at-else w.contents.now p content))
     refl refl (set_at-here w.sessions.trace s (w.sessions.trace s ++ Episode p (content_taken (w.contents.now p) (w.contents.hand p)) content ∷ []) s refl)

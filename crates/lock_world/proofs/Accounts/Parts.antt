@@ -11,18 +11,18 @@ use Rattle.lock_table.specs.Content.{Content, Holds, set_hold}
 use Rattle.lock_table.specs.Put.{put, set_at}
 use Rattle.lock_table.proofs.PutLemmas.{set_at-here, set_at-else}
 use Rattle.lock_world.specs.World.{World, Hand}
-use Rattle.lock_world.specs.Account.{Account, InHand, own_hand, own_hands, fast_account, account}
+use Rattle.lock_world.specs.Account.{Account, InHand, own_hand, own_hands, fast_account, list_account, account}
 use Rattle.lock_world.specs.AccountSteps.{own_with, own_moved, hand_recording}
 use Rattle.lock_world.specs.Happens.Partitions.{own_after}
 use Rattle.lock_world.specs.Happens.Waits.{recording}
 
 -- An account is this one part by part.
 pub account-by :
-    (w : World) (s : ℕ) (a : Account) → w.sessions.own s ≡ a.own → w.sessions.awaited s ≡ a.awaited → w.sessions.seen s ≡ a.seen
+    (w : World) (s : ℕ) (a : Account) → list_account w s ≡ a.lists → w.sessions.own s ≡ a.own → w.sessions.awaited s ≡ a.awaited → w.sessions.seen s ≡ a.seen
     → own_hands w.contents.hand w.contents.now s ≡ a.hand → w.sessions.shares_partition s ≡ a.shares → fast_account w s ≡ a.fast → w.sessions.trace s ≡ a.trace
     → account w s ≡ a
-account-by w s a own awaited seen hand shares fast trace =
-    λ i. record { own = own i; awaited = awaited i; seen = seen i; hand = hand i; shares = shares i; fast = fast i; trace = trace i }
+account-by w s a lists own awaited seen hand shares fast trace =
+    λ i. record { own = own i; awaited = awaited i; seen = seen i; hand = hand i; shares = shares i; fast = fast i; lists = lists i; trace = trace i }
 
 -- what a session keeps of its own hand
 abbrev pub mine : Hand → Content → InHand

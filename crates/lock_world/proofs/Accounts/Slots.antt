@@ -64,7 +64,7 @@ pub account-taking_fast :
     (w : World) (s o : ℕ)
     → account (after_taking_fast w s o) s ≡ account_taking_fast (account w s) o (record { word = w.words.slot o; holds = slot_holds (w.words.database o) (w.words.slot o) })
 account-taking_fast w s o =
-    account-by (after_taking_fast w s o) s (account_taking_fast (account w s) o slots) refl refl refl refl refl
+    account-by (after_taking_fast w s o) s (account_taking_fast (account w s) o slots) refl refl refl refl refl refl
     (fast-by (after_taking_fast w s o) s (account_taking_fast (account w s) o slots).fast (holds-had w s o true) refl refl refl refl) refl where
       slots : SlotsInHand
       slots = record { word = w.words.slot o; holds = slot_holds (w.words.database o) (w.words.slot o) }
@@ -77,37 +77,37 @@ zero-put zero s o = go (o == s) where
 
 pub account-putting_fast : (w : World) (s o : ℕ) → account (after_putting_fast w s o) s ≡ account_putting_fast s (account w s) o
 account-putting_fast w s o =
-    account-by (after_putting_fast w s o) s (account_putting_fast s (account w s) o) refl refl refl refl refl
+    account-by (after_putting_fast w s o) s (account_putting_fast s (account w s) o) refl refl refl refl refl refl
     (fast-by (after_putting_fast w s o) s (account_putting_fast s (account w s) o).fast (holds-had w s o false) refl refl (zero-put w.sessions.zero s o) refl) refl
 
 -- Counting, counting no more, and going past a session.
 pub account-counting : (w : World) (s : ℕ) (t : Tag) (m : Mode) → account (after_counting w s t m) s ≡ account_counting (account w s) t m
 account-counting w s t m =
-    account-by (after_counting w s t m) s (account_counting (account w s) t m) refl refl refl refl refl
+    account-by (after_counting w s t m) s (account_counting (account w s) t m) refl refl refl refl refl refl
     (fast-by (after_counting w s t m) s (account_counting (account w s) t m).fast refl refl refl refl
     (set_at-here w.sessions.counted s (counting (w.sessions.counted s) t m) s refl)) refl
 
 pub account-uncounting : (w : World) (s : ℕ) (t : Tag) (m : Mode) → account (after_uncounting w s t m) s ≡ account_uncounting (account w s) t m
 account-uncounting w s t m =
-    account-by (after_uncounting w s t m) s (account_uncounting (account w s) t m) refl refl refl refl refl
+    account-by (after_uncounting w s t m) s (account_uncounting (account w s) t m) refl refl refl refl refl refl
     (fast-by (after_uncounting w s t m) s (account_uncounting (account w s) t m).fast refl refl refl refl
     (set_at-here w.sessions.counted s (uncounting (w.sessions.counted s) t m) s refl)) refl
 
 pub account-passing : (w : World) (s o : ℕ) (t : Tag) (m : Mode) → account (after_passing w s o t m) s ≡ account_passing s (account w s) o t m
 account-passing w s o t m =
-    account-by (after_passing w s o t m) s (account_passing s (account w s) o t m) refl refl refl refl refl
+    account-by (after_passing w s o t m) s (account_passing s (account w s) o t m) refl refl refl refl refl refl
     (fast-by (after_passing w s o t m) s (account_passing s (account w s) o t m).fast (holds-had w s o false) refl refl (zero-put w.sessions.zero s o)
     (set_at-here w.sessions.counted s (passing (w.sessions.counted s) t m o) s refl)) refl
 
 -- Loading a word, and a counter.
 pub account-loading : (w : World) (s : ℕ) (word : Word) (n : ℕ) → account (after_loading w s word n) s ≡ account_tracing (account w s) (Loaded word n)
 account-loading w s word n =
-    account-by (after_loading w s word n) s (account_tracing (account w s) (Loaded word n)) refl refl refl refl refl refl
+    account-by (after_loading w s word n) s (account_tracing (account w s) (Loaded word n)) refl refl refl refl refl refl refl
     (set_at-here w.sessions.trace s (w.sessions.trace s ++ Loaded word n ∷ []) s refl)
 
 pub account-reading : (w : World) (s index n : ℕ) → account (after_reading_counter w s index n) s ≡ account_reading s (account w s) index n
 account-reading w s index n =
-    account-by (after_reading_counter w s index n) s (account_reading s (account w s) index n) refl refl refl refl refl
+    account-by (after_reading_counter w s index n) s (account_reading s (account w s) index n) refl refl refl refl refl refl
     (fast-by (after_reading_counter w s index n) s (account_reading s (account w s) index n).fast refl refl refl
     (set (n == 0) (w.sessions.holds_fast s s)) refl)
     (set_at-here w.sessions.trace s (w.sessions.trace s ++ Loaded (Strong index) n ∷ []) s refl) where
@@ -148,7 +148,7 @@ pub account-setting :
     (w : World) (s i : ℕ) (t : Tag) (m : Mode) → SafeWorld w → MaySetSlot w s i t m
     → account (after_setting_slot w s i t m) s ≡ account_setting s (account w s) (slots_now w s) i t m
 account-setting w s i t m safe may =
-    account-by (after_setting_slot w s i t m) s (account_setting s (account w s) (slots_now w s) i t m) (own-set w.sessions.own s t m true) refl refl refl refl
+    account-by (after_setting_slot w s i t m) s (account_setting s (account w s) (slots_now w s) i t m) refl (own-set w.sessions.own s t m true) refl refl refl refl
     (fast-by (after_setting_slot w s i t m) s (account_setting s (account w s) (slots_now w s) i t m).fast
     (slots-written (w.sessions.holds_fast s) w.words.database w.words.slot s after may.holding
     ∙ ap (λ holds. set_at (slots_in_hand (w.sessions.holds_fast s) w.words.database w.words.slot) s (Some (record { word = after; holds = holds })))
@@ -162,7 +162,7 @@ pub account-unsetting :
     (w : World) (s i : ℕ) (t : Tag) (m : Mode) → SafeWorld w → MayClearSlot w s i t m
     → account (after_clearing_slot w s i t m) s ≡ account_unsetting s (account w s) (slots_now w s) i t m
 account-unsetting w s i t m safe may =
-    account-by (after_clearing_slot w s i t m) s (account_unsetting s (account w s) (slots_now w s) i t m) (own-set w.sessions.own s t m false) refl refl refl refl
+    account-by (after_clearing_slot w s i t m) s (account_unsetting s (account w s) (slots_now w s) i t m) refl (own-set w.sessions.own s t m false) refl refl refl refl
     (fast-by (after_clearing_slot w s i t m) s (account_unsetting s (account w s) (slots_now w s) i t m).fast
     (slots-written (w.sessions.holds_fast s) w.words.database w.words.slot s after may.holding
     ∙ ap (λ holds. set_at (slots_in_hand (w.sessions.holds_fast s) w.words.database w.words.slot) s (Some (record { word = after; holds = holds })))
@@ -175,7 +175,7 @@ account-unsetting w s i t m safe may =
 -- Storing the own database.
 pub account-storing : (w : World) (s d : ℕ) → MayStoreDatabase w s → account (after_storing_database w s d) s ≡ account_storing (account w s) d
 account-storing w s d may =
-    account-by (after_storing_database w s d) s (account_storing (account w s) d) refl refl refl refl refl
+    account-by (after_storing_database w s d) s (account_storing (account w s) d) refl refl refl refl refl refl
     (fast-by (after_storing_database w s d) s (account_storing (account w s) d).fast
     (slots_in_hand-stored (w.sessions.holds_fast s) w.words.database w.words.slot s d may.unused)
     (slots_in_hand-stored (w.sessions.shares_fast s) w.words.database w.words.slot s d may.unused) (set_at-here w.words.database s d s refl) refl refl) refl
@@ -185,7 +185,7 @@ pub account-transferring :
     (w : World) (s o i : ℕ) (t : Tag) (m strong : Mode) (old : Hand) → SafeWorld w → MayTransfer w s o i t m strong → w.contents.hand (partition_of t) ≡ Some old → old.holder ≡ s
     → account (after_transferring w o i t m) s ≡ account_transferring (account w s) o i (slots_now w o) (mine old (w.contents.now (partition_of t))) t m
 account-transferring w s o i t m strong old safe may is whose =
-    account-by (after_transferring w o i t m) s after refl refl refl
+    account-by (after_transferring w o i t m) s after refl refl refl refl
     (ap (λ unmarked. own_hands (set_at w.contents.hand p (recording (w.contents.hand p) (Adopt o i) unmarked)) (set_at w.contents.now p content) s) (ap is_unmarked is)
     ∙ hands-moved w.contents.hand w.contents.now p old (Adopt o i) content old.unmarked s is whose) refl
     (fast-by (after_transferring w o i t m) s after.fast

@@ -20,7 +20,7 @@ use Rattle.lock_world.proofs.Accounts.Parts.{account-by, mine, hands-recorded, h
 -- Asking a session to cancel.
 pub account-asking : (w : World) (s k : ℕ) → account (after_asking w s k) s ≡ account_tracing (account w s) (AskedToCancel k (w.words.wait k))
 account-asking w s k =
-    account-by (after_asking w s k) s (account_tracing (account w s) (AskedToCancel k (w.words.wait k))) refl refl refl refl refl refl
+    account-by (after_asking w s k) s (account_tracing (account w s) (AskedToCancel k (w.words.wait k))) refl refl refl refl refl refl refl
     (set_at-here w.sessions.trace s (w.sessions.trace s ++ AskedToCancel k (w.words.wait k) ∷ []) s refl)
 
 -- Loading the own wait word: the session has seen what the word shows.
@@ -28,7 +28,7 @@ pub account-loading_wait :
     (w : World) (s n : ℕ)
     → account (after_loading_wait w s n) s ≡ record (account_tracing (account w s) (Loaded (word.Wait s) n)) { seen = (account w s).seen || (wait_state (w.words.wait s) == 2) }
 account-loading_wait w s n =
-    account-by (after_loading_wait w s n) s (record (account_tracing (account w s) (Loaded (word.Wait s) n)) { seen = (account w s).seen || (wait_state (w.words.wait s) == 2) }) refl refl
+    account-by (after_loading_wait w s n) s (record (account_tracing (account w s) (Loaded (word.Wait s) n)) { seen = (account w s).seen || (wait_state (w.words.wait s) == 2) }) refl refl refl
     (set_at-here w.sessions.seen s (w.sessions.seen s || (wait_state (w.words.wait s) == 2)) s refl) refl refl refl
     (set_at-here w.sessions.trace s (w.sessions.trace s ++ Loaded (word.Wait s) n ∷ []) s refl)
 
@@ -39,7 +39,7 @@ pub account-waiting :
     ≡ account_waiting (account w s) (mine hand (w.contents.now (partition_of t))) t m content ((w.contents.now (partition_of t)).holds s t)
 account-waiting w s t m content hand is whose =
     account-by (after_setting_waiting w s t m content) s
-    (account_waiting (account w s) (mine hand (w.contents.now (partition_of t))) t m content ((w.contents.now (partition_of t)).holds s t)) refl
+    (account_waiting (account w s) (mine hand (w.contents.now (partition_of t))) t m content ((w.contents.now (partition_of t)).holds s t)) refl refl
     (set_at-here w.sessions.awaited s _ s refl) (set_at-here w.sessions.seen s false s refl)
     (hands-moved w.contents.hand w.contents.now (partition_of t) hand (Join t m) content (λ _. false) s is whose) refl refl refl
 
@@ -50,7 +50,7 @@ pub account-marking_first :
     ≡ account_marking (account w s) p (mine hand (w.contents.now p)) content done done (unmarked_but (waits_there granted) k)
 account-marking_first w s k p done granted content hand is whose =
     account-by (after_marking_first w s k p done granted content) s
-    (account_marking (account w s) p (mine hand (w.contents.now p)) content done done (unmarked_but (waits_there granted) k))
+    (account_marking (account w s) p (mine hand (w.contents.now p)) content done done (unmarked_but (waits_there granted) k)) refl
     (own-moved w.sessions.own s done) refl refl
     (hands-moved w.contents.hand w.contents.now p hand done content (unmarked_but (waits_there granted) k) s is whose) refl refl refl
 
@@ -60,7 +60,7 @@ pub account-marking_next :
     ≡ account_marking (account w s) p (mine hand (w.contents.now p)) (w.contents.now p) Keep done (unmarked_but (is_unmarked (w.contents.hand p)) k)
 account-marking_next w s k p done hand is whose =
     account-by (after_marking_next w k p done) s
-    (account_marking (account w s) p (mine hand (w.contents.now p)) (w.contents.now p) Keep done (unmarked_but (is_unmarked (w.contents.hand p)) k)) refl refl refl
+    (account_marking (account w s) p (mine hand (w.contents.now p)) (w.contents.now p) Keep done (unmarked_but (is_unmarked (w.contents.hand p)) k)) refl refl refl refl
     (hands-recorded w.contents.hand w.contents.now w.contents.now p hand done (unmarked_but (is_unmarked (w.contents.hand p)) k) s is whose (λ q _. refl)) refl refl refl
 
 -- Clearing the own wait word.
@@ -69,7 +69,7 @@ pub account-clearing :
     → account (after_clearing w s wait) s ≡ account_clearing (account w s) wait (w.sessions.seen s || (w.contents.now (partition_of wait.tag)).holds s wait.tag wait.mode)
 account-clearing w s wait =
     account-by (after_clearing w s wait) s
-    (account_clearing (account w s) wait (w.sessions.seen s || (w.contents.now (partition_of wait.tag)).holds s wait.tag wait.mode))
+    (account_clearing (account w s) wait (w.sessions.seen s || (w.contents.now (partition_of wait.tag)).holds s wait.tag wait.mode)) refl
     (over (w.sessions.seen s || (w.contents.now (partition_of wait.tag)).holds s wait.tag wait.mode))
     (set_at-here w.sessions.awaited s None s refl) (set_at-here w.sessions.seen s false s refl) refl refl refl refl where
       over : (b : Bool) → (if b then set_hold w.sessions.own s wait.tag wait.mode true else w.sessions.own) s ≡ (if b then own_with (w.sessions.own s) wait.tag wait.mode true else w.sessions.own s)
@@ -83,6 +83,6 @@ pub account-leaving :
     ≡ account_leaving (account w s) (mine hand (w.contents.now (partition_of wait.tag))) wait content (waits_there granted)
 account-leaving w s wait granted content hand is whose =
     account-by (after_leaving w s wait granted content) s
-    (account_leaving (account w s) (mine hand (w.contents.now (partition_of wait.tag))) wait content (waits_there granted)) refl
+    (account_leaving (account w s) (mine hand (w.contents.now (partition_of wait.tag))) wait content (waits_there granted)) refl refl
     (set_at-here w.sessions.awaited s None s refl) (set_at-here w.sessions.seen s false s refl)
     (hands-moved w.contents.hand w.contents.now (partition_of wait.tag) hand (Leave wait.tag) content (waits_there granted) s is whose) refl refl refl

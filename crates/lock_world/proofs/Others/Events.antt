@@ -1,13 +1,14 @@
-use Rattle.std.proofs.Common.{◌≢◌, ℕ, refl}
+use Rattle.std.proofs.Common.{◌≢◌, ℕ, Bool, refl}
 use Rattle.lock_world.specs.declared.events.Event.{Event}
 use Rattle.lock_world.specs.declared.events.Step.{Step}
-use Rattle.lock_world.specs.declared.events.Step.TheVariants.{TakeExclusive, PutExclusive, TakeShared, PutShared, SplitSeat, JoinSeat, AskCancel, LoadWait, SetWaiting, MarkGranted, ClearWait, PutPassing, LoadStrong, LoadWord, SetSlot, ClearSlot, StoreDatabase, Count, Uncount, TransferSlot}
+use Rattle.lock_world.specs.declared.events.Step.TheVariants.{TakeExclusive, PutExclusive, TakeShared, PutShared, SplitSeat, JoinSeat, AskCancel, LoadWait, SetWaiting, MarkGranted, ClearWait, PutPassing, LoadStrong, LoadWord, SetSlot, ClearSlot, StoreDatabase, Count, Uncount, TransferSlot, LockList, UnlockList, JoinList, LeaveList, TakeOff, Tell, LoadSleep, SetReleaseOk, SetHasWaiters}
 use Rattle.lock_world.specs.World.{World}
 use Rattle.lock_world.specs.Account.{IsLeftAlone}
-use Rattle.lock_world.specs.Happens.{Happens, HappensStep, HappensTaking, HappensPutting, HappensSharing, HappensUnsharing, HappensLoading}
+use Rattle.lock_world.specs.Happens.{Happens, HappensStep, HappensTaking, HappensPutting, HappensSharing, HappensUnsharing, HappensLoading, HappensLockingList, HappensUnlockingList, HappensSettingReleaseOk, HappensSettingHasWaiters}
 use Rattle.lock_world.specs.SafeWorld.{SafeWorld}
 use Rattle.lock_table.proofs.PutLemmas.{set_at-else}
 use Rattle.lock_world.proofs.Others.Hands.{IsLeftAlone-same, IsLeftAlone-by}
+use Rattle.lock_world.proofs.Others.Lists.{locking_partition_list-others, locking_fast_list-others, unlocking_partition_list-others, unlocking_fast_list-others, flagging_partition-others, flagging_fast-others, joining_list-others, leaving_list-others, taking_off-others, telling-others, loading_sleep-others}
 use Rattle.lock_world.proofs.Others.Seats.{splitting-others, joining-others}
 use Rattle.lock_table.specs.declared.moves.Move.{Move}
 use Rattle.lock_world.specs.declared.events.Word.{Word}
@@ -63,6 +64,42 @@ loaded-others w s (Wait o) n v k other h = absurd h
 loaded-others w s (Strong i) n v k other h = absurd h
 loaded-others w s (Sleep o) n v k other h = absurd h
 
+locking_list-others : (w : World) (s : ℕ) (word : Word) (v : World) (k : ℕ) → SafeWorld w → k ≢ s → HappensLockingList w s word v → IsLeftAlone w v k
+locking_list-others w s (Partition p) v k safe other h = IsLeftAlone-same k w _ v h.2 (locking_partition_list-others w s k safe other p)
+locking_list-others w s (Fast o) v k safe other h = IsLeftAlone-same k w _ v h.2 (locking_fast_list-others w s k safe other o)
+locking_list-others w s (Database o) v k safe other h = absurd h
+locking_list-others w s (Slot o i) v k safe other h = absurd h
+locking_list-others w s (Wait o) v k safe other h = absurd h
+locking_list-others w s (Strong i) v k safe other h = absurd h
+locking_list-others w s (Sleep o) v k safe other h = absurd h
+
+unlocking_list-others : (w : World) (s : ℕ) (word : Word) (waiters release : Bool) (v : World) (k : ℕ) → SafeWorld w → k ≢ s → HappensUnlockingList w s word waiters release v → IsLeftAlone w v k
+unlocking_list-others w s (Partition p) waiters release v k safe other h = IsLeftAlone-same k w _ v h.1 (unlocking_partition_list-others w s k safe other p waiters release)
+unlocking_list-others w s (Fast o) waiters release v k safe other h = IsLeftAlone-same k w _ v h.1 (unlocking_fast_list-others w s k safe other o waiters release)
+unlocking_list-others w s (Database o) waiters release v k safe other h = absurd h
+unlocking_list-others w s (Slot o i) waiters release v k safe other h = absurd h
+unlocking_list-others w s (Wait o) waiters release v k safe other h = absurd h
+unlocking_list-others w s (Strong i) waiters release v k safe other h = absurd h
+unlocking_list-others w s (Sleep o) waiters release v k safe other h = absurd h
+
+setting_release_ok-others : (w : World) (s : ℕ) (word : Word) (n : ℕ) (v : World) (k : ℕ) → HappensSettingReleaseOk w s word n v → IsLeftAlone w v k
+setting_release_ok-others w s (Partition p) n v k h = IsLeftAlone-same k w _ v h.2 (flagging_partition-others w k p _)
+setting_release_ok-others w s (Fast o) n v k h = IsLeftAlone-same k w _ v h.2 (flagging_fast-others w k o _)
+setting_release_ok-others w s (Database o) n v k h = absurd h
+setting_release_ok-others w s (Slot o i) n v k h = absurd h
+setting_release_ok-others w s (Wait o) n v k h = absurd h
+setting_release_ok-others w s (Strong i) n v k h = absurd h
+setting_release_ok-others w s (Sleep o) n v k h = absurd h
+
+setting_has_waiters-others : (w : World) (s : ℕ) (word : Word) (n : ℕ) (v : World) (k : ℕ) → HappensSettingHasWaiters w s word n v → IsLeftAlone w v k
+setting_has_waiters-others w s (Partition p) n v k h = IsLeftAlone-same k w _ v h.1 (flagging_partition-others w k p _)
+setting_has_waiters-others w s (Fast o) n v k h = IsLeftAlone-same k w _ v h.1 (flagging_fast-others w k o _)
+setting_has_waiters-others w s (Database o) n v k h = absurd h
+setting_has_waiters-others w s (Slot o i) n v k h = absurd h
+setting_has_waiters-others w s (Wait o) n v k h = absurd h
+setting_has_waiters-others w s (Strong i) n v k h = absurd h
+setting_has_waiters-others w s (Sleep o) n v k h = absurd h
+
 step-others : (w : World) (s : ℕ) (step : Step) (v : World) (k : ℕ) → SafeWorld w → k ≢ s → HappensStep w s step v → IsLeftAlone w v k
 step-others w s (TakeExclusive word) v k safe other h = taking-others w s word v k safe other h
 step-others w s (PutExclusive word done) v k safe other h = putting-others w s word done v k safe other h
@@ -71,9 +108,9 @@ step-others w s (PutShared word) v k safe other h = unsharing-others w s word v 
 step-others w s SplitSeat v k safe other h = splitting-others w s v k other h
 step-others w s (JoinSeat joiner) v k safe other h = joining-others w s joiner v k other h
 step-others w s (AskCancel o) v k safe other h =
-    IsLeftAlone-same k w _ v h.1 (IsLeftAlone-by w _ k refl refl refl refl refl refl (set_at-else w.sessions.trace s _ k other) refl refl)
+    IsLeftAlone-same k w _ v h.1 (IsLeftAlone-by w _ k refl refl refl refl refl refl refl (set_at-else w.sessions.trace s _ k other) refl refl)
 step-others w s (LoadWait n) v k safe other h =
-    IsLeftAlone-same k w _ v h.1 (IsLeftAlone-by w _ k refl refl (set_at-else w.sessions.seen s _ k other) refl refl refl (set_at-else w.sessions.trace s _ k other) refl refl)
+    IsLeftAlone-same k w _ v h.1 (IsLeftAlone-by w _ k refl refl refl (set_at-else w.sessions.seen s _ k other) refl refl refl (set_at-else w.sessions.trace s _ k other) refl refl)
 step-others w s (SetWaiting t m) v k safe other h = setting-others w s t m v k safe other h
 step-others w s (MarkGranted marked done) v k safe other h = marking-others w s marked done v k safe other h
 step-others w s (ClearWait leaving) v k safe other h = clearing-others w s leaving v k safe other h
@@ -86,6 +123,15 @@ step-others w s (StoreDatabase d) v k safe other h = IsLeftAlone-same k w _ v h.
 step-others w s (Count t m) v k safe other h = IsLeftAlone-same k w _ v h.1 (counting-others w s t m k other)
 step-others w s (Uncount t m) v k safe other h = IsLeftAlone-same k w _ v h.1 (uncounting-others w s t m k other)
 step-others w s (TransferSlot o i t m x) v k safe other h = IsLeftAlone-same k w _ v h.1 (transferring-others w s o i t m x k safe other h.0)
+step-others w s (LockList word) v k safe other h = locking_list-others w s word v k safe other h
+step-others w s (UnlockList word waiters release) v k safe other h = unlocking_list-others w s word waiters release v k safe other h
+step-others w s (JoinList mode) v k safe other h = IsLeftAlone-same k w _ v h.2 (joining_list-others w s k safe other mode h.0 h.1)
+step-others w s LeaveList v k safe other h = IsLeftAlone-same k w _ v h.2 (leaving_list-others w s k safe other h.0 h.1)
+step-others w s (TakeOff o) v k safe other h = IsLeftAlone-same k w _ v h.2 (taking_off-others w s k safe other o h.0 h.1)
+step-others w s (Tell o) v k safe other h = IsLeftAlone-same k w _ v h.1 (telling-others w s k safe other o)
+step-others w s (LoadSleep n) v k safe other h = IsLeftAlone-same k w _ v h.1 (loading_sleep-others w s k safe other n)
+step-others w s (SetReleaseOk word n) v k safe other h = setting_release_ok-others w s word n v k h
+step-others w s (SetHasWaiters word n) v k safe other h = setting_has_waiters-others w s word n v k h
 
 -- An event leaves other sessions alone.
 pub event-others : (w v : World) (event : Event) (other : ℕ) → SafeWorld w → Happens w event v → other ≢ event.session → IsLeftAlone w v other

@@ -4,7 +4,7 @@ use Rattle.std.proofs.lemmas.Bool.{cases_eq, cond-false, eqb-true, ne_eqb}
 use Rattle.lock_table.specs.Content.{Content}
 use Rattle.lock_table.specs.Put.{set_at}
 use Rattle.lock_world.specs.World.{World, Hand}
-use Rattle.lock_world.specs.Account.{own_hand, own_hands, slots_in_hand, fast_account, IsLeftAlone}
+use Rattle.lock_world.specs.Account.{own_hand, own_hands, slots_in_hand, fast_account, list_account, IsLeftAlone}
 use Rattle.lock_world.specs.Safe.{is_hand_of}
 use Rattle.lock_table.proofs.PutLemmas.{set_at-here, set_at-else}
 
@@ -33,13 +33,13 @@ IsLeftAlone-same k w u v e alone = subst (λ z. IsLeftAlone w z k) (sym e) alone
 
 -- An account is the same part by part.
 pub IsLeftAlone-by :
-    (w v : World) (k : ℕ) → v.sessions.own k ≡ w.sessions.own k → v.sessions.awaited k ≡ w.sessions.awaited k → v.sessions.seen k ≡ w.sessions.seen k
+    (w v : World) (k : ℕ) → list_account v k ≡ list_account w k → v.sessions.own k ≡ w.sessions.own k → v.sessions.awaited k ≡ w.sessions.awaited k → v.sessions.seen k ≡ w.sessions.seen k
     → own_hands v.contents.hand v.contents.now k ≡ own_hands w.contents.hand w.contents.now k → v.sessions.shares_partition k ≡ w.sessions.shares_partition k
     → fast_account v k ≡ fast_account w k → v.sessions.trace k ≡ w.sessions.trace k
     → v.numbers.live k ≡ w.numbers.live k → v.numbers.kept_by k ≡ w.numbers.kept_by k
     → IsLeftAlone w v k
-IsLeftAlone-by w v k own awaited seen hand shares fast trace live kept_by = record {
-  account = λ i. record { own = own i; awaited = awaited i; seen = seen i; hand = hand i; shares = shares i; fast = fast i; trace = trace i };
+IsLeftAlone-by w v k lists own awaited seen hand shares fast trace live kept_by = record {
+  account = λ i. record { own = own i; awaited = awaited i; seen = seen i; hand = hand i; shares = shares i; fast = fast i; lists = lists i; trace = trace i };
   live = live;
   kept_by = kept_by;
 }

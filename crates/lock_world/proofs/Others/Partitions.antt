@@ -22,14 +22,14 @@ own_after-others own s done k other = λ i t m. own_after-else own s done k t m 
 pub taking_partition-others : (w : World) (s p : ℕ) (v : World) (k : ℕ) → SafeWorld w → k ≢ s → HappensTakingPartition w s p v → IsLeftAlone w v k
 taking_partition-others w s p v k safe other h =
     IsLeftAlone-same k w _ v h.1
-    (IsLeftAlone-by w _ k refl refl refl
+    (IsLeftAlone-by w _ k refl refl refl refl
     (own_hand-set w.contents.hand w.contents.now w.contents.now p _ k (λ q _. refl) (ap (λ hand. own_hand hand (w.contents.now p) k) (at_home-free (tabled w) p safe.but_slots.table h.0.free))
     (cond-false (s == k) _ None (ne_eqb s k (λ same. other (sym same)))))
     refl refl (set_at-else w.sessions.trace s _ k other) refl refl)
 
 put-others : (w : World) (s p : ℕ) (done : Move) (content : Content) (k : ℕ) → SafeWorld w → k ≢ s → w.sessions.holds_partition s p ≡ true → IsLeftAlone w (after_putting_partition w s p done content) k
 put-others w s p done content k safe other holding =
-    IsLeftAlone-by w _ k (own_after-others w.sessions.own s done k other) refl refl
+    IsLeftAlone-by w _ k refl (own_after-others w.sessions.own s done k other) refl refl
     (own_hand-set w.contents.hand w.contents.now (set_at w.contents.now p content) p None k (set_at-else w.contents.now p content)
     (another's (w.contents.hand p) (w.contents.now p) s k (holding-hand (tabled w) s p safe.but_slots holding) other) refl)
     refl refl (set_at-else w.sessions.trace s _ k other) refl refl

@@ -6,10 +6,10 @@ use Rattle.lock_table.proofs.PutLemmas.{set_at-else}
 use Rattle.lock_world.proofs.Others.Hands.{IsLeftAlone-same, IsLeftAlone-by}
 
 pub splitting-others : (w : World) (s : ℕ) (v : World) (k : ℕ) → k ≢ s → HappensSplitting w s v → IsLeftAlone w v k
-splitting-others w s v k other (inl h) = IsLeftAlone-same k w _ v h.1 (IsLeftAlone-by w _ k refl refl refl refl refl refl refl (set_at-else w.numbers.live s true k other) refl)
-splitting-others w s v k other (inr h) = IsLeftAlone-same k w _ v h.1 (IsLeftAlone-by w _ k refl refl refl refl refl refl refl refl (set_at-else w.numbers.kept_by s None k other))
+splitting-others w s v k other (inl h) = IsLeftAlone-same k w _ v h.1 (IsLeftAlone-by w _ k refl refl refl refl refl refl refl refl (set_at-else w.numbers.live s true k other) refl)
+splitting-others w s v k other (inr h) = IsLeftAlone-same k w _ v h.1 (IsLeftAlone-by w _ k refl refl refl refl refl refl refl refl refl (set_at-else w.numbers.kept_by s None k other))
 
 pub joining-others : (w : World) (s : ℕ) (joiner : Option ℕ) (v : World) (k : ℕ) → k ≢ s → HappensJoining w s joiner v → IsLeftAlone w v k
 joining-others w s (Some j) v k other h =
-    IsLeftAlone-same k w _ v h.1 (IsLeftAlone-by w _ k refl refl refl refl refl refl refl refl (set_at-else w.numbers.kept_by s (Some j) k other))
-joining-others w s None v k other h = IsLeftAlone-same k w _ v h.1 (IsLeftAlone-by w _ k refl refl refl refl refl refl refl (set_at-else w.numbers.live s false k other) refl)
+    IsLeftAlone-same k w _ v h.1 (IsLeftAlone-by w _ k refl refl refl refl refl refl refl refl refl (set_at-else w.numbers.kept_by s (Some j) k other))
+joining-others w s None v k other h = IsLeftAlone-same k w _ v h.1 (IsLeftAlone-by w _ k refl refl refl refl refl refl refl refl (set_at-else w.numbers.live s false k other) refl)

@@ -37,23 +37,23 @@ zero-read_others zero holds_fast s index shown k other = go ((shown == 0) && hol
 pub taking_fast-others : (w : World) (s o : ℕ) (v : World) (k : ℕ) → k ≢ s → HappensTakingFast w s o v → IsLeftAlone w v k
 taking_fast-others w s o v k other h =
     IsLeftAlone-same k w _ v h.1
-    (IsLeftAlone-by w (after_taking_fast w s o) k refl refl refl refl refl
+    (IsLeftAlone-by w (after_taking_fast w s o) k refl refl refl refl refl refl
     (fast_account-by w (after_taking_fast w s o) k (ap (λ has. slots_in_hand has w.words.database w.words.slot) (set_at-else w.sessions.holds_fast s (set_at (w.sessions.holds_fast s) o true) k other)) refl refl refl refl) refl refl refl)
 
 pub putting_fast-others : (w : World) (s o : ℕ) (v : World) (k : ℕ) → k ≢ s → HappensPuttingFast w s o v → IsLeftAlone w v k
 putting_fast-others w s o v k other h =
     IsLeftAlone-same k w _ v h.1
-    (IsLeftAlone-by w (after_putting_fast w s o) k refl refl refl refl refl
+    (IsLeftAlone-by w (after_putting_fast w s o) k refl refl refl refl refl refl
     (fast_account-by w (after_putting_fast w s o) k (ap (λ has. slots_in_hand has w.words.database w.words.slot) (set_at-else w.sessions.holds_fast s (set_at (w.sessions.holds_fast s) o false) k other)) refl refl
     (zero-put_others w.sessions.zero s o k other) refl) refl refl refl)
 
 -- Loading words, and counters.
 pub loading-others : (w : World) (s : ℕ) (word : Word) (n k : ℕ) → k ≢ s → IsLeftAlone w (after_loading w s word n) k
-loading-others w s word n k other = IsLeftAlone-by w (after_loading w s word n) k refl refl refl refl refl refl (set_at-else w.sessions.trace s _ k other) refl refl
+loading-others w s word n k other = IsLeftAlone-by w (after_loading w s word n) k refl refl refl refl refl refl refl (set_at-else w.sessions.trace s _ k other) refl refl
 
 pub reading_counter-others : (w : World) (s i n k : ℕ) → k ≢ s → IsLeftAlone w (after_reading_counter w s i n) k
 reading_counter-others w s i n k other =
-    IsLeftAlone-by w (after_reading_counter w s i n) k refl refl refl refl refl
+    IsLeftAlone-by w (after_reading_counter w s i n) k refl refl refl refl refl refl
     (fast_account-by w (after_reading_counter w s i n) k refl refl refl (zero-read_others w.sessions.zero w.sessions.holds_fast s i n k other) refl) (set_at-else w.sessions.trace s _ k other) refl refl
 
 -- The slots of one session change: whoever has not their lock knows no more of them than before.
@@ -78,14 +78,14 @@ not_held w s o k safe other holding =
 -- Setting and clearing a slot.
 pub setting_slot-others : (w : World) (s i : ℕ) (t : Tag) (m : Mode) (k : ℕ) → SafeWorld w → k ≢ s → MaySetSlot w s i t m → IsLeftAlone w (after_setting_slot w s i t m) k
 setting_slot-others w s i t m k safe other may =
-    IsLeftAlone-by w (after_setting_slot w s i t m) k (λ x o n. set_hold-other_session w.sessions.own s t m true k o n other x) refl refl refl refl
+    IsLeftAlone-by w (after_setting_slot w s i t m) k refl (λ x o n. set_hold-other_session w.sessions.own s t m true k o n other x) refl refl refl refl
     (fast_account-by w (after_setting_slot w s i t m) k (slots_in_hand-set (w.sessions.holds_fast k) w.words.database w.words.slot s (set_at (w.words.slot s) i (word_with (w.words.slot s i) (relation_of t) m)) (not_held w s s k safe other may.holding))
     (slots_in_hand-set (w.sessions.shares_fast k) w.words.database w.words.slot s (set_at (w.words.slot s) i (word_with (w.words.slot s i) (relation_of t) m)) ((safe.but_slots.locks.fast_words s).never_both s k may.holding)) refl refl refl)
     refl refl refl
 
 pub clearing_slot-others : (w : World) (s i : ℕ) (t : Tag) (m : Mode) (k : ℕ) → SafeWorld w → k ≢ s → MayClearSlot w s i t m → IsLeftAlone w (after_clearing_slot w s i t m) k
 clearing_slot-others w s i t m k safe other may =
-    IsLeftAlone-by w (after_clearing_slot w s i t m) k (λ x o n. set_hold-other_session w.sessions.own s t m false k o n other x) refl refl refl refl
+    IsLeftAlone-by w (after_clearing_slot w s i t m) k refl (λ x o n. set_hold-other_session w.sessions.own s t m false k o n other x) refl refl refl refl
     (fast_account-by w (after_clearing_slot w s i t m) k (slots_in_hand-set (w.sessions.holds_fast k) w.words.database w.words.slot s (set_at (w.words.slot s) i (word_without (w.words.slot s i) m)) (not_held w s s k safe other may.holding))
     (slots_in_hand-set (w.sessions.shares_fast k) w.words.database w.words.slot s (set_at (w.words.slot s) i (word_without (w.words.slot s i) m)) ((safe.but_slots.locks.fast_words s).never_both s k may.holding)) refl refl refl)
     refl refl refl
@@ -93,7 +93,7 @@ clearing_slot-others w s i t m k safe other may =
 -- Moving a mode from a slot to the table.
 pub transferring-others : (w : World) (s o i : ℕ) (t : Tag) (m strong : Mode) (k : ℕ) → SafeWorld w → k ≢ s → MayTransfer w s o i t m strong → IsLeftAlone w (after_transferring w o i t m) k
 transferring-others w s o i t m strong k safe other may =
-    IsLeftAlone-by w (after_transferring w o i t m) k refl refl refl
+    IsLeftAlone-by w (after_transferring w o i t m) k refl refl refl refl
     (recorded-others w s (partition_of t) (Adopt o i) (is_unmarked (w.contents.hand (partition_of t))) _ k safe other may.holding (set_at-else w.contents.now (partition_of t) _)) refl
     (fast_account-by w (after_transferring w o i t m) k (slots_in_hand-set (w.sessions.holds_fast k) w.words.database w.words.slot o (set_at (w.words.slot o) i (word_without (w.words.slot o i) m)) (not_held w s o k safe other may.holding_slots))
     (slots_in_hand-set (w.sessions.shares_fast k) w.words.database w.words.slot o (set_at (w.words.slot o) i (word_without (w.words.slot o i) m)) ((safe.but_slots.locks.fast_words o).never_both s k may.holding_slots)) refl refl refl)
@@ -120,7 +120,7 @@ slots_in_hand-stored has database slot s d none = λ i o. at o i where
 
 pub storing_database-others : (w : World) (s d k : ℕ) → k ≢ s → MayStoreDatabase w s → IsLeftAlone w (after_storing_database w s d) k
 storing_database-others w s d k other may =
-    IsLeftAlone-by w (after_storing_database w s d) k refl refl refl refl refl
+    IsLeftAlone-by w (after_storing_database w s d) k refl refl refl refl refl refl
     (fast_account-by w (after_storing_database w s d) k (slots_in_hand-stored (w.sessions.holds_fast k) w.words.database w.words.slot s d may.unused)
     (slots_in_hand-stored (w.sessions.shares_fast k) w.words.database w.words.slot s d may.unused) (set_at-else w.words.database s d k other) refl refl)
     refl refl refl

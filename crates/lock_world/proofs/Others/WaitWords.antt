@@ -5,14 +5,14 @@ use Rattle.lock_world.specs.declared.events.Event.{Event}
 use Rattle.lock_table.specs.declared.moves.Move.{Move}
 use Rattle.lock_table.specs.declared.moves.Move.TheVariants.{Keep, Grant, Join, Release, Leave, Adopt}
 use Rattle.lock_world.specs.declared.events.Step.{Step}
-use Rattle.lock_world.specs.declared.events.Step.TheVariants.{TakeExclusive, PutExclusive, TakeShared, PutShared, SplitSeat, JoinSeat, AskCancel, LoadWait, SetWaiting, MarkGranted, ClearWait, PutPassing, LoadStrong, LoadWord, SetSlot, ClearSlot, StoreDatabase, Count, Uncount, TransferSlot}
+use Rattle.lock_world.specs.declared.events.Step.TheVariants.{TakeExclusive, PutExclusive, TakeShared, PutShared, SplitSeat, JoinSeat, AskCancel, LoadWait, SetWaiting, MarkGranted, ClearWait, PutPassing, LoadStrong, LoadWord, SetSlot, ClearSlot, StoreDatabase, Count, Uncount, TransferSlot, LockList, UnlockList, JoinList, LeaveList, TakeOff, Tell, LoadSleep, SetReleaseOk, SetHasWaiters}
 use Rattle.lock_world.specs.declared.events.Word.{Word}
 use Rattle.lock_world.specs.declared.events.Word.TheVariants.{Partition, Fast, Database, Slot, Wait, Strong, Sleep}
 use Rattle.lock_world.specs.WaitWord.{wait_state, asked_word, granted_word}
 use Rattle.lock_world.specs.World.{World}
 use Rattle.lock_table.specs.Put.{set_at}
 use Rattle.lock_world.specs.Happens.Waits.{HappensMarking, HappensMarkingIn, HappensClearing}
-use Rattle.lock_world.specs.Happens.{Happens, HappensStep, HappensTaking, HappensPutting, HappensSharing, HappensUnsharing, HappensLoading}
+use Rattle.lock_world.specs.Happens.{Happens, HappensStep, HappensTaking, HappensPutting, HappensSharing, HappensUnsharing, HappensLoading, HappensLockingList, HappensUnlockingList, HappensSettingReleaseOk, HappensSettingHasWaiters}
 use Rattle.lock_world.specs.Happens.Seats.{HappensJoining}
 use Rattle.lock_table.proofs.PutLemmas.{set_at-here, set_at-else}
 
@@ -98,6 +98,42 @@ word-loading w s (Wait o) n v k h = absurd h
 word-loading w s (Strong i) n v k h = absurd h
 word-loading w s (Sleep o) n v k h = absurd h
 
+word-locking_list : (w : World) (s : ℕ) (lock : Word) (v : World) (k : ℕ) → HappensLockingList w s lock v → IsLeftOrMarked (w.words.wait k) (v.words.wait k)
+word-locking_list w s (Partition p) v k h = word k w _ v h.2 (inl refl)
+word-locking_list w s (Fast q) v k h = word k w _ v h.2 (inl refl)
+word-locking_list w s (Database q) v k h = absurd h
+word-locking_list w s (Slot q i) v k h = absurd h
+word-locking_list w s (Wait q) v k h = absurd h
+word-locking_list w s (Strong i) v k h = absurd h
+word-locking_list w s (Sleep q) v k h = absurd h
+
+word-unlocking_list : (w : World) (s : ℕ) (lock : Word) (waiters release : Bool) (v : World) (k : ℕ) → HappensUnlockingList w s lock waiters release v → IsLeftOrMarked (w.words.wait k) (v.words.wait k)
+word-unlocking_list w s (Partition p) waiters release v k h = word k w _ v h.1 (inl refl)
+word-unlocking_list w s (Fast q) waiters release v k h = word k w _ v h.1 (inl refl)
+word-unlocking_list w s (Database q) waiters release v k h = absurd h
+word-unlocking_list w s (Slot q i) waiters release v k h = absurd h
+word-unlocking_list w s (Wait q) waiters release v k h = absurd h
+word-unlocking_list w s (Strong i) waiters release v k h = absurd h
+word-unlocking_list w s (Sleep q) waiters release v k h = absurd h
+
+word-setting_release_ok : (w : World) (s : ℕ) (lock : Word) (n : ℕ) (v : World) (k : ℕ) → HappensSettingReleaseOk w s lock n v → IsLeftOrMarked (w.words.wait k) (v.words.wait k)
+word-setting_release_ok w s (Partition p) n v k h = word k w _ v h.2 (inl refl)
+word-setting_release_ok w s (Fast q) n v k h = word k w _ v h.2 (inl refl)
+word-setting_release_ok w s (Database q) n v k h = absurd h
+word-setting_release_ok w s (Slot q i) n v k h = absurd h
+word-setting_release_ok w s (Wait q) n v k h = absurd h
+word-setting_release_ok w s (Strong i) n v k h = absurd h
+word-setting_release_ok w s (Sleep q) n v k h = absurd h
+
+word-setting_has_waiters : (w : World) (s : ℕ) (lock : Word) (n : ℕ) (v : World) (k : ℕ) → HappensSettingHasWaiters w s lock n v → IsLeftOrMarked (w.words.wait k) (v.words.wait k)
+word-setting_has_waiters w s (Partition p) n v k h = word k w _ v h.1 (inl refl)
+word-setting_has_waiters w s (Fast q) n v k h = word k w _ v h.1 (inl refl)
+word-setting_has_waiters w s (Database q) n v k h = absurd h
+word-setting_has_waiters w s (Slot q i) n v k h = absurd h
+word-setting_has_waiters w s (Wait q) n v k h = absurd h
+word-setting_has_waiters w s (Strong i) n v k h = absurd h
+word-setting_has_waiters w s (Sleep q) n v k h = absurd h
+
 word-step_by : (w : World) (s : ℕ) (step : Step) (v : World) (k : ℕ) → k ≢ s → HappensStep w s step v → IsLeftOrMarked (w.words.wait k) (v.words.wait k)
 word-step_by w s (TakeExclusive taken) v k other h = word-taking w s taken v k h
 word-step_by w s (PutExclusive put done) v k other h = word-putting w s put done v k h
@@ -120,6 +156,15 @@ word-step_by w s (StoreDatabase d) v k other h = word k w _ v h.1 (inl refl)
 word-step_by w s (Count t m) v k other h = word k w _ v h.1 (inl refl)
 word-step_by w s (Uncount t m) v k other h = word k w _ v h.1 (inl refl)
 word-step_by w s (TransferSlot o i t m x) v k other h = word k w _ v h.1 (inl refl)
+word-step_by w s (LockList lock) v k other h = word-locking_list w s lock v k h
+word-step_by w s (UnlockList lock waiters release) v k other h = word-unlocking_list w s lock waiters release v k h
+word-step_by w s (JoinList mode) v k other h = word k w _ v h.2 (inl refl)
+word-step_by w s LeaveList v k other h = word k w _ v h.2 (inl refl)
+word-step_by w s (TakeOff o) v k other h = word k w _ v h.2 (inl refl)
+word-step_by w s (Tell o) v k other h = word k w _ v h.1 (inl refl)
+word-step_by w s (LoadSleep n) v k other h = word k w _ v h.1 (inl refl)
+word-step_by w s (SetReleaseOk lock n) v k other h = word-setting_release_ok w s lock n v k h
+word-step_by w s (SetHasWaiters lock n) v k other h = word-setting_has_waiters w s lock n v k h
 
 pub left_or_marked : (w v : World) (event : Event) (other : ℕ) → Happens w event v → other ≢ event.session → IsLeftOrMarked (w.words.wait other) (v.words.wait other)
 left_or_marked w v event other h apart = word-step_by w event.session event.step v other apart h

@@ -33,17 +33,17 @@ recorded-others w s p done unmarked now' k safe other holding elsewhere =
 pub setting-others : (w : World) (s : ℕ) (t : Tag) (m : Mode) (v : World) (k : ℕ) → SafeWorld w → k ≢ s → HappensSetting w s t m v → IsLeftAlone w v k
 setting-others w s t m v k safe other h =
     IsLeftAlone-same k w _ v h.2
-    (IsLeftAlone-by w _ k refl (set_at-else w.sessions.awaited s _ k other) (set_at-else w.sessions.seen s false k other)
+    (IsLeftAlone-by w _ k refl refl (set_at-else w.sessions.awaited s _ k other) (set_at-else w.sessions.seen s false k other)
     (recorded-others w s (partition_of t) (Join t m) (λ _. false) _ k safe other h.1.holding (set_at-else w.contents.now (partition_of t) h.0)) refl refl refl refl refl)
 
 marking_in-others : (w : World) (s marked p : ℕ) (done : Move) (v : World) (k : ℕ) → SafeWorld w → k ≢ s → HappensMarkingIn w s marked p done v → IsLeftAlone w v k
 marking_in-others w s marked p done v k safe other (inl h) =
     IsLeftAlone-same k w _ v h.3
-    (IsLeftAlone-by w _ k (own_after-others w.sessions.own s done k other) refl refl
+    (IsLeftAlone-by w _ k refl (own_after-others w.sessions.own s done k other) refl refl
     (recorded-others w s p done _ _ k safe other h.2.may_move.holding (set_at-else w.contents.now p h.1)) refl refl refl refl refl)
 marking_in-others w s marked p done v k safe other (inr h) =
     IsLeftAlone-same k w _ v h.1
-    (IsLeftAlone-by w _ k refl refl refl (recorded-others w s p done _ w.contents.now k safe other h.0.holding (λ q _. refl)) refl refl refl refl refl)
+    (IsLeftAlone-by w _ k refl refl refl refl (recorded-others w s p done _ w.contents.now k safe other h.0.holding (λ q _. refl)) refl refl refl refl refl)
 
 pub marking-others : (w : World) (s marked : ℕ) (done : Move) (v : World) (k : ℕ) → SafeWorld w → k ≢ s → HappensMarking w s marked done v → IsLeftAlone w v k
 marking-others w s marked Keep v k safe other h = absurd h
@@ -61,13 +61,13 @@ taken_stays own s o n false k other = refl
 cleared-others : (w : World) (s : ℕ) (wait : OwnWait) (v : World) (k : ℕ) → k ≢ s → v ≡ after_clearing w s wait → IsLeftAlone w v k
 cleared-others w s wait v k other e =
     IsLeftAlone-same k w _ v e
-    (IsLeftAlone-by w _ k (taken_stays w.sessions.own s wait.tag wait.mode _ k other) (set_at-else w.sessions.awaited s None k other) (set_at-else w.sessions.seen s false k other)
+    (IsLeftAlone-by w _ k refl (taken_stays w.sessions.own s wait.tag wait.mode _ k other) (set_at-else w.sessions.awaited s None k other) (set_at-else w.sessions.seen s false k other)
     refl refl refl refl refl refl)
 
 pub clearing-others : (w : World) (s : ℕ) (leaving : Bool) (v : World) (k : ℕ) → SafeWorld w → k ≢ s → HappensClearing w s leaving v → IsLeftAlone w v k
 clearing-others w s false v k safe other h = cleared-others w s h.0 v k other h.2
 clearing-others w s true v k safe other (inl h) =
     IsLeftAlone-same k w _ v h.4
-    (IsLeftAlone-by w _ k refl (set_at-else w.sessions.awaited s None k other) (set_at-else w.sessions.seen s false k other)
+    (IsLeftAlone-by w _ k refl refl (set_at-else w.sessions.awaited s None k other) (set_at-else w.sessions.seen s false k other)
     (recorded-others w s (partition_of h.0.tag) (Leave h.0.tag) _ _ k safe other h.3.may_move.holding (set_at-else w.contents.now (partition_of h.0.tag) h.2)) refl refl refl refl refl)
 clearing-others w s true v k safe other (inr h) = cleared-others w s h.0 v k other h.3

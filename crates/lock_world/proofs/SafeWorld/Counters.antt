@@ -63,6 +63,7 @@ module _ (counted : ℕ → List Counted) (s : ℕ) (list : List Counted) where
 pub counting-safe_world : (w : World) (s : ℕ) (t : Tag) (m : Mode) → SafeWorld w → MayCount w s t m → SafeWorld (after_counting w s t m)
 counting-safe_world w s t m safe may = record {
   but_slots = with_fast_path-safe (tabled w) w.words.database w.words.slot _ _ w.sessions.zero w.sessions.trace safe.but_slots safe.but_slots.traces;
+  lists = safe.lists;
   slots = safe.slots;
   order = OwnIsInOrder-counted w.sessions.counted s list w.numbers.live w.sessions.own w.sessions.awaited may.steps.live safe.order;
   counters = record {
@@ -92,6 +93,7 @@ counting-safe_world w s t m safe may = record {
 pub uncounting-safe_world : (w : World) (s : ℕ) (t : Tag) (m : Mode) → SafeWorld w → MayUncount w s t m → SafeWorld (after_uncounting w s t m)
 uncounting-safe_world w s t m safe may = record {
   but_slots = with_fast_path-safe (tabled w) w.words.database w.words.slot _ _ w.sessions.zero w.sessions.trace safe.but_slots safe.but_slots.traces;
+  lists = safe.lists;
   slots = safe.slots;
   order = OwnIsInOrder-counted w.sessions.counted s list w.numbers.live w.sessions.own w.sessions.awaited may.steps.live safe.order;
   counters = record {
@@ -129,6 +131,7 @@ uncounting-safe_world w s t m safe may = record {
 pub passing-safe_world : (w : World) (s k : ℕ) (t : Tag) (m : Mode) → SafeWorld w → MayPass w s k t m → SafeWorld (after_passing w s k t m)
 passing-safe_world w s k t m safe may = record {
   but_slots = with_fast_path-safe (tabled put) w.words.database w.words.slot w.words.strong _ put.sessions.zero w.sessions.trace whole.but_slots whole.but_slots.traces;
+  lists = whole.lists;
   slots = safe.slots;
   order = OwnIsInOrder-counted w.sessions.counted s list w.numbers.live w.sessions.own w.sessions.awaited may.steps.live safe.order;
   counters = record {

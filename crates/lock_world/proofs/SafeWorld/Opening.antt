@@ -1,9 +1,11 @@
-use Rattle.std.proofs.Common.{◌≡◌, ℕ, ◌^◌, ◌<◌, true, false, refl, sym, ◌∙◌, arith}
+use Rattle.std.proofs.Common.{◌≡◌, ℕ, ◌^◌, ◌%◌, ◌<◌, Bool, true, false, None, refl, sym, ◌∙◌, arith}
+use Rattle.std.specs.Prelude.{◌==◌, if◌then◌else◌}
 use Rattle.std.proofs.lemmas.Bool.{false≢true}
 use Rattle.modes_core.specs.declared.modes.Mode.{Mode}
 use Rattle.modes_core.specs.declared.tags.Tag.{Tag}
-use Rattle.lw_word.specs.LightweightWord.{free_word}
+use Rattle.lw_word.specs.LightweightWord.{free_word, IsListLocked}
 use Rattle.lock_world.specs.World.{opening}
+use Rattle.lock_world.specs.WaitLists.{lock_word, ShowsList}
 use Rattle.lock_world.specs.Safe.{SafeButSlots, ShowsHolders}
 use Rattle.lock_world.specs.SafeWorld.{SafeWorld, slots_of, tabled}
 use Rattle.lock_world.proofs.Totals.{none_pass}
@@ -72,10 +74,34 @@ no_slots = λ i k. slot_holds-unused 0 (λ _. 0) (λ place within. refl) i
 none_shown : (k : ℕ) (t : Tag) (m : Mode) → slots_of (λ _. 0) (λ _ _. 0) k t m ≡ true → ⊥
 none_shown k t m shown = false≢true (sym (λ i. no_slots i k t m) ∙ shown)
 
+-- No word shows a list locked.
+no_list_shown : (lock : ℕ) → ShowsList (lock_word (λ _. free_word) (λ _. free_word) lock) lock (λ _. None)
+no_list_shown lock = record {
+  had_is_shown = λ k had. absurd (cc);
+  shown_is_had = λ locked. absurd (unlocked (lock % 2 == 0) locked);
+  by_one = λ j k had its. absurd (cc);
+} where
+  unlocked : (even : Bool) → IsListLocked (if even then free_word else free_word) → ⊥
+  unlocked true locked = omega (arith, locked)
+  unlocked false locked = omega (arith, locked)
+
 -- The opening World is safe.
 pub opening-safe : (limit : ℕ) → limit < 2 ^ 24 → SafeWorld (opening limit)
 opening-safe limit few = record {
   but_slots = but_slots limit few;
+  lists = record {
+    shown = λ lock. no_list_shown lock;
+    sleepers = record {
+      named = λ lock k there. absurd (false≢true there);
+      waiting = λ lock k there. absurd (false≢true there);
+      once = λ lock k. omega arith;
+      idle = λ k none. refl;
+      taken_off = λ k j off. absurd (false≢true off);
+      by_one = λ i j k off its. absurd (false≢true off);
+    };
+    no_list = λ k dead. refl;
+    no_stand = λ k dead. refl;
+  };
   slots = record {
     are_own = λ k t m shown. absurd (none_shown k t m shown);
     one_each = λ k relation place other within its used too. absurd (false≢true used);

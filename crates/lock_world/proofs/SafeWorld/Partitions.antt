@@ -5,6 +5,10 @@ use Rattle.lock_world.specs.World.{World}
 use Rattle.lock_world.specs.Happens.Partitions.{MayTakePartition, after_taking_partition, MayMove, MayPutPartition, after_putting_partition, MayPutRecorded, after_putting_recorded, own_after}
 use Rattle.lock_world.specs.Counted.{StrongIsDone}
 use Rattle.lock_world.specs.SafeWorld.{SafeWorld, SlotsAreOwn, OwnIsInOrder, tabled}
+use Rattle.lw_word.specs.LightweightWord.{taken_word, put_word}
+use Rattle.lw_word.proofs.WordLemmas.{taken_word-flags, put_word-flags}
+use Rattle.lock_world.specs.Happens.Lists.{sleepers}
+use Rattle.lock_world.proofs.ListWords.{flags-partition}
 use Rattle.lock_world.proofs.Table.Partitions.{own_after-else}
 use Rattle.lock_world.proofs.Safe.Partitions.{taking_partition-safe, putting_partition-safe, putting_recorded-safe}
 use Rattle.lock_world.proofs.SafeWorld.Tabled.{with_own-safe, MayMove-tabled, tabled-after, released-no_slot}
@@ -14,6 +18,8 @@ use Rattle.lock_world.proofs.SafeWorld.OneSession.{SlotsAreOwn-one, OwnIsInOrder
 pub taking_partition-safe_world : (w : World) (s p : ℕ) → SafeWorld w → MayTakePartition w s p → SafeWorld (after_taking_partition w s p)
 taking_partition-safe_world w s p safe may = record {
   but_slots = taking_partition-safe (tabled w) s p safe.but_slots (record { steps = may.steps; exists = may.exists; free = may.free });
+  lists = flags-partition w.words.partition w.words.fast (sleepers w) w.sessions.has_list w.numbers.live safe.lists p (taken_word (w.words.partition p))
+      (taken_word-flags (w.words.partition p) may.free);
   slots = safe.slots;
   order = safe.order;
   counters = safe.counters;
@@ -51,6 +57,8 @@ putting_partition-safe_world w s p done content safe may = record {
   but_slots = with_own-safe (after_putting_partition w s p done content) _ _ (tabled-after w safe s p done [] content may.may_move)
       (putting_partition-safe (tabled w) s p done content safe.but_slots
       (record { may_move = MayMove-tabled w safe s p done [] content may.may_move; by_putting = may.by_putting }));
+  lists = flags-partition w.words.partition w.words.fast (sleepers w) w.sessions.has_list w.numbers.live safe.lists p (put_word (w.words.partition p))
+      (put_word-flags (w.words.partition p) ((safe.but_slots.table.promise.words p).held_is_shown s may.may_move.holding));
   slots = slots-moved w safe s p done [] content may.may_move;
   order = order-moved w safe s p done [] content may.may_move;
   counters = safe.counters;
@@ -69,6 +77,8 @@ putting_recorded-safe_world w s p done safe may = record {
     all_marked = may.all_marked;
     wait_is_over = may.wait_is_over;
   });
+  lists = flags-partition w.words.partition w.words.fast (sleepers w) w.sessions.has_list w.numbers.live safe.lists p (put_word (w.words.partition p))
+      (put_word-flags (w.words.partition p) ((safe.but_slots.table.promise.words p).held_is_shown s may.holding));
   slots = safe.slots;
   order = safe.order;
   counters = safe.counters;

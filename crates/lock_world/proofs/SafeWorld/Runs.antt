@@ -5,11 +5,11 @@ use Rattle.lock_world.specs.declared.events.Event.{Event}
 use Rattle.lock_table.specs.declared.moves.Move.{Move}
 use Rattle.lock_table.specs.declared.moves.Move.TheVariants.{Keep, Grant, Join, Release, Leave, Adopt}
 use Rattle.lock_world.specs.declared.events.Step.{Step}
-use Rattle.lock_world.specs.declared.events.Step.TheVariants.{TakeExclusive, PutExclusive, TakeShared, PutShared, SplitSeat, JoinSeat, AskCancel, LoadWait, SetWaiting, MarkGranted, ClearWait, PutPassing, LoadStrong, LoadWord, SetSlot, ClearSlot, StoreDatabase, Count, Uncount, TransferSlot}
+use Rattle.lock_world.specs.declared.events.Step.TheVariants.{TakeExclusive, PutExclusive, TakeShared, PutShared, SplitSeat, JoinSeat, AskCancel, LoadWait, SetWaiting, MarkGranted, ClearWait, PutPassing, LoadStrong, LoadWord, SetSlot, ClearSlot, StoreDatabase, Count, Uncount, TransferSlot, LockList, UnlockList, JoinList, LeaveList, TakeOff, Tell, LoadSleep, SetReleaseOk, SetHasWaiters}
 use Rattle.lock_world.specs.declared.events.Word.{Word}
 use Rattle.lock_world.specs.declared.events.Word.TheVariants.{Partition, Fast, Database, Slot, Wait, Strong, Sleep}
 use Rattle.lock_world.specs.World.{World}
-use Rattle.lock_world.specs.Happens.{HappensTaking, HappensPutting, HappensSharing, HappensUnsharing, HappensLoading, Happens, HappensStep, Next, RunsThrough, last_of, Runs}
+use Rattle.lock_world.specs.Happens.{HappensTaking, HappensPutting, HappensSharing, HappensUnsharing, HappensLoading, HappensLockingList, HappensUnlockingList, HappensSettingReleaseOk, HappensSettingHasWaiters, Happens, HappensStep, Next, RunsThrough, last_of, Runs}
 use Rattle.lock_world.specs.Happens.Seats.{HappensJoining}
 use Rattle.lock_world.specs.Happens.Waits.{HappensMarkingIn, HappensMarking, HappensClearing}
 use Rattle.lock_world.specs.SafeWorld.{SafeWorld}
@@ -24,6 +24,8 @@ use Rattle.lock_world.proofs.SafeWorld.Slots.Clearing.{clearing_slot-safe_world}
 use Rattle.lock_world.proofs.SafeWorld.Slots.Transferring.{transferring-safe_world}
 use Rattle.lock_world.proofs.SafeWorld.Slots.Databases.{storing_database-safe_world}
 use Rattle.lock_world.proofs.SafeWorld.Slots.Reading.{loading-safe_world, reading_counter-safe_world}
+use Rattle.lw_word.proofs.FlagLemmas.{release_ok_word-holders, release_ok_word-list_locked, has_waiters_word-holders, has_waiters_word-list_locked}
+use Rattle.lock_world.proofs.SafeWorld.Lists.{locking_partition_list-safe_world, locking_fast_list-safe_world, unlocking_partition_list-safe_world, unlocking_fast_list-safe_world, flagging_partition-safe_world, flagging_fast-safe_world, joining_list-safe_world, leaving_list-safe_world, taking_off-safe_world, telling-safe_world, loading_sleep-safe_world}
 use Rattle.lock_world.proofs.SafeWorld.Counters.{counting-safe_world, uncounting-safe_world, passing-safe_world}
 
 taking-safe : (w : World) (s : ℕ) (word : Word) (v : World) → SafeWorld w → HappensTaking w s word v → SafeWorld v
@@ -97,6 +99,46 @@ loading-safe w s (Wait k) n v safe h = absurd h
 loading-safe w s (Strong i) n v safe h = absurd h
 loading-safe w s (Sleep k) n v safe h = absurd h
 
+locking_list-safe : (w : World) (s : ℕ) (word : Word) (v : World) → SafeWorld w → HappensLockingList w s word v → SafeWorld v
+locking_list-safe w s (Partition p) v safe h = subst SafeWorld (sym h.2) (locking_partition_list-safe_world w s safe p h.1)
+locking_list-safe w s (Fast o) v safe h = subst SafeWorld (sym h.2) (locking_fast_list-safe_world w s safe o h.1)
+locking_list-safe w s (Database k) v safe h = absurd h
+locking_list-safe w s (Slot k i) v safe h = absurd h
+locking_list-safe w s (Wait k) v safe h = absurd h
+locking_list-safe w s (Strong i) v safe h = absurd h
+locking_list-safe w s (Sleep k) v safe h = absurd h
+
+unlocking_list-safe : (w : World) (s : ℕ) (word : Word) (waiters release : Bool) (v : World) → SafeWorld w → HappensUnlockingList w s word waiters release v → SafeWorld v
+unlocking_list-safe w s (Partition p) waiters release v safe h = subst SafeWorld (sym h.1) (unlocking_partition_list-safe_world w s safe p waiters release h.0)
+unlocking_list-safe w s (Fast o) waiters release v safe h = subst SafeWorld (sym h.1) (unlocking_fast_list-safe_world w s safe o waiters release h.0)
+unlocking_list-safe w s (Database k) waiters release v safe h = absurd h
+unlocking_list-safe w s (Slot k i) waiters release v safe h = absurd h
+unlocking_list-safe w s (Wait k) waiters release v safe h = absurd h
+unlocking_list-safe w s (Strong i) waiters release v safe h = absurd h
+unlocking_list-safe w s (Sleep k) waiters release v safe h = absurd h
+
+setting_release_ok-safe : (w : World) (s : ℕ) (word : Word) (n : ℕ) (v : World) → SafeWorld w → HappensSettingReleaseOk w s word n v → SafeWorld v
+setting_release_ok-safe w s (Partition p) n v safe h =
+    subst SafeWorld (sym h.2) (flagging_partition-safe_world w s safe p _ (release_ok_word-holders (w.words.partition p)) (release_ok_word-list_locked (w.words.partition p)))
+setting_release_ok-safe w s (Fast o) n v safe h =
+    subst SafeWorld (sym h.2) (flagging_fast-safe_world w s safe o _ (release_ok_word-holders (w.words.fast o)) (release_ok_word-list_locked (w.words.fast o)))
+setting_release_ok-safe w s (Database k) n v safe h = absurd h
+setting_release_ok-safe w s (Slot k i) n v safe h = absurd h
+setting_release_ok-safe w s (Wait k) n v safe h = absurd h
+setting_release_ok-safe w s (Strong i) n v safe h = absurd h
+setting_release_ok-safe w s (Sleep k) n v safe h = absurd h
+
+setting_has_waiters-safe : (w : World) (s : ℕ) (word : Word) (n : ℕ) (v : World) → SafeWorld w → HappensSettingHasWaiters w s word n v → SafeWorld v
+setting_has_waiters-safe w s (Partition p) n v safe h =
+    subst SafeWorld (sym h.1) (flagging_partition-safe_world w s safe p _ (has_waiters_word-holders (w.words.partition p)) (has_waiters_word-list_locked (w.words.partition p)))
+setting_has_waiters-safe w s (Fast o) n v safe h =
+    subst SafeWorld (sym h.1) (flagging_fast-safe_world w s safe o _ (has_waiters_word-holders (w.words.fast o)) (has_waiters_word-list_locked (w.words.fast o)))
+setting_has_waiters-safe w s (Database k) n v safe h = absurd h
+setting_has_waiters-safe w s (Slot k i) n v safe h = absurd h
+setting_has_waiters-safe w s (Wait k) n v safe h = absurd h
+setting_has_waiters-safe w s (Strong i) n v safe h = absurd h
+setting_has_waiters-safe w s (Sleep k) n v safe h = absurd h
+
 step-safe : (w : World) (s : ℕ) (step : Step) (v : World) → SafeWorld w → HappensStep w s step v → SafeWorld v
 step-safe w s (TakeExclusive word) v safe h = taking-safe w s word v safe h
 step-safe w s (PutExclusive word done) v safe h = putting-safe w s word done v safe h
@@ -119,6 +161,15 @@ step-safe w s (StoreDatabase d) v safe h = subst SafeWorld (sym h.1) (storing_da
 step-safe w s (Count t m) v safe h = subst SafeWorld (sym h.1) (counting-safe_world w s t m safe h.0)
 step-safe w s (Uncount t m) v safe h = subst SafeWorld (sym h.1) (uncounting-safe_world w s t m safe h.0)
 step-safe w s (TransferSlot k i t m x) v safe h = subst SafeWorld (sym h.1) (transferring-safe_world w s k i t m x safe h.0)
+step-safe w s (LockList word) v safe h = locking_list-safe w s word v safe h
+step-safe w s (UnlockList word waiters release) v safe h = unlocking_list-safe w s word waiters release v safe h
+step-safe w s (JoinList mode) v safe h = subst SafeWorld (sym h.2) (joining_list-safe_world w s safe h.0 mode h.1)
+step-safe w s LeaveList v safe h = subst SafeWorld (sym h.2) (leaving_list-safe_world w s safe h.0 h.1)
+step-safe w s (TakeOff k) v safe h = subst SafeWorld (sym h.2) (taking_off-safe_world w s safe k h.0 h.1)
+step-safe w s (Tell k) v safe h = subst SafeWorld (sym h.1) (telling-safe_world w s safe k h.0)
+step-safe w s (LoadSleep n) v safe h = subst SafeWorld (sym h.1) (loading_sleep-safe_world w s safe n h.0)
+step-safe w s (SetReleaseOk word n) v safe h = setting_release_ok-safe w s word n v safe h
+step-safe w s (SetHasWaiters word n) v safe h = setting_has_waiters-safe w s word n v safe h
 
 -- Each event that is lawful leads from a safe World to a safe one.
 pub event-safe : (w : World) (event : Event) (v : World) → SafeWorld w → Happens w event v → SafeWorld v

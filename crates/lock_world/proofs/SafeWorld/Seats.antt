@@ -1,4 +1,4 @@
-use Rattle.std.proofs.Common.{◌≡◌, ℕ, true, false, [], sym}
+use Rattle.std.proofs.Common.{◌≡◌, ℕ, true, false, [], None, sym}
 use Rattle.std.proofs.lemmas.Bool.{false≢true}
 use Rattle.lock_table.specs.Put.{set_at}
 use Rattle.lock_table.proofs.PutLemmas.{set_at-each}
@@ -12,6 +12,12 @@ use Rattle.lock_world.proofs.SafeWorld.Tabled.{own_but-false}
 pub issuing-safe_world : (w : World) (s : ℕ) → SafeWorld w → MayBeIssued w s → SafeWorld (after_issuing w s)
 issuing-safe_world w s safe may = record {
   but_slots = issuing-safe (tabled w) s safe.but_slots (record { next = may.next; within = may.within });
+  lists = record {
+    shown = safe.lists.shown;
+    sleepers = safe.lists.sleepers;
+    no_list = λ k dead. safe.lists.no_list k (was_dead k dead);
+    no_stand = λ k dead. safe.lists.no_stand k (was_dead k dead);
+  };
   slots = safe.slots;
   order = record {
     awaited_is_not_own = safe.order.awaited_is_not_own;
@@ -30,6 +36,7 @@ issuing-safe_world w s safe may = record {
 pub going_on-safe_world : (w : World) (s : ℕ) → SafeWorld w → MayGoOn w s → SafeWorld (after_going_on w s)
 going_on-safe_world w s safe may = record {
   but_slots = going_on-safe (tabled w) s safe.but_slots may;
+  lists = safe.lists;
   slots = safe.slots;
   order = safe.order;
   counters = safe.counters;
@@ -48,6 +55,7 @@ keeping_apart-safe_world w s joiner safe may = record {
     no_word = may.no_word;
     no_fast_word = may.no_fast_word;
   });
+  lists = safe.lists;
   slots = safe.slots;
   order = safe.order;
   counters = safe.counters;
@@ -68,8 +76,16 @@ closing-safe_world w s safe may = record {
     no_hold = λ o n. own_but-false w.sessions.own (slots_of w.words.database w.words.slot) s o n (may.no_hold o n);
     no_wait = may.no_wait;
     no_count = may.no_count;
+    no_list = may.no_list;
+    no_stand = may.no_stand;
     keeps_nobody = may.keeps_nobody;
   });
+  lists = record {
+    shown = safe.lists.shown;
+    sleepers = safe.lists.sleepers;
+    no_list = set_at-each (λ k b. b ≡ false → w.sessions.has_list k ≡ None) w.numbers.live s false (λ _. may.no_list) (λ k _ dead. safe.lists.no_list k dead);
+    no_stand = set_at-each (λ k b. b ≡ false → w.sessions.stands k ≡ None) w.numbers.live s false (λ _. may.no_stand) (λ k _ dead. safe.lists.no_stand k dead);
+  };
   slots = safe.slots;
   order = record {
     awaited_is_not_own = safe.order.awaited_is_not_own;

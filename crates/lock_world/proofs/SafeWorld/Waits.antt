@@ -27,6 +27,7 @@ use Rattle.lock_world.proofs.SafeWorld.Partitions.{slots-moved, order-moved, don
 pub asking-safe_world : (w : World) (s k : ℕ) → SafeWorld w → MakesSteps w.numbers s → SafeWorld (after_asking w s k)
 asking-safe_world w s k safe steps = record {
   but_slots = asking-safe (tabled w) s k safe.but_slots steps;
+  lists = safe.lists;
   slots = safe.slots;
   order = safe.order;
   counters = safe.counters;
@@ -39,6 +40,7 @@ asking-safe_world w s k safe steps = record {
 pub loading_wait-safe_world : (w : World) (s n : ℕ) → SafeWorld w → MakesSteps w.numbers s → SafeWorld (after_loading_wait w s n)
 loading_wait-safe_world w s n safe steps = record {
   but_slots = loading_wait-safe (tabled w) s n safe.but_slots steps;
+  lists = safe.lists;
   slots = safe.slots;
   order = safe.order;
   counters = safe.counters;
@@ -53,6 +55,7 @@ pub setting_waiting-safe_world :
     → SafeWorld (after_setting_waiting w s t m content)
 setting_waiting-safe_world w s t m content safe may = record {
   but_slots = setting_waiting-safe (tabled w) s t m content safe.but_slots (MayMove-tabled w safe s (partition_of t) (Join t m) [] content may);
+  lists = safe.lists;
   slots = safe.slots;
   order = OwnIsInOrder-one w.sessions.own w.sessions.own w.sessions.awaited awaited' s (λ _ _ _ _. refl) (set_at-else w.sessions.awaited s (Some wait))
       w.numbers.live w.sessions.counted may.steps.live safe.order (λ o n awaits. let it = its o n awaits in (λ i. w.sessions.own s (sym it.0 i) (sym it.1 i)) ∙ may.own.1);
@@ -81,6 +84,7 @@ marking_first-safe_world w s k p done granted content grants safe may = record {
   but_slots = with_own-safe (after_marking_first w s k p done granted content) _ _ (tabled-after w safe s p done granted content may.may_move)
       (marking_first-safe (tabled w) s k p done granted content grants safe.but_slots
       (record { may_move = MayMove-tabled w safe s p done granted content may.may_move; may_mark = record { another = may.may_mark.another; waiting = may.may_mark.waiting }; among = may.among }));
+  lists = safe.lists;
   slots = slots-moved w safe s p done granted content may.may_move;
   order = order-moved w safe s p done granted content may.may_move;
   counters = safe.counters;
@@ -98,6 +102,7 @@ marking_next-safe_world w s k p done safe may = record {
     may_mark = record { another = may.may_mark.another; waiting = may.may_mark.waiting };
     is_unmarked_in = may.is_unmarked_in;
   });
+  lists = safe.lists;
   slots = safe.slots;
   order = safe.order;
   counters = safe.counters;
@@ -157,6 +162,7 @@ module _ (w : World) (safe : SafeWorld w) (s : ℕ) (wait : OwnWait) (alive : w.
   pub clearing-safe_world : SafeButSlots (after_clearing (tabled w) s wait) → SafeWorld (after_clearing w s wait)
   clearing-safe_world but_slots = record {
     but_slots = with_own-safe (after_clearing w s wait) _ _ (over-tabled granted) but_slots;
+    lists = safe.lists;
     slots = SlotsAreOwn-one own (over granted) w.sessions.awaited awaited' s (over-else granted) (set_at-else w.sessions.awaited s None)
         w.words.database w.words.slot safe.slots (over-shown granted);
     order = OwnIsInOrder-one own (over granted) w.sessions.awaited awaited' s (over-else granted) (set_at-else w.sessions.awaited s None)
@@ -172,6 +178,7 @@ module _ (w : World) (safe : SafeWorld w) (s : ℕ) (wait : OwnWait) (alive : w.
   pub left-safe_world : (woken : List Wait) (content : Content) → SafeButSlots (after_leaving (tabled w) s wait woken content) → SafeWorld (after_leaving w s wait woken content)
   left-safe_world woken content but_slots = record {
     but_slots = but_slots;
+    lists = safe.lists;
     slots = safe.slots;
     order = OwnIsInOrder-one own own w.sessions.awaited awaited' s (λ _ _ _ _. refl) (set_at-else w.sessions.awaited s None)
         w.numbers.live w.sessions.counted alive safe.order (λ o n awaits. absurd (none_awaited o n awaits));

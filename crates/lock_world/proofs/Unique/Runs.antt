@@ -1,12 +1,13 @@
-use Rattle.std.proofs.Common.{◌≡◌, ℕ, List, [], ◌∷◌, sym, ◌∙◌, subst, inl, inr, refl}
+use Rattle.std.proofs.Common.{◌≡◌, ℕ, Bool, List, [], ◌∷◌, Some, sym, ap, ◌∙◌, subst, inl, inr, refl}
 use Rattle.lock_world.specs.declared.events.Event.{Event}
 use Rattle.lock_world.specs.declared.events.Step.{Step}
-use Rattle.lock_world.specs.declared.events.Step.TheVariants.{TakeExclusive, PutExclusive, TakeShared, PutShared, SplitSeat, JoinSeat, AskCancel, LoadWait, SetWaiting, MarkGranted, ClearWait, PutPassing, LoadStrong, LoadWord, SetSlot, ClearSlot, StoreDatabase, Count, Uncount, TransferSlot}
+use Rattle.lock_world.specs.declared.events.Step.TheVariants.{TakeExclusive, PutExclusive, TakeShared, PutShared, SplitSeat, JoinSeat, AskCancel, LoadWait, SetWaiting, MarkGranted, ClearWait, PutPassing, LoadStrong, LoadWord, SetSlot, ClearSlot, StoreDatabase, Count, Uncount, TransferSlot, LockList, UnlockList, JoinList, LeaveList, TakeOff, Tell, LoadSleep, SetReleaseOk, SetHasWaiters}
 use Rattle.lock_world.specs.World.{World}
 use Rattle.lock_table.specs.declared.moves.Move.{Move}
 use Rattle.lock_world.specs.declared.events.Word.{Word}
 use Rattle.lock_world.specs.declared.events.Word.TheVariants.{Partition, Fast, Database, Slot, Wait, Strong, Sleep}
-use Rattle.lock_world.specs.Happens.{HappensTaking, HappensPutting, HappensSharing, HappensUnsharing, HappensLoading, HappensStep, Next, RunsThrough, last_of, Runs}
+use Rattle.lock_world.specs.Happens.{HappensTaking, HappensPutting, HappensSharing, HappensUnsharing, HappensLoading, HappensLockingList, HappensUnlockingList, HappensSettingReleaseOk, HappensSettingHasWaiters, HappensStep, Next, RunsThrough, last_of, Runs}
+use Rattle.lock_world.specs.Happens.Lists.{HasList, after_joining_list, after_leaving_the_list, after_taking_off_the_list}
 use Rattle.lock_world.specs.SafeWorld.{SafeWorld}
 use Rattle.lock_world.proofs.SafeWorld.Runs.{Next-safe}
 use Rattle.lock_world.proofs.Unique.Seats.{one_splitting, one_joining}
@@ -58,6 +59,46 @@ one_loading w s (Wait k) n u v one two = absurd one
 one_loading w s (Strong i) n u v one two = absurd one
 one_loading w s (Sleep k) n u v one two = absurd one
 
+one_locking_list : (w : World) (s : ℕ) (word : Word) (u v : World) → HappensLockingList w s word u → HappensLockingList w s word v → u ≡ v
+one_locking_list w s (Partition p) u v one two = one.2 ∙ sym two.2
+one_locking_list w s (Fast q) u v one two = one.2 ∙ sym two.2
+one_locking_list w s (Database q) u v one two = absurd one
+one_locking_list w s (Slot q i) u v one two = absurd one
+one_locking_list w s (Wait q) u v one two = absurd one
+one_locking_list w s (Strong i) u v one two = absurd one
+one_locking_list w s (Sleep q) u v one two = absurd one
+
+one_unlocking_list : (w : World) (s : ℕ) (word : Word) (waiters release : Bool) (u v : World) → HappensUnlockingList w s word waiters release u → HappensUnlockingList w s word waiters release v → u ≡ v
+one_unlocking_list w s (Partition p) waiters release u v one two = one.1 ∙ sym two.1
+one_unlocking_list w s (Fast q) waiters release u v one two = one.1 ∙ sym two.1
+one_unlocking_list w s (Database q) waiters release u v one two = absurd one
+one_unlocking_list w s (Slot q i) waiters release u v one two = absurd one
+one_unlocking_list w s (Wait q) waiters release u v one two = absurd one
+one_unlocking_list w s (Strong i) waiters release u v one two = absurd one
+one_unlocking_list w s (Sleep q) waiters release u v one two = absurd one
+
+one_setting_release_ok : (w : World) (s : ℕ) (word : Word) (n : ℕ) (u v : World) → HappensSettingReleaseOk w s word n u → HappensSettingReleaseOk w s word n v → u ≡ v
+one_setting_release_ok w s (Partition p) n u v one two = one.2 ∙ sym two.2
+one_setting_release_ok w s (Fast q) n u v one two = one.2 ∙ sym two.2
+one_setting_release_ok w s (Database q) n u v one two = absurd one
+one_setting_release_ok w s (Slot q i) n u v one two = absurd one
+one_setting_release_ok w s (Wait q) n u v one two = absurd one
+one_setting_release_ok w s (Strong i) n u v one two = absurd one
+one_setting_release_ok w s (Sleep q) n u v one two = absurd one
+
+one_setting_has_waiters : (w : World) (s : ℕ) (word : Word) (n : ℕ) (u v : World) → HappensSettingHasWaiters w s word n u → HappensSettingHasWaiters w s word n v → u ≡ v
+one_setting_has_waiters w s (Partition p) n u v one two = one.1 ∙ sym two.1
+one_setting_has_waiters w s (Fast q) n u v one two = one.1 ∙ sym two.1
+one_setting_has_waiters w s (Database q) n u v one two = absurd one
+one_setting_has_waiters w s (Slot q i) n u v one two = absurd one
+one_setting_has_waiters w s (Wait q) n u v one two = absurd one
+one_setting_has_waiters w s (Strong i) n u v one two = absurd one
+one_setting_has_waiters w s (Sleep q) n u v one two = absurd one
+
+-- A session has one list in hand at most.
+one_list : (w : World) (s lock other : ℕ) → HasList w s lock → HasList w s other → lock ≡ other
+one_list w s lock other one two = let same : Some lock ≡ Some other = sym one.in_hand ∙ two.in_hand in cc
+
 one_step : (w : World) (s : ℕ) (step : Step) (u v : World) → SafeWorld w → HappensStep w s step u → HappensStep w s step v → u ≡ v
 one_step w s (TakeExclusive word) u v safe one two = one_taking w s word u v one two
 one_step w s (PutExclusive word done) u v safe one two = one_putting w s word done u v one two
@@ -79,6 +120,15 @@ one_step w s (StoreDatabase d) u v safe one two = one.1 ∙ sym two.1
 one_step w s (Count t m) u v safe one two = one.1 ∙ sym two.1
 one_step w s (Uncount t m) u v safe one two = one.1 ∙ sym two.1
 one_step w s (TransferSlot k i t m x) u v safe one two = one.1 ∙ sym two.1
+one_step w s (LockList word) u v safe one two = one_locking_list w s word u v one two
+one_step w s (UnlockList word waiters release) u v safe one two = one_unlocking_list w s word waiters release u v one two
+one_step w s (JoinList mode) u v safe one two = one.2 ∙ ap (λ lock. after_joining_list w s lock mode) (one_list w s one.0 two.0 one.1.has two.1.has) ∙ sym two.2
+one_step w s LeaveList u v safe one two = one.2 ∙ ap (after_leaving_the_list w s) (one_list w s one.0 two.0 one.1.has two.1.has) ∙ sym two.2
+one_step w s (TakeOff k) u v safe one two = one.2 ∙ ap (after_taking_off_the_list w s k) (one_list w s one.0 two.0 one.1.has two.1.has) ∙ sym two.2
+one_step w s (Tell k) u v safe one two = one.1 ∙ sym two.1
+one_step w s (LoadSleep n) u v safe one two = one.1 ∙ sym two.1
+one_step w s (SetReleaseOk word n) u v safe one two = one_setting_release_ok w s word n u v one two
+one_step w s (SetHasWaiters word n) u v safe one two = one_setting_has_waiters w s word n u v one two
 
 one_next : (w : World) (event : Event) (u v : World) → SafeWorld w → Next w event u → Next w event v → u ≡ v
 one_next w event u v safe (inl one) (inl two) = one_step w event.session event.step u v safe one two

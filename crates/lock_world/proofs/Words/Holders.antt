@@ -1,11 +1,11 @@
 use Rattle.std.proofs.Common.{◌≡◌, ◌≢◌, ℕ, ◌+◌, ◌%◌, ◌^◌, ◌<◌, Bool, true, false, refl, sym, ap, ◌∙◌, subst, inl, inr, arith}
 use Rattle.std.proofs.lemmas.Bool.{cases_eq, false≢true, false_from_ne_true}
-use Rattle.lw_word.specs.LightweightWord.{IsHeldByNobody, IsFreeToShare, shared_count, taken_word, put_word, shared_word, unshared_word}
+use Rattle.lw_word.specs.LightweightWord.{IsHeldByNobody, IsFreeToShare, shared_count, taken_word, put_word, shared_word, unshared_word, HoldersStay}
 use Rattle.lock_table.specs.Put.{set_at}
 use Rattle.lock_world.specs.Total.{how_many}
 use Rattle.lock_world.specs.Safe.{ShowsHolders, WordsShowHolders}
 use Rattle.lock_table.proofs.PutLemmas.{set_at-here, set_at-else, set_at-each, column-here, column-else}
-use Rattle.lw_word.proofs.WordLemmas.{nobody-not_exclusive, nobody-shared, free_to_share-not_exclusive, taken_word-exclusive, taken_word-shared, put_word-not_exclusive, put_word-shared, shared_word-shared, shared_word-exclusive, unshared_word-shared, unshared_word-exclusive}
+use Rattle.lw_word.proofs.WordLemmas.{nobody-not_exclusive, nobody-shared, free_to_share-not_exclusive, taken_word-exclusive, taken_word-shared, put_word-not_exclusive, put_word-shared, shared_word-shared, shared_word-exclusive, unshared_word-shared, unshared_word-exclusive, holders-shared, holders-exclusive}
 use Rattle.lock_world.proofs.Totals.{one_more, one_less, none_pass, some_pass, how_many-most}
 
 -- A table of rows and columns, changed in one place and read in one column, as functions.
@@ -62,6 +62,31 @@ ShowsHolders-put limit word holds shares s shows had = record {
         | inr other ↦ other (shows.by_one k s (sym (set_at-else holds s false k other) ∙ held) had)
       ]
 
+-- A word has room for one sharer more, and shows one at least where a session shares it.
+pub shared-room : (limit word : ℕ) (holds shares : ℕ → Bool) (s : ℕ) → limit < 2 ^ 24 → s < limit → ShowsHolders limit word holds shares → shares s ≡ false → shared_count word + 1 < 2 ^ 24
+shared-room limit word holds shares s few below shows none =
+    let more : how_many limit (set_at shares s true) ≡ how_many limit shares + 1 = one_more limit shares s below none in
+    let counted : shared_count word ≡ how_many limit shares = shows.shared in
+    let most = how_many-most limit (set_at shares s true) in
+    omega (arith, more, counted, most, few)
+
+pub shared-some : (limit word : ℕ) (holds shares : ℕ → Bool) (s : ℕ) → ShowsHolders limit word holds shares → shares s ≡ true → 0 < shared_count word
+shared-some limit word holds shares s shows some =
+    let counted : shared_count word ≡ how_many limit shares = shows.shared in
+    let one = some_pass limit shares s (shows.within s some) some in
+    omega (arith, one, counted)
+
+-- A word shows the same where its holders stay.
+pub ShowsHolders-stay : (limit old new : ℕ) (holds shares : ℕ → Bool) → HoldersStay old new → ShowsHolders limit old holds shares → ShowsHolders limit new holds shares
+ShowsHolders-stay limit old new holds shares stay shows = record {
+  held_is_shown = λ k held. holders-exclusive old new stay ∙ shows.held_is_shown k held;
+  shown_is_held = λ shown. shows.shown_is_held (sym (holders-exclusive old new stay) ∙ shown);
+  by_one = shows.by_one;
+  shared = holders-shared old new stay ∙ shows.shared;
+  within = shows.within;
+  never_both = shows.never_both;
+}
+
 -- A word that nobody holds exclusively is shared by one more.
 pub ShowsHolders-shared : (limit word : ℕ) (holds shares : ℕ → Bool) (s : ℕ) → limit < 2 ^ 24 → s < limit → ShowsHolders limit word holds shares → IsFreeToShare word → shares s ≡ false
     → ShowsHolders limit (shared_word word) holds (set_at shares s true)
@@ -77,7 +102,7 @@ ShowsHolders-shared limit word holds shares s few below shows free none = record
   more = one_more limit shares s below none
 
   room : shared_count word + 1 < 2 ^ 24
-  room = let counted : shared_count word ≡ how_many limit shares = shows.shared in let most = how_many-most limit (set_at shares s true) in omega (arith, more, most, few)
+  room = shared-room limit word holds shares s few below shows none
 
 -- A word that is shared is so by one less, once one of those who share it has put it.
 pub ShowsHolders-unshared : (limit word : ℕ) (holds shares : ℕ → Bool) (s : ℕ) → ShowsHolders limit word holds shares → shares s ≡ true → ShowsHolders limit (unshared_word word) holds (set_at shares s false)
@@ -93,7 +118,7 @@ ShowsHolders-unshared limit word holds shares s shows some = record {
   counted = shows.shared
 
   counts : 0 < shared_count word
-  counts = let one = some_pass limit shares s (shows.within s some) some in omega (arith, one, counted)
+  counts = shared-some limit word holds shares s shows some
 
   shared : shared_count (unshared_word word) ≡ how_many limit (set_at shares s false)
   shared =

@@ -51,7 +51,8 @@ after_keeping_apart w session joiner = record {
   numbers = record (w.numbers) { kept_by = set_at w.numbers.kept_by session (Some joiner) };
 }
 
--- Closing: with no word held, exclusively or shared, no hold, no wait, nothing counted, and no other session kept apart.
+-- Closing: with no word held, exclusively or shared, no hold, no wait, nothing counted, no wait list in hand nor one that the
+-- session stands in, and no other session kept apart.
 pub record MayClose (w : World) (session : ℕ) : Type 0 where
   pub steps : MakesSteps w.numbers session
   pub no_word : (partition : ℕ) → w.sessions.holds_partition session partition ≡ false
@@ -61,6 +62,8 @@ pub record MayClose (w : World) (session : ℕ) : Type 0 where
   pub no_hold : (tag : Tag) (mode : Mode) → w.sessions.own session tag mode ≡ false
   pub no_wait : w.sessions.awaited session ≡ None
   pub no_count : w.sessions.counted session ≡ []
+  pub no_list : w.sessions.has_list session ≡ None
+  pub no_stand : w.sessions.stands session ≡ None
   pub keeps_nobody : (other : ℕ) → w.numbers.kept_by other ≢ Some session
 
 abbrev pub after_closing : World → ℕ → World

@@ -35,6 +35,7 @@ pub storing_database-safe_world : (w : World) (s d : ℕ) → SafeWorld w → Ma
 storing_database-safe_world w s d safe may = record {
   but_slots = with_own-safe (after_storing_database w s d) _ _ (ap (own_but w.sessions.own) (sym (storing-slots w s d may)))
       (with_fast_path-safe (tabled w) (set_at w.words.database s d) w.words.slot w.words.strong w.sessions.counted w.sessions.zero w.sessions.trace safe.but_slots safe.but_slots.traces);
+  lists = safe.lists;
   slots = record {
     are_own = subst (λ shown. (k : ℕ) (o : Tag) (n : Mode) → shown k o n ≡ true → w.sessions.own k o n ≡ true) (sym (storing-slots w s d may)) safe.slots.are_own;
     one_each = safe.slots.one_each;

@@ -6,6 +6,10 @@ use Rattle.lock_table.proofs.PutLemmas.{set_at-here, set_at-else, row-else}
 use Rattle.lock_world.specs.World.{World}
 use Rattle.lock_world.specs.Happens.Slots.{MayTakeFast, after_taking_fast, MayPutFast, zero_after_putting, after_putting_fast}
 use Rattle.lock_world.specs.SafeWorld.{SafeWorld, tabled}
+use Rattle.lw_word.specs.LightweightWord.{taken_word, put_word}
+use Rattle.lw_word.proofs.WordLemmas.{taken_word-flags, put_word-flags}
+use Rattle.lock_world.specs.Happens.Lists.{sleepers}
+use Rattle.lock_world.proofs.ListWords.{flags-fast}
 use Rattle.lock_world.proofs.Safe.Slots.{taking_fast-safe, putting_fast-safe}
 
 -- A session that takes one lock more has those it had.
@@ -23,6 +27,7 @@ holds-taken holds s o k has =
 pub taking_fast-safe_world : (w : World) (s o : ℕ) → SafeWorld w → MayTakeFast w s o → SafeWorld (after_taking_fast w s o)
 taking_fast-safe_world w s o safe may = record {
   but_slots = taking_fast-safe (tabled w) s o safe.but_slots (record { steps = may.steps; exists = may.exists; free = may.free });
+  lists = flags-fast w.words.partition w.words.fast (sleepers w) w.sessions.has_list w.numbers.live safe.lists o (taken_word (w.words.fast o)) (taken_word-flags (w.words.fast o) may.free);
   slots = safe.slots;
   order = safe.order;
   counters = safe.counters;
@@ -61,6 +66,8 @@ holds-put holds s o k another has =
 pub putting_fast-safe_world : (w : World) (s o : ℕ) → SafeWorld w → MayPutFast w s o → SafeWorld (after_putting_fast w s o)
 putting_fast-safe_world w s o safe may = record {
   but_slots = putting_fast-safe (tabled w) s o safe.but_slots (record { steps = may.steps; holding = may.holding });
+  lists = flags-fast w.words.partition w.words.fast (sleepers w) w.sessions.has_list w.numbers.live safe.lists o (put_word (w.words.fast o))
+      (put_word-flags (w.words.fast o) ((safe.but_slots.locks.fast_words o).held_is_shown s may.holding));
   slots = safe.slots;
   order = safe.order;
   counters = safe.counters;

@@ -26,6 +26,7 @@ pub loading-safe_world : (w : World) (s : ℕ) (word : Word) (n : ℕ) → SafeW
 loading-safe_world w s word n safe may = record {
   but_slots = with_fast_path-safe (tabled w) w.words.database w.words.slot w.words.strong w.sessions.counted w.sessions.zero (after_loading w s word n).sessions.trace safe.but_slots
       (loaded-traces w s word n safe may.steps.live);
+  lists = safe.lists;
   slots = safe.slots;
   order = safe.order;
   counters = safe.counters;
@@ -50,6 +51,7 @@ pub reading_counter-safe_world : (w : World) (s index n : ℕ) → SafeWorld w �
 reading_counter-safe_world w s index n safe may = record {
   but_slots = with_fast_path-safe (tabled w) w.words.database w.words.slot w.words.strong w.sessions.counted zero' (after_loading w s (Strong index) n).sessions.trace safe.but_slots
       (loaded-traces w s (Strong index) n safe may.steps.live);
+  lists = safe.lists;
   slots = safe.slots;
   order = safe.order;
   counters = safe.counters;

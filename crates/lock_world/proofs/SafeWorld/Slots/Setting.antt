@@ -63,6 +63,7 @@ module _ (w : World) (s i : ℕ) (t : Tag) (m : Mode) (safe : SafeWorld w) (may 
     but_slots = with_own-safe (after_setting_slot w s i t m) _ _
         (sym (own_but-both own slots s t m true (own_but-false own slots s t m may.new)) ∙ ap (own_but own') (sym setting-slots))
         (with_fast_path-safe (tabled w) w.words.database (set_at w.words.slot s words') w.words.strong w.sessions.counted w.sessions.zero w.sessions.trace safe.but_slots safe.but_slots.traces);
+    lists = safe.lists;
     slots = record {
       are_own = subst (λ shown. (k : ℕ) (o : Tag) (n : Mode) → shown k o n ≡ true → own' k o n ≡ true) (sym setting-slots) (are_own-both own slots s t m true safe.slots.are_own);
       one_each = set_at-each (λ k words. OneSlotEach words) w.words.slot s words'

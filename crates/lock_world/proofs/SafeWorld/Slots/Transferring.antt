@@ -1,4 +1,4 @@
-use Rattle.std.proofs.Common.{◌≡◌, ℕ, Bool, true, false, not, ◌&&◌, refl, sym, ap, ◌∙◌, subst, inl, inr}
+use Rattle.std.proofs.Common.{◌≡◌, ℕ, true, false, not, ◌&&◌, sym, ap, ◌∙◌, subst, inl, inr}
 use Rattle.std.proofs.lemmas.Bool.{both_ways, false_from_ne_true, cases_Bool}
 use Rattle.modes_core.specs.declared.modes.Mode.{Mode}
 use Rattle.modes_core.specs.declared.tags.Tag.{Tag}
@@ -8,7 +8,7 @@ use Rattle.lock_table.specs.Content.{Holds, set_hold}
 use Rattle.lock_table.specs.OwnWait.{is_for}
 use Rattle.lock_table.specs.Put.{set_at}
 use Rattle.lock_table.proofs.PutLemmas.{set_at-each}
-use Rattle.lock_table.proofs.HoldLemmas.{SetHoldAt, here, elsewhere, set_hold-at, set_hold-was}
+use Rattle.lock_table.proofs.HoldLemmas.{SetHoldAt, here, elsewhere, set_hold-at}
 use Rattle.lock_world.specs.SlotHolds.{OneSlotEach, InUseHasDatabase}
 use Rattle.lock_world.specs.Counted.{PastHasNoSlot}
 use Rattle.lock_world.specs.World.{World}
@@ -85,6 +85,7 @@ module _ (w : World) (s owner i : ℕ) (t : Tag) (m strong : Mode) (safe : SafeW
         (own_but-moved own slots owner t m is_own ∙ ap (own_but own) (sym transferring-slots))
         (with_fast_path-safe (with_adopted (tabled w) owner i t m) w.words.database (set_at w.words.slot owner words') w.words.strong w.sessions.counted w.sessions.zero w.sessions.trace
         adopted adopted.traces);
+    lists = safe.lists;
     slots = record {
       are_own = subst (λ after. (k : ℕ) (o : Tag) (n : Mode) → after k o n ≡ true → own k o n ≡ true) (sym transferring-slots) (λ k o n has. safe.slots.are_own k o n (fewer k o n has));
       one_each = set_at-each (λ k words. OneSlotEach words) w.words.slot owner words'

@@ -1,3 +1,6 @@
+use Rattle.std.proofs.Common.{◌≡◌, Some, None, sym, ◌∙◌}
+use Rattle.std.proofs.lemmas.Bool.{false_from_ne_true}
+use Rattle.lw_word.specs.WaitList.{stands_in}
 use Rattle.lock_world.specs.SafeWorld.{tabled}
 use Rattle.lock_world.proofs.FromSafe.{spent-not_held, spent-not_queued}
 use Rattle.lock_world.proofs.SafeWorld.Tabled.{not_own-no_slot}
@@ -25,3 +28,10 @@ returns-clause-no_hand c =
 pub returns-clause-no_lock : goal.returns-clause-no_lock
 returns-clause-no_lock c =
     λ w safe s lock dead. (safe.but_slots.locks.no_shared_partition s lock dead, safe.but_slots.locks.no_fast s lock dead, safe.but_slots.locks.no_shared_fast s lock dead)
+
+pub returns-clause-no_list : goal.returns-clause-no_list
+returns-clause-no_list c =
+    λ w safe s lock dead. (
+      safe.lists.no_list s dead,
+      false_from_ne_true (stands_in s (w.words.list lock)) (λ there. let e : Some lock ≡ None = sym (safe.lists.sleepers.named lock s there) ∙ safe.lists.no_stand s dead in absurd (cc)),
+    )
