@@ -133,11 +133,13 @@ module _ (m : Machine) (w : World) (safe : SafeWorld w) (shows : Shows m w) wher
   pub was_taken_off : (s o l : ℕ) (after : Lists) → list_to_change m s ≡ Some l → waits_at m l o ≡ true → s < 64 → o < 64
       → after.sleepers.items ≡ filter (λ e. not (is_at l o e)) m.lists.sleepers.items
       → (v : World) × Next w (record { session = s; step = TakeOff o }) v
-      × Shows (record m { lists = record (m.lists) {
-        sleep = set m.lists.sleep o 2;
-        sleepers = after.sleepers;
-        off = set m.lists.off s (set (get_or m.lists.off s []) o true);
-      } }) v
+      × Shows (record m {
+        lists = record (m.lists) {
+          sleep = set m.lists.sleep o 2;
+          sleepers = after.sleepers;
+          off = set m.lists.off s (set (get_or m.lists.off s []) o true);
+        };
+      }) v
   was_taken_off s o l after its waits below exists is = (
     after_taking_off_the_list w s o l,
     inl (l, record { has = list_from s l its; stands = (waits_from l o waits).0; waits = (waits_from l o waits).1 }, refl),
