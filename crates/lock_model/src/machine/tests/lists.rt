@@ -58,11 +58,11 @@ fn waits(session: SessionId, lock: u8, mode: LwMode) -> Sleeper {
     }
 }
 
-/// The session locks the word's list, joins it and unlocks it.
-fn queues(events: &mut Vec<Event>, whose: SessionId, word: Word, mode: LwMode) -> Result<(), Fail> {
-    events.push(locks(whose, word))?;
+/// The session locks the list of partition 15's lock, joins it and unlocks it.
+fn queues(events: &mut Vec<Event>, whose: SessionId, mode: LwMode) -> Result<(), Fail> {
+    events.push(locks(whose, WORD))?;
     events.push(joins(whose, mode))?;
-    events.push(unlocks(whose, word))?;
+    events.push(unlocks(whose, WORD))?;
     Ok(())
 }
 
@@ -72,9 +72,9 @@ fn run_queued<R: Abort + AllocGlobal>(rt: &R, more: &[Event]) -> Result<Plain, F
     let mut events = Vec::new(rt.alloc());
     events.push(opens(session(rt, 2)))?;
     events.push(opens(session(rt, 3)))?;
-    queues(&mut events, session(rt, 0), WORD, LwMode::Exclusive)?;
-    queues(&mut events, session(rt, 1), WORD, LwMode::Shared)?;
-    queues(&mut events, session(rt, 2), WORD, LwMode::Shared)?;
+    queues(&mut events, session(rt, 0), LwMode::Exclusive)?;
+    queues(&mut events, session(rt, 1), LwMode::Shared)?;
+    queues(&mut events, session(rt, 2), LwMode::Shared)?;
     events.extend_from_slice(more)?;
     run_open(rt, events.as_slice())
 }
@@ -170,18 +170,20 @@ fn a_session_kept_apart_joins_no_list(rt: HostRuntime) -> Result<(), Fail> {
 #[test]
 fn a_session_leaves_its_list(rt: HostRuntime) -> Result<(), Fail> {
     let (a, b, c) = (session(&rt, 0), session(&rt, 1), session(&rt, 2));
-    let first = waits(a, LOCK, LwMode::Exclusive);
-    let last = waits(c, LOCK, LwMode::Shared);
+    let left = [
+        waits(a, LOCK, LwMode::Exclusive),
+        waits(c, LOCK, LwMode::Shared),
+        waits(b, LOCK, LwMode::Exclusive),
+    ];
     let more = [
         locks(b, WORD),
         leaves(b),
         leaves(b),
         joins(b, LwMode::Exclusive),
     ];
-    leads_to(&rt, &more[..2], &[first, last], [1, 0, 1])?;
-    leads_to(&rt, &more[..3], &[first, last], [1, 0, 1])?;
-    let behind = waits(b, LOCK, LwMode::Exclusive);
-    leads_to(&rt, &more, &[first, last, behind], [1, 1, 1])
+    leads_to(&rt, &more[..2], &left[..2], [1, 0, 1])?;
+    leads_to(&rt, &more[..3], &left[..2], [1, 0, 1])?;
+    leads_to(&rt, &more, &left, [1, 1, 1])
 }
 
 #[test]
