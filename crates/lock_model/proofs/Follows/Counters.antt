@@ -133,7 +133,7 @@ module _ (m : Machine) (w : World) (safe : SafeWorld w) (shows : Shows m w) wher
   is_counted_from : (s : ℕ) (t : Tag) (n : Mode) → list_any (is_by s t n) m.counted.items ≡ is_counted (w.sessions.counted s) t n
   is_counted_from s t n = any-of_session s (is_of t n) m.counted.items ∙ ap (λ list. is_counted list t n) (shows.counted.each s)
 
-  is_at_from : (s position : ℕ) (t : Tag) (n : Mode) → list_any (is_by_at s position t n) m.counted.items ≡ is_at position (w.sessions.counted s) t n
+  pub is_at_from : (s position : ℕ) (t : Tag) (n : Mode) → list_any (is_by_at s position t n) m.counted.items ≡ is_at position (w.sessions.counted s) t n
   is_at_from s position t n =
       any-of_session s (λ (c : Counted). is_of t n c && nat_eq c.position position) m.counted.items ∙ ap (λ list. is_at position list t n) (shows.counted.each s)
 
