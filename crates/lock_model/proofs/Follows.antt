@@ -7,3 +7,4 @@ pub mod Slots
 pub mod SlotSteps
 pub mod Sharing
 pub mod Counters
+pub mod Transfers

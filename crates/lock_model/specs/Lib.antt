@@ -4,3 +4,4 @@ pub mod PlainLists
 pub mod Plain
 pub mod CountedLists
 pub mod SlotLooks
+pub mod Transfers

@@ -17,7 +17,8 @@ use Rattle.lock_model.specs.declared.machine.state.Contents.{Contents}
 use Rattle.lock_model.specs.declared.machine.state.OwnWaits.{OwnWaits}
 use Rattle.lock_model.specs.declared.machine.state.Machine.{Machine}
 use Rattle.lock_table.specs.declared.moves.Move.{Move}
-use Rattle.lock_table.specs.declared.moves.Move.TheVariants.{Keep, Grant, Join, Release, Leave}
+use Rattle.lock_table.specs.declared.moves.Move.TheVariants.{Keep, Grant, Join, Release, Leave, Adopt}
+use Rattle.lock_table.specs.MoveTests.{move_eq}
 use Rattle.lock_world.specs.declared.events.Step.{Step}
 use Rattle.lock_table.specs.Content.{Holds, Content}
 use Rattle.lw_word.specs.LightweightWord.{free_word}
@@ -181,12 +182,18 @@ awaits (Some wait) tag mode = tag_eq wait.tag tag && mode_eq wait.mode mode
 abbrev pub HasUnmoved : Machine → ℕ → ℕ → Type 0
 HasUnmoved machine session p = (hand : InHand) × (hand_of machine session p ≡ Some hand) × (hand.recorded ≡ None)
 
+-- whether this move is recorded
+abbrev pub has_made : Option Move → Move → Bool
+has_made None done = false
+has_made (Some recorded) done = move_eq recorded done
+
 -- whether the move has left the session no wait on an object of the partition that it should have ended
 abbrev pub is_over : Option Awaited → ℕ → Move → Bool
 is_over awaited p Keep = true
 is_over awaited p (Grant tag mode) = true
 is_over awaited p (Join tag mode) = true
 is_over awaited p (Release tag mode) = true
+is_over awaited p (Adopt owner slot) = true
 is_over None p (Leave tag) = true
 is_over (Some wait) p (Leave tag) = not (partition_of wait.tag == p)
 
@@ -197,6 +204,7 @@ IsWaking (Grant tag mode) = ⊥
 IsWaking (Join tag mode) = ⊥
 IsWaking (Release tag mode) = Unit {0}
 IsWaking (Leave tag) = Unit {0}
+IsWaking (Adopt owner slot) = ⊥
 
 -- What a release asks of the session's account beside the hold: that it is no grant which it hasn't taken over.
 abbrev pub IsOwnFor : Option Awaited → Move → Type 0
@@ -205,6 +213,7 @@ IsOwnFor awaited (Grant tag mode) = Unit {0}
 IsOwnFor awaited (Join tag mode) = Unit {0}
 IsOwnFor awaited (Release tag mode) = awaits awaited tag mode ≡ false
 IsOwnFor awaited (Leave tag) = Unit {0}
+IsOwnFor awaited (Adopt owner slot) = Unit {0}
 
 -- The session cannot make the release or the leave: it has no such hold of its own, or no such wait.
 abbrev pub CannotMake : Option Awaited → Content → ℕ → Move → Type 0
@@ -213,6 +222,7 @@ CannotMake awaited content session (Grant tag mode) = Unit {0}
 CannotMake awaited content session (Join tag mode) = Unit {0}
 CannotMake awaited content session (Release tag mode) = (awaits awaited tag mode ≡ true) ⊎ (content.holds session tag mode ≡ false)
 CannotMake awaited content session (Leave tag) = waits_there (content.waits tag) session ≡ false
+CannotMake awaited content session (Adopt owner slot) = Unit {0}
 
 -- The machine shows a safe World.
 abbrev pub ShowsSafe : Machine → Type 0

@@ -21,6 +21,7 @@ mod slots;
 mod state;
 #[cfg(test)]
 mod tests;
+mod transfers;
 mod waits;
 
 use lock_table::NoMemory;

@@ -10,7 +10,7 @@ use Rattle.modes_core.specs.declared.modes.Mode.TheVariants.{AccessShare, RowSha
 use Rattle.modes_core.specs.declared.tags.Tag.{Tag}
 use Rattle.modes_core.specs.declared.tags.Tag.TheVariants.{Relation, Object}
 use Rattle.modes_core.specs.Mode.{number_of}
-use Rattle.modes_core.specs.Tag.{index_of, is_eligible_for, is_strong_on, partition_of}
+use Rattle.modes_core.specs.Tag.{is_eligible_for, is_strong_on, partition_of}
 use Rattle.lw_word.specs.LightweightWord.{free_word, put_word}
 use Rattle.lock_table.specs.Content.{Content}
 use Rattle.lock_table.specs.OwnWait.{is_for}
@@ -19,9 +19,8 @@ use Rattle.lock_table.specs.Put.{set_at}
 use Rattle.lock_table.proofs.PutLemmas.{set_at-here, set_at-else}
 use Rattle.lock_world.specs.declared.events.Step.TheVariants.{Count, Uncount, PutPassing, LoadStrong}
 use Rattle.lock_world.specs.declared.events.Word.TheVariants.{Strong}
-use Rattle.lock_world.specs.Total.{total}
 use Rattle.lock_model.proofs.Shows.Runs.{counter_shown}
-use Rattle.lock_world.specs.Counted.{Counted, is_of, counting, uncounting, passed, passing, count_at, is_counted, is_at, is_done}
+use Rattle.lock_world.specs.Counted.{Counted, is_of, counting, uncounting, passed, passing, is_counted, is_at, is_done}
 use Rattle.lock_world.specs.World.{World}
 use Rattle.lock_world.specs.World as world
 use Rattle.lock_world.specs.Happens.{Next}
@@ -133,7 +132,7 @@ module _ (m : Machine) (w : World) (safe : SafeWorld w) (shows : Shows m w) wher
   is_counted_from : (s : ℕ) (t : Tag) (n : Mode) → list_any (is_by s t n) m.counted.items ≡ is_counted (w.sessions.counted s) t n
   is_counted_from s t n = any-of_session s (is_of t n) m.counted.items ∙ ap (λ list. is_counted list t n) (shows.counted.each s)
 
-  is_at_from : (s position : ℕ) (t : Tag) (n : Mode) → list_any (is_by_at s position t n) m.counted.items ≡ is_at position (w.sessions.counted s) t n
+  pub is_at_from : (s position : ℕ) (t : Tag) (n : Mode) → list_any (is_by_at s position t n) m.counted.items ≡ is_at position (w.sessions.counted s) t n
   is_at_from s position t n =
       any-of_session s (λ (c : Counted). is_of t n c && nat_eq c.position position) m.counted.items ∙ ap (λ list. is_at position list t n) (shows.counted.each s)
 

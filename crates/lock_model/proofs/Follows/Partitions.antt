@@ -6,7 +6,7 @@ use Rattle.modes_core.specs.declared.tags.Tag.{Tag}
 use Rattle.modes_core.specs.Tag.{partition_of}
 use Rattle.lock_table.specs.declared.answering.Answer.TheVariants.{Granted}
 use Rattle.lock_table.specs.declared.moves.Move.{Move}
-use Rattle.lock_table.specs.declared.moves.Move.TheVariants.{Keep, Grant, Join, Release, Leave}
+use Rattle.lock_table.specs.declared.moves.Move.TheVariants.{Keep, Grant, Join, Release, Leave, Adopt}
 use Rattle.lock_world.specs.declared.events.Step.TheVariants.{TakeExclusive, PutExclusive}
 use Rattle.lock_world.specs.declared.events.Word.TheVariants.{Partition}
 use Rattle.lock_model.specs.declared.machine.hands.InHand.{InHand}
@@ -38,6 +38,7 @@ over_from awaited p Keep e = tt
 over_from awaited p (Grant t n) e = tt
 over_from awaited p (Join t n) e = tt
 over_from awaited p (Release t n) e = tt
+over_from awaited p (Adopt owner slot) e = tt
 over_from None p (Leave t) e = λ wait is. absurd (false≢true (sym (ap is_none is)))
 over_from (Some own) p (Leave t) e = λ wait is same. let it : own ≡ wait = cc in eqb-false (partition_of own.tag) p (not-true _ e) (ap (λ x. partition_of x.tag) it ∙ same)
 
@@ -46,6 +47,7 @@ from_over awaited p Keep over = refl
 from_over awaited p (Grant t n) over = refl
 from_over awaited p (Join t n) over = refl
 from_over awaited p (Release t n) over = refl
+from_over awaited p (Adopt owner slot) over = refl
 from_over None p (Leave t) over = refl
 from_over (Some own) p (Leave t) over = not_from_false _ (ne_eqb (partition_of own.tag) p (over own refl))
 

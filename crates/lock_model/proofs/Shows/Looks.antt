@@ -46,7 +46,7 @@ none_of (Some k) e = absurd (false≢true e)
 pub and_not_true : (a b : Bool) → b ≡ true → (a && not b) ≡ false
 and_not_true a b e = ap (λ c. a && not c) e ∙ and-false a
 
-and_not_false : (a b : Bool) → b ≡ false → (a && not b) ≡ a
+pub and_not_false : (a b : Bool) → b ≡ false → (a && not b) ≡ a
 and_not_false a b e = ap (λ c. a && not c) e ∙ and-true a
 
 or_false : (a b : Bool) → b ≡ false → (a || b) ≡ a
@@ -150,7 +150,7 @@ module _ (m : Machine) (w : World) (safe : SafeWorld w) (shows : Shows m w) wher
   slots_from s t n = λ i. slot_holds (shows.fast_path.database s i) (λ place. shows.fast_path.slot s place i) t n
 
   -- A session's own holds in contents are those of the contents but what it awaits.
-  own_but_from : (s : ℕ) (t : Tag) (n : Mode) → own_but w.sessions.own (slots_of w.words.database w.words.slot) s t n ≡ ((w.contents.now (partition_of t)).holds s t n && not (awaits (get_or m.waits.awaited s None) t n))
+  pub own_but_from : (s : ℕ) (t : Tag) (n : Mode) → own_but w.sessions.own (slots_of w.words.database w.words.slot) s t n ≡ ((w.contents.now (partition_of t)).holds s t n && not (awaits (get_or m.waits.awaited s None) t n))
   own_but_from s t n =
       let there = (w.contents.now (partition_of t)).holds s t n in
       let own = own_but w.sessions.own (slots_of w.words.database w.words.slot) s t n in

@@ -197,7 +197,7 @@ impl Machine {
     }
 
     /// Whether the session holds the lock of the owner's slots exclusively.
-    fn holds_fast(&self, session: SessionId, owner: SessionId) -> bool
+    pub fn holds_fast(&self, session: SessionId, owner: SessionId) -> bool
         ensures { result ≡ holds_fast self.now session owner }
     {
         self.locks.fast_holders[usize::from(owner.number())][usize::from(session.number())]
@@ -275,7 +275,7 @@ impl Machine {
     }
 
     /// Whether it has, and is past just the sessions below the position.
-    fn is_counted_at(&self, session: SessionId, position: u8, tag: Tag, mode: Mode) -> bool
+    pub fn is_counted_at(&self, session: SessionId, position: u8, tag: Tag, mode: Mode) -> bool
         ensures { result ≡ list_any (is_by_at session position tag mode) self.now.counted.items }
     {
         self.counted

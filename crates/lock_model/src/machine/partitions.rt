@@ -79,13 +79,10 @@ impl Machine {
         let Some(hand) = self.hand_of(session, partition) else {
             return Ok(());
         };
-        let Some(recorded) = hand.recorded else {
+        if hand.recorded.is_none() {
             return self.put_made(session, partition, done);
-        };
-        if recorded.is_same(done)
-            && hand.none_unmarked()
-            && self.is_over(session, partition, done)
-        {
+        }
+        if hand.has_made(&done) && hand.none_unmarked() && self.is_over(session, partition, done) {
             self.set_free(partition);
         }
         Ok(())
@@ -119,6 +116,7 @@ impl Machine {
             Move::Join { tag: _, mode: _ } => Ok(()),
             Move::Release { tag, mode } => self.put_releasing(session, partition, tag, mode),
             Move::Leave { tag: _ } => Ok(()),
+            Move::Adopt { owner: _, slot: _ } => Ok(()),
         }
     }
 
@@ -170,7 +168,7 @@ impl Machine {
             return Ok(());
         }
         let done = Move::Release { tag, mode };
-        let Some(moved) = self.after_move(session, partition, done)? else {
+        let Some(moved) = self.after_move(session, partition, &done)? else {
             return Ok(());
         };
         if moved.woken.is_empty() {

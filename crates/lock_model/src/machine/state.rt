@@ -200,6 +200,13 @@ impl Machine {
             Step::StoreDatabase { database } => self.store_database(session, database),
             Step::Count { tag, mode } => return self.count(session, tag, mode),
             Step::Uncount { tag, mode } => self.uncount(session, tag, mode),
+            Step::TransferSlot {
+                owner,
+                slot,
+                tag,
+                mode,
+                strong,
+            } => return self.transfer_slot(session, owner, slot, tag, mode, strong),
         }
         Ok(())
     }

@@ -4,7 +4,7 @@ use Rattle.std.proofs.Math.ListN.{set}
 use Rattle.std.proofs.lemmas.Bool.{cases_lt, both_ways}
 use Rattle.std.proofs.lemmas.List.{get_or_past}
 use Rattle.lock_table.specs.declared.moves.Move.{Move}
-use Rattle.lock_table.specs.declared.moves.Move.TheVariants.{Keep, Grant, Join, Release, Leave}
+use Rattle.lock_table.specs.declared.moves.Move.TheVariants.{Keep, Grant, Join, Release, Leave, Adopt}
 use Rattle.lock_model.specs.declared.machine.hands.InHand.{InHand}
 use Rattle.lock_model.specs.declared.machine.moved_part.MovedPart.{MovedPart}
 use Rattle.lock_model.specs.declared.machine.state.Machine.{Machine}
@@ -136,6 +136,7 @@ module _ (m : Machine) (w : World) (safe : SafeWorld w) (shows : Shows m w) wher
   waking_uncounted s (Join t n) wakes = absurd wakes
   waking_uncounted s (Release t n) wakes = tt
   waking_uncounted s (Leave t) wakes = tt
+  waking_uncounted s (Adopt owner slot) wakes = absurd wakes
 
   fits_own : (s p : ℕ) (done : Move) (granted : List Wait) (after : Content) → IsInPartition p done → IsWaking done → IsOwnFor (get_or m.waits.awaited s None) done → Moves (w.contents.now p) s done granted after
       → FitsOwn w.sessions.own (w.sessions.awaited s) s done
@@ -145,6 +146,7 @@ module _ (m : Machine) (w : World) (safe : SafeWorld w) (shows : Shows m w) wher
   fits_own s p (Release t n) granted after object wakes own moves =
       own_in_content m w safe shows s t n (ap (λ q. (w.contents.now q).holds s t n) object ∙ moves.0) own
   fits_own s p (Leave t) granted after object wakes own moves = tt
+  fits_own s p (Adopt owner slot) granted after object wakes own moves = absurd wakes
 
   -- The move is made, and one of those is marked whom it granted.
   pub mark_first : (s k p : ℕ) (hand : InHand) (done : Move) (after : MovedPart) (unmarked : List Bool) → hand_of m s p ≡ Some hand → hand.recorded ≡ None → IsInPartition p done → IsWaking done
@@ -208,6 +210,7 @@ module _ (m : Machine) (w : World) (safe : SafeWorld w) (shows : Shows m w) wher
   cannot_make s p Keep granted after below wakes cannot fits moves = wakes
   cannot_make s p (Grant t n) granted after below wakes cannot fits moves = wakes
   cannot_make s p (Join t n) granted after below wakes cannot fits moves = wakes
+  cannot_make s p (Adopt owner slot) granted after below wakes cannot fits moves = wakes
   cannot_make s p (Release t n) granted after below wakes (inl awaited) fits moves =
       both_ways (awaits (get_or m.waits.awaited s None) t n) (not_awaited_own m w safe shows s t n fits) awaited
   cannot_make s p (Release t n) granted after below wakes (inr none) fits moves =

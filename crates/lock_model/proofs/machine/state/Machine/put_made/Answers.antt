@@ -42,3 +42,10 @@ returns-in-Leave c = λ w safe shows.
     skipped now w safe shows c.args.session (PutExclusive (Partition c.args.partition) c.args.done)
     (λ lawful. let made = only_made now w safe shows c.args.session c.args.partition c.args.done c.requires.in_hand lawful in
     subst IsMadeByPutting c.in-Leave.is made.1.by_putting)
+
+pub returns-in-Adopt : goal.returns-in-Adopt
+returns-in-Adopt c = λ w safe shows.
+    let now = c.args.self.now in
+    skipped now w safe shows c.args.session (PutExclusive (Partition c.args.partition) c.args.done)
+    (λ lawful. let made = only_made now w safe shows c.args.session c.args.partition c.args.done c.requires.in_hand lawful in
+    subst IsMadeByPutting c.in-Adopt.is made.1.by_putting)

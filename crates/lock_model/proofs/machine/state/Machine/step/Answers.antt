@@ -56,3 +56,6 @@ returns-in-Count c = rw c.in-Count.is c.count.ensures.followed
 
 pub returns-in-Uncount : goal.returns-in-Uncount
 returns-in-Uncount c = rw c.in-Uncount.is c.uncount.ensures
+
+pub returns-in-TransferSlot : goal.returns-in-TransferSlot
+returns-in-TransferSlot c = rw c.in-TransferSlot.is c.transfer_slot.ensures.followed

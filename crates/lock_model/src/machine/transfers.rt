@@ -1,0 +1,78 @@
+//! The plain machine's step that moves a mode from a session's slot to the lock table.
+
+use super::slot_looks::relation_of;
+use super::state::Machine;
+use lock_table::{Move, NoMemory, PartTable};
+use modes_core::{Mode, SessionId, Tag, is_eligible};
+
+impl Machine {
+    ghost use Rattle.std.specs.Prelude.{◌≡◌, OnOk, OnErr};
+    ghost use Rattle.lock_world.specs.declared.events.Step.{Step};
+    ghost use Rattle.lock_world.specs.World.{World};
+    ghost use Rattle.lock_model.specs.Shows.{Shows, ShowsSafe, Follows};
+    ghost use Rattle.lock_model.specs.Transfers.{is_in_slot, may_transfer};
+
+    /// Moves a mode that the owner's slot has to the object's content in hand, where the owner is next on the way of
+    /// the strong lock and the lock of its slots is held (the inner loop of `FastPathTransferRelationLocks` in lock.c).
+    /// After `NoMemory` the machine shows what it showed.
+    pub fn transfer_slot(
+        &mut self,
+        session: SessionId,
+        owner: SessionId,
+        slot: u8,
+        tag: Tag,
+        mode: Mode,
+        strong: Mode,
+    ) -> Result<(), NoMemory>
+        requires shown { ShowsSafe self.old }
+        ensures followed { OnOk result
+            (Follows self.old session (Step.TransferSlot owner slot tag mode strong) self.new) }
+        ensures refused { OnErr result ((w : World) → Shows self.old w → Shows self.new w) }
+    {
+        let partition = tag.partition();
+        let index = usize::from(owner.number());
+        let place = usize::from(slot);
+        let Some(hand) = self.hand_of(session, partition) else {
+            return Ok(());
+        };
+        if !hand.may_adopt(owner, slot)
+            || !self.may_transfer(session, owner, place, tag, mode, strong)
+        {
+            return Ok(());
+        }
+        let part = &mut self.contents.parts[usize::from(partition)];
+        part.begin(owner, &tag, mode)?;
+        part.grant(owner, &tag, mode);
+        self.record(partition, hand, Move::Adopt { owner, slot }, hand.unmarked);
+        let word = self.fast_path.slots[index][place];
+        self.fast_path.slots[index][place] = word.without(mode);
+        Ok(())
+    }
+
+    /// Whether the session may move the mode out of the owner's slot, where it has the partition in hand.
+    fn may_transfer(
+        &self,
+        session: SessionId,
+        owner: SessionId,
+        place: usize,
+        tag: Tag,
+        mode: Mode,
+        strong: Mode,
+    ) -> bool
+        ensures { result ≡ may_transfer self.now session owner place tag mode strong }
+    {
+        self.holds_fast(session, owner)
+            && self.is_counted_at(session, owner.number(), tag, strong)
+            && self.is_in_slot(owner, place, tag, mode)
+    }
+
+    /// Whether the owner's slot shows that it holds the mode on the object.
+    fn is_in_slot(&self, owner: SessionId, place: usize, tag: Tag, mode: Mode) -> bool
+        ensures { result ≡ is_in_slot self.now owner place tag mode }
+    {
+        let index = usize::from(owner.number());
+        place < 16
+            && is_eligible(self.fast_path.databases[index], tag, mode)
+            && self.fast_path.slots[index][place].shows(relation_of(tag), mode)
+    }
+}
