@@ -10,6 +10,7 @@ mod partitions;
 mod seats;
 mod sharing;
 mod slots;
+mod transfers;
 mod waits;
 
 fn session(rt: &impl Abort, number: u8) -> SessionId {

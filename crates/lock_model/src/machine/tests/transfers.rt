@@ -1,0 +1,382 @@
+use super::{FREE, HELD, is_kept, puts, puts_word, run_open, session, takes, takes_word};
+use crate::machine::{Plain, Spot};
+use lock_table::Move;
+use lock_world::{Event, Step, Word};
+use modes_core::{Mode, SessionId, Tag};
+use std::process::Abort;
+use std::test::Fail;
+
+fn does(session: SessionId, step: Step) -> Event {
+    Event { session, step }
+}
+
+fn takes_fast(session: SessionId, owner: SessionId) -> Event {
+    takes_word(session, Word::Fast(owner))
+}
+
+fn sets(session: SessionId, slot: u8, tag: Tag, mode: Mode) -> Event {
+    does(session, Step::SetSlot { slot, tag, mode })
+}
+
+fn counts(session: SessionId, tag: Tag) -> Event {
+    let mode = Mode::Share;
+    does(session, Step::Count { tag, mode })
+}
+
+fn passes(session: SessionId, owner: SessionId, tag: Tag) -> Event {
+    let mode = Mode::Share;
+    does(session, Step::PutPassing { owner, tag, mode })
+}
+
+/// Moves the mode out of the owner's slot, for the session's `ShareLock`.
+fn transfers(session: SessionId, owner: SessionId, slot: u8, tag: Tag, mode: Mode) -> Event {
+    let strong = Mode::Share;
+    does(
+        session,
+        Step::TransferSlot {
+            owner,
+            slot,
+            tag,
+            mode,
+            strong,
+        },
+    )
+}
+
+fn puts_adopted(session: SessionId, owner: SessionId, slot: u8) -> Event {
+    puts(session, table().partition(), Move::Adopt { owner: owner.number(), slot })
+}
+
+/// A table of database 5.
+fn table() -> Tag {
+    Tag::relation(5, 100)
+}
+
+/// Another table of database 5, in the same partition.
+fn other_table() -> Tag {
+    Tag::relation(5, 1124)
+}
+
+const ACCESS_SHARE: u64 = 0x1_0000_0000;
+
+const ROW_EXCLUSIVE: u64 = 0x4_0000_0000;
+
+/// Sets two modes of the table in the session's slot 0, and one of the other table in its slot 1.
+fn has_slots(whose: SessionId) -> [Event; 7] {
+    let index = table().strong_index();
+    [
+        does(whose, Step::StoreDatabase { database: 5 }),
+        takes_fast(whose, whose),
+        does(whose, Step::LoadStrong { index, shown: 0 }),
+        sets(whose, 0, table(), Mode::AccessShare),
+        sets(whose, 0, table(), Mode::RowExclusive),
+        sets(whose, 1, other_table(), Mode::AccessShare),
+        puts_word(whose, Word::Fast(whose), Move::Keep),
+    ]
+}
+
+/// Counts `ShareLock` on the table, and goes past its own slots.
+fn goes_past_itself(whose: SessionId, tag: Tag) -> [Event; 3] {
+    [
+        counts(whose, tag),
+        takes_fast(whose, whose),
+        passes(whose, whose, tag),
+    ]
+}
+
+/// Runs the events after session 1 has its slots, and session 0 is next to it with the table and the other table.
+fn run_next<R: Abort + AllocGlobal>(rt: &R, more: &[Event]) -> Result<Plain, Fail> {
+    let (a, b) = (session(rt, 0), session(rt, 1));
+    let mut events = Vec::new(rt.alloc());
+    events.extend_from_slice(&has_slots(b))?;
+    events.extend_from_slice(&goes_past_itself(a, table()))?;
+    events.extend_from_slice(&goes_past_itself(a, other_table()))?;
+    events.extend_from_slice(more)?;
+    run_open(rt, events.as_slice())
+}
+
+/// Ends the test where these are not the holds, all of the table and of this session, in the order of their modes.
+fn expect_holds(
+    rt: &impl Abort,
+    plain: &Plain,
+    whose: SessionId,
+    modes: &[Mode],
+) -> Result<(), Fail> {
+    assert_eq!(rt; plain.holds().len(), modes.len());
+    for (hold, mode) in plain.holds().iter().zip(modes) {
+        assert_eq!(rt; hold.session, whose);
+        assert_eq!(rt; hold.tag, table());
+        assert_eq!(rt; hold.mode, *mode);
+        assert_eq!(rt; hold.spot, Spot::Table);
+    }
+    Ok(())
+}
+
+#[test]
+fn the_modes_of_a_slot_are_moved_to_the_table(rt: HostRuntime) -> Result<(), Fail> {
+    let (a, b) = (session(&rt, 0), session(&rt, 1));
+    let p = table().partition();
+    let more = [
+        takes_fast(a, b),
+        takes(a, p),
+        transfers(a, b, 0, table(), Mode::AccessShare),
+        transfers(a, b, 0, table(), Mode::RowExclusive),
+        puts_adopted(a, b, 0),
+        passes(a, b, table()),
+    ];
+    let before = run_next(&rt, &more[..2])?;
+    expect_holds(&rt, &before, b, &[])?;
+    assert_eq!(rt;
+        before.word(Word::Slot(b, 0)),
+        ACCESS_SHARE + ROW_EXCLUSIVE + 100
+    );
+    let one = run_next(&rt, &more[..3])?;
+    expect_holds(&rt, &one, b, &[Mode::AccessShare])?;
+    assert_eq!(rt; one.word(Word::Slot(b, 0)), ROW_EXCLUSIVE + 100);
+    assert_eq!(rt; one.word(Word::Partition(p)), HELD);
+    let both = [Mode::AccessShare, Mode::RowExclusive];
+    let two = run_next(&rt, &more[..4])?;
+    expect_holds(&rt, &two, b, &both)?;
+    assert_eq!(rt; two.word(Word::Slot(b, 0)), 0);
+    assert_eq!(rt; two.word(Word::Slot(b, 1)), ACCESS_SHARE + 1124);
+    let put = run_next(&rt, &more[..5])?;
+    expect_holds(&rt, &put, b, &both)?;
+    assert_eq!(rt; put.word(Word::Partition(p)), FREE);
+    assert_eq!(rt; put.word(Word::Fast(b)), HELD);
+    let past = run_next(&rt, &more)?;
+    expect_holds(&rt, &past, b, &both)?;
+    assert_eq!(rt; past.word(Word::Fast(b)), FREE);
+    Ok(())
+}
+
+#[test]
+fn what_was_moved_is_its_sessions_own(rt: HostRuntime) -> Result<(), Fail> {
+    let (a, b) = (session(&rt, 0), session(&rt, 1));
+    let (p, tag) = (table().partition(), table());
+    let mode = Mode::AccessShare;
+    let more = [
+        takes_fast(a, b),
+        takes(a, p),
+        transfers(a, b, 0, tag, mode),
+        puts_adopted(a, b, 0),
+        takes(b, p),
+        puts(b, p, Move::Release { tag, mode }),
+    ];
+    let plain = run_next(&rt, &more)?;
+    expect_holds(&rt, &plain, b, &[])?;
+    assert_eq!(rt; plain.word(Word::Partition(p)), FREE);
+    assert_eq!(rt; plain.word(Word::Slot(b, 0)), ROW_EXCLUSIVE + 100);
+    // The adopt alone is put.
+    let kept = [more[0], more[1], more[2], puts(a, p, Move::Keep)];
+    assert_eq!(rt; run_next(&rt, &kept)?.word(Word::Partition(p)), HELD);
+    let another = [more[0], more[1], more[2], puts_adopted(a, b, 1)];
+    assert_eq!(rt; run_next(&rt, &another)?.word(Word::Partition(p)), HELD);
+    Ok(())
+}
+
+#[test]
+fn the_own_slots_are_moved_too(rt: HostRuntime) -> Result<(), Fail> {
+    let a = session(&rt, 0);
+    let p = table().partition();
+    let mut events = Vec::new(rt.alloc());
+    events.extend_from_slice(&has_slots(a))?;
+    let more = [
+        counts(a, table()),
+        takes_fast(a, a),
+        takes(a, p),
+        transfers(a, a, 0, table(), Mode::RowExclusive),
+        transfers(a, a, 0, table(), Mode::AccessShare),
+        puts_adopted(a, a, 0),
+        passes(a, a, table()),
+    ];
+    events.extend_from_slice(&more)?;
+    let plain = run_open(&rt, events.as_slice())?;
+    expect_holds(&rt, &plain, a, &[Mode::AccessShare, Mode::RowExclusive])?;
+    assert_eq!(rt; plain.word(Word::Slot(a, 0)), 0);
+    assert_eq!(rt; plain.word(Word::Partition(p)), FREE);
+    assert_eq!(rt; plain.word(Word::Fast(a)), FREE);
+    Ok(())
+}
+
+/// Ends the test where both runs do not show the same words, with as many holds and waits.
+fn expect_same<R: Abort>(rt: &R, one: &Plain, other: &Plain) -> Result<(), Fail> {
+    let p = Word::Partition(table().partition());
+    assert_eq!(rt; one.holds().len(), other.holds().len());
+    assert_eq!(rt; one.waits().len(), other.waits().len());
+    assert_eq!(rt; one.word(p), other.word(p));
+    for number in 0..3u8 {
+        let whose = session(rt, number);
+        assert_eq!(rt; one.word(Word::Fast(whose)), other.word(Word::Fast(whose)));
+        assert_eq!(rt; one.word(Word::Wait(whose)), other.word(Word::Wait(whose)));
+        for slot in 0..2u8 {
+            let word = Word::Slot(whose, slot);
+            assert_eq!(rt; one.word(word), other.word(word));
+        }
+    }
+    Ok(())
+}
+
+/// Ends the test where the event after these changes anything, or session 0 cannot put the partition with the move then.
+fn is_skipped<R: Abort + AllocGlobal>(
+    rt: &R,
+    before: &[Event],
+    event: Event,
+    done: Move,
+) -> Result<(), Fail> {
+    let p = table().partition();
+    let mut events = Vec::new(rt.alloc());
+    events.extend_from_slice(before)?;
+    events.push(event)?;
+    let without = run_next(rt, before)?;
+    let with = run_next(rt, events.as_slice())?;
+    expect_same(rt, &without, &with)?;
+    events.push(puts(session(rt, 0), p, done))?;
+    let put = run_next(rt, events.as_slice())?;
+    assert_eq!(rt; put.word(Word::Partition(p)), FREE);
+    Ok(())
+}
+
+#[test]
+fn nothing_is_moved_without_both_locks(rt: HostRuntime) -> Result<(), Fail> {
+    let (a, b) = (session(&rt, 0), session(&rt, 1));
+    let p = table().partition();
+    let one = transfers(a, b, 0, table(), Mode::AccessShare);
+    // The lock of the slots is nobody's, or the owner has it.
+    is_skipped(&rt, &[takes(a, p)], one, Move::Keep)?;
+    is_skipped(&rt, &[takes_fast(b, b), takes(a, p)], one, Move::Keep)?;
+    // The partition is in nobody's hand, or another one is in hand.
+    is_skipped(&rt, &[takes_fast(a, b)], one, Move::Keep)?;
+    let elsewhere = [takes_fast(a, b), takes(a, (p + 1) % 16)];
+    is_skipped(&rt, &elsewhere, one, Move::Keep)?;
+    // The owner has it in hand, and moves its own slot no more than others do.
+    let its = [takes_fast(a, b), takes(b, p)];
+    let plain = run_next(&rt, &[its[0], its[1], one])?;
+    assert_eq!(rt;
+        plain.word(Word::Slot(b, 0)),
+        ACCESS_SHARE + ROW_EXCLUSIVE + 100
+    );
+    // The session is not open.
+    let c = transfers(session(&rt, 2), b, 0, table(), Mode::AccessShare);
+    is_skipped(&rt, &[takes_fast(a, b), takes(a, p)], c, Move::Keep)?;
+    // It is kept apart.
+    let kept = [is_kept(a, b), takes_fast(a, b), takes(a, p)];
+    is_skipped(&rt, &kept, one, Move::Keep)
+}
+
+#[test]
+fn nothing_is_moved_out_of_turn(rt: HostRuntime) -> Result<(), Fail> {
+    let (a, b) = (session(&rt, 0), session(&rt, 1));
+    let p = table().partition();
+    let (tag, mode) = (table(), Mode::AccessShare);
+    let locks = [takes_fast(a, b), takes(a, p)];
+    // Another mode is counted, or another session's.
+    let strong = Mode::Exclusive;
+    let another = Step::TransferSlot {
+        owner: b,
+        slot: 0,
+        tag,
+        mode,
+        strong,
+    };
+    is_skipped(&rt, &locks, does(a, another), Move::Keep)?;
+    let uncounted = [
+        does(
+            a,
+            Step::Uncount {
+                tag,
+                mode: Mode::Share,
+            },
+        ),
+        counts(b, tag),
+        locks[0],
+        locks[1],
+    ];
+    let one = transfers(a, b, 0, tag, mode);
+    is_skipped(&rt, &uncounted, one, Move::Keep)?;
+    // It is counted, and session 0 itself is next.
+    let again = [uncounted[0], counts(a, tag), locks[0], locks[1]];
+    is_skipped(&rt, &again, one, Move::Keep)?;
+    // The session was passed already.
+    let passed = [
+        locks[0],
+        locks[1],
+        transfers(a, b, 1, other_table(), mode),
+        passes(a, b, other_table()),
+        locks[0],
+    ];
+    let late = transfers(a, b, 1, other_table(), mode);
+    is_skipped(&rt, &passed, late, Move::Adopt { owner: b.number(), slot: 1 })
+}
+
+#[test]
+fn only_what_the_slot_shows_is_moved(rt: HostRuntime) -> Result<(), Fail> {
+    let (a, b) = (session(&rt, 0), session(&rt, 1));
+    let p = table().partition();
+    let locks = [takes_fast(a, b), takes(a, p)];
+    // Another mode, another slot, no slot, another table.
+    let mode = transfers(a, b, 0, table(), Mode::RowShare);
+    is_skipped(&rt, &locks, mode, Move::Keep)?;
+    let strong = transfers(a, b, 0, table(), Mode::Share);
+    is_skipped(&rt, &locks, strong, Move::Keep)?;
+    let place = transfers(a, b, 1, table(), Mode::AccessShare);
+    is_skipped(&rt, &locks, place, Move::Keep)?;
+    let past = transfers(a, b, 16, table(), Mode::AccessShare);
+    is_skipped(&rt, &locks, past, Move::Keep)?;
+    let tag = transfers(a, b, 0, other_table(), Mode::AccessShare);
+    is_skipped(&rt, &locks, tag, Move::Keep)?;
+    // What was moved is there no more.
+    let one = transfers(a, b, 0, table(), Mode::AccessShare);
+    let moved = [locks[0], locks[1], one];
+    is_skipped(&rt, &moved, one, Move::Adopt { owner: b.number(), slot: 0 })
+}
+
+#[test]
+fn nothing_is_moved_after_another_move(rt: HostRuntime) -> Result<(), Fail> {
+    let (a, b) = (session(&rt, 0), session(&rt, 1));
+    let p = table().partition();
+    let one = transfers(a, b, 0, table(), Mode::AccessShare);
+    let other = transfers(a, b, 1, other_table(), Mode::AccessShare);
+    // Another slot's modes were moved.
+    let slots = [takes_fast(a, b), takes(a, p), other];
+    is_skipped(&rt, &slots, one, Move::Adopt { owner: b.number(), slot: 1 })?;
+    // The session has joined the queue.
+    let (tag, mode) = (table(), Mode::ShareUpdateExclusive);
+    let joined = [
+        takes(b, p),
+        puts(b, p, Move::Grant { tag, mode }),
+        takes_fast(a, b),
+        takes(a, p),
+        does(a, Step::SetWaiting { tag, mode }),
+    ];
+    is_skipped(&rt, &joined, one, Move::Join { tag, mode })
+}
+
+#[test]
+fn a_session_that_was_never_issued_has_nothing_to_move(rt: HostRuntime) -> Result<(), Fail> {
+    let (a, b, c) = (session(&rt, 0), session(&rt, 1), session(&rt, 2));
+    let p = table().partition();
+    let mode = Mode::AccessShare;
+    let next = [
+        takes_fast(a, b),
+        takes(a, p),
+        transfers(a, b, 0, table(), mode),
+        transfers(a, b, 0, table(), Mode::RowExclusive),
+        puts_adopted(a, b, 0),
+        passes(a, b, table()),
+        takes_fast(a, c),
+        takes(a, p),
+    ];
+    is_skipped(&rt, &next, transfers(a, c, 0, table(), mode), Move::Keep)?;
+    let past = [
+        next[0],
+        next[1],
+        next[2],
+        next[3],
+        next[4],
+        next[5],
+        next[6],
+        passes(a, c, table()),
+    ];
+    assert_eq!(rt; run_next(&rt, &past)?.word(Word::Fast(c)), FREE);
+    Ok(())
+}
