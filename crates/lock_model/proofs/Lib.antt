@@ -1,4 +1,5 @@
 pub mod CountedLists
+pub mod SleeperLists
 pub mod PlainLists
 pub mod HoldOrder
 pub mod Shows

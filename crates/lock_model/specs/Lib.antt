@@ -3,5 +3,6 @@ pub mod Shows
 pub mod PlainLists
 pub mod Plain
 pub mod CountedLists
+pub mod SleeperLists
 pub mod SlotLooks
 pub mod Transfers

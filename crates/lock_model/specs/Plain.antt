@@ -19,7 +19,8 @@ use Rattle.lock_table.specs.Content.{Holds}
 use Rattle.lock_table.specs.Content as content
 use Rattle.lw_word.specs.LightweightWord.{free_word}
 use Rattle.lock_world.specs.World.{World, WordExists, word_in}
-use Rattle.lock_model.specs.Shows.{ListsHolds, AreInTable}
+use Rattle.lock_model.specs.declared.machine.state.Sleeper.{Sleeper}
+use Rattle.lock_model.specs.Shows.{ListsHolds, AreInTable, waiters_of}
 
 -- what the answer of a run says: its holds, its waits, and what each word shows
 abbrev pub holds_of : Plain → List Hold
@@ -28,6 +29,9 @@ holds_of plain = plain.holds.items
 abbrev pub listed_waits : Plain → List QueuedWait
 listed_waits plain = plain.waits.items
 
+abbrev pub listed_sleepers : Plain → List Sleeper
+listed_sleepers plain = plain.lists.sleepers.items
+
 abbrev pub word_of : Plain → Word → ℕ
 word_of plain (Partition p) = slice_index_or plain.words.partitions p free_word
 word_of plain (Fast session) = slice_index_or plain.words.fast session free_word
@@ -35,7 +39,7 @@ word_of plain (Database session) = slice_index_or plain.fast_path.databases sess
 word_of plain (Slot session place) = slice_index_or (slice_index_or plain.fast_path.slots session []) place 0
 word_of plain (Wait session) = slice_index_or plain.words.waits session 0
 word_of plain (Strong index) = count_by (λ c. index_of c.tag == index) plain.counted.items
-word_of plain (Sleep session) = 0
+word_of plain (Sleep session) = slice_index_or plain.lists.sleep session 0
 
 -- the order of where holds stand: the fast-path slots by their places, and the lock table after them
 abbrev pub spot_cmp : Spot → Spot → Ordering
@@ -61,10 +65,11 @@ abbrev pub table_holds : World → Holds
 table_holds w session tag mode = (w.contents.now (partition_of tag)).holds session tag mode
 
 -- The answer of a run says what the World has: each hold of a content once, each object's waits in the order of its
--- queue, the waits in the order of their tags, and what each word shows.
+-- queue, the waits in the order of their tags, what each word shows, and who waits for each lightweight lock.
 pub record IsPlainOf (plain : Plain) (w : World) : Type 0 where
   pub holds : ListsHolds (holds_of plain) (table_holds w)
   pub in_table : AreInTable (holds_of plain)
   pub waits : (tag : Tag) → map as_wait (filter (λ queued. tag_eq queued.tag tag) (listed_waits plain)) ≡ (w.contents.now (partition_of tag)).waits tag
   pub waits_by_tag : IsSortedByKey (λ queued. queued.tag) (on numbers_of (slice_cmp nat_cmp)) (listed_waits plain)
   pub words : (word : Word) → WordExists word → word_of plain word ≡ word_in w.words word
+  pub lists : (lock : ℕ) → waiters_of lock (listed_sleepers plain) ≡ w.words.list lock

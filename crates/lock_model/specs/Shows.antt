@@ -13,6 +13,8 @@ use Rattle.lock_model.specs.declared.machine.state.Words.{Words}
 use Rattle.lock_model.specs.declared.machine.state.Locks.{Locks}
 use Rattle.lock_model.specs.declared.machine.state.FastPath.{FastPath}
 use Rattle.lock_model.specs.declared.machine.state.CountedBy.{CountedBy}
+use Rattle.lock_model.specs.declared.machine.state.Sleeper.{Sleeper}
+use Rattle.lock_model.specs.declared.machine.state.Lists.{Lists}
 use Rattle.lock_model.specs.declared.machine.state.Contents.{Contents}
 use Rattle.lock_model.specs.declared.machine.state.OwnWaits.{OwnWaits}
 use Rattle.lock_model.specs.declared.machine.state.Machine.{Machine}
@@ -22,6 +24,7 @@ use Rattle.lock_table.specs.MoveTests.{move_eq}
 use Rattle.lock_world.specs.declared.events.Step.{Step}
 use Rattle.lock_table.specs.Content.{Holds, Content}
 use Rattle.lw_word.specs.LightweightWord.{free_word}
+use Rattle.lw_word.specs.declared.wait_lists.LwWaiter.{LwWaiter}
 use Rattle.lock_table.specs.OwnWait.{OwnWait}
 use Rattle.lock_table.specs.Parts.{part_at, contents_in}
 use Rattle.lock_world.specs.Counted.{Counted}
@@ -137,6 +140,24 @@ pub record ShowsWaits (shown : OwnWaits) (wait : ℕ → Option OwnWait) (has_se
   pub awaited : (session : ℕ) → slice_index_or shown.awaited session None ≡ option_map awaited_of (wait session)
   pub seen : (session : ℕ) → slice_index_or shown.seen session false ≡ has_seen session
 
+-- the wait list of a lock: those who wait for it, in the order of joining
+abbrev pub waiters_of : ℕ → List Sleeper → List LwWaiter
+waiters_of lock list = map (λ (sleeper : Sleeper). sleeper.waiter) (filter (λ (sleeper : Sleeper). sleeper.lock == lock) list)
+
+-- The wait lists and the sleep words are the World's, and so is what each session knows of lists: the one in hand, the one that
+-- it stands in, and whom it took off.
+pub record ShowsLists (shown : Lists) (words : ℕ → ℕ) (lists : ℕ → List LwWaiter) (have stand : ℕ → Option ℕ) (taken : ℕ → ℕ → Bool) : Type 0 where
+  pub sixty_four : length shown.sleep ≡ 64
+  pub sixty_four_have : length shown.has_list ≡ 64
+  pub sixty_four_stand : length shown.stands ≡ 64
+  pub sixty_four_off : length shown.off ≡ 64
+  pub each_off : (session : ℕ) → session < 64 → length (slice_index_or shown.off session []) ≡ 64
+  pub sleep : (session : ℕ) → slice_index_or shown.sleep session 0 ≡ words session
+  pub list : (lock : ℕ) → waiters_of lock shown.sleepers.items ≡ lists lock
+  pub has_list : (session : ℕ) → slice_index_or shown.has_list session None ≡ have session
+  pub stands : (session : ℕ) → slice_index_or shown.stands session None ≡ stand session
+  pub off : (session other : ℕ) → slice_index_or (slice_index_or shown.off session []) other false ≡ taken session other
+
 -- What the machine keeps is what the World has. It keeps no own holds: a session's own are those that its slots show, and
 -- those of the contents but what it awaits.
 pub record Shows (machine : Machine) (w : World) : Type 0 where
@@ -145,14 +166,17 @@ pub record Shows (machine : Machine) (w : World) : Type 0 where
   pub locks : ShowsLocks machine.locks w.sessions.holds_fast w.sessions.shares_fast w.sessions.shares_partition
   pub fast_path : ShowsFastPath machine.fast_path w.words.database w.words.slot w.sessions.zero
   pub counted : ShowsCounted machine.counted.items w.sessions.counted
-  -- no step of the machine changes a sleep word yet
-  pub asleep : (session : ℕ) → w.words.sleep session ≡ 0
+  pub lists : ShowsLists machine.lists w.words.sleep w.words.list w.sessions.has_list w.sessions.stands w.sessions.off
   pub contents : ShowsContents machine.contents w.contents
   pub waits : ShowsWaits machine.waits w.sessions.awaited w.sessions.seen
 
 -- whether the session makes steps of its own
 abbrev pub makes_steps : Machine → ℕ → Bool
 makes_steps machine session = slice_index_or machine.numbers.live session false && is_none (slice_index_or machine.numbers.kept_by session None)
+
+-- whether the session has no wait list in hand and stands in none
+abbrev pub has_no_list : Machine → ℕ → Bool
+has_no_list machine session = is_none (slice_index_or machine.lists.has_list session None) && is_none (slice_index_or machine.lists.stands session None)
 
 -- whether the session has a mark of any lock
 abbrev pub has_a_mark : ℕ → List (List Bool) → Bool

@@ -176,7 +176,7 @@ module _ (m : Machine) (w : World) (safe : SafeWorld w) (shows : Shows m w) wher
       locks = shows.locks;
       fast_path = shows.fast_path;
       counted = subst (λ list. ShowsCounted list (set_at w.sessions.counted s (counting (w.sessions.counted s) t n))) (sym is) (counted-push m.counted.items w.sessions.counted s t n shows.counted below);
-      asleep = shows.asleep;
+      lists = shows.lists;
       contents = shows.contents;
       waits = shows.waits;
     },
@@ -229,7 +229,7 @@ module _ (m : Machine) (w : World) (safe : SafeWorld w) (shows : Shows m w) wher
       locks = shows.locks;
       fast_path = shows.fast_path;
       counted = subst (λ list. ShowsCounted list (set_at w.sessions.counted s (uncounting (w.sessions.counted s) t n))) (sym is) (counted-without m.counted.items w.sessions.counted s t n shows.counted);
-      asleep = shows.asleep;
+      lists = shows.lists;
       contents = shows.contents;
       waits = shows.waits;
     },
@@ -308,7 +308,7 @@ module _ (m : Machine) (w : World) (safe : SafeWorld w) (shows : Shows m w) wher
       };
       fast_path = zeros_put s o (nat_eq o s) below;
       counted = subst (λ list. ShowsCounted list (set_at w.sessions.counted s (passing (w.sessions.counted s) t n o))) (sym is) (counted-passed m.counted.items w.sessions.counted s o t n shows.counted);
-      asleep = shows.asleep;
+      lists = shows.lists;
       contents = shows.contents;
       waits = shows.waits;
     },
@@ -344,7 +344,7 @@ module _ (m : Machine) (w : World) (safe : SafeWorld w) (shows : Shows m w) wher
       locks = shows.locks;
       fast_path = is;
       counted = shows.counted;
-      asleep = shows.asleep;
+      lists = shows.lists;
       contents = shows.contents;
       waits = shows.waits;
     },

@@ -86,7 +86,7 @@ module _ (m : Machine) (w : World) (safe : SafeWorld w) (shows : Shows m w) wher
       words = partition_word-set m.words w.words p _ _ shows.words in_words (ap taken_word (shows.words.partition p));
       fast_path = shows.fast_path;
       counted = shows.counted;
-      asleep = shows.asleep;
+      lists = shows.lists;
       locks = shows.locks;
       contents = hand-set m.contents w.contents p _ _ shows.contents exists (record { holder = refl; recorded = refl; unmarked = none });
       waits = shows.waits;
@@ -101,7 +101,7 @@ module _ (m : Machine) (w : World) (safe : SafeWorld w) (shows : Shows m w) wher
     words = partition_word-set m.words w.words p _ _ shows.words in_words (ap put_word (shows.words.partition p));
     fast_path = shows.fast_path;
     counted = shows.counted;
-    asleep = shows.asleep;
+    lists = shows.lists;
     locks = shows.locks;
     contents = hand-set _ _ p None None (parts-changed m.contents changed w.contents p content shows.contents at) exists tt;
     waits = shows.waits;

@@ -1,8 +1,8 @@
-use Rattle.std.proofs.Common.{◌≡◌, ◌≢◌, ℕ, ◌+◌, ◌<◌, Bool, true, false, ◌||◌, List, length, get_or, Option, Some, None, is_none, refl, sym, ap, ◌∙◌, subst, inl, inr}
+use Rattle.std.proofs.Common.{◌≡◌, ◌≢◌, ℕ, ◌+◌, ◌<◌, Bool, true, false, ◌||◌, ◌&&◌, List, length, get_or, Option, Some, None, is_none, refl, sym, ap, ◌∙◌, subst, inl, inr}
 use Rattle.std.specs.Prelude.{◌==◌, count_by}
 use Rattle.std.specs.List.{list_any}
 use Rattle.std.proofs.Math.ListN.{set}
-use Rattle.std.proofs.lemmas.Bool.{cases_Bool, both_ways, false≢true, or_parts, and_parts, eq-eqb, eqb-true, false_from_ne_true}
+use Rattle.std.proofs.lemmas.Bool.{cases_Bool, both_ways, false≢true, or_parts, and_parts, and_from, eq-eqb, eqb-true, false_from_ne_true}
 use Rattle.std.proofs.lemmas.List.Folds.{list_any_at}
 use Rattle.modes_core.specs.declared.modes.Mode.{Mode}
 use Rattle.modes_core.specs.declared.tags.Tag.{Tag}
@@ -21,7 +21,7 @@ use Rattle.lock_table.specs.OwnWait.{is_for}
 use Rattle.lw_word.specs.SlotWord.{in_use}
 use Rattle.lock_model.specs.SlotLooks.{slots_at}
 use Rattle.lock_model.proofs.Shows.SlotLooks.{no_slot_hold}
-use Rattle.lock_model.specs.Shows.{Shows, is_number, is_holder, has_a_mark, makes_steps, awaits}
+use Rattle.lock_model.specs.Shows.{Shows, is_number, is_holder, has_a_mark, has_no_list, makes_steps, awaits}
 use Rattle.lock_model.proofs.Shows.Locks.{no_mark, some_mark}
 use Rattle.lock_table.proofs.PutLemmas.{written-at}
 use Rattle.lock_table.proofs.ListLemmas.{any_found, any_weaker, found_within}
@@ -34,6 +34,10 @@ use Rattle.lock_model.proofs.Shows.Looks.{hand_kept, kept_hand, steps_from, own_
 pub number_of_some : (o : Option ℕ) (s : ℕ) → is_number s o ≡ true → o ≡ Some s
 number_of_some None s e = absurd (false≢true e)
 number_of_some (Some k) s e = ap Some (eqb-true k s e)
+
+none_is : (o : Option ℕ) → is_none o ≡ true → o ≡ None
+none_is None e = refl
+none_is (Some k) e = absurd (false≢true e)
 
 pub some_of_number : (o : Option ℕ) (s : ℕ) → o ≡ Some s → is_number s o ≡ true
 some_of_number o s e = ap (is_number s) e ∙ eq-eqb s s refl
@@ -77,7 +81,7 @@ module _ (m : Machine) (w : World) (safe : SafeWorld w) (shows : Shows m w) wher
           words = shows.words;
           fast_path = shows.fast_path;
           counted = shows.counted;
-          asleep = shows.asleep;
+          lists = shows.lists;
           locks = shows.locks;
           contents = shows.contents;
           waits = shows.waits;
@@ -99,7 +103,7 @@ module _ (m : Machine) (w : World) (safe : SafeWorld w) (shows : Shows m w) wher
       words = shows.words;
       fast_path = shows.fast_path;
       counted = shows.counted;
-      asleep = shows.asleep;
+      lists = shows.lists;
       locks = shows.locks;
       contents = shows.contents;
       waits = shows.waits;
@@ -185,17 +189,22 @@ module _ (m : Machine) (w : World) (safe : SafeWorld w) (shows : Shows m w) wher
           words = shows.words;
           fast_path = shows.fast_path;
           counted = shows.counted;
-          asleep = shows.asleep;
+          lists = shows.lists;
           locks = shows.locks;
           contents = shows.contents;
           waits = shows.waits;
         },
       )
 
+  pub no_list_needs : (s : ℕ) → w.sessions.has_list s ≡ None → w.sessions.stands s ≡ None → has_no_list m s ≡ true
+  no_list_needs s no_list no_stand =
+      and_from (is_none (get_or m.lists.has_list s None)) (is_none (get_or m.lists.stands s None))
+      (ap is_none (shows.lists.has_list s ∙ no_list)) (ap is_none (shows.lists.stands s ∙ no_stand))
+
   pub was_closed : (s : ℕ) → makes_steps m s ≡ true → list_any (is_holder s) m.contents.hands ≡ false → has_a_mark s m.locks.fast_holders ≡ false → (has_a_mark s m.locks.fast_sharers || has_a_mark s m.locks.partition_sharers) ≡ false
-      → list_any (has_hold_of s) m.contents.parts.items ≡ false → list_any in_use (slots_at m s) ≡ false → is_none (get_or m.waits.awaited s None) ≡ true → list_any (is_number s) m.numbers.kept_by ≡ false → (count_by (λ c. c.session == s) m.counted.items == 0) ≡ true → s < length m.numbers.live
+      → list_any (has_hold_of s) m.contents.parts.items ≡ false → list_any in_use (slots_at m s) ≡ false → is_none (get_or m.waits.awaited s None) ≡ true → list_any (is_number s) m.numbers.kept_by ≡ false → (count_by (λ c. c.session == s) m.counted.items == 0) ≡ true → has_no_list m s ≡ true → s < length m.numbers.live
       → (v : World) × Next w (record { session = s; step = JoinSeat None }) v × Shows (record m { numbers = record (m.numbers) { live = set m.numbers.live s false } }) v
-  was_closed s steps no_hand no_fast no_shared none_held none_used no_wait keeps_none none_counted in_live =
+  was_closed s steps no_hand no_fast no_shared none_held none_used no_wait keeps_none none_counted no_list in_live =
       let shares_none = or_parts (has_a_mark s m.locks.fast_sharers) (has_a_mark s m.locks.partition_sharers) no_shared in
       let may : MayClose w s = record {
         steps = steps_from m w safe shows s steps;
@@ -206,6 +215,8 @@ module _ (m : Machine) (w : World) (safe : SafeWorld w) (shows : Shows m w) wher
         no_hold = no_hold s none_held none_used;
         no_wait = no_wait_from m w safe shows s no_wait;
         no_count = nothing_from m w safe shows s none_counted;
+        no_list = sym (shows.lists.has_list s) ∙ none_is (get_or m.lists.has_list s None) (and_parts (is_none (get_or m.lists.has_list s None)) (is_none (get_or m.lists.stands s None)) no_list).0;
+        no_stand = sym (shows.lists.stands s) ∙ none_is (get_or m.lists.stands s None) (and_parts (is_none (get_or m.lists.has_list s None)) (is_none (get_or m.lists.stands s None)) no_list).1;
         keeps_nobody = keeps_nobody s keeps_none;
       } in (
         after_closing w s,
@@ -220,7 +231,7 @@ module _ (m : Machine) (w : World) (safe : SafeWorld w) (shows : Shows m w) wher
           words = shows.words;
           fast_path = shows.fast_path;
           counted = shows.counted;
-          asleep = shows.asleep;
+          lists = shows.lists;
           locks = shows.locks;
           contents = shows.contents;
           waits = shows.waits;

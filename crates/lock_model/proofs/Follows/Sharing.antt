@@ -58,7 +58,7 @@ module _ (m : Machine) (w : World) (safe : SafeWorld w) (shows : Shows m w) wher
     words = partition_word-set m.words w.words p word its shows.words in_words same;
     fast_path = shows.fast_path;
     counted = shows.counted;
-    asleep = shows.asleep;
+    lists = shows.lists;
     locks = record {
       fast_holders = shows.locks.fast_holders;
       fast_sharers = shows.locks.fast_sharers;
@@ -99,7 +99,7 @@ module _ (m : Machine) (w : World) (safe : SafeWorld w) (shows : Shows m w) wher
     words = fast_word-set m.words w.words o word its shows.words exists same;
     fast_path = shows.fast_path;
     counted = shows.counted;
-    asleep = shows.asleep;
+    lists = shows.lists;
     locks = record {
       fast_holders = shows.locks.fast_holders;
       fast_sharers = marks-set m.locks.fast_sharers 64 w.sessions.shares_fast s o b shows.locks.fast_sharers below exists;

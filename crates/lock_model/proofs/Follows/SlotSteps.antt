@@ -68,7 +68,7 @@ module _ (m : Machine) (w : World) (safe : SafeWorld w) (shows_w : Shows m w) wh
     locks = shows_w.locks;
     fast_path = shows_w.fast_path;
     counted = shows_w.counted;
-    asleep = shows_w.asleep;
+    lists = shows_w.lists;
     contents = shows_w.contents;
     waits = shows_w.waits;
   }
@@ -182,7 +182,7 @@ module _ (m : Machine) (w : World) (safe : SafeWorld w) (shows_w : Shows m w) wh
           fast_path = slot-set m.fast_path w.words.database w.words.slot w.sessions.zero s place _ _ shows_w.fast_path below its.takes.within
               (ap (λ word. word_with word (relation_of t) n) (shows_w.fast_path.slot s place));
           counted = shows_w.counted;
-          asleep = shows_w.asleep;
+          lists = shows_w.lists;
           contents = shows_w.contents;
           waits = shows_w.waits;
         },
@@ -229,7 +229,7 @@ module _ (m : Machine) (w : World) (safe : SafeWorld w) (shows_w : Shows m w) wh
           fast_path = slot-set m.fast_path w.words.database w.words.slot w.sessions.zero s place _ _ shows_w.fast_path below its.held_in.within
               (ap (λ word. word_without word n) (shows_w.fast_path.slot s place));
           counted = shows_w.counted;
-          asleep = shows_w.asleep;
+          lists = shows_w.lists;
           contents = shows_w.contents;
           waits = shows_w.waits;
         },
@@ -259,7 +259,7 @@ module _ (m : Machine) (w : World) (safe : SafeWorld w) (shows_w : Shows m w) wh
           locks = shows_w.locks;
           fast_path = database-set m.fast_path w.words.database w.words.slot w.sessions.zero s d shows_w.fast_path below;
           counted = shows_w.counted;
-          asleep = shows_w.asleep;
+          lists = shows_w.lists;
           contents = shows_w.contents;
           waits = shows_w.waits;
         },

@@ -44,7 +44,7 @@ module _ (m : Machine) (w : World) (safe : SafeWorld w) (shows : Shows m w) wher
       words = fast_word-set m.words w.words o _ _ shows.words exists (ap taken_word (fast_word_from m w safe shows o exists));
       fast_path = shows.fast_path;
       counted = shows.counted;
-      asleep = shows.asleep;
+      lists = shows.lists;
       locks = record {
         fast_holders = marks-set m.locks.fast_holders 64 w.sessions.holds_fast s o true shows.locks.fast_holders below exists;
         fast_sharers = shows.locks.fast_sharers;
@@ -71,7 +71,7 @@ module _ (m : Machine) (w : World) (safe : SafeWorld w) (shows : Shows m w) wher
       words = fast_word-set m.words w.words o _ _ shows.words exists (ap put_word (fast_word_from m w safe shows o exists));
       fast_path = is;
       counted = shows.counted;
-      asleep = shows.asleep;
+      lists = shows.lists;
       locks = record {
         fast_holders = marks-set m.locks.fast_holders 64 w.sessions.holds_fast s o false shows.locks.fast_holders below exists;
         fast_sharers = shows.locks.fast_sharers;

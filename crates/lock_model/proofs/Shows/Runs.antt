@@ -26,18 +26,25 @@ use Rattle.lock_world.specs.SafeWorld.{SafeWorld}
 use Rattle.lock_world.specs.Counted.{Counted, count_at}
 use Rattle.lock_world.specs.Total.{total}
 use Rattle.lock_model.proofs.CountedLists.{total-of_sessions}
-use Rattle.lock_model.specs.Shows.{Shows, ShowsHandIfAny, AreInTable, ListsHolds, counted_of}
+use Rattle.lock_model.specs.Shows.{Shows, ShowsHandIfAny, AreInTable, ListsHolds, counted_of, waiters_of}
 use Rattle.lock_model.proofs.Shows.Places.{get_or-one_value}
 use Rattle.lock_model.proofs.Shows.Locks.{no_marks}
 use Rattle.lock_model.proofs.Shows.Looks.{content_from}
+
+-- Nobody sleeps, and no wait list is in hand.
+abbrev NobodySleeps : Machine → Type 0
+NobodySleeps m =
+    (m.lists.sleep ≡ replicate 64 0) × (m.lists.sleepers.items ≡ []) × (m.lists.has_list ≡ replicate 64 None) × (m.lists.stands ≡ replicate 64 None)
+    × (m.lists.off ≡ replicate 64 (replicate 64 false))
 
 -- The machine as it is made shows the opening World.
 pub opening-shown : (m : Machine) → m.numbers.issued ≡ 0 → m.numbers.live ≡ replicate 64 false → m.numbers.kept_by ≡ replicate 64 None → m.words.partitions ≡ replicate 16 536870912
     → m.words.fast ≡ replicate 64 536870912 → m.words.waits ≡ replicate 64 0 → m.locks.fast_holders ≡ replicate 64 (replicate 64 false)
     → m.locks.fast_sharers ≡ replicate 64 (replicate 64 false) → m.locks.partition_sharers ≡ replicate 16 (replicate 64 false) → m.fast_path.databases ≡ replicate 64 0 → m.fast_path.slots ≡ replicate 64 (replicate 16 0) → m.fast_path.zeros ≡ replicate 64 None → m.counted.items ≡ []
+    → NobodySleeps m
     → m.contents.hands ≡ replicate 16 None → m.waits.awaited ≡ replicate 64 None → m.waits.seen ≡ replicate 64 false
     → length m.contents.parts.items ≡ 16 → ((p : ℕ) → (contents_in m.contents.parts.items p ≡ empty_content) × ((part_at m.contents.parts.items p).begun ≡ None)) → Shows m (opening 64)
-opening-shown m issued live kept_by words fast_words wait_words holders sharers partition_sharers databases slots zeros counted hands awaited seen sixteen empty = record {
+opening-shown m issued live kept_by words fast_words wait_words holders sharers partition_sharers databases slots zeros counted no_sleep hands awaited seen sixteen empty = record {
   numbers = record {
     limit = refl;
     issued = issued;
@@ -62,7 +69,18 @@ opening-shown m issued live kept_by words fast_words wait_words holders sharers 
     zero = λ s. ap (λ list. get_or list s None) zeros ∙ get_or-one_value 64 None s;
   };
   counted = record { each = λ s. ap (counted_of s) counted; within = subst (All (λ c. c.session < 64)) (sym counted) (λ k c within. absurd (omega (arith, within))) };
-  asleep = λ s. refl;
+  lists = record {
+    sixty_four = ap length no_sleep.0 ∙ length-replicate {A = ℕ} 64 0;
+    sixty_four_have = ap length no_sleep.2 ∙ length-replicate {A = Option ℕ} 64 None;
+    sixty_four_stand = ap length no_sleep.3 ∙ length-replicate {A = Option ℕ} 64 None;
+    sixty_four_off = ap length no_sleep.4 ∙ length-replicate {A = List Bool} 64 (replicate 64 false);
+    each_off = λ k below. ap (λ rows. length (get_or rows k [])) no_sleep.4 ∙ ap length (get_or-replicate 64 k (replicate 64 false) [] below) ∙ length-replicate {A = Bool} 64 false;
+    sleep = λ k. ap (λ list. get_or list k 0) no_sleep.0 ∙ get_or-one_value 64 0 k;
+    list = λ lock. ap (waiters_of lock) no_sleep.1;
+    has_list = λ k. ap (λ list. get_or list k None) no_sleep.2 ∙ get_or-one_value 64 None k;
+    stands = λ k. ap (λ list. get_or list k None) no_sleep.3 ∙ get_or-one_value 64 None k;
+    off = λ k j. ap (λ rows. get_or (get_or rows k []) j false) no_sleep.4 ∙ none_off k j;
+  };
   locks = record {
     fast_holders = no_marks 64 m.locks.fast_holders holders;
     fast_sharers = no_marks 64 m.locks.fast_sharers sharers;
@@ -82,6 +100,13 @@ opening-shown m issued live kept_by words fast_words wait_words holders sharers 
     seen = λ k. ap (λ list. get_or list k false) seen ∙ get_or-one_value 64 false k;
   };
 } where
+  none_off : (s k : ℕ) → ◌≡◌ {A = Bool} (get_or (get_or (replicate 64 (replicate 64 false)) s []) k false) false
+  none_off s k =
+      elim (cases_lt s 64) [
+        | inl within ↦ ap (λ row. get_or row k false) (get_or-replicate 64 s (replicate 64 false) [] within) ∙ get_or-one_value 64 false k
+        | inr past ↦ ap (λ row. get_or row k false) (get_or_past (replicate 64 (replicate 64 false)) s [] (let e = length-replicate {A = List Bool} 64 (replicate 64 false) in omega (arith, e)))
+      ]
+
   no_slot : (s place : ℕ) → ◌≡◌ {A = ℕ} (get_or (get_or (replicate 64 (replicate 16 0)) s []) place 0) 0
   no_slot s place =
       elim (cases_lt s 64) [
@@ -129,13 +154,14 @@ counter_shown m w safe shows i =
 pub plain-shown : (m : Machine) (w : World) → SafeWorld w → Shows m w → (plain : Plain) (parts parts_2 : List PartView) → parts ≡ m.contents.parts.items → parts_2 ≡ m.contents.parts.items
     → GathersHolds parts (holds_of plain) → AreInTable (holds_of plain) → GathersWaits parts_2 (listed_waits plain)
     → IsSortedByKey (λ queued. queued.tag) (on numbers_of (slice_cmp nat_cmp)) (listed_waits plain)
-    → plain.words ≡ m.words → plain.fast_path ≡ m.fast_path → plain.counted ≡ m.counted → IsPlainOf plain w
-plain-shown m w safe shows plain parts parts_2 these those gathered in_table gathered_waits by_tag same same_path same_counted = record {
+    → plain.words ≡ m.words → plain.fast_path ≡ m.fast_path → plain.counted ≡ m.counted → plain.lists ≡ m.lists → IsPlainOf plain w
+plain-shown m w safe shows plain parts parts_2 these those gathered in_table gathered_waits by_tag same same_path same_counted same_lists = record {
   holds = λ s t n. holds at_home s t n ∙ ap (λ c. cond (c.holds s t n) 1 0) (content_from m w safe shows t);
   in_table = in_table;
   waits = λ t. waits at_home t ∙ ap (λ c. c.waits t) (content_from m w safe shows t);
   waits_by_tag = by_tag;
   words = word_shown;
+  lists = λ lock. ap (λ lists. waiters_of lock lists.sleepers.items) same_lists ∙ shows.lists.list lock;
 } where
   at_home : AreAtHome m.contents.parts.items
   at_home = parts_at_home m w safe shows
@@ -153,4 +179,4 @@ plain-shown m w safe shows plain parts parts_2 these those gathered in_table gat
   word_shown (Slot k i) exists = ap (λ path. get_or (get_or path.slots k []) i 0) same_path ∙ shows.fast_path.slot k i
   word_shown (Wait k) exists = ap (λ words. get_or words.waits k 0) same ∙ shows.words.wait k
   word_shown (Strong i) exists = ap (λ counted. count_by (λ c. index_of c.tag == i) counted.items) same_counted ∙ counter_shown m w safe shows i
-  word_shown (Sleep k) exists = sym (shows.asleep k)
+  word_shown (Sleep k) exists = ap (λ lists. get_or lists.sleep k 0) same_lists ∙ shows.lists.sleep k

@@ -1,4 +1,4 @@
-use super::state::{CountedBy, FastPath, Words};
+use super::state::{CountedBy, FastPath, Lists, Sleeper, Words};
 use lock_world::Word;
 use modes_core::{Mode, ModeSet, SessionId, Tag};
 
@@ -38,12 +38,13 @@ pub struct Plain {
     pub(crate) words: Words,
     pub(crate) fast_path: FastPath,
     pub(crate) counted: Vec<CountedBy>,
+    pub(crate) lists: Lists,
 }
 
 impl Plain {
     ghost use Rattle.std.specs.Prelude.{◌≡◌, ◌<◌, ◌≤◌};
     ghost use Rattle.lock_world.specs.declared.events.Word.TheVariants.{Slot, Strong};
-    ghost use Rattle.lock_model.specs.Plain.{holds_of, listed_waits, word_of};
+    ghost use Rattle.lock_model.specs.Plain.{holds_of, listed_waits, listed_sleepers, word_of};
     ghost use Rattle.lock_world.specs.World.{WordExists};
 
     /// The holds in the lock table, by session, then by the tag's numbers, then by the mode's number, then by
@@ -59,6 +60,13 @@ impl Plain {
         ensures { result.now ≡ listed_waits self.now }
     {
         self.waits.as_slice()
+    }
+
+    /// Who waits for which lightweight lock, in the order of joining: those of one lock are its wait list.
+    pub fn sleepers(&self) -> &[Sleeper]
+        ensures { result.now ≡ listed_sleepers self.now }
+    {
+        self.lists.sleepers.as_slice()
     }
 
     /// What a strong lock counter shows, and 0 where there is no counter of this index: there are 1,024.
@@ -91,7 +99,7 @@ impl Plain {
             Word::Slot(session, place) => self.slot(session, place),
             Word::Wait(session) => u64::from(self.words.waits[usize::from(session.number())]),
             Word::Strong(index) => self.counted_at(index),
-            Word::Sleep(_) => 0,
+            Word::Sleep(session) => u64::from(self.lists.sleep[usize::from(session.number())]),
         }
     }
 

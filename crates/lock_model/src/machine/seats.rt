@@ -22,7 +22,7 @@ impl Machine {
     ghost use Rattle.std.specs.Prelude.{◌≡◌, ◌==◌, Some, None};
     ghost use Rattle.std.specs.List.{list_any};
     ghost use Rattle.lock_world.specs.declared.events.Step.{Step};
-    ghost use Rattle.lock_model.specs.Shows.{Follows, is_number, is_holder};
+    ghost use Rattle.lock_model.specs.Shows.{Follows, is_number, is_holder, has_no_list};
 
     /// Issues the session's number, where it is the next one, or lets a session that is kept apart go on.
     pub fn split_seat(&mut self, session: SessionId)
@@ -75,9 +75,18 @@ impl Machine {
             && self.waits.awaited[index].is_none()
             && !self.keeps_someone(session)
             && self.counts_nothing(session)
+            && self.has_no_list(session)
         {
             self.numbers.live[index] = false;
         }
+    }
+
+    /// Whether the session has no wait list in hand and stands in none.
+    fn has_no_list(&self, session: SessionId) -> bool
+        ensures { result ≡ has_no_list self.now session }
+    {
+        let index = usize::from(session.number());
+        self.lists.has_list[index].is_none() && self.lists.stands[index].is_none()
     }
 
     /// Whether the session has a partition in hand.

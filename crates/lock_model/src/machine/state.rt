@@ -9,7 +9,7 @@ use super::plain::{Hold, Plain};
 use super::plain_lists::{gather_holds, gather_waits};
 use lock_table::{NoMemory, PlainPart, empty_parts};
 use lock_world::{Event, Step};
-use lw_word::SlotWord;
+use lw_word::{LwWaiter, SlotWord};
 use modes_core::{Mode, SessionId, Tag};
 use std::alloc::Global;
 
@@ -109,6 +109,50 @@ pub struct CountedBy {
     pub position: u8,
 }
 
+/// A session that waits for a lightweight lock, by the number of the lock: twice the partition, or twice the session
+/// whose slots the lock guards and 1 more.
+#[derive(Clone, Copy, Debug)]
+pub struct Sleeper {
+    pub lock: u8,
+    pub waiter: LwWaiter,
+}
+
+/// The wait lists of lightweight locks, the sleep words, and what sessions know of lists.
+#[derive(Debug, Drop)]
+pub struct Lists {
+    /// The sleep word of each session.
+    pub sleep: [u8; 64],
+    /// Who waits for which lock, in the order of joining.
+    pub sleepers: Vec<Sleeper>,
+    /// The lock whose list each session has in hand.
+    pub has_list: [Option<u8>; 64],
+    /// The lock in whose list each session stands by its own account.
+    pub stands: [Option<u8>; 64],
+    /// Whom each session has taken off a list and not told yet.
+    pub off: [[bool; 64]; 64],
+}
+
+impl Lists {
+    ghost use Rattle.std.specs.Prelude.{◌≡◌, replicate, [], false, None};
+
+    /// Nobody waits, and no list is in hand.
+    fn empty(alloc: Global) -> Self
+        ensures sleep { result.sleep ≡ replicate 64 0 }
+        ensures sleepers { result.sleepers.items ≡ [] }
+        ensures has_list { result.has_list ≡ replicate 64 None }
+        ensures stands { result.stands ≡ replicate 64 None }
+        ensures off { result.off ≡ replicate 64 (replicate 64 false) }
+    {
+        Lists {
+            sleep: [0; 64],
+            sleepers: Vec::new(alloc),
+            has_list: [None; 64],
+            stands: [None; 64],
+            off: [[false; 64]; 64],
+        }
+    }
+}
+
 /// What the plain machine keeps of a World.
 #[derive(Drop)]
 pub struct Machine {
@@ -119,6 +163,7 @@ pub struct Machine {
     /// The strong locks that sessions have counted, in the order of counting. Each strong lock counter shows
     /// how many there are at its index.
     pub counted: Vec<CountedBy>,
+    pub lists: Lists,
     pub contents: Contents,
     pub waits: OwnWaits,
 }
@@ -155,6 +200,7 @@ impl Machine {
             },
             fast_path: FastPath::empty(),
             counted: Vec::new(alloc),
+            lists: Lists::empty(alloc),
             contents: Contents {
                 hands: [None; 16],
                 parts: empty_parts(alloc)?,
@@ -224,6 +270,7 @@ impl Machine {
             words: self.words,
             fast_path: self.fast_path,
             counted: self.counted,
+            lists: self.lists,
         })
     }
 }

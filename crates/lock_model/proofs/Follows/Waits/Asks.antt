@@ -29,7 +29,7 @@ module _ (m : Machine) (w : World) (safe : SafeWorld w) (shows : Shows m w) wher
       words = wait_word-set m.words w.words k _ _ shows.words below (ap asked_word (shows.words.wait k));
       fast_path = shows.fast_path;
       counted = shows.counted;
-      asleep = shows.asleep;
+      lists = shows.lists;
       locks = shows.locks;
       contents = shows.contents;
       waits = shows.waits;
@@ -50,7 +50,7 @@ module _ (m : Machine) (w : World) (safe : SafeWorld w) (shows : Shows m w) wher
       words = shows.words;
       fast_path = shows.fast_path;
       counted = shows.counted;
-      asleep = shows.asleep;
+      lists = shows.lists;
       locks = shows.locks;
       contents = shows.contents;
       waits = record {
@@ -74,7 +74,7 @@ module _ (m : Machine) (w : World) (safe : SafeWorld w) (shows : Shows m w) wher
       words = shows.words;
       fast_path = shows.fast_path;
       counted = shows.counted;
-      asleep = shows.asleep;
+      lists = shows.lists;
       locks = shows.locks;
       contents = shows.contents;
       waits = record {

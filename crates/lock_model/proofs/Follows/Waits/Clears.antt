@@ -96,7 +96,7 @@ module _ (m : Machine) (w : World) (safe : SafeWorld w) (shows : Shows m w) wher
     words = wait_word-set m.words w.words s 0 0 shows.words below refl;
     fast_path = shows.fast_path;
     counted = shows.counted;
-    asleep = shows.asleep;
+    lists = shows.lists;
     locks = shows.locks;
     contents = shows.contents;
     waits = own_wait-set m.waits w.sessions.awaited w.sessions.seen s None None shows.waits below refl;
@@ -201,7 +201,7 @@ module _ (m : Machine) (w : World) (safe : SafeWorld w) (shows : Shows m w) wher
                 words = wait_word-set m.words w.words s 0 0 shows.words below refl;
                 fast_path = shows.fast_path;
                 counted = shows.counted;
-                asleep = shows.asleep;
+                lists = shows.lists;
                 locks = shows.locks;
                 contents = hand-set _ _ p _ _ (part-set m.contents w.contents p part (content_of part) shows.contents has.exists refl begun) has.exists
                     (recording-shown (w.contents.hand p) has.hand shown.holder (Leave wait.tag) marks (waits_there granted) has.is_hand has.shows.holder marked);

@@ -58,7 +58,7 @@ module _ (m : Machine) (w : World) (safe : SafeWorld w) (shows : Shows m w) wher
       words = wait_word-set m.words w.words s 1 1 shows.words below refl;
       fast_path = shows.fast_path;
       counted = shows.counted;
-      asleep = shows.asleep;
+      lists = shows.lists;
       locks = shows.locks;
       contents = hand-set _ _ p _ _
           (part-set m.contents w.contents p part content shows.contents has.exists (is ∙ ap (λ (c : Content). add_wait c s t n place) same) begun) has.exists

@@ -114,7 +114,7 @@ module _ (m : Machine) (w : World) (safe : SafeWorld w) (shows : Shows m w) wher
       words = wait_word-set m.words w.words k _ _ shows.words (subst (λ n. k < n) shows.words.sixty_four_waits (word_within m.words.waits k waiting)) (ap granted_word (shows.words.wait k));
       fast_path = shows.fast_path;
       counted = shows.counted;
-      asleep = shows.asleep;
+      lists = shows.lists;
       locks = shows.locks;
       contents = hand-set m.contents w.contents p _ _ shows.contents has.exists
           (recording-shown (w.contents.hand p) has.hand hand.holder done (set hand.unmarked k false) (unmarked_but (is_unmarked (w.contents.hand p)) k) has.is_hand has.shows.holder
@@ -160,7 +160,7 @@ module _ (m : Machine) (w : World) (safe : SafeWorld w) (shows : Shows m w) wher
       words = wait_word-set m.words w.words k _ _ shows.words (subst (λ n. k < n) shows.words.sixty_four_waits (word_within m.words.waits k waiting)) (ap granted_word (shows.words.wait k));
       fast_path = shows.fast_path;
       counted = shows.counted;
-      asleep = shows.asleep;
+      lists = shows.lists;
       locks = shows.locks;
       contents = hand-set _ _ p _ _
           (part-set m.contents w.contents p after.part (content_of after.part) shows.contents has.exists refl (moved.begun ∙ shows.contents.none_begun p)) has.exists
