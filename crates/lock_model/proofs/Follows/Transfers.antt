@@ -172,7 +172,7 @@ module _ (m : Machine) (w : World) (safe : SafeWorld w) (shows_w : Shows m w) wh
           fast_path = slot-set m.fast_path w.words.database w.words.slot w.sessions.zero o place _ _ shows_w.fast_path exists its.held_in.within
               (ap (λ word. word_without word n) (shows_w.fast_path.slot o place));
           counted = shows_w.counted;
-          asleep = shows_w.asleep;
+          lists = shows_w.lists;
           contents = hand-set _ _ p _ _
               (part-set m.contents w.contents p part (add_hold (w.contents.now p) o t n) shows_w.contents has.exists (is ∙ ap (λ (c : Content). add_hold c o t n) (content_from m w safe shows_w t)) begun) has.exists
               (recording-shown (w.contents.hand p) has.hand shown.holder (Adopt o place) shown.unmarked (is_unmarked (w.contents.hand p)) has.is_hand has.shows.holder
@@ -207,7 +207,7 @@ transfer_refused m w p part shows_w exists is begun = record {
   locks = shows_w.locks;
   fast_path = shows_w.fast_path;
   counted = shows_w.counted;
-  asleep = shows_w.asleep;
+  lists = shows_w.lists;
   contents = subst (λ now. ShowsContents (record (m.contents) { parts = with_item m.contents.parts p part }) (record (w.contents) { now = now }))
       (set_at-same w.contents.now p (w.contents.now p) refl)
       (part-set m.contents w.contents p part (w.contents.now p) shows_w.contents exists (is ∙ shows_w.contents.now p exists) begun);

@@ -59,3 +59,30 @@ returns-in-Uncount c = rw c.in-Uncount.is c.uncount.ensures
 
 pub returns-in-TransferSlot : goal.returns-in-TransferSlot
 returns-in-TransferSlot c = rw c.in-TransferSlot.is c.transfer_slot.ensures.followed
+
+pub returns-in-LockList : goal.returns-in-LockList
+returns-in-LockList c = rw c.in-LockList.is c.lock_list.ensures
+
+pub returns-in-UnlockList : goal.returns-in-UnlockList
+returns-in-UnlockList c = rw c.in-UnlockList.is c.unlock_list.ensures
+
+pub returns-in-JoinList : goal.returns-in-JoinList
+returns-in-JoinList c = rw c.in-JoinList.is c.join_list.ensures.followed
+
+pub returns-in-LeaveList : goal.returns-in-LeaveList
+returns-in-LeaveList c = rw c.in-LeaveList.is c.leave_list.ensures
+
+pub returns-in-TakeOff : goal.returns-in-TakeOff
+returns-in-TakeOff c = rw c.in-TakeOff.is c.take_off.ensures
+
+pub returns-in-Tell : goal.returns-in-Tell
+returns-in-Tell c = rw c.in-Tell.is c.tell.ensures
+
+pub returns-in-LoadSleep : goal.returns-in-LoadSleep
+returns-in-LoadSleep c = rw c.in-LoadSleep.is c.load_sleep.ensures
+
+pub returns-in-SetReleaseOk : goal.returns-in-SetReleaseOk
+returns-in-SetReleaseOk c = rw c.in-SetReleaseOk.is c.set_release_ok.ensures
+
+pub returns-in-SetHasWaiters : goal.returns-in-SetHasWaiters
+returns-in-SetHasWaiters c = rw c.in-SetHasWaiters.is c.set_has_waiters.ensures
