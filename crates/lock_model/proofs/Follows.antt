@@ -8,3 +8,4 @@ pub mod SlotSteps
 pub mod Sharing
 pub mod Counters
 pub mod Transfers
+pub mod ListWords

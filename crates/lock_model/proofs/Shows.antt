@@ -7,3 +7,4 @@ pub mod Looks
 pub mod SlotLooks
 pub mod Runs
 pub mod SlotLists
+pub mod ListWords

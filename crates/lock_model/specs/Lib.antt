@@ -5,3 +5,4 @@ pub mod Plain
 pub mod CountedLists
 pub mod SlotLooks
 pub mod Transfers
+pub mod ListWords
