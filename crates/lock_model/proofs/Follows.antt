@@ -7,5 +7,5 @@ pub mod Slots
 pub mod SlotSteps
 pub mod Sharing
 pub mod Counters
-pub mod Lists
 pub mod Transfers
+pub mod Lists

@@ -6,3 +6,4 @@ pub mod CountedLists
 pub mod SleeperLists
 pub mod SlotLooks
 pub mod Transfers
+pub mod ListWords

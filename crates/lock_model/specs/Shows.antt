@@ -20,6 +20,7 @@ use Rattle.lock_model.specs.declared.machine.state.OwnWaits.{OwnWaits}
 use Rattle.lock_model.specs.declared.machine.state.Machine.{Machine}
 use Rattle.lock_table.specs.declared.moves.Move.{Move}
 use Rattle.lock_table.specs.declared.moves.Move.TheVariants.{Keep, Grant, Join, Release, Leave, Adopt}
+use Rattle.lock_table.specs.MoveTests.{move_eq}
 use Rattle.lock_world.specs.declared.events.Step.{Step}
 use Rattle.lock_table.specs.Content.{Holds, Content}
 use Rattle.lw_word.specs.LightweightWord.{free_word}
@@ -204,6 +205,11 @@ awaits (Some wait) tag mode = tag_eq wait.tag tag && mode_eq wait.mode mode
 -- The session has the partition in hand, and has made no move on it.
 abbrev pub HasUnmoved : Machine → ℕ → ℕ → Type 0
 HasUnmoved machine session p = (hand : InHand) × (hand_of machine session p ≡ Some hand) × (hand.recorded ≡ None)
+
+-- whether this move is recorded
+abbrev pub has_made : Option Move → Move → Bool
+has_made None done = false
+has_made (Some recorded) done = move_eq recorded done
 
 -- whether the move has left the session no wait on an object of the partition that it should have ended
 abbrev pub is_over : Option Awaited → ℕ → Move → Bool

@@ -1,4 +1,4 @@
-use modes_core::{Mode, SessionId, Tag};
+use modes_core::{Mode, Tag};
 
 /// What a session does to a partition's content between taking it and putting it back.
 #[derive(Clone, Copy, Debug, PartialEq, Eq)]
@@ -16,10 +16,10 @@ pub enum Move {
     /// It takes its wait out of the object's queue, and wakes who may go then (`RemoveFromWaitQueue` in
     /// lock.c).
     Leave { tag: Tag },
-    /// It adds holds of another session, or of its own, that stood in one fast-path slot of that session. No
-    /// single step does so: each step that moves a mode out of the slot adds one
+    /// It adds holds of the session with this number, which may be its own, that stood in one of that session's
+    /// fast-path slots. No single step does so: each step that moves a mode out of the slot adds one
     /// (`FastPathTransferRelationLocks` in lock.c).
-    Adopt { owner: SessionId, slot: u8 },
+    Adopt { owner: u8, slot: u8 },
 }
 
 impl Move {

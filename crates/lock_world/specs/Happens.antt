@@ -67,9 +67,12 @@ HappensUnsharing w session (Sleep owner) v = ⊥
 -- Loads that only join the trace: of a session's slots and database, and of the lock of the own slots.
 abbrev pub HappensLoading : World → ℕ → Word → ℕ → World → Type 0
 HappensLoading w session (Partition partition) shown v = ⊥
-HappensLoading w session (Fast owner) shown v = (owner ≡ session) × MayLoad w session (Fast owner) shown × (v ≡ after_loading w session (Fast owner) shown)
-HappensLoading w session (Database owner) shown v = MayLoad w session (Database owner) shown × (v ≡ after_loading w session (Database owner) shown)
-HappensLoading w session (Slot owner place) shown v = MayLoad w session (Slot owner place) shown × (v ≡ after_loading w session (Slot owner place) shown)
+HappensLoading w session (Fast owner) shown v =
+    (owner ≡ session) × MayLoad w session (Fast owner) shown × (v ≡ after_loading w session (Fast owner) shown)
+HappensLoading w session (Database owner) shown v =
+    MayLoad w session (Database owner) shown × (v ≡ after_loading w session (Database owner) shown)
+HappensLoading w session (Slot owner place) shown v =
+    MayLoad w session (Slot owner place) shown × (v ≡ after_loading w session (Slot owner place) shown)
 HappensLoading w session (Wait owner) shown v = ⊥
 HappensLoading w session (Strong index) shown v = ⊥
 HappensLoading w session (Sleep owner) shown v = ⊥
@@ -91,7 +94,8 @@ HappensLockingList w session (Sleep owner) v = ⊥
 
 abbrev pub HappensUnlockingList : World → ℕ → Word → Bool → Bool → World → Type 0
 HappensUnlockingList w session (Partition partition) has_waiters release_ok v =
-    HasList w session (partition_lock partition) × (v ≡ after_unlocking_partition_list w session partition has_waiters release_ok)
+    HasList w session (partition_lock partition)
+    × (v ≡ after_unlocking_partition_list w session partition has_waiters release_ok)
 HappensUnlockingList w session (Fast owner) has_waiters release_ok v =
     HasList w session (fast_lock owner) × (v ≡ after_unlocking_fast_list w session owner has_waiters release_ok)
 HappensUnlockingList w session (Database owner) has_waiters release_ok v = ⊥
@@ -139,21 +143,30 @@ HappensStep w session (LoadWait shown) v = MayLoadWait w session shown × (v ≡
 HappensStep w session (SetWaiting tag mode) v = HappensSetting w session tag mode v
 HappensStep w session (MarkGranted other done) v = HappensMarking w session other done v
 HappensStep w session (ClearWait leaving) v = HappensClearing w session leaving v
-HappensStep w session (PutPassing owner tag mode) v = MayPass w session owner tag mode × (v ≡ after_passing w session owner tag mode)
-HappensStep w session (LoadStrong index shown) v = MayLoad w session (Strong index) shown × (v ≡ after_reading_counter w session index shown)
+HappensStep w session (PutPassing owner tag mode) v =
+    MayPass w session owner tag mode × (v ≡ after_passing w session owner tag mode)
+HappensStep w session (LoadStrong index shown) v =
+    MayLoad w session (Strong index) shown × (v ≡ after_reading_counter w session index shown)
 HappensStep w session (LoadWord word shown) v = HappensLoading w session word shown v
-HappensStep w session (SetSlot place tag mode) v = MaySetSlot w session place tag mode × (v ≡ after_setting_slot w session place tag mode)
-HappensStep w session (ClearSlot place tag mode) v = MayClearSlot w session place tag mode × (v ≡ after_clearing_slot w session place tag mode)
-HappensStep w session (StoreDatabase database) v = MayStoreDatabase w session × (v ≡ after_storing_database w session database)
+HappensStep w session (SetSlot place tag mode) v =
+    MaySetSlot w session place tag mode × (v ≡ after_setting_slot w session place tag mode)
+HappensStep w session (ClearSlot place tag mode) v =
+    MayClearSlot w session place tag mode × (v ≡ after_clearing_slot w session place tag mode)
+HappensStep w session (StoreDatabase database) v =
+    MayStoreDatabase w session × (v ≡ after_storing_database w session database)
 HappensStep w session (Count tag mode) v = MayCount w session tag mode × (v ≡ after_counting w session tag mode)
 HappensStep w session (Uncount tag mode) v = MayUncount w session tag mode × (v ≡ after_uncounting w session tag mode)
 HappensStep w session (TransferSlot owner place tag mode strong) v =
     MayTransfer w session owner place tag mode strong × (v ≡ after_transferring w owner place tag mode)
 HappensStep w session (LockList word) v = HappensLockingList w session word v
-HappensStep w session (UnlockList word has_waiters release_ok) v = HappensUnlockingList w session word has_waiters release_ok v
-HappensStep w session (JoinList mode) v = (lock : ℕ) × MayJoinList w session lock × (v ≡ after_joining_list w session lock mode)
-HappensStep w session LeaveList v = (lock : ℕ) × MayLeaveList w session lock × (v ≡ after_leaving_the_list w session lock)
-HappensStep w session (TakeOff other) v = (lock : ℕ) × MayTakeOff w session other lock × (v ≡ after_taking_off_the_list w session other lock)
+HappensStep w session (UnlockList word has_waiters release_ok) v =
+    HappensUnlockingList w session word has_waiters release_ok v
+HappensStep w session (JoinList mode) v =
+    (lock : ℕ) × MayJoinList w session lock × (v ≡ after_joining_list w session lock mode)
+HappensStep w session LeaveList v =
+    (lock : ℕ) × MayLeaveList w session lock × (v ≡ after_leaving_the_list w session lock)
+HappensStep w session (TakeOff other) v =
+    (lock : ℕ) × MayTakeOff w session other lock × (v ≡ after_taking_off_the_list w session other lock)
 HappensStep w session (Tell other) v = MayTell w session other × (v ≡ after_telling_one w session other)
 HappensStep w session (LoadSleep shown) v = MayLoadSleep w session shown × (v ≡ after_loading_sleep w session shown)
 HappensStep w session (SetReleaseOk word shown) v = HappensSettingReleaseOk w session word shown v

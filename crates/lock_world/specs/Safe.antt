@@ -61,8 +61,10 @@ NoConflictingHolds now =
 -- On one object the content and the sessions' own accounts agree: each own hold is there, and nothing else but pending
 -- grants; and a session has in the queue just the wait that it recorded, while that waits, with what it recorded.
 pub record AgreesOn (content : Content) (tag : Tag) (own : Holds) (awaited : ℕ → Option OwnWait) (stage : ℕ → Stage) : Type 0 where
-  pub held : (session : ℕ) (mode : Mode) → content.holds session tag mode ≡ (own session tag mode || is_pending (awaited session) (stage session) tag mode)
-  pub in_queue : (session : ℕ) → filter (λ wait. wait.session == session) (content.waits tag) ≡ queued_by session (awaited session) (stage session) tag
+  pub held : (session : ℕ) (mode : Mode) →
+      content.holds session tag mode ≡ (own session tag mode || is_pending (awaited session) (stage session) tag mode)
+  pub in_queue : (session : ℕ) →
+      filter (λ wait. wait.session == session) (content.waits tag) ≡ queued_by session (awaited session) (stage session) tag
 
 -- Each own hold, each pending grant and each wait of a session is in exactly one place, the content of the object's
 -- partition, and the contents have nothing else. What a session awaits is no own hold of it.
@@ -96,7 +98,8 @@ pub record WaitWordsShowWaits (word : ℕ → ℕ) (awaited : ℕ → Option Own
   pub idle : (session : ℕ) → awaited session ≡ None → wait_state (word session) ≡ 0
   pub waiting : (session : ℕ) (wait : OwnWait) → awaited session ≡ Some wait → (wait_state (word session) ≡ 1) ⊎ (wait_state (word session) ≡ 2)
   pub seen_is_shown : (session : ℕ) → seen session ≡ true → wait_state (word session) ≡ 2
-  pub unmarked_waits : (p session : ℕ) → is_unmarked (hand p) session ≡ true → (wait : OwnWait) × (awaited session ≡ Some wait) × (partition_of wait.tag ≡ p)
+  pub unmarked_waits : (p session : ℕ) →
+      is_unmarked (hand p) session ≡ true → (wait : OwnWait) × (awaited session ≡ Some wait) × (partition_of wait.tag ≡ p)
   pub unmarked_shows_waiting : (p session : ℕ) → is_unmarked (hand p) session ≡ true → wait_state (word session) ≡ 1
   pub unmarked_of_another : (p session : ℕ) → is_unmarked (hand p) session ≡ true → is_hand_of (hand p) session ≡ false
 
@@ -160,7 +163,8 @@ taken_by taken (entry ∷ trace) = taken_by (taken_after taken entry) trace
 -- The move of the session, in all its steps, leads from the one content to the other.
 abbrev pub Makes : Content → ℕ → Move → Content → Type 0
 Makes taken session done now =
-    ((granted : List Wait) × Moves taken session done granted now) ⊎ ((owner : ℕ) × (slot : ℕ) × (done ≡ Adopt owner slot) × Adopts taken owner now)
+    ((granted : List Wait) × Moves taken session done granted now)
+    ⊎ ((owner : ℕ) × (slot : ℕ) × (done ≡ Adopt owner slot) × Adopts taken owner now)
 
 -- One move of the session leads from the one content to the other.
 abbrev pub IsOneMove : Content → ℕ → Content → Type 0

@@ -129,7 +129,21 @@ opening limit = record {
     list = λ _. [];
   };
   contents = record { now = λ _. empty_content; hand = λ _. None };
-  sessions = record { own = λ _ _ _. false; holds_partition = λ _ _. false; shares_partition = λ _ _. false; holds_fast = λ _ _. false; shares_fast = λ _ _. false; awaited = λ _. None; seen = λ _. false; counted = λ _. []; zero = λ _. None; has_list = λ _. None; stands = λ _. None; off = λ _ _. false; trace = λ _. [] };
+  sessions = record {
+    own = λ _ _ _. false;
+    holds_partition = λ _ _. false;
+    shares_partition = λ _ _. false;
+    holds_fast = λ _ _. false;
+    shares_fast = λ _ _. false;
+    awaited = λ _. None;
+    seen = λ _. false;
+    counted = λ _. [];
+    zero = λ _. None;
+    has_list = λ _. None;
+    stands = λ _. None;
+    off = λ _ _. false;
+    trace = λ _. [];
+  };
   numbers = record { limit = limit; issued = 0; live = λ _. false; kept_by = λ _. None };
 }
 

@@ -301,10 +301,10 @@ pub fn asking_sets_one_bit()
     ensures sum { (word : ℕ) → asked_word word ≡ (if is_asked word then word else word + 4) }
 {}
 
-/// An event leaves every session alone that does not make it: its account, that is its own holds, its wait
-/// and what it has seen of that, what it has in hand with its contents, what it knows of slots, counters and wait
-/// lists, and its trace; the words that it holds; and whether its number is live and kept apart. Its wait word the event leaves, or asks it there to
-/// cancel, or turns waiting into granted.
+/// An event leaves every session alone that does not make it: its account, that is its own holds, its wait and
+/// what it has seen of that, what it has in hand with its contents, what it knows of slots, counters and wait
+/// lists, and its trace; the words that it holds; and whether its number is live and kept apart. Its wait word
+/// the event leaves, or asks it there to cancel, or turns waiting into granted.
 pub fn others_are_untouched()
     ensures account { (w v : World) (event : Event) (other : ℕ) →
         SafeWorld w → Happens w event v → other ≢ event.session → IsLeftAlone w v other }

@@ -1,8 +1,10 @@
 //! Laws of the layout, each a clause over all words. The bodies are empty.
 
-ghost use Rattle.std.specs.Prelude.{◌≡◌, ◌≢◌, ◌<◌};
+ghost use Rattle.std.specs.Prelude.{◌≡◌, ◌≢◌, ◌<◌, ℕ, List, slice_set};
 ghost use Rattle.lock_world.specs.declared.events.Word.{Word};
 ghost use Rattle.shared_rule.specs.Layout.{index_of_word, IsInTable, IsApart, group_of};
+ghost use Rattle.lock_world.specs.World.{Words};
+ghost use Rattle.shared_rule.specs.Shown.{WordsAreShown, set_word};
 ghost use Rattle.shared_rule.specs.declared.layout.TheConstants.{TABLE_WORDS};
 
 /// Each word of the table stands below the table's length.
@@ -21,4 +23,10 @@ pub fn no_two_words_share_an_index()
 pub fn words_of_two_groups_stand_apart()
     ensures { (word other : Word) → IsInTable word → IsInTable other →
         group_of word ≢ group_of other → IsApart (index_of_word word) (index_of_word other) }
+{}
+
+/// Where a table shows the words of a World, a table with one word set shows those with just that word set.
+pub fn a_word_is_set_alone()
+    ensures { (table : List ℕ) (words : Words) (word : Word) (n : ℕ) → WordsAreShown table words → IsInTable word →
+        WordsAreShown (slice_set table (index_of_word word) n) (set_word words word n) }
 {}

@@ -10,7 +10,7 @@ use Rattle.modes_core.specs.declared.modes.Mode.TheVariants.{AccessShare, RowSha
 use Rattle.modes_core.specs.declared.tags.Tag.{Tag}
 use Rattle.modes_core.specs.declared.tags.Tag.TheVariants.{Relation, Object}
 use Rattle.modes_core.specs.Mode.{number_of}
-use Rattle.modes_core.specs.Tag.{index_of, is_eligible_for, is_strong_on, partition_of}
+use Rattle.modes_core.specs.Tag.{is_eligible_for, is_strong_on, partition_of}
 use Rattle.lw_word.specs.LightweightWord.{free_word, put_word}
 use Rattle.lock_table.specs.Content.{Content}
 use Rattle.lock_table.specs.OwnWait.{is_for}
@@ -19,9 +19,8 @@ use Rattle.lock_table.specs.Put.{set_at}
 use Rattle.lock_table.proofs.PutLemmas.{set_at-here, set_at-else}
 use Rattle.lock_world.specs.declared.events.Step.TheVariants.{Count, Uncount, PutPassing, LoadStrong}
 use Rattle.lock_world.specs.declared.events.Word.TheVariants.{Strong}
-use Rattle.lock_world.specs.Total.{total}
 use Rattle.lock_model.proofs.Shows.Runs.{counter_shown}
-use Rattle.lock_world.specs.Counted.{Counted, is_of, counting, uncounting, passed, passing, count_at, is_counted, is_at, is_done}
+use Rattle.lock_world.specs.Counted.{Counted, is_of, counting, uncounting, passed, passing, is_counted, is_at, is_done}
 use Rattle.lock_world.specs.World.{World}
 use Rattle.lock_world.specs.World as world
 use Rattle.lock_world.specs.Happens.{Next}

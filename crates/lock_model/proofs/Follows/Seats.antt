@@ -35,7 +35,7 @@ pub number_of_some : (o : Option ℕ) (s : ℕ) → is_number s o ≡ true → o
 number_of_some None s e = absurd (false≢true e)
 number_of_some (Some k) s e = ap Some (eqb-true k s e)
 
-none_is : (o : Option ℕ) → is_none o ≡ true → o ≡ None
+pub none_is : (o : Option ℕ) → is_none o ≡ true → o ≡ None
 none_is None e = refl
 none_is (Some k) e = absurd (false≢true e)
 

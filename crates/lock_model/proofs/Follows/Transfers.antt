@@ -1,4 +1,4 @@
-use Rattle.std.proofs.Common.{◌≡◌, ℕ, ◌<◌, ◌≤◌, Bool, true, false, ◌&&◌, List, [], ◌∷◌, get_or, nat_lt, Option, Some, None, if◌then◌else◌, refl, sym, ap, ◌∙◌, subst, inl}
+use Rattle.std.proofs.Common.{◌≡◌, ℕ, ◌<◌, ◌≤◌, Bool, true, false, ◌&&◌, [], ◌∷◌, get_or, nat_lt, Option, Some, None, if◌then◌else◌, refl, sym, ap, ◌∙◌, subst, inl}
 use Rattle.std.specs.List.{list_any}
 use Rattle.std.specs.Vec.{with_item}
 use Rattle.std.proofs.Math.ListN.{set}
@@ -13,21 +13,19 @@ use Rattle.lock_table.specs.declared.moves.Move.TheVariants.{Adopt}
 use Rattle.lock_table.specs.MoveTests.{move_eq}
 use Rattle.lock_table.specs.Content.{Content, Wait, add_hold}
 use Rattle.lock_table.specs.OwnWait.{OwnWait, Stage, InQueue, WasGranted, HasLeft, is_for, entry_of, queued_by}
-use Rattle.lock_table.specs.Parts.{part_at, contents_in}
+use Rattle.lock_table.specs.Parts.{contents_in}
 use Rattle.lock_table.specs.PartView.{PartView, content_of}
-use Rattle.lock_table.specs.Put.{set_at}
 use Rattle.lock_table.specs.Queue.{awaits_mode}
 use Rattle.lock_table.proofs.MoveTests.{move_eq-same, move_eq-refl}
 use Rattle.lock_table.proofs.PutLemmas.{set_at-same}
 use Rattle.lock_table.proofs.QueuesOf.{awaits-of}
 use Rattle.lock_world.specs.declared.events.Step.TheVariants.{TransferSlot}
 use Rattle.lock_world.specs.SlotHolds.{relation_of, IsHeldIn}
-use Rattle.lock_world.specs.World.{World, MakesSteps, recorded_in, is_unmarked}
-use Rattle.lock_world.specs.World as world
+use Rattle.lock_world.specs.World.{World, recorded_in, is_unmarked}
 use Rattle.lock_world.specs.Happens.{Next}
 use Rattle.lock_world.specs.Happens.Transfers.{MayAdopt, MayTransfer, after_transferring}
 use Rattle.lock_world.specs.Safe.{stages}
-use Rattle.lock_world.specs.SafeWorld.{SafeWorld, slots_of, own_but}
+use Rattle.lock_world.specs.SafeWorld.{SafeWorld, slots_of}
 use Rattle.lock_world.proofs.Slots.Eligible.{eligible-is, is_in-held}
 use Rattle.lock_model.specs.declared.machine.hands.InHand.{InHand}
 use Rattle.lock_model.specs.declared.machine.state.Machine.{Machine}
@@ -37,10 +35,9 @@ use Rattle.lock_model.specs.SlotLooks.{slots_at}
 use Rattle.lock_model.specs.Transfers.{may_adopt, is_in_slot, may_transfer}
 use Rattle.lock_model.proofs.Follows.Counters.{is_at_from}
 use Rattle.lock_model.proofs.Follows.Skipped.{skipped}
-use Rattle.lock_model.proofs.Follows.SlotSteps.{with_slot}
 use Rattle.lock_model.proofs.Shows.Changes.{hand-set, part-set}
 use Rattle.lock_model.proofs.Shows.Hands.{recording-shown}
-use Rattle.lock_model.proofs.Shows.Looks.{HasInHand, recorded_from, unmarked_from, hand_from, hand_not, content_from, own_but_from, not_awaited_own, and_not_false, and_not_true}
+use Rattle.lock_model.proofs.Shows.Looks.{recorded_from, unmarked_from, hand_from, hand_not, content_from, own_but_from, not_awaited_own, and_not_false, and_not_true}
 use Rattle.lock_model.proofs.Shows.SlotLooks.{slot-set}
 
 -- Moving a mode from a slot to the lock table.

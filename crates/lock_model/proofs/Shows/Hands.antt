@@ -1,9 +1,9 @@
-use Rattle.std.proofs.Common.{◌≡◌, ℕ, zero, suc, ◌+◌, ◌<◌, Bool, true, false, not, ◌||◌, ◌&&◌, List, [], ◌∷◌, length, take, map, get_or, Option, Some, None, option_map, refl, sym, ap, ◌∙◌, subst, inl, inr}
+use Rattle.std.proofs.Common.{◌≡◌, ℕ, zero, suc, ◌+◌, ◌<◌, Bool, true, false, not, ◌||◌, ◌&&◌, List, [], ◌∷◌, length, take, map, get_or, Option, Some, None, is_some, option_map, refl, sym, ap, ◌∙◌, subst, inl, inr}
 use Rattle.std.specs.Prelude.{◌==◌}
 use Rattle.std.proofs.Math.ListN.{set}
 use Rattle.std.proofs.Math.Bool.{or-true, or-false, and-true, and-false}
 use Rattle.std.specs.List.{list_any}
-use Rattle.std.proofs.lemmas.Bool.{cases_eq, eq-eqb, ne_eqb, both_ways, not-true, not_from_false, or_from, false_from_ne_true}
+use Rattle.std.proofs.lemmas.Bool.{cases_eq, false≢true, eq-eqb, ne_eqb, both_ways, not-true, not_from_false, or_from, false_from_ne_true}
 use Rattle.std.proofs.lemmas.List.{get_or-set_same, get_or-set_other}
 use Rattle.std.proofs.lemmas.List.Folds.{list_any_more}
 use Rattle.modes_core.specs.declared.modes.Mode.{Mode}
@@ -14,7 +14,9 @@ use Rattle.lock_table.specs.OwnWait.{OwnWait}
 use Rattle.lock_world.specs.Happens.Waits.{recording, unmarked_but}
 use Rattle.lock_table.specs.Queue.{waits_there}
 use Rattle.lock_table.proofs.ListLemmas.{found_within}
-use Rattle.lock_model.specs.Shows.{ShowsHandIfAny, is_unmarked_in, none_unmarked, names_in, awaited_of}
+use Rattle.lock_table.specs.MoveTests.{move_eq}
+use Rattle.lock_table.proofs.MoveTests.{move_eq-same, move_eq-refl}
+use Rattle.lock_model.specs.Shows.{ShowsHandIfAny, is_unmarked_in, none_unmarked, names_in, awaited_of, has_made}
 use Rattle.lock_table.specs.Waiter.{whose_and_mode}
 use Rattle.lock_world.specs.World.{Hand}
 
@@ -60,6 +62,25 @@ marks-without marks unmarked marked within is k =
           get_or-set_other marks marked k false false other ∙ is k
           ∙ sym (ap (λ b. unmarked k && not b) (ne_eqb k marked other) ∙ and-true (unmarked k))
     ]
+
+-- What the test for a recorded move tells.
+pub made_is : (recorded : Option Move) (done : Move) → has_made recorded done ≡ true → recorded ≡ Some done
+made_is None done e = absurd (false≢true e)
+made_is (Some other) done e = ap Some (move_eq-same other done e)
+
+pub is_made : (recorded : Option Move) (done : Move) → recorded ≡ Some done → has_made recorded done ≡ true
+is_made recorded done is = ap (λ r. has_made r done) is ∙ move_eq-refl done
+
+pub another_made : (recorded : Option Move) (other done : Move) → recorded ≡ Some other → has_made recorded done ≡ false → move_eq other done ≡ false
+another_made recorded other done is e = sym (ap (λ r. has_made r done) is) ∙ e
+
+pub some_made : (recorded : Option Move) → is_some recorded ≡ true → (done : Move) × (recorded ≡ Some done)
+some_made None e = absurd (false≢true e)
+some_made (Some done) e = (done, refl)
+
+pub none_made : (recorded : Option Move) → is_some recorded ≡ false → recorded ≡ None
+none_made None e = refl
+none_made (Some done) e = absurd (false≢true (sym e))
 
 -- A hand that records a move is shown by the machine's hand that does.
 pub recording-shown : (h : Option Hand) (hand : Hand) (holder : ℕ) (done : Move) (marks : List Bool) (unmarked : ℕ → Bool) → h ≡ Some hand → holder ≡ hand.holder → ((k : ℕ) → is_unmarked_in marks k ≡ unmarked k)

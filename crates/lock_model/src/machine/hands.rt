@@ -1,7 +1,7 @@
 //! The life of a hand: a partition is in a session's hand from the step that takes its lock to the one that puts it.
 
 ghost use Rattle.std.specs.Prelude.{◌≡◌, ℕ};
-ghost use Rattle.lock_model.specs.Shows.{is_unmarked_in, none_unmarked, names_in};
+ghost use Rattle.lock_model.specs.Shows.{has_made, is_unmarked_in, none_unmarked, names_in};
 ghost use Rattle.lock_model.specs.Transfers.{may_adopt};
 
 use super::state::Machine;
@@ -33,8 +33,18 @@ impl InHand {
         self.unmarked[usize::from(session.number())]
     }
 
+    /// Whether this move is recorded.
+    pub fn has_made(&self, done: &Move) -> bool
+        ensures { result ≡ has_made self.now.recorded done.now }
+    {
+        match self.recorded {
+            Some(recorded) => recorded.is_same(*done),
+            None => false,
+        }
+    }
+
     /// Whether a mode may be moved from the owner's slot to the content: no move is recorded, or the adopt of this slot.
-    pub fn may_adopt(&self, owner: SessionId, slot: u8) -> bool
+    pub fn may_adopt(&self, owner: u8, slot: u8) -> bool
         ensures { result ≡ may_adopt self.now.recorded owner slot }
     {
         match self.recorded {

@@ -1,37 +1,219 @@
 //! The plain machine's steps on the bits of lightweight words that guard wait lists, and on their flags.
 
+ghost use Rattle.std.specs.Prelude.{◌≡◌};
+ghost use Rattle.lw_word.specs.LightweightWord.{list_unlocked_word};
+
 use super::state::Machine;
 use lock_world::Word;
+use lw_word::LwWord;
 use modes_core::SessionId;
 
+/// The word with its wait list unlocked, and without the flags that are not to stay.
+fn unlocked(word: u32, has_waiters: bool, release_ok: bool) -> u32
+    ensures { result ≡ list_unlocked_word word has_waiters release_ok }
+{
+    (u64::from(word) & LwWord::kept_bits(has_waiters, release_ok)) as u32
+}
+
 impl Machine {
+    ghost use Rattle.std.specs.Prelude.{◌≡◌};
     ghost use Rattle.lock_world.specs.declared.events.Step.{Step};
-    ghost use Rattle.lock_model.specs.Shows.{ShowsSafe, Follows};
+    ghost use Rattle.lock_world.specs.declared.events.Word.{Word};
+    ghost use Rattle.lock_model.specs.Shows.{Follows};
+    ghost use Rattle.lock_model.specs.ListWords.{may_lock_list, has_list};
 
     /// Locks the wait list of a lightweight lock, where nobody has it and the session has no other in hand
     /// (`LWLockWaitListLock` in lwlock.c).
     pub fn lock_list(&mut self, session: SessionId, word: Word)
-        requires shown { ShowsSafe self.old }
         ensures { Follows self.old session (Step.LockList word) self.new }
-    {}
+    {
+        match word {
+            Word::Partition(partition) => self.lock_partition_list(session, partition),
+            Word::Fast(owner) => self.lock_fast_list(session, owner),
+            Word::Database(_) => {}
+            Word::Slot(_, _) => {}
+            Word::Wait(_) => {}
+            Word::Strong(_) => {}
+            Word::Sleep(_) => {}
+        }
+    }
 
     /// Unlocks the wait list that the session has in hand; of the flags those go that are not to stay
     /// (`LWLockWaitListUnlock`).
-    pub fn unlock_list(&mut self, session: SessionId, word: Word, has_waiters: bool, release_ok: bool)
-        requires shown { ShowsSafe self.old }
+    pub fn unlock_list(
+        &mut self,
+        session: SessionId,
+        word: Word,
+        has_waiters: bool,
+        release_ok: bool,
+    )
         ensures { Follows self.old session (Step.UnlockList word has_waiters release_ok) self.new }
-    {}
+    {
+        match word {
+            Word::Partition(partition) => {
+                self.unlock_partition_list(session, partition, has_waiters, release_ok)
+            }
+            Word::Fast(owner) => self.unlock_fast_list(session, owner, has_waiters, release_ok),
+            Word::Database(_) => {}
+            Word::Slot(_, _) => {}
+            Word::Wait(_) => {}
+            Word::Strong(_) => {}
+            Word::Sleep(_) => {}
+        }
+    }
 
     /// Sets release-ok in a lock's word, which showed this before (`LWLockAcquire`, once it was woken).
     pub fn set_release_ok(&mut self, session: SessionId, word: Word, shown: u64)
-        requires shown { ShowsSafe self.old }
         ensures { Follows self.old session (Step.SetReleaseOk word shown) self.new }
-    {}
+    {
+        match word {
+            Word::Partition(partition) => self.set_partition_release_ok(session, partition, shown),
+            Word::Fast(owner) => self.set_fast_release_ok(session, owner, shown),
+            Word::Database(_) => {}
+            Word::Slot(_, _) => {}
+            Word::Wait(_) => {}
+            Word::Strong(_) => {}
+            Word::Sleep(_) => {}
+        }
+    }
 
     /// Sets has-waiters in the word of the lock whose wait list the session has in hand, which showed this before
     /// (`LWLockQueueSelf`).
     pub fn set_has_waiters(&mut self, session: SessionId, word: Word, shown: u64)
-        requires shown { ShowsSafe self.old }
         ensures { Follows self.old session (Step.SetHasWaiters word shown) self.new }
-    {}
+    {
+        match word {
+            Word::Partition(partition) => self.set_partition_has_waiters(session, partition, shown),
+            Word::Fast(owner) => self.set_fast_has_waiters(session, owner, shown),
+            Word::Database(_) => {}
+            Word::Slot(_, _) => {}
+            Word::Wait(_) => {}
+            Word::Strong(_) => {}
+            Word::Sleep(_) => {}
+        }
+    }
+
+    /// Whether the session may lock the wait list of a lock with this word.
+    fn may_lock_list(&self, session: SessionId, word: u32) -> bool
+        ensures { result ≡ may_lock_list self.now session word }
+    {
+        self.makes_steps(session)
+            && word / 0x1000_0000 % 2 == 0
+            && self.lists.has_list[usize::from(session.number())].is_none()
+    }
+
+    /// Whether the session makes steps, and has the wait list of this lock in hand.
+    fn has_list(&self, session: SessionId, lock: u8) -> bool
+        ensures { result ≡ has_list self.now session lock }
+    {
+        self.makes_steps(session)
+            && self.lists.has_list[usize::from(session.number())].is_some_and(|its| its == lock)
+    }
+
+    /// Locks the wait list of a partition's lock.
+    fn lock_partition_list(&mut self, session: SessionId, partition: u8)
+        ensures { Follows self.old session (Step.LockList (Word.Partition partition)) self.new }
+    {
+        let index = usize::from(partition);
+        if index < 16 && self.may_lock_list(session, self.words.partitions[index]) {
+            self.words.partitions[index] |= 0x1000_0000;
+            self.lists.has_list[usize::from(session.number())] = Some(2 * partition);
+        }
+    }
+
+    /// Locks the wait list of the lock of the owner's fast-path slots.
+    fn lock_fast_list(&mut self, session: SessionId, owner: SessionId)
+        ensures { Follows self.old session (Step.LockList (Word.Fast owner)) self.new }
+    {
+        let index = usize::from(owner.number());
+        if self.may_lock_list(session, self.words.fast[index]) {
+            self.words.fast[index] |= 0x1000_0000;
+            self.lists.has_list[usize::from(session.number())] = Some(2 * owner.number() + 1);
+        }
+    }
+
+    /// Unlocks the wait list of a partition's lock.
+    fn unlock_partition_list(
+        &mut self,
+        session: SessionId,
+        partition: u8,
+        has_waiters: bool,
+        release_ok: bool,
+    )
+        ensures { Follows self.old session (Step.UnlockList (Word.Partition partition) has_waiters release_ok)
+            self.new }
+    {
+        let index = usize::from(partition);
+        if index < 16 && self.has_list(session, 2 * partition) {
+            let word = self.words.partitions[index];
+            self.words.partitions[index] = unlocked(word, has_waiters, release_ok);
+            self.lists.has_list[usize::from(session.number())] = None;
+        }
+    }
+
+    /// Unlocks the wait list of the lock of the owner's fast-path slots.
+    fn unlock_fast_list(
+        &mut self,
+        session: SessionId,
+        owner: SessionId,
+        has_waiters: bool,
+        release_ok: bool,
+    )
+        ensures { Follows self.old session (Step.UnlockList (Word.Fast owner) has_waiters release_ok) self.new }
+    {
+        let index = usize::from(owner.number());
+        if self.has_list(session, 2 * owner.number() + 1) {
+            let word = self.words.fast[index];
+            self.words.fast[index] = unlocked(word, has_waiters, release_ok);
+            self.lists.has_list[usize::from(session.number())] = None;
+        }
+    }
+
+    /// Sets release-ok in the word of a partition's lock.
+    fn set_partition_release_ok(&mut self, session: SessionId, partition: u8, shown: u64)
+        ensures { Follows self.old session (Step.SetReleaseOk (Word.Partition partition) shown) self.new }
+    {
+        let index = usize::from(partition);
+        if index < 16
+            && self.makes_steps(session)
+            && shown == u64::from(self.words.partitions[index])
+        {
+            self.words.partitions[index] |= 0x2000_0000;
+        }
+    }
+
+    /// Sets release-ok in the word of the lock of the owner's fast-path slots.
+    fn set_fast_release_ok(&mut self, session: SessionId, owner: SessionId, shown: u64)
+        ensures { Follows self.old session (Step.SetReleaseOk (Word.Fast owner) shown) self.new }
+    {
+        let index = usize::from(owner.number());
+        if self.makes_steps(session) && shown == u64::from(self.words.fast[index]) {
+            self.words.fast[index] |= 0x2000_0000;
+        }
+    }
+
+    /// Sets has-waiters in the word of a partition's lock.
+    fn set_partition_has_waiters(&mut self, session: SessionId, partition: u8, shown: u64)
+        ensures { Follows self.old session (Step.SetHasWaiters (Word.Partition partition) shown) self.new }
+    {
+        let index = usize::from(partition);
+        if index < 16
+            && self.has_list(session, 2 * partition)
+            && shown == u64::from(self.words.partitions[index])
+        {
+            self.words.partitions[index] |= 0x4000_0000;
+        }
+    }
+
+    /// Sets has-waiters in the word of the lock of the owner's fast-path slots.
+    fn set_fast_has_waiters(&mut self, session: SessionId, owner: SessionId, shown: u64)
+        ensures { Follows self.old session (Step.SetHasWaiters (Word.Fast owner) shown) self.new }
+    {
+        let index = usize::from(owner.number());
+        if self.has_list(session, 2 * owner.number() + 1)
+            && shown == u64::from(self.words.fast[index])
+        {
+            self.words.fast[index] |= 0x4000_0000;
+        }
+    }
 }

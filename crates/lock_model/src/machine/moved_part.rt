@@ -75,20 +75,20 @@ impl Machine {
         &self,
         session: SessionId,
         partition: u8,
-        done: Move,
+        done: &Move,
     ) -> Result<Option<MovedPart>, NoMemory>
         requires exists { partition < 16 }
         requires sixteen { length self.now.contents.parts.items ≡ 16 }
         ensures moved { IfOk result (λ found.
-            IfSome found (IsMoved (part_at self.now.contents.parts.items partition) session done)) }
+            IfSome found (IsMoved (part_at self.now.contents.parts.items partition) session done.now)) }
         ensures own { IfOk result (λ found.
-            IfSome found (λ _. IsOwnFor (slice_index_or self.now.waits.awaited session None) done)) }
+            IfSome found (λ _. IsOwnFor (slice_index_or self.now.waits.awaited session None) done.now)) }
         ensures cannot { IfOk result (λ found. found ≡ None →
             CannotMake (slice_index_or self.now.waits.awaited session None)
-            (contents_in self.now.contents.parts.items partition) session done) }
+            (contents_in self.now.contents.parts.items partition) session done.now) }
     {
         let part = &self.contents.parts[usize::from(partition)];
-        match done {
+        match *done {
             Move::Keep => Ok(None),
             Move::Grant { tag: _, mode: _ } => Ok(None),
             Move::Join { tag: _, mode: _ } => Ok(None),

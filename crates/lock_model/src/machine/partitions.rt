@@ -79,13 +79,10 @@ impl Machine {
         let Some(hand) = self.hand_of(session, partition) else {
             return Ok(());
         };
-        let Some(recorded) = hand.recorded else {
+        if hand.recorded.is_none() {
             return self.put_made(session, partition, done);
-        };
-        if recorded.is_same(done)
-            && hand.none_unmarked()
-            && self.is_over(session, partition, done)
-        {
+        }
+        if hand.has_made(&done) && hand.none_unmarked() && self.is_over(session, partition, done) {
             self.set_free(partition);
         }
         Ok(())
@@ -171,7 +168,7 @@ impl Machine {
             return Ok(());
         }
         let done = Move::Release { tag, mode };
-        let Some(moved) = self.after_move(session, partition, done)? else {
+        let Some(moved) = self.after_move(session, partition, &done)? else {
             return Ok(());
         };
         if moved.woken.is_empty() {

@@ -1,8 +1,22 @@
 //! The plain machine's steps on seats: session numbers, and who keeps whom apart.
 
+ghost use Rattle.std.specs.Prelude.{◌≡◌};
+ghost use Rattle.lock_model.specs.Shows.{is_holder};
+
+use super::hands::InHand;
 use super::state::Machine;
 use lock_table::PartTable;
 use modes_core::SessionId;
+
+/// Whether it is the session's hand.
+fn is_holder(hand: &Option<InHand>, session: SessionId) -> bool
+    ensures { result ≡ is_holder session hand.now }
+{
+    match hand {
+        Some(hand) => hand.holder == session,
+        None => false,
+    }
+}
 
 impl Machine {
     ghost use Rattle.std.specs.Prelude.{◌≡◌, ◌==◌, Some, None};
@@ -82,7 +96,7 @@ impl Machine {
         self.contents
             .hands
             .iter()
-            .any(|hand| hand.is_some_and(|hand| hand.holder == session))
+            .any(|hand| is_holder(hand, session))
     }
 
     /// Whether the session keeps another one apart.

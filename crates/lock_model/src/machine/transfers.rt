@@ -30,12 +30,13 @@ impl Machine {
         ensures refused { OnErr result ((w : World) → Shows self.old w → Shows self.new w) }
     {
         let partition = tag.partition();
-        let index = usize::from(owner.number());
+        let number = owner.number();
+        let index = usize::from(number);
         let place = usize::from(slot);
         let Some(hand) = self.hand_of(session, partition) else {
             return Ok(());
         };
-        if !hand.may_adopt(owner, slot)
+        if !hand.may_adopt(number, slot)
             || !self.may_transfer(session, owner, place, tag, mode, strong)
         {
             return Ok(());
@@ -43,7 +44,7 @@ impl Machine {
         let part = &mut self.contents.parts[usize::from(partition)];
         part.begin(owner, &tag, mode)?;
         part.grant(owner, &tag, mode);
-        self.record(partition, hand, Move::Adopt { owner, slot }, hand.unmarked);
+        self.record(partition, hand, Move::Adopt { owner: number, slot }, hand.unmarked);
         let word = self.fast_path.slots[index][place];
         self.fast_path.slots[index][place] = word.without(mode);
         Ok(())

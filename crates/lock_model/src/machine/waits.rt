@@ -155,10 +155,10 @@ impl Machine {
         let Some(hand) = self.hand_of(session, partition) else {
             return Ok(());
         };
-        let Some(recorded) = hand.recorded else {
+        if hand.recorded.is_none() {
             return self.mark_first(session, other, partition, hand, done);
-        };
-        if recorded.is_same(done) && hand.is_unmarked(other) {
+        }
+        if hand.has_made(&done) && hand.is_unmarked(other) {
             self.mark(partition, hand, other, done, hand.unmarked);
         }
         Ok(())
@@ -182,7 +182,7 @@ impl Machine {
         requires wakes { IsWaking done }
         ensures { OnOk result (FollowsMarking self.old session other partition done self.new) }
     {
-        let Some(moved) = self.after_move(session, partition, done)? else {
+        let Some(moved) = self.after_move(session, partition, &done)? else {
             return Ok(());
         };
         if is_among(&moved.woken, other) {
@@ -220,13 +220,14 @@ impl Machine {
             return;
         };
         let waits = self.contents.parts[usize::from(partition)].has_wait_of(session, &tag);
-        let Some(recorded) = hand.recorded else {
+        if hand.recorded.is_none() {
             if waits {
                 self.leave_now(session, tag, hand);
             }
             return;
-        };
-        if recorded.is_same(Move::Leave { tag }) && !waits {
+        }
+        let leave = Move::Leave { tag };
+        if hand.has_made(&leave) && !waits {
             self.end_wait(session);
         }
     }

@@ -21,46 +21,58 @@ abbrev pub after_sharing_partition : World → ℕ → ℕ → World
 after_sharing_partition w session partition = record {
   words = record (w.words) { partition = set_at w.words.partition partition (shared_word (w.words.partition partition)) };
   contents = w.contents;
-  sessions = record (w.sessions) { shares_partition = set_at w.sessions.shares_partition session (set_at (w.sessions.shares_partition session) partition true) };
+  sessions = record (w.sessions) {
+    shares_partition = set_at w.sessions.shares_partition session (set_at (w.sessions.shares_partition session) partition true);
+  };
   numbers = w.numbers;
 }
 
 abbrev pub HappensSharingPartition : World → ℕ → ℕ → World → Type 0
 HappensSharingPartition w session partition v =
-    (partition < 16) × MayShare w.numbers (w.words.partition partition) w.sessions.shares_partition session partition × (v ≡ after_sharing_partition w session partition)
+    (partition < 16) × MayShare w.numbers (w.words.partition partition) w.sessions.shares_partition session partition
+    × (v ≡ after_sharing_partition w session partition)
 
 abbrev pub after_unsharing_partition : World → ℕ → ℕ → World
 after_unsharing_partition w session partition = record {
   words = record (w.words) { partition = set_at w.words.partition partition (unshared_word (w.words.partition partition)) };
   contents = w.contents;
-  sessions = record (w.sessions) { shares_partition = set_at w.sessions.shares_partition session (set_at (w.sessions.shares_partition session) partition false) };
+  sessions = record (w.sessions) {
+    shares_partition = set_at w.sessions.shares_partition session (set_at (w.sessions.shares_partition session) partition false);
+  };
   numbers = w.numbers;
 }
 
 abbrev pub HappensUnsharingPartition : World → ℕ → ℕ → World → Type 0
 HappensUnsharingPartition w session partition v =
-    MayUnshare w.numbers w.sessions.shares_partition session partition × (v ≡ after_unsharing_partition w session partition)
+    MayUnshare w.numbers w.sessions.shares_partition session partition
+    × (v ≡ after_unsharing_partition w session partition)
 
 -- The word of the lock of a session's fast-path slots.
 abbrev pub after_sharing_fast : World → ℕ → ℕ → World
 after_sharing_fast w session owner = record {
   words = record (w.words) { fast = set_at w.words.fast owner (shared_word (w.words.fast owner)) };
   contents = w.contents;
-  sessions = record (w.sessions) { shares_fast = set_at w.sessions.shares_fast session (set_at (w.sessions.shares_fast session) owner true) };
+  sessions = record (w.sessions) {
+    shares_fast = set_at w.sessions.shares_fast session (set_at (w.sessions.shares_fast session) owner true);
+  };
   numbers = w.numbers;
 }
 
 abbrev pub HappensSharingFast : World → ℕ → ℕ → World → Type 0
 HappensSharingFast w session owner v =
-    (owner < w.numbers.limit) × MayShare w.numbers (w.words.fast owner) w.sessions.shares_fast session owner × (v ≡ after_sharing_fast w session owner)
+    (owner < w.numbers.limit) × MayShare w.numbers (w.words.fast owner) w.sessions.shares_fast session owner
+    × (v ≡ after_sharing_fast w session owner)
 
 abbrev pub after_unsharing_fast : World → ℕ → ℕ → World
 after_unsharing_fast w session owner = record {
   words = record (w.words) { fast = set_at w.words.fast owner (unshared_word (w.words.fast owner)) };
   contents = w.contents;
-  sessions = record (w.sessions) { shares_fast = set_at w.sessions.shares_fast session (set_at (w.sessions.shares_fast session) owner false) };
+  sessions = record (w.sessions) {
+    shares_fast = set_at w.sessions.shares_fast session (set_at (w.sessions.shares_fast session) owner false);
+  };
   numbers = w.numbers;
 }
 
 abbrev pub HappensUnsharingFast : World → ℕ → ℕ → World → Type 0
-HappensUnsharingFast w session owner v = MayUnshare w.numbers w.sessions.shares_fast session owner × (v ≡ after_unsharing_fast w session owner)
+HappensUnsharingFast w session owner v =
+    MayUnshare w.numbers w.sessions.shares_fast session owner × (v ≡ after_unsharing_fast w session owner)

@@ -44,7 +44,7 @@ fn transfers(session: SessionId, owner: SessionId, slot: u8, tag: Tag, mode: Mod
 }
 
 fn puts_adopted(session: SessionId, owner: SessionId, slot: u8) -> Event {
-    puts(session, table().partition(), Move::Adopt { owner, slot })
+    puts(session, table().partition(), Move::Adopt { owner: owner.number(), slot })
 }
 
 /// A table of database 5.
@@ -62,33 +62,35 @@ const ACCESS_SHARE: u64 = 0x1_0000_0000;
 const ROW_EXCLUSIVE: u64 = 0x4_0000_0000;
 
 /// Sets two modes of the table in the session's slot 0, and one of the other table in its slot 1.
-fn has_slots(events: &mut Vec<Event>, whose: SessionId) -> Result<(), Fail> {
+fn has_slots(whose: SessionId) -> [Event; 7] {
     let index = table().strong_index();
-    events.push(does(whose, Step::StoreDatabase { database: 5 }))?;
-    events.push(takes_fast(whose, whose))?;
-    events.push(does(whose, Step::LoadStrong { index, shown: 0 }))?;
-    events.push(sets(whose, 0, table(), Mode::AccessShare))?;
-    events.push(sets(whose, 0, table(), Mode::RowExclusive))?;
-    events.push(sets(whose, 1, other_table(), Mode::AccessShare))?;
-    events.push(puts_word(whose, Word::Fast(whose), Move::Keep))?;
-    Ok(())
+    [
+        does(whose, Step::StoreDatabase { database: 5 }),
+        takes_fast(whose, whose),
+        does(whose, Step::LoadStrong { index, shown: 0 }),
+        sets(whose, 0, table(), Mode::AccessShare),
+        sets(whose, 0, table(), Mode::RowExclusive),
+        sets(whose, 1, other_table(), Mode::AccessShare),
+        puts_word(whose, Word::Fast(whose), Move::Keep),
+    ]
 }
 
-/// Session 0 counts `ShareLock` on the table, and goes past its own slots.
-fn goes_past_itself(events: &mut Vec<Event>, whose: SessionId, tag: Tag) -> Result<(), Fail> {
-    events.push(counts(whose, tag))?;
-    events.push(takes_fast(whose, whose))?;
-    events.push(passes(whose, whose, tag))?;
-    Ok(())
+/// Counts `ShareLock` on the table, and goes past its own slots.
+fn goes_past_itself(whose: SessionId, tag: Tag) -> [Event; 3] {
+    [
+        counts(whose, tag),
+        takes_fast(whose, whose),
+        passes(whose, whose, tag),
+    ]
 }
 
 /// Runs the events after session 1 has its slots, and session 0 is next to it with the table and the other table.
 fn run_next<R: Abort + AllocGlobal>(rt: &R, more: &[Event]) -> Result<Plain, Fail> {
     let (a, b) = (session(rt, 0), session(rt, 1));
     let mut events = Vec::new(rt.alloc());
-    has_slots(&mut events, b)?;
-    goes_past_itself(&mut events, a, table())?;
-    goes_past_itself(&mut events, a, other_table())?;
+    events.extend_from_slice(&has_slots(b))?;
+    events.extend_from_slice(&goes_past_itself(a, table()))?;
+    events.extend_from_slice(&goes_past_itself(a, other_table()))?;
     events.extend_from_slice(more)?;
     run_open(rt, events.as_slice())
 }
@@ -124,7 +126,10 @@ fn the_modes_of_a_slot_are_moved_to_the_table(rt: HostRuntime) -> Result<(), Fai
     ];
     let before = run_next(&rt, &more[..2])?;
     expect_holds(&rt, &before, b, &[])?;
-    assert_eq!(rt; before.word(Word::Slot(b, 0)), ACCESS_SHARE + ROW_EXCLUSIVE + 100);
+    assert_eq!(rt;
+        before.word(Word::Slot(b, 0)),
+        ACCESS_SHARE + ROW_EXCLUSIVE + 100
+    );
     let one = run_next(&rt, &more[..3])?;
     expect_holds(&rt, &one, b, &[Mode::AccessShare])?;
     assert_eq!(rt; one.word(Word::Slot(b, 0)), ROW_EXCLUSIVE + 100);
@@ -174,7 +179,7 @@ fn the_own_slots_are_moved_too(rt: HostRuntime) -> Result<(), Fail> {
     let a = session(&rt, 0);
     let p = table().partition();
     let mut events = Vec::new(rt.alloc());
-    has_slots(&mut events, a)?;
+    events.extend_from_slice(&has_slots(a))?;
     let more = [
         counts(a, table()),
         takes_fast(a, a),
@@ -246,7 +251,10 @@ fn nothing_is_moved_without_both_locks(rt: HostRuntime) -> Result<(), Fail> {
     // The owner has it in hand, and moves its own slot no more than others do.
     let its = [takes_fast(a, b), takes(b, p)];
     let plain = run_next(&rt, &[its[0], its[1], one])?;
-    assert_eq!(rt; plain.word(Word::Slot(b, 0)), ACCESS_SHARE + ROW_EXCLUSIVE + 100);
+    assert_eq!(rt;
+        plain.word(Word::Slot(b, 0)),
+        ACCESS_SHARE + ROW_EXCLUSIVE + 100
+    );
     // The session is not open.
     let c = transfers(session(&rt, 2), b, 0, table(), Mode::AccessShare);
     is_skipped(&rt, &[takes_fast(a, b), takes(a, p)], c, Move::Keep)?;
@@ -297,7 +305,7 @@ fn nothing_is_moved_out_of_turn(rt: HostRuntime) -> Result<(), Fail> {
         locks[0],
     ];
     let late = transfers(a, b, 1, other_table(), mode);
-    is_skipped(&rt, &passed, late, Move::Adopt { owner: b, slot: 1 })
+    is_skipped(&rt, &passed, late, Move::Adopt { owner: b.number(), slot: 1 })
 }
 
 #[test]
@@ -319,7 +327,7 @@ fn only_what_the_slot_shows_is_moved(rt: HostRuntime) -> Result<(), Fail> {
     // What was moved is there no more.
     let one = transfers(a, b, 0, table(), Mode::AccessShare);
     let moved = [locks[0], locks[1], one];
-    is_skipped(&rt, &moved, one, Move::Adopt { owner: b, slot: 0 })
+    is_skipped(&rt, &moved, one, Move::Adopt { owner: b.number(), slot: 0 })
 }
 
 #[test]
@@ -330,7 +338,7 @@ fn nothing_is_moved_after_another_move(rt: HostRuntime) -> Result<(), Fail> {
     let other = transfers(a, b, 1, other_table(), Mode::AccessShare);
     // Another slot's modes were moved.
     let slots = [takes_fast(a, b), takes(a, p), other];
-    is_skipped(&rt, &slots, one, Move::Adopt { owner: b, slot: 1 })?;
+    is_skipped(&rt, &slots, one, Move::Adopt { owner: b.number(), slot: 1 })?;
     // The session has joined the queue.
     let (tag, mode) = (table(), Mode::ShareUpdateExclusive);
     let joined = [
@@ -360,7 +368,14 @@ fn a_session_that_was_never_issued_has_nothing_to_move(rt: HostRuntime) -> Resul
     ];
     is_skipped(&rt, &next, transfers(a, c, 0, table(), mode), Move::Keep)?;
     let past = [
-        next[0], next[1], next[2], next[3], next[4], next[5], next[6], passes(a, c, table()),
+        next[0],
+        next[1],
+        next[2],
+        next[3],
+        next[4],
+        next[5],
+        next[6],
+        passes(a, c, table()),
     ];
     assert_eq!(rt; run_next(&rt, &past)?.word(Word::Fast(c)), FREE);
     Ok(())

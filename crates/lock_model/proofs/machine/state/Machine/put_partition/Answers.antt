@@ -1,6 +1,5 @@
 use Rattle.std.proofs.Common.{◌<◌, Some, length, sym, ap, ◌∙◌, subst, arith}
 use Rattle.std.proofs.lemmas.Bool.{both_ways}
-use Rattle.lock_table.specs.MoveTests.{move_eq}
 use Rattle.lock_model.specs.declared.machine.state.Machine.{Machine}
 use Rattle.lock_world.specs.declared.events.Step.TheVariants.{PutExclusive}
 use Rattle.lock_world.specs.declared.events.Word.TheVariants.{Partition}
@@ -9,10 +8,10 @@ use Rattle.lock_world.specs.Happens.{Next}
 use Rattle.lock_model.specs.Shows.{Shows}
 use Rattle.lock_model.proofs.Follows.Skipped.{skipped}
 use Rattle.lock_model.proofs.Follows.Partitions.{recorded_put, not_in_hand, only_recorded}
-use Rattle.lock_table.proofs.MoveTests.{move_eq-same, move_eq-refl}
+use Rattle.lock_model.proofs.Shows.Hands.{made_is, is_made, some_made}
 use Rattle.lock_model.proofs.Shows.Looks.{hand_from}
 use Rattle.lock_model.proofs.machine.state.Machine.put_partition.Goals as goal
-use Rattle.lock_model.proofs.machine.state.Machine.put_partition.Goals.{else-is_same-via-then-is_same+then-none_unmarked+else-is_over, else-is_same-via-then-is_same+else-none_unmarked, else-is_same-via-else-is_same}
+use Rattle.lock_model.proofs.machine.state.Machine.put_partition.Goals.{else-has_made-via-then-has_made+then-none_unmarked+else-is_over, else-has_made-via-then-has_made+else-none_unmarked, else-has_made-via-else-has_made}
 
 pub set_free-requires : goal.set_free-requires
 set_free-requires c =
@@ -31,19 +30,19 @@ returns-then-is_over c = λ w safe shows.
     let in_hand = sym c.hand_of.ensures ∙ c.in-Some.is in
     let below = (hand_from now w safe shows c.args.session c.args.partition c.in-Some.hand in_hand).exists in
     let in_words : c.args.partition < length now.words.partitions = omega (arith, below) in
-    let same = move_eq-same c.in-Some-recorded.recorded c.args.done (sym c.if-is_same.ensures) in
     let P : Machine → Type 0 = λ m. (v : World) × Next w (record { session = c.args.session; step = PutExclusive (Partition c.args.partition) c.args.done }) v × Shows m v in
     subst P (sym c.set_free.ensures)
-    (recorded_put now w safe shows c.args.session c.args.partition c.args.done c.in-Some.hand in_hand (c.in-Some-recorded.is ∙ ap Some same) (sym c.if-none_unmarked.ensures) (sym c.if-is_over.ensures) in_words)
+    (recorded_put now w safe shows c.args.session c.args.partition c.args.done c.in-Some.hand in_hand (made_is c.in-Some.hand.recorded c.args.done (sym c.if-has_made.ensures)) (sym c.if-none_unmarked.ensures) (sym c.if-is_over.ensures) in_words)
 
-pub returns-else-is_same : goal.returns-else-is_same
-returns-else-is_same c = λ w safe shows.
+pub returns-else-has_made : goal.returns-else-has_made
+returns-else-has_made c = λ w safe shows.
     let now = c.args.self.now in
     let in_hand = sym c.hand_of.ensures ∙ c.in-Some.is in
+    let its = some_made c.in-Some.hand.recorded c.if-is_none.ensures in
     skipped now w safe shows c.args.session (PutExclusive (Partition c.args.partition) c.args.done)
-    (λ lawful. let only = only_recorded now w safe shows c.args.session c.args.partition c.args.done c.in-Some-recorded.recorded c.in-Some.hand in_hand c.in-Some-recorded.is lawful in
-    elim c.else-is_same.branch [
-      | else-is_same-via-then-is_same+then-none_unmarked+else-is_over b ↦ both_ways _ (sym b.if-is_over.ensures) only.2
-      | else-is_same-via-then-is_same+else-none_unmarked b ↦ both_ways _ (sym b.if-none_unmarked.ensures) only.1
-      | else-is_same-via-else-is_same b ↦ both_ways _ (sym b.if-is_same.ensures) (ap (λ x. move_eq x c.args.done) only.0 ∙ move_eq-refl c.args.done)
+    (λ lawful. let only = only_recorded now w safe shows c.args.session c.args.partition c.args.done its.0 c.in-Some.hand in_hand its.1 lawful in
+    elim c.else-has_made.branch [
+      | else-has_made-via-then-has_made+then-none_unmarked+else-is_over b ↦ both_ways _ (sym b.if-is_over.ensures) only.2
+      | else-has_made-via-then-has_made+else-none_unmarked b ↦ both_ways _ (sym b.if-none_unmarked.ensures) only.1
+      | else-has_made-via-else-has_made b ↦ both_ways _ (sym b.if-has_made.ensures) (is_made c.in-Some.hand.recorded c.args.done (its.1 ∙ ap Some only.0))
     ])

@@ -67,7 +67,7 @@ pub returns-in-UnlockList : goal.returns-in-UnlockList
 returns-in-UnlockList c = rw c.in-UnlockList.is c.unlock_list.ensures
 
 pub returns-in-JoinList : goal.returns-in-JoinList
-returns-in-JoinList c = rw c.in-JoinList.is c.join_list.ensures
+returns-in-JoinList c = rw c.in-JoinList.is c.join_list.ensures.followed
 
 pub returns-in-LeaveList : goal.returns-in-LeaveList
 returns-in-LeaveList c = rw c.in-LeaveList.is c.leave_list.ensures

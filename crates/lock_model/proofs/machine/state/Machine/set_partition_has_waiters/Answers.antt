@@ -1,0 +1,34 @@
+use Rattle.std.proofs.Common.{◌≡◌, ◌<◌, ◌≤◌, length, get_or, sym, ap, ◌∙◌, arith}
+use Rattle.lock_world.specs.declared.events.Step.TheVariants.{SetHasWaiters}
+use Rattle.lock_world.specs.declared.events.Word.TheVariants.{Partition}
+use Rattle.lock_world.specs.WaitLists.{partition_lock}
+use Rattle.lock_model.proofs.Follows.Skipped.{skipped}
+use Rattle.lock_model.proofs.Follows.ListWords.{has_waiters_in_partition, not_partition_word, has_not, no_such_list}
+use Rattle.lock_model.proofs.machine.state.Machine.set_partition_has_waiters.Goals as goal
+use Rattle.lock_model.proofs.machine.state.Machine.set_partition_has_waiters.Goals.{else-index-lt16-via-then-index-lt16+then-has_list+else-shown-from, else-index-lt16-via-then-index-lt16+else-has_list, else-index-lt16-via-else-index-lt16}
+
+pub returns-then-shown-from : goal.returns-then-shown-from
+returns-then-shown-from c = λ w safe shows.
+    let now = c.args.self.now in
+    let place : c.from-index.result ≡ c.args.partition = c.from-index.ensures in
+    let in_words : c.args.partition < length now.words.partitions = omega arith in
+    rw place
+    (has_waiters_in_partition now w safe shows c.args.session c.args.partition c.args.shown (sym c.if-has_list.ensures) in_words
+    (c.if-shown-from.true ∙ c.from.ensures ∙ ap (λ i. get_or now.words.partitions i 0) place))
+
+pub returns-else-index-lt16 : goal.returns-else-index-lt16
+returns-else-index-lt16 c = λ w safe shows.
+    let now = c.args.self.now in
+    let place : c.from-index.result ≡ c.args.partition = c.from-index.ensures in
+    skipped now w safe shows c.args.session (SetHasWaiters (Partition c.args.partition) c.args.shown)
+    (λ lawful. elim c.else-index-lt16.branch [
+      | else-index-lt16-via-then-index-lt16+then-has_list+else-shown-from b ↦
+          let in_words : c.args.partition < length now.words.partitions = omega arith in
+          not_partition_word now w safe shows c.args.partition c.args.shown in_words
+          (λ is. b.if-shown-from.false (is ∙ ap (λ i. get_or now.words.partitions i 0) (sym place) ∙ sym b.from.ensures)) lawful.1.0.is_word
+      | else-index-lt16-via-then-index-lt16+else-has_list b ↦
+          has_not now w safe shows c.args.session (partition_lock c.args.partition) (sym b.if-has_list.ensures) lawful.1.0.has
+      | else-index-lt16-via-else-index-lt16 b ↦
+          let past : length now.words.partitions ≤ c.args.partition = omega arith in
+          no_such_list now w safe shows c.args.session c.args.partition past lawful.1.0.has
+    ])

@@ -1,0 +1,16 @@
+use Rattle.std.proofs.Common.{◌≡◌, ◌+◌, ◌*◌, ◌<◌, true, sym, ap, ◌∙◌, arith}
+use Rattle.lock_model.specs.ListWords.{has_list}
+use Rattle.lock_model.proofs.Follows.ListWords.{unlocked_fast_list}
+use Rattle.lock_model.proofs.machine.state.Machine.unlock_fast_list.Goals as goal
+
+pub returns-then-has_list : goal.returns-then-has_list
+returns-then-has_list c = λ w safe shows.
+    let now = c.args.self.now in
+    let place : c.from-index.result ≡ c.args.owner = c.from-index.ensures ∙ c.number.ensures.value in
+    let lock : c.number-2.result ≡ c.args.owner = c.number-2.ensures.value in
+    let whose : c.from.result ≡ c.args.session = c.from.ensures ∙ c.number-then-has_list.ensures.value in
+    let below : c.args.session < 64 = omega arith in
+    let exists : c.args.owner < 64 = omega arith in
+    rw (c.unlocked.ensures, place, whose)
+    (unlocked_fast_list now w safe shows c.args.session c.args.owner c.args.has_waiters c.args.release_ok below exists
+    (ap (λ n. has_list now c.args.session (2 * n + 1)) (sym lock) ∙ sym c.if-has_list.ensures))

@@ -1,0 +1,5 @@
+use Rattle.shared_rule.proofs.Shown.{words-set}
+use Rattle.shared_rule.proofs.laws.a_word_is_set_alone.Goals as goal
+
+pub returns : goal.returns
+returns c = λ table words word n shown exists. words-set table words word n shown exists
