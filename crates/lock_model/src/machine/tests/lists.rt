@@ -285,9 +285,10 @@ fn a_session_is_told_once(rt: HostRuntime) -> Result<(), Fail> {
     leads_to(&rt, &again, &left, [1, 1, 1])
 }
 
-#[test]
-fn a_session_sees_that_it_was_told(rt: HostRuntime) -> Result<(), Fail> {
-    let (b, d) = (session(&rt, 1), session(&rt, 3));
+/// What word 0 shows where session 3 has told session 1, this event comes, and session 1 is closed, if it may be, and
+/// takes word 0, if it is not closed.
+fn closed_after<R: Abort + AllocGlobal>(rt: &R, seen: Event) -> Result<u64, Fail> {
+    let (b, d) = (session(rt, 1), session(rt, 3));
     let told = [
         locks(d, WORD),
         takes_off(d, b),
@@ -295,20 +296,23 @@ fn a_session_sees_that_it_was_told(rt: HostRuntime) -> Result<(), Fail> {
         reads_sleep(b, 2),
         tells(d, b),
     ];
+    let mut events = Vec::new(rt.alloc());
+    events.extend_from_slice(&told)?;
+    events.push(seen)?;
+    events.push(closes(b))?;
+    events.push(takes(b, 0))?;
+    let plain = run_queued(rt, events.as_slice())?;
+    expect_sleep(rt, &plain, [1, 0, 1])?;
+    Ok(plain.word(Word::Partition(0)))
+}
+
+#[test]
+fn a_session_sees_that_it_was_told(rt: HostRuntime) -> Result<(), Fail> {
+    let (b, d) = (session(&rt, 1), session(&rt, 3));
     // Who has not seen it stands in the list by its own account, and cannot be closed.
-    let after = |seen: Event| -> Result<u64, Fail> {
-        let mut events = Vec::new(rt.alloc());
-        events.extend_from_slice(&told)?;
-        events.push(seen)?;
-        events.push(closes(b))?;
-        events.push(takes(b, 0))?;
-        let plain = run_queued(&rt, events.as_slice())?;
-        expect_sleep(&rt, &plain, [1, 0, 1])?;
-        Ok(plain.word(Word::Partition(0)))
-    };
-    assert_eq!(rt; after(tells(d, b))?, HELD);
-    assert_eq!(rt; after(reads_sleep(b, 2))?, HELD);
-    assert_eq!(rt; after(reads_sleep(d, 0))?, HELD);
-    assert_eq!(rt; after(reads_sleep(b, 0))?, FREE);
+    assert_eq!(rt; closed_after(&rt, tells(d, b))?, HELD);
+    assert_eq!(rt; closed_after(&rt, reads_sleep(b, 2))?, HELD);
+    assert_eq!(rt; closed_after(&rt, reads_sleep(d, 0))?, HELD);
+    assert_eq!(rt; closed_after(&rt, reads_sleep(b, 0))?, FREE);
     Ok(())
 }
