@@ -58,23 +58,25 @@ fn waits(session: SessionId, lock: u8, mode: LwMode) -> Sleeper {
     }
 }
 
-/// The session locks the list of partition 15's lock, joins it and unlocks it.
-fn queues(events: &mut Vec<Event>, whose: SessionId, mode: LwMode) -> Result<(), Fail> {
-    events.push(locks(whose, WORD))?;
-    events.push(joins(whose, mode))?;
-    events.push(unlocks(whose, WORD))?;
-    Ok(())
-}
-
 /// Runs the events after sessions 0 to 3 are open, and 0, 1 and 2 wait for the lock of partition 15 in this order, 1
 /// and 2 to share it.
 fn run_queued<R: Abort + AllocGlobal>(rt: &R, more: &[Event]) -> Result<Plain, Fail> {
+    let (a, b, c) = (session(rt, 0), session(rt, 1), session(rt, 2));
+    let queued = [
+        opens(c),
+        opens(session(rt, 3)),
+        locks(a, WORD),
+        joins(a, LwMode::Exclusive),
+        unlocks(a, WORD),
+        locks(b, WORD),
+        joins(b, LwMode::Shared),
+        unlocks(b, WORD),
+        locks(c, WORD),
+        joins(c, LwMode::Shared),
+        unlocks(c, WORD),
+    ];
     let mut events = Vec::new(rt.alloc());
-    events.push(opens(session(rt, 2)))?;
-    events.push(opens(session(rt, 3)))?;
-    queues(&mut events, session(rt, 0), LwMode::Exclusive)?;
-    queues(&mut events, session(rt, 1), LwMode::Shared)?;
-    queues(&mut events, session(rt, 2), LwMode::Shared)?;
+    events.extend_from_slice(&queued)?;
     events.extend_from_slice(more)?;
     run_open(rt, events.as_slice())
 }
