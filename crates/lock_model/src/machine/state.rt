@@ -253,6 +253,19 @@ impl Machine {
                 mode,
                 strong,
             } => return self.transfer_slot(session, owner, slot, tag, mode, strong),
+            Step::LockList { word } => self.lock_list(session, word),
+            Step::UnlockList {
+                word,
+                has_waiters,
+                release_ok,
+            } => self.unlock_list(session, word, has_waiters, release_ok),
+            Step::JoinList { mode } => return self.join_list(session, mode),
+            Step::LeaveList => self.leave_list(session),
+            Step::TakeOff { other } => self.take_off(session, other),
+            Step::Tell { other } => self.tell(session, other),
+            Step::LoadSleep { shown } => self.load_sleep(session, shown),
+            Step::SetReleaseOk { word, shown } => self.set_release_ok(session, word, shown),
+            Step::SetHasWaiters { word, shown } => self.set_has_waiters(session, word, shown),
         }
         Ok(())
     }
