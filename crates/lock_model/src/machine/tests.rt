@@ -6,6 +6,7 @@ use std::process::Abort;
 use std::test::Fail;
 
 mod counters;
+mod list_words;
 mod partitions;
 mod seats;
 mod sharing;
