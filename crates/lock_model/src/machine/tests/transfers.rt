@@ -126,10 +126,7 @@ fn the_modes_of_a_slot_are_moved_to_the_table(rt: HostRuntime) -> Result<(), Fai
     ];
     let before = run_next(&rt, &more[..2])?;
     expect_holds(&rt, &before, b, &[])?;
-    assert_eq!(rt;
-        before.word(Word::Slot(b, 0)),
-        ACCESS_SHARE + ROW_EXCLUSIVE + 100
-    );
+    assert_eq!(rt; before.word(Word::Slot(b, 0)), ACCESS_SHARE + ROW_EXCLUSIVE + 100);
     let one = run_next(&rt, &more[..3])?;
     expect_holds(&rt, &one, b, &[Mode::AccessShare])?;
     assert_eq!(rt; one.word(Word::Slot(b, 0)), ROW_EXCLUSIVE + 100);
@@ -251,10 +248,7 @@ fn nothing_is_moved_without_both_locks(rt: HostRuntime) -> Result<(), Fail> {
     // The owner has it in hand, and moves its own slot no more than others do.
     let its = [takes_fast(a, b), takes(b, p)];
     let plain = run_next(&rt, &[its[0], its[1], one])?;
-    assert_eq!(rt;
-        plain.word(Word::Slot(b, 0)),
-        ACCESS_SHARE + ROW_EXCLUSIVE + 100
-    );
+    assert_eq!(rt; plain.word(Word::Slot(b, 0)), ACCESS_SHARE + ROW_EXCLUSIVE + 100);
     // The session is not open.
     let c = transfers(session(&rt, 2), b, 0, table(), Mode::AccessShare);
     is_skipped(&rt, &[takes_fast(a, b), takes(a, p)], c, Move::Keep)?;
@@ -368,14 +362,7 @@ fn a_session_that_was_never_issued_has_nothing_to_move(rt: HostRuntime) -> Resul
     ];
     is_skipped(&rt, &next, transfers(a, c, 0, table(), mode), Move::Keep)?;
     let past = [
-        next[0],
-        next[1],
-        next[2],
-        next[3],
-        next[4],
-        next[5],
-        next[6],
-        passes(a, c, table()),
+        next[0], next[1], next[2], next[3], next[4], next[5], next[6], passes(a, c, table()),
     ];
     assert_eq!(rt; run_next(&rt, &past)?.word(Word::Fast(c)), FREE);
     Ok(())
