@@ -6,7 +6,9 @@ use std::process::Abort;
 use std::test::Fail;
 
 mod counters;
+mod list_words;
 mod lists;
+mod long_walk;
 mod partitions;
 mod seats;
 mod sharing;
