@@ -58,11 +58,11 @@ fn waits(session: SessionId, lock: u8, mode: LwMode) -> Sleeper {
     }
 }
 
-/// The session locks the word's list, joins it and unlocks it.
-fn queues(events: &mut Vec<Event>, whose: SessionId, word: Word, mode: LwMode) -> Result<(), Fail> {
-    events.push(locks(whose, word))?;
+/// The session locks the list of partition 15's lock, joins it and unlocks it.
+fn queues(events: &mut Vec<Event>, whose: SessionId, mode: LwMode) -> Result<(), Fail> {
+    events.push(locks(whose, WORD))?;
     events.push(joins(whose, mode))?;
-    events.push(unlocks(whose, word))?;
+    events.push(unlocks(whose, WORD))?;
     Ok(())
 }
 
@@ -72,9 +72,9 @@ fn run_queued<R: Abort + AllocGlobal>(rt: &R, more: &[Event]) -> Result<Plain, F
     let mut events = Vec::new(rt.alloc());
     events.push(opens(session(rt, 2)))?;
     events.push(opens(session(rt, 3)))?;
-    queues(&mut events, session(rt, 0), WORD, LwMode::Exclusive)?;
-    queues(&mut events, session(rt, 1), WORD, LwMode::Shared)?;
-    queues(&mut events, session(rt, 2), WORD, LwMode::Shared)?;
+    queues(&mut events, session(rt, 0), LwMode::Exclusive)?;
+    queues(&mut events, session(rt, 1), LwMode::Shared)?;
+    queues(&mut events, session(rt, 2), LwMode::Shared)?;
     events.extend_from_slice(more)?;
     run_open(rt, events.as_slice())
 }
@@ -170,18 +170,20 @@ fn a_session_kept_apart_joins_no_list(rt: HostRuntime) -> Result<(), Fail> {
 #[test]
 fn a_session_leaves_its_list(rt: HostRuntime) -> Result<(), Fail> {
     let (a, b, c) = (session(&rt, 0), session(&rt, 1), session(&rt, 2));
-    let first = waits(a, LOCK, LwMode::Exclusive);
-    let last = waits(c, LOCK, LwMode::Shared);
+    let left = [
+        waits(a, LOCK, LwMode::Exclusive),
+        waits(c, LOCK, LwMode::Shared),
+        waits(b, LOCK, LwMode::Exclusive),
+    ];
     let more = [
         locks(b, WORD),
         leaves(b),
         leaves(b),
         joins(b, LwMode::Exclusive),
     ];
-    leads_to(&rt, &more[..2], &[first, last], [1, 0, 1])?;
-    leads_to(&rt, &more[..3], &[first, last], [1, 0, 1])?;
-    let behind = waits(b, LOCK, LwMode::Exclusive);
-    leads_to(&rt, &more, &[first, last, behind], [1, 1, 1])
+    leads_to(&rt, &more[..2], &left[..2], [1, 0, 1])?;
+    leads_to(&rt, &more[..3], &left[..2], [1, 0, 1])?;
+    leads_to(&rt, &more, &left, [1, 1, 1])
 }
 
 #[test]
@@ -283,9 +285,10 @@ fn a_session_is_told_once(rt: HostRuntime) -> Result<(), Fail> {
     leads_to(&rt, &again, &left, [1, 1, 1])
 }
 
-#[test]
-fn a_session_sees_that_it_was_told(rt: HostRuntime) -> Result<(), Fail> {
-    let (b, d) = (session(&rt, 1), session(&rt, 3));
+/// What word 0 shows where session 3 has told session 1, this event comes, and session 1 is closed, if it may be, and
+/// takes word 0, if it is not closed.
+fn closed_after<R: Abort + AllocGlobal>(rt: &R, seen: Event) -> Result<u64, Fail> {
+    let (b, d) = (session(rt, 1), session(rt, 3));
     let told = [
         locks(d, WORD),
         takes_off(d, b),
@@ -293,20 +296,23 @@ fn a_session_sees_that_it_was_told(rt: HostRuntime) -> Result<(), Fail> {
         reads_sleep(b, 2),
         tells(d, b),
     ];
+    let mut events = Vec::new(rt.alloc());
+    events.extend_from_slice(&told)?;
+    events.push(seen)?;
+    events.push(closes(b))?;
+    events.push(takes(b, 0))?;
+    let plain = run_queued(rt, events.as_slice())?;
+    expect_sleep(rt, &plain, [1, 0, 1])?;
+    Ok(plain.word(Word::Partition(0)))
+}
+
+#[test]
+fn a_session_sees_that_it_was_told(rt: HostRuntime) -> Result<(), Fail> {
+    let (b, d) = (session(&rt, 1), session(&rt, 3));
     // Who has not seen it stands in the list by its own account, and cannot be closed.
-    let after = |seen: Event| -> Result<u64, Fail> {
-        let mut events = Vec::new(rt.alloc());
-        events.extend_from_slice(&told)?;
-        events.push(seen)?;
-        events.push(closes(b))?;
-        events.push(takes(b, 0))?;
-        let plain = run_queued(&rt, events.as_slice())?;
-        expect_sleep(&rt, &plain, [1, 0, 1])?;
-        Ok(plain.word(Word::Partition(0)))
-    };
-    assert_eq!(rt; after(tells(d, b))?, HELD);
-    assert_eq!(rt; after(reads_sleep(b, 2))?, HELD);
-    assert_eq!(rt; after(reads_sleep(d, 0))?, HELD);
-    assert_eq!(rt; after(reads_sleep(b, 0))?, FREE);
+    assert_eq!(rt; closed_after(&rt, tells(d, b))?, HELD);
+    assert_eq!(rt; closed_after(&rt, reads_sleep(b, 2))?, HELD);
+    assert_eq!(rt; closed_after(&rt, reads_sleep(d, 0))?, HELD);
+    assert_eq!(rt; closed_after(&rt, reads_sleep(b, 0))?, FREE);
     Ok(())
 }
