@@ -1,5 +1,6 @@
 pub mod CountedLists
 pub mod PlainLists
+pub mod SlotRows
 pub mod HoldOrder
 pub mod Shows
 pub mod Follows

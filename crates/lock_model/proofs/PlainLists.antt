@@ -28,7 +28,7 @@ use Rattle.lock_table.specs.Request.{is_request_of}
 use Rattle.lock_table.specs.PartView.{PartView}
 use Rattle.lock_table.specs.PartWaits.{EachOnce, queues_in}
 use Rattle.lock_table.specs.Parts.{no_part, part_at, contents_in, AreAtHome}
-use Rattle.lock_model.specs.PlainLists.{table_hold_of, queued_of}
+use Rattle.lock_model.specs.PlainLists.{table_hold_of, table_holds_of, queued_of}
 use Rattle.lock_model.specs.Shows.{is_hold, ListsHolds, AreInTable}
 use Rattle.lock_model.specs.declared.machine.plain.Spot.TheVariants.{Table}
 use Rattle.lock_model.specs.Plain.{as_wait}
@@ -37,10 +37,7 @@ use Rattle.lock_table.proofs.HoldLists.{take_one_more}
 use Rattle.lock_table.proofs.ListLemmas.{any_weaker}
 use Rattle.lock_table.proofs.ListingLemmas.{count_by-map, count_by-same, once_or_not}
 
--- the holds and the waits of a part, as they stand in the plain lists
-abbrev pub table_holds_of : PartView → List Hold
-table_holds_of part = map table_hold_of part.holds
-
+-- the waits of a part, as they stand in the plain list
 abbrev pub queued_waits_of : PartView → List QueuedWait
 queued_waits_of part = map queued_of part.waits
 
@@ -131,25 +128,12 @@ ListsHolds-gathered parts once home s o m = counted where
       ∙ count_by-same (λ hold. is_hold s o m (table_hold_of hold)) (λ hold. is_request_of hold s o m) (part_at parts (partition_of o)).holds (table_hold-is s o m)
       ∙ once_or_not (λ hold. is_request_of hold s o m) (part_at parts (partition_of o)).holds at_most
 
--- So has each list of the same holds.
-pub ListsHolds-moved :
-    (parts : List PartView) (before after : List Hold) → before ≡ flat_map table_holds_of parts → IsPermutation before after →
-    ((p : ℕ) → p < length parts → EachOnce (part_at parts p).holds (part_at parts p).waits) → AreAtHome parts →
-    ListsHolds after (λ session tag mode. (contents_in parts (partition_of tag)).holds session tag mode)
-ListsHolds-moved parts before after all moved once home s o m =
-    sum_by-IsPermutation (λ hold. if is_hold s o m hold then 1 else 0) before after moved
-    ∙ ap (count_by (is_hold s o m)) all ∙ ListsHolds-gathered parts once home s o m
-
 -- Each of them stands in the lock table.
 pub AreInTable-gathered : (parts : List PartView) → AreInTable (flat_map table_holds_of parts)
 AreInTable-gathered [] = All-nil (λ hold. hold.spot ≡ Table)
 AreInTable-gathered (part ∷ parts) =
     All-append (λ hold. hold.spot ≡ Table) (table_holds_of part) (flat_map table_holds_of parts)
     (All-map (λ hold. hold.spot ≡ Table) table_hold_of part.holds (λ k d within. refl)) (AreInTable-gathered parts)
-
-pub AreInTable-moved : (parts : List PartView) (before after : List Hold) → before ≡ flat_map table_holds_of parts → IsPermutation before after → AreInTable after
-AreInTable-moved parts before after all moved =
-    All-permutation (λ hold. hold.spot ≡ Table) before after moved (subst AreInTable (sym all) (AreInTable-gathered parts))
 
 -- whether two tags are the same one goes both ways
 tag_eq_comm : (x y : Tag) → tag_eq x y ≡ tag_eq y x
