@@ -6,14 +6,13 @@ use Rattle.std.proofs.lemmas.Bool.{cases_Bool, cases_lt, false≢true, false_fro
 use Rattle.std.proofs.lemmas.List.{flat_map_more, get_or_past, get_or_default, take_all}
 use Rattle.std.proofs.lemmas.List.Elements.{filter-append, All-nil, All-map, All-append}
 use Rattle.std.proofs.lemmas.List.Sums.{length-filter}
-use Rattle.std.specs.List.Sorted.{IsPermutation, IsStableByKey}
+use Rattle.std.specs.List.Sorted.{IsStableByKey}
 use Rattle.std.specs.Ordering.{nat_cmp, on, is_lt, is_eq, ordering_reverse}
 use Rattle.std.specs.declared.cmp.Ordering.{Ordering}
 use Rattle.std.specs.declared.cmp.Ordering.TheVariants.{Less, Equal, Greater}
 use Rattle.std.specs.Cmp.{IsTotalOrder}
 use Rattle.std.specs.Cmp.Rules.{comparing}
 use Rattle.std.specs.Cmp.Lexicographic.{slice_cmp}
-use Rattle.std.proofs.lemmas.List.Sorted.{sum_by-IsPermutation, All-permutation}
 use Rattle.modes_core.specs.declared.modes.Mode.{Mode}
 use Rattle.modes_core.specs.declared.modes.Mode.TheVariants.{AccessShare}
 use Rattle.modes_core.specs.declared.tags.Tag.{Tag}
@@ -22,7 +21,6 @@ use Rattle.modes_core.specs.TagOrder.{same_tag-by_numbers}
 use Rattle.modes_core.proofs.Laws.{tag_eq-same, tag_eq-refl}
 use Rattle.lock_table.specs.declared.request.Request.{Request}
 use Rattle.lock_table.specs.declared.part_waits.PartWait.{PartWait}
-use Rattle.lock_model.specs.declared.machine.plain.Hold.{Hold}
 use Rattle.lock_model.specs.declared.machine.plain.QueuedWait.{QueuedWait}
 use Rattle.lock_table.specs.Request.{is_request_of}
 use Rattle.lock_table.specs.PartView.{PartView}

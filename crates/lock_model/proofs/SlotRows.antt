@@ -164,7 +164,7 @@ slot-count s database place word o m =
     let c = shown-count s database word RowExclusive place o m in
     count_by-append (is_hold s o m) (shown_hold s database place word AccessShare) (shown_hold s database place word RowShare ++ shown_hold s database place word RowExclusive)
     ∙ ap (λ k. count_by (is_hold s o m) (shown_hold s database place word AccessShare) + k)
-          (count_by-append (is_hold s o m) (shown_hold s database place word RowShare) (shown_hold s database place word RowExclusive))
+    (count_by-append (is_hold s o m) (shown_hold s database place word RowShare) (shown_hold s database place word RowExclusive))
     ∙ (λ i. a i + (b i + c i))
     ∙ three_modes m (slot_shows database word o m) (λ shown. (eligible-is database o m (and_parts (is_eligible_for database o m) (shows word (relation_of o) m) shown).0).2)
 
@@ -176,7 +176,7 @@ slot-count_other s database place word k o m apart =
     let c = other-count s database word RowExclusive place k o m apart in
     count_by-append (is_hold k o m) (shown_hold s database place word AccessShare) (shown_hold s database place word RowShare ++ shown_hold s database place word RowExclusive)
     ∙ ap (λ j. count_by (is_hold k o m) (shown_hold s database place word AccessShare) + j)
-          (count_by-append (is_hold k o m) (shown_hold s database place word RowShare) (shown_hold s database place word RowExclusive))
+    (count_by-append (is_hold k o m) (shown_hold s database place word RowShare) (shown_hold s database place word RowExclusive))
     ∙ (λ i. a i + (b i + c i))
 
 -- Where no two slots of a session are in use for one relation, its rows have each hold that they show once.
