@@ -9,8 +9,8 @@ ghost use Rattle.lock_model.specs.Plain.{IsPlainOf, hold_cmp, holds_of};
 
 mod counters;
 mod hands;
-mod lists;
 mod list_words;
+mod lists;
 mod moved_part;
 mod own_waits;
 mod partitions;
@@ -19,6 +19,7 @@ mod plain_lists;
 mod seats;
 mod sharing;
 mod slot_looks;
+mod slot_rows;
 mod slots;
 mod state;
 #[cfg(test)]

@@ -87,7 +87,7 @@ impl FastPath {
     ghost use Rattle.std.specs.Prelude.{◌≡◌, replicate, None};
 
     /// No database, no slot in use, and no counter read.
-    fn empty() -> Self
+    pub fn empty() -> Self
         ensures databases { result.databases ≡ replicate 64 0 }
         ensures slots { result.slots ≡ replicate 64 (replicate 16 0) }
         ensures zeros { result.zeros ≡ replicate 64 None }
@@ -275,7 +275,7 @@ impl Machine {
         ensures shown { IfOk result (λ plain. (w : World) → SafeWorld w → Shows self w → IsPlainOf plain w) }
         ensures in_order { IfOk result (λ plain. IsSorted hold_cmp (holds_of plain)) }
     {
-        let holds = gather_holds(alloc, self.contents.parts.as_slice())?;
+        let holds = gather_holds(alloc, &self.fast_path, self.contents.parts.as_slice())?;
         let waits = gather_waits(alloc, self.contents.parts.as_slice())?;
         Ok(Plain {
             holds,
