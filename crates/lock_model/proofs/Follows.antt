@@ -9,3 +9,4 @@ pub mod Sharing
 pub mod Counters
 pub mod Transfers
 pub mod Lists
+pub mod ListWords

@@ -6,14 +6,13 @@ use Rattle.std.proofs.lemmas.Bool.{cases_Bool, cases_lt, false≢true, false_fro
 use Rattle.std.proofs.lemmas.List.{flat_map_more, get_or_past, get_or_default, take_all}
 use Rattle.std.proofs.lemmas.List.Elements.{filter-append, All-nil, All-map, All-append}
 use Rattle.std.proofs.lemmas.List.Sums.{length-filter}
-use Rattle.std.specs.List.Sorted.{IsPermutation, IsStableByKey}
+use Rattle.std.specs.List.Sorted.{IsStableByKey}
 use Rattle.std.specs.Ordering.{nat_cmp, on, is_lt, is_eq, ordering_reverse}
 use Rattle.std.specs.declared.cmp.Ordering.{Ordering}
 use Rattle.std.specs.declared.cmp.Ordering.TheVariants.{Less, Equal, Greater}
 use Rattle.std.specs.Cmp.{IsTotalOrder}
 use Rattle.std.specs.Cmp.Rules.{comparing}
 use Rattle.std.specs.Cmp.Lexicographic.{slice_cmp}
-use Rattle.std.proofs.lemmas.List.Sorted.{sum_by-IsPermutation, All-permutation}
 use Rattle.modes_core.specs.declared.modes.Mode.{Mode}
 use Rattle.modes_core.specs.declared.modes.Mode.TheVariants.{AccessShare}
 use Rattle.modes_core.specs.declared.tags.Tag.{Tag}
@@ -22,13 +21,12 @@ use Rattle.modes_core.specs.TagOrder.{same_tag-by_numbers}
 use Rattle.modes_core.proofs.Laws.{tag_eq-same, tag_eq-refl}
 use Rattle.lock_table.specs.declared.request.Request.{Request}
 use Rattle.lock_table.specs.declared.part_waits.PartWait.{PartWait}
-use Rattle.lock_model.specs.declared.machine.plain.Hold.{Hold}
 use Rattle.lock_model.specs.declared.machine.plain.QueuedWait.{QueuedWait}
 use Rattle.lock_table.specs.Request.{is_request_of}
 use Rattle.lock_table.specs.PartView.{PartView}
 use Rattle.lock_table.specs.PartWaits.{EachOnce, queues_in}
 use Rattle.lock_table.specs.Parts.{no_part, part_at, contents_in, AreAtHome}
-use Rattle.lock_model.specs.PlainLists.{table_hold_of, queued_of}
+use Rattle.lock_model.specs.PlainLists.{table_hold_of, table_holds_of, queued_of}
 use Rattle.lock_model.specs.Shows.{is_hold, ListsHolds, AreInTable}
 use Rattle.lock_model.specs.declared.machine.plain.Spot.TheVariants.{Table}
 use Rattle.lock_model.specs.Plain.{as_wait}
@@ -37,10 +35,7 @@ use Rattle.lock_table.proofs.HoldLists.{take_one_more}
 use Rattle.lock_table.proofs.ListLemmas.{any_weaker}
 use Rattle.lock_table.proofs.ListingLemmas.{count_by-map, count_by-same, once_or_not}
 
--- the holds and the waits of a part, as they stand in the plain lists
-abbrev pub table_holds_of : PartView → List Hold
-table_holds_of part = map table_hold_of part.holds
-
+-- the waits of a part, as they stand in the plain list
 abbrev pub queued_waits_of : PartView → List QueuedWait
 queued_waits_of part = map queued_of part.waits
 
@@ -131,25 +126,12 @@ ListsHolds-gathered parts once home s o m = counted where
       ∙ count_by-same (λ hold. is_hold s o m (table_hold_of hold)) (λ hold. is_request_of hold s o m) (part_at parts (partition_of o)).holds (table_hold-is s o m)
       ∙ once_or_not (λ hold. is_request_of hold s o m) (part_at parts (partition_of o)).holds at_most
 
--- So has each list of the same holds.
-pub ListsHolds-moved :
-    (parts : List PartView) (before after : List Hold) → before ≡ flat_map table_holds_of parts → IsPermutation before after →
-    ((p : ℕ) → p < length parts → EachOnce (part_at parts p).holds (part_at parts p).waits) → AreAtHome parts →
-    ListsHolds after (λ session tag mode. (contents_in parts (partition_of tag)).holds session tag mode)
-ListsHolds-moved parts before after all moved once home s o m =
-    sum_by-IsPermutation (λ hold. if is_hold s o m hold then 1 else 0) before after moved
-    ∙ ap (count_by (is_hold s o m)) all ∙ ListsHolds-gathered parts once home s o m
-
 -- Each of them stands in the lock table.
 pub AreInTable-gathered : (parts : List PartView) → AreInTable (flat_map table_holds_of parts)
 AreInTable-gathered [] = All-nil (λ hold. hold.spot ≡ Table)
 AreInTable-gathered (part ∷ parts) =
     All-append (λ hold. hold.spot ≡ Table) (table_holds_of part) (flat_map table_holds_of parts)
     (All-map (λ hold. hold.spot ≡ Table) table_hold_of part.holds (λ k d within. refl)) (AreInTable-gathered parts)
-
-pub AreInTable-moved : (parts : List PartView) (before after : List Hold) → before ≡ flat_map table_holds_of parts → IsPermutation before after → AreInTable after
-AreInTable-moved parts before after all moved =
-    All-permutation (λ hold. hold.spot ≡ Table) before after moved (subst AreInTable (sym all) (AreInTable-gathered parts))
 
 -- whether two tags are the same one goes both ways
 tag_eq_comm : (x y : Tag) → tag_eq x y ≡ tag_eq y x

@@ -8,3 +8,4 @@ pub mod SlotLooks
 pub mod Runs
 pub mod SlotLists
 pub mod Lists
+pub mod ListWords

@@ -1,9 +1,10 @@
-use Rattle.std.specs.Prelude.{◌≡◌, ℕ, ◌==◌, List, [], map, filter, count_by, slice_index_or}
+use Rattle.std.specs.Prelude.{◌≡◌, ℕ, true, ◌==◌, ◌||◌, List, [], All, map, filter, count_by, slice_index_or}
 use Rattle.std.specs.Ordering.{nat_cmp, on, then_cmp}
 use Rattle.std.specs.declared.cmp.Ordering.{Ordering}
 use Rattle.std.specs.declared.cmp.Ordering.TheVariants.{Less, Equal, Greater}
 use Rattle.std.specs.Cmp.Lexicographic.{slice_cmp}
 use Rattle.std.specs.List.Sorted.{IsSortedByKey}
+use Rattle.modes_core.specs.declared.modes.Mode.{Mode}
 use Rattle.modes_core.specs.declared.tags.Tag.{Tag}
 use Rattle.modes_core.specs.Mode.{number_of}
 use Rattle.modes_core.specs.ModeSet.{set_has}
@@ -19,8 +20,10 @@ use Rattle.lock_table.specs.Content.{Holds}
 use Rattle.lock_table.specs.Content as content
 use Rattle.lw_word.specs.LightweightWord.{free_word}
 use Rattle.lock_world.specs.World.{World, WordExists, word_in}
+use Rattle.lock_world.specs.SlotHolds.{IsHeldIn}
+use Rattle.lock_world.specs.SafeWorld.{slots_of}
 use Rattle.lock_model.specs.declared.machine.state.Sleeper.{Sleeper}
-use Rattle.lock_model.specs.Shows.{ListsHolds, AreInTable, waiters_of}
+use Rattle.lock_model.specs.Shows.{ListsHolds, waiters_of}
 
 -- what the answer of a run says: its holds, its waits, and what each word shows
 abbrev pub holds_of : Plain → List Hold
@@ -64,11 +67,24 @@ as_wait queued = record { session = queued.session; mode = queued.mode; held = s
 abbrev pub table_holds : World → Holds
 table_holds w session tag mode = (w.contents.now (partition_of tag)).holds session tag mode
 
--- The answer of a run says what the World has: each hold of a content once, each object's waits in the order of its
--- queue, the waits in the order of their tags, what each word shows, and who waits for each lightweight lock.
+-- all holds: those that slots show, and those of the contents
+abbrev pub all_holds : World → Holds
+all_holds w session tag mode = slots_of w.words.database w.words.slot session tag mode || table_holds w session tag mode
+
+-- The hold stands where this says: in the content of its partition, or in this slot of its session.
+abbrev pub StandsAt : World → ℕ → Tag → Mode → Spot → Type 0
+StandsAt w session tag mode spot.Table = table_holds w session tag mode ≡ true
+StandsAt w session tag mode (spot.Slot place) = IsHeldIn (w.words.database session) (w.words.slot session) tag mode place
+
+abbrev pub StandsThere : World → Hold → Type 0
+StandsThere w hold = StandsAt w hold.session hold.tag hold.mode hold.spot
+
+-- The answer of a run says what the World has: each hold once, of slots and of contents, and where it stands, each
+-- object's waits in the order of its queue, the waits in the order of their tags, what each word shows, and who waits
+-- for each lightweight lock.
 pub record IsPlainOf (plain : Plain) (w : World) : Type 0 where
-  pub holds : ListsHolds (holds_of plain) (table_holds w)
-  pub in_table : AreInTable (holds_of plain)
+  pub holds : ListsHolds (holds_of plain) (all_holds w)
+  pub spots : All (λ hold. StandsThere w hold) (holds_of plain)
   pub waits : (tag : Tag) → map as_wait (filter (λ queued. tag_eq queued.tag tag) (listed_waits plain)) ≡ (w.contents.now (partition_of tag)).waits tag
   pub waits_by_tag : IsSortedByKey (λ queued. queued.tag) (on numbers_of (slice_cmp nat_cmp)) (listed_waits plain)
   pub words : (word : Word) → WordExists word → word_of plain word ≡ word_in w.words word

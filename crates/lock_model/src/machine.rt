@@ -19,6 +19,7 @@ mod plain_lists;
 mod seats;
 mod sharing;
 mod slot_looks;
+mod slot_rows;
 mod slots;
 mod state;
 #[cfg(test)]

@@ -1,13 +1,20 @@
-use Rattle.std.proofs.Common.{◌≡◌, ◌≢◌, ℕ, ◌<◌, All, Bool, true, false, cond, List, [], length, get_or, Option, None, refl, sym, ap, ◌∙◌, subst, inl, inr, arith}
+use Rattle.std.proofs.Common.{◌≡◌, ◌≢◌, ℕ, ◌+◌, ◌<◌, All, Bool, true, false, cond, ◌&&◌, ◌||◌, List, [], ◌++◌, length, get_or, nat_eq, Option, None, refl, sym, ap, ◌∙◌, subst, inl, inr, arith}
 use Rattle.std.specs.Prelude.{◌==◌, count_by, replicate, map, filter}
-use Rattle.std.specs.List.Sorted.{IsSortedByKey}
+use Rattle.std.specs.List.{flat_map}
+use Rattle.std.specs.List.Sorted.{IsSortedByKey, IsPermutation}
 use Rattle.std.specs.Ordering.{nat_cmp, on}
 use Rattle.std.specs.Cmp.Lexicographic.{slice_cmp}
-use Rattle.std.proofs.lemmas.Bool.{cases_lt, false≢true}
+use Rattle.std.proofs.lemmas.Bool.{cases_lt, false≢true, and_from, eq-eqb}
+use Rattle.std.proofs.lemmas.List.Elements.{All-append}
+use Rattle.std.proofs.lemmas.List.Folds.{list_any_at}
+use Rattle.std.proofs.lemmas.List.Sorted.{sum_by-IsPermutation, All-permutation}
 use Rattle.std.proofs.lemmas.List.{get_or-replicate, length-replicate, get_or_past}
 use Rattle.modes_core.specs.declared.modes.Mode.{Mode}
 use Rattle.modes_core.specs.declared.tags.Tag.{Tag}
-use Rattle.modes_core.specs.Tag.{tag_eq, numbers_of, partition_of, index_of}
+use Rattle.modes_core.specs.declared.tags.Tag.TheVariants.{Relation}
+use Rattle.modes_core.specs.Mode.{mode_eq}
+use Rattle.modes_core.specs.Tag.{tag_eq, numbers_of, partition_of, index_of, is_eligible_for}
+use Rattle.modes_core.proofs.Laws.{mode_eq-refl, tag_eq-refl}
 use Rattle.lock_world.specs.declared.events.Word.{Word}
 use Rattle.lock_world.specs.declared.events.Word.TheVariants.{Partition, Fast, Database, Slot, Wait, Strong, Sleep}
 use Rattle.lock_model.specs.declared.machine.hands.InHand.{InHand}
@@ -15,21 +22,33 @@ use Rattle.lock_model.specs.declared.machine.own_waits.Awaited.{Awaited}
 use Rattle.lock_model.specs.declared.machine.plain.Hold.{Hold}
 use Rattle.lock_model.specs.declared.machine.plain.QueuedWait.{QueuedWait}
 use Rattle.lock_model.specs.declared.machine.plain.Plain.{Plain}
+use Rattle.lock_model.specs.declared.machine.state.FastPath.{FastPath}
 use Rattle.lock_model.specs.declared.machine.state.Machine.{Machine}
 use Rattle.lock_table.specs.Content.{empty_content}
 use Rattle.lw_word.specs.LightweightWord.{free_word}
 use Rattle.lock_table.specs.Parts.{AreAtHome, no_part, part_at, contents_in}
 use Rattle.lock_table.specs.PartView.{PartView, content_of}
-use Rattle.lock_model.specs.Plain.{IsPlainOf, word_of, holds_of, listed_waits, as_wait}
+use Rattle.lw_word.specs.SlotWord.{relation_in}
+use Rattle.lw_word.specs.SlotWord as slot_word
+use Rattle.lock_table.specs.PartWaits.{EachOnce}
+use Rattle.lock_table.proofs.HoldLists.{count_by-append}
+use Rattle.lock_table.proofs.ListLemmas.{any-counted}
+use Rattle.lock_model.specs.PlainLists.{table_holds_of}
+use Rattle.lock_model.specs.SlotRows.{fast_path_rows}
+use Rattle.lock_model.specs.Plain.{IsPlainOf, StandsAt, StandsThere, table_holds, all_holds, word_of, holds_of, listed_waits, as_wait}
+use Rattle.lock_world.specs.SlotHolds.{OneSlotEach, IsHeldIn}
 use Rattle.lock_world.specs.World.{WordExists, word_in, World, opening}
-use Rattle.lock_world.specs.SafeWorld.{SafeWorld}
+use Rattle.lock_world.specs.SafeWorld.{SafeWorld, slots_of}
+use Rattle.lock_world.proofs.FromSafeWorld.{shown-in_no_content}
 use Rattle.lock_world.specs.Counted.{Counted, count_at}
 use Rattle.lock_world.specs.Total.{total}
 use Rattle.lock_model.proofs.CountedLists.{total-of_sessions}
-use Rattle.lock_model.specs.Shows.{Shows, ShowsHandIfAny, AreInTable, ListsHolds, counted_of, waiters_of}
+use Rattle.lock_model.specs.Shows.{Shows, ShowsHandIfAny, AreInTable, ListsHolds, is_hold, counted_of, waiters_of}
 use Rattle.lock_model.proofs.Shows.Places.{get_or-one_value}
 use Rattle.lock_model.proofs.Shows.Locks.{no_marks}
-use Rattle.lock_model.proofs.Shows.Looks.{content_from}
+use Rattle.lock_model.proofs.Shows.Looks.{content_from, slots_from}
+use Rattle.lock_model.proofs.PlainLists.{ListsHolds-gathered, AreInTable-gathered}
+use Rattle.lock_model.proofs.SlotRows.{fast_path-count, fast_path-all}
 
 -- Nobody sleeps, and no wait list is in hand.
 abbrev NobodySleeps : Machine → Type 0
@@ -135,9 +154,11 @@ parts_at_home m w safe shows = record { holds = held; waits = waiting } where
             ap (λ part. (content_of part).waits t) none
       ]
 
--- What is gathered of parts that are at home.
-abbrev pub GathersHolds : List PartView → List Hold → Type 0
-GathersHolds parts list = AreAtHome parts → ListsHolds list (λ s t n. (contents_in parts (partition_of t)).holds s t n)
+-- What is gathered of slots and parts, and of parts that are at home.
+abbrev pub GathersHolds : List PartView → FastPath → List Hold → Type 0
+GathersHolds parts path list =
+    IsPermutation (flat_map table_holds_of parts ++ fast_path_rows path.databases path.slots) list
+    × ((p : ℕ) → p < length parts → EachOnce (part_at parts p).holds (part_at parts p).waits)
 
 abbrev pub GathersWaits : List PartView → List QueuedWait → Type 0
 GathersWaits parts list = AreAtHome parts → (t : Tag) → map as_wait (filter (λ queued. tag_eq queued.tag t) list) ≡ (contents_in parts (partition_of t)).waits t
@@ -150,14 +171,92 @@ counter_shown m w safe shows i =
     ∙ (λ j. total w.numbers.limit (λ s. count_at i (shows.counted.each s j)))
     ∙ sym (safe.counters.shown i)
 
+is_hold-itself : (hold : Hold) → is_hold hold.session hold.tag hold.mode hold ≡ true
+is_hold-itself hold =
+    and_from (nat_eq hold.session hold.session) (tag_eq hold.tag hold.tag && mode_eq hold.mode hold.mode) (eq-eqb hold.session hold.session refl)
+    (and_from (tag_eq hold.tag hold.tag) (mode_eq hold.mode hold.mode) (tag_eq-refl hold.tag) (mode_eq-refl hold.mode))
+
+-- What is in one of two lists at most is counted where it is in either.
+either : (table slot : Bool) → (slot ≡ true → table ≡ false) → cond table 1 0 + cond slot 1 0 ≡ cond (slot || table) 1 0
+either true true apart = absurd (false≢true (sym (apart refl)))
+either true false apart = refl
+either false true apart = refl
+either false false apart = refl
+
+-- What is gathered has each hold of the World once.
+pub all-shown : (m : Machine) (w : World) → SafeWorld w → Shows m w → (list : List Hold) → GathersHolds m.contents.parts.items m.fast_path list → ListsHolds list (all_holds w)
+all-shown m w safe shows list gathered s t n =
+    sum_by-IsPermutation (λ hold. cond (is_hold s t n hold) 1 0) (tables ++ rows) list gathered.0
+    ∙ count_by-append (is_hold s t n) tables rows
+    ∙ (λ i. in_tables i + in_slots i)
+    ∙ either (table_holds w s t n) (slots_of w.words.database w.words.slot s t n) (shown-in_no_content w safe (partition_of t) s t n) where
+      tables : List Hold
+      tables = flat_map table_holds_of m.contents.parts.items
+
+      rows : List Hold
+      rows = fast_path_rows m.fast_path.databases m.fast_path.slots
+
+      in_tables : count_by (is_hold s t n) tables ≡ cond (table_holds w s t n) 1 0
+      in_tables =
+          ListsHolds-gathered m.contents.parts.items gathered.1 (parts_at_home m w safe shows) s t n
+          ∙ ap (λ c. cond (c.holds s t n) 1 0) (content_from m w safe shows t)
+
+      in_slots : count_by (is_hold s t n) rows ≡ cond (slots_of w.words.database w.words.slot s t n) 1 0
+      in_slots =
+          fast_path-count m.fast_path.databases m.fast_path.slots s shows.fast_path.sixty_four_databases
+          (subst OneSlotEach (λ i place. sym (shows.fast_path.slot s place) i) (safe.slots.one_each s)) t n
+          ∙ ap (λ b. cond b 1 0) (slots_from m w safe shows s t n)
+
+-- Each hold of such a list, in the lock table, stands there.
+in_table-stand : (w : World) (list : List Hold) → AreInTable list → ListsHolds list (table_holds w) → All (λ hold. StandsThere w hold) list
+in_table-stand w list in_table holds = λ k d within.
+    let hold : Hold = get_or list k d in
+    let among : 0 < count_by (is_hold hold.session hold.tag hold.mode) list =
+    any-counted (is_hold hold.session hold.tag hold.mode) list (list_any_at (is_hold hold.session hold.tag hold.mode) list k d within (is_hold-itself hold)) in
+    subst (StandsAt w hold.session hold.tag hold.mode) (sym (in_table k d within))
+    (listed (table_holds w hold.session hold.tag hold.mode) (subst (λ n. 0 < n) (holds hold.session hold.tag hold.mode) among)) where
+      listed : (b : Bool) → 0 < cond b 1 0 → b ≡ true
+      listed true more = refl
+      listed false more = absurd (omega (arith, more))
+
+-- So does each hold of what is gathered.
+pub all-stand : (m : Machine) (w : World) → SafeWorld w → Shows m w → (list : List Hold) → GathersHolds m.contents.parts.items m.fast_path list → All (λ hold. StandsThere w hold) list
+all-stand m w safe shows list gathered =
+    All-permutation (λ hold. StandsThere w hold) (tables ++ rows) list gathered.0
+    (All-append (λ hold. StandsThere w hold) tables rows (in_table-stand w tables (AreInTable-gathered m.contents.parts.items) in_tables)
+    (fast_path-all (λ hold. StandsThere w hold) m.fast_path.databases m.fast_path.slots in_slot)) where
+      tables : List Hold
+      tables = flat_map table_holds_of m.contents.parts.items
+
+      rows : List Hold
+      rows = fast_path_rows m.fast_path.databases m.fast_path.slots
+
+      in_tables : ListsHolds tables (table_holds w)
+      in_tables s t n =
+          ListsHolds-gathered m.contents.parts.items gathered.1 (parts_at_home m w safe shows) s t n
+          ∙ ap (λ c. cond (c.holds s t n) 1 0) (content_from m w safe shows t)
+
+      word : ℕ → ℕ → ℕ
+      word s place = get_or (get_or m.fast_path.slots s []) place 0
+
+      in_slot : (s place : ℕ) (n : Mode) → place < 16
+          → is_eligible_for (get_or m.fast_path.databases s 0) (Relation (get_or m.fast_path.databases s 0) (relation_in (word s place))) n ≡ true
+          → slot_word.shows (word s place) (relation_in (word s place)) n ≡ true
+          → IsHeldIn (w.words.database s) (w.words.slot s) (Relation (get_or m.fast_path.databases s 0) (relation_in (word s place))) n place
+      in_slot s place n within eligible shown = record {
+        eligible = ap (λ d. is_eligible_for d (Relation (get_or m.fast_path.databases s 0) (relation_in (word s place))) n) (sym (shows.fast_path.database s)) ∙ eligible;
+        within = within;
+        shown = ap (λ k. slot_word.shows k (relation_in (word s place)) n) (sym (shows.fast_path.slot s place)) ∙ shown;
+      }
+
 -- What the machine gives in the end is what the World has.
 pub plain-shown : (m : Machine) (w : World) → SafeWorld w → Shows m w → (plain : Plain) (parts parts_2 : List PartView) → parts ≡ m.contents.parts.items → parts_2 ≡ m.contents.parts.items
-    → GathersHolds parts (holds_of plain) → AreInTable (holds_of plain) → GathersWaits parts_2 (listed_waits plain)
+    → GathersHolds parts m.fast_path (holds_of plain) → GathersWaits parts_2 (listed_waits plain)
     → IsSortedByKey (λ queued. queued.tag) (on numbers_of (slice_cmp nat_cmp)) (listed_waits plain)
     → plain.words ≡ m.words → plain.fast_path ≡ m.fast_path → plain.counted ≡ m.counted → plain.lists ≡ m.lists → IsPlainOf plain w
-plain-shown m w safe shows plain parts parts_2 these those gathered in_table gathered_waits by_tag same same_path same_counted same_lists = record {
-  holds = λ s t n. holds at_home s t n ∙ ap (λ c. cond (c.holds s t n) 1 0) (content_from m w safe shows t);
-  in_table = in_table;
+plain-shown m w safe shows plain parts parts_2 these those gathered gathered_waits by_tag same same_path same_counted same_lists = record {
+  holds = all-shown m w safe shows (holds_of plain) holds;
+  spots = all-stand m w safe shows (holds_of plain) holds;
   waits = λ t. waits at_home t ∙ ap (λ c. c.waits t) (content_from m w safe shows t);
   waits_by_tag = by_tag;
   words = word_shown;
@@ -166,8 +265,8 @@ plain-shown m w safe shows plain parts parts_2 these those gathered in_table gat
   at_home : AreAtHome m.contents.parts.items
   at_home = parts_at_home m w safe shows
 
-  holds : GathersHolds m.contents.parts.items (holds_of plain)
-  holds = subst (λ items. GathersHolds items (holds_of plain)) these gathered
+  holds : GathersHolds m.contents.parts.items m.fast_path (holds_of plain)
+  holds = subst (λ items. GathersHolds items m.fast_path (holds_of plain)) these gathered
 
   waits : GathersWaits m.contents.parts.items (listed_waits plain)
   waits = subst (λ items. GathersWaits items (listed_waits plain)) those gathered_waits

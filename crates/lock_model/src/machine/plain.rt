@@ -47,8 +47,8 @@ impl Plain {
     ghost use Rattle.lock_model.specs.Plain.{holds_of, listed_waits, listed_sleepers, word_of};
     ghost use Rattle.lock_world.specs.World.{WordExists};
 
-    /// The holds in the lock table, by session, then by the tag's numbers, then by the mode's number, then by
-    /// where they stand. Those in fast-path slots the words of the slots tell.
+    /// All holds, those in fast-path slots and those in the lock table, each once, with where it stands: by
+    /// session, then by the tag's numbers, then by the mode's number, then by where they stand.
     pub fn holds(&self) -> &[Hold]
         ensures { result.now ≡ holds_of self.now }
     {

@@ -1,36 +1,45 @@
 //! What stands in all parts of the lock table, in two plain lists.
 
-ghost use Rattle.std.specs.Prelude.{◌≡◌, ◌++◌, map, filter, IfOk, OnOk};
-ghost use Rattle.std.specs.List.Sorted.{IsSorted, IsSortedByKey};
+ghost use Rattle.std.specs.Prelude.{◌≡◌, ℕ, ◌<◌, ◌++◌, length, map, filter, IfOk, OnOk};
+ghost use Rattle.std.specs.List.{flat_map};
+ghost use Rattle.std.specs.List.Sorted.{IsSorted, IsPermutation, IsSortedByKey};
 ghost use Rattle.std.specs.Ordering.{nat_cmp, on};
 ghost use Rattle.std.specs.Cmp.Lexicographic.{slice_cmp};
 ghost use Rattle.modes_core.specs.declared.tags.Tag.{Tag};
 ghost use Rattle.modes_core.specs.Tag.{tag_eq, numbers_of, partition_of};
-ghost use Rattle.lock_model.specs.Shows.{ListsHolds, AreInTable};
 ghost use Rattle.lock_table.specs.PartWaits.{EachOnce};
 ghost use Rattle.lock_model.specs.Plain.{hold_cmp, as_wait};
-ghost use Rattle.lock_table.specs.Parts.{AreAtHome, contents_in};
-ghost use Rattle.lock_model.specs.PlainLists.{table_hold_of, queued_of};
+ghost use Rattle.lock_table.specs.Parts.{AreAtHome, part_at, contents_in};
+ghost use Rattle.lock_model.specs.PlainLists.{table_hold_of, table_holds_of, queued_of};
+ghost use Rattle.lock_model.specs.SlotRows.{fast_path_rows};
 
 use super::plain::{Hold, QueuedWait, Spot};
+use super::slot_rows::append_slot_holds;
+use super::state::FastPath;
 use lock_table::{NoMemory, PlainPart};
 use std::alloc::Global;
 
 #[cfg(test)]
 mod tests;
 
-/// The holds of all parts, in the order of holds. Where each object's holds stand in the partition that it
-/// lies in, the list has each of them once.
-pub fn gather_holds(alloc: Global, parts: &[PlainPart]) -> Result<Vec<Hold>, NoMemory>
-    ensures all { IfOk result (λ list. AreAtHome parts.now →
-        ListsHolds list.items (λ session tag mode. (contents_in parts.now (partition_of tag)).holds session tag mode)) }
-    ensures in_table { IfOk result (λ list. AreInTable list.items) }
+/// The holds of all parts and those that sessions' fast-path slots show, in the order of holds. Each request is
+/// held once at most in a part.
+pub fn gather_holds(
+    alloc: Global,
+    fast_path: &FastPath,
+    parts: &[PlainPart],
+) -> Result<Vec<Hold>, NoMemory>
+    ensures all { IfOk result (λ list. IsPermutation
+        (flat_map table_holds_of parts.now ++ fast_path_rows fast_path.now.databases fast_path.now.slots) list.items) }
+    ensures each_once { IfOk result (λ list. (p : ℕ) → p < length parts.now →
+        EachOnce (part_at parts.now p).holds (part_at parts.now p).waits) }
     ensures in_order { IfOk result (λ list. IsSorted hold_cmp list.items) }
 {
     let mut holds = Vec::new(alloc);
     for part in parts {
         append_holds(part, &mut holds)?;
     }
+    append_slot_holds(fast_path, &mut holds)?;
     holds.sort_unstable();
     Ok(holds)
 }

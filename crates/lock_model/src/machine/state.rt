@@ -87,7 +87,7 @@ impl FastPath {
     ghost use Rattle.std.specs.Prelude.{◌≡◌, replicate, None};
 
     /// No database, no slot in use, and no counter read.
-    fn empty() -> Self
+    pub fn empty() -> Self
         ensures databases { result.databases ≡ replicate 64 0 }
         ensures slots { result.slots ≡ replicate 64 (replicate 16 0) }
         ensures zeros { result.zeros ≡ replicate 64 None }
@@ -253,6 +253,19 @@ impl Machine {
                 mode,
                 strong,
             } => return self.transfer_slot(session, owner, slot, tag, mode, strong),
+            Step::LockList { word } => self.lock_list(session, word),
+            Step::UnlockList {
+                word,
+                has_waiters,
+                release_ok,
+            } => self.unlock_list(session, word, has_waiters, release_ok),
+            Step::JoinList { mode } => return self.join_list(session, mode),
+            Step::LeaveList => self.leave_list(session),
+            Step::TakeOff { other } => self.take_off(session, other),
+            Step::Tell { other } => self.tell(session, other),
+            Step::LoadSleep { shown } => self.load_sleep(session, shown),
+            Step::SetReleaseOk { word, shown } => self.set_release_ok(session, word, shown),
+            Step::SetHasWaiters { word, shown } => self.set_has_waiters(session, word, shown),
         }
         Ok(())
     }
@@ -262,7 +275,7 @@ impl Machine {
         ensures shown { IfOk result (λ plain. (w : World) → SafeWorld w → Shows self w → IsPlainOf plain w) }
         ensures in_order { IfOk result (λ plain. IsSorted hold_cmp (holds_of plain)) }
     {
-        let holds = gather_holds(alloc, self.contents.parts.as_slice())?;
+        let holds = gather_holds(alloc, &self.fast_path, self.contents.parts.as_slice())?;
         let waits = gather_waits(alloc, self.contents.parts.as_slice())?;
         Ok(Plain {
             holds,

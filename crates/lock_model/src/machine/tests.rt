@@ -1,4 +1,4 @@
-use super::{Plain, run_events};
+use super::{Plain, Spot, run_events};
 use lock_table::Move;
 use lock_world::{Event, Step, Word};
 use modes_core::{Mode, SessionId, Tag};
@@ -6,7 +6,9 @@ use std::process::Abort;
 use std::test::Fail;
 
 mod counters;
+mod list_words;
 mod lists;
+mod long_walk;
 mod partitions;
 mod seats;
 mod sharing;
@@ -112,7 +114,6 @@ fn release(mode: Mode) -> Move {
 
 #[test]
 fn no_event_leaves_the_opening_world(rt: HostRuntime) -> Result<(), Fail> {
-    let a = session(&rt, 0);
     let plain = run_events(rt.alloc(), &[])?;
     assert_eq!(rt; plain.holds().len(), 0);
     assert_eq!(rt; plain.waits().len(), 0);
@@ -128,12 +129,26 @@ fn no_event_leaves_the_opening_world(rt: HostRuntime) -> Result<(), Fail> {
         0,
         "there is no such partition"
     );
-    assert_eq!(rt; plain.word(Word::Fast(a)), 0x2000_0000);
-    assert_eq!(rt; plain.word(Word::Database(a)), 0);
-    assert_eq!(rt; plain.word(Word::Slot(a, 15)), 0);
-    assert_eq!(rt; plain.word(Word::Wait(a)), 0);
-    assert_eq!(rt; plain.word(Word::Sleep(a)), 0);
+    for number in 0..64u8 {
+        let whose = session(&rt, number);
+        assert_eq!(rt; plain.word(Word::Fast(whose)), 0x2000_0000);
+        assert_eq!(rt; plain.word(Word::Database(whose)), 0);
+        for place in 0..16u8 {
+            assert_eq!(rt; plain.word(Word::Slot(whose, place)), 0);
+        }
+        assert_eq!(rt; plain.word(Word::Wait(whose)), 0);
+        assert_eq!(rt; plain.word(Word::Sleep(whose)), 0);
+    }
     Ok(())
+}
+
+/// How many of the holds are in the lock table.
+fn holds_in_table(plain: &Plain) -> usize {
+    plain
+        .holds()
+        .iter()
+        .filter(|hold| hold.spot == Spot::Table)
+        .count()
 }
 
 /// Runs the events after sessions 0 and 1 are open.
@@ -145,7 +160,8 @@ fn run_open<R: Abort + AllocGlobal>(rt: &R, more: &[Event]) -> Result<Plain, Fai
     Ok(run_events(rt.alloc(), events.as_slice())?)
 }
 
-/// Runs the events after sessions 0 and 1 are open, and looks at what the word shows; there are no holds.
+/// Runs the events after sessions 0 and 1 are open, and looks at what the word shows; there are no holds in the
+/// lock table.
 fn shows<R: Abort + AllocGlobal>(
     rt: &R,
     more: &[Event],
@@ -154,7 +170,7 @@ fn shows<R: Abort + AllocGlobal>(
 ) -> Result<(), Fail> {
     let plain = run_open(rt, more)?;
     assert_eq!(rt; plain.word(word), shown);
-    assert_eq!(rt; plain.holds().len(), 0);
+    assert_eq!(rt; holds_in_table(&plain), 0);
     Ok(())
 }
 

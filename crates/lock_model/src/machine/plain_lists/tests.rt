@@ -1,6 +1,7 @@
 ghost use Rattle.std.specs.Prelude.{◌≡◌, None};
 
 use super::{gather_holds, gather_waits};
+use crate::machine::state::FastPath;
 use crate::machine::{Hold, Spot};
 use lock_table::{PartTable, PlainPart};
 use modes_core::{Mode, SessionId, Tag};
@@ -71,7 +72,7 @@ fn parts<R: Abort + AllocGlobal>(rt: &R) -> Result<Vec<PlainPart>, Fail> {
 fn all_holds_are_listed_in_order(rt: HostRuntime) -> Result<(), Fail> {
     let (a, b) = (session(&rt, 0), session(&rt, 1));
     let parts = parts(&rt)?;
-    let list = gather_holds(rt.alloc(), parts.as_slice())?;
+    let list = gather_holds(rt.alloc(), &FastPath::empty(), parts.as_slice())?;
     let hold = |session, tag, mode| Hold {
         session,
         tag,

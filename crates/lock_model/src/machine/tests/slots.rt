@@ -2,6 +2,7 @@ use super::{
     FREE, HELD, closes, grant, is_kept, object, opens, puts, puts_word, run_open, session, shares,
     shows, takes, takes_word,
 };
+use crate::machine::{Hold, Plain, Spot, run_events};
 use lock_table::Move;
 use lock_world::{Event, Step, Word};
 use modes_core::{Mode, SessionId, Tag};
@@ -445,4 +446,91 @@ fn whoever_has_a_slot_is_not_closed(rt: HostRuntime) -> Result<(), Fail> {
     events.extend_from_slice(&more)?;
     shows(&rt, events.as_slice(), Word::Fast(a), FREE)?;
     shows(&rt, &events.as_slice()[..7], Word::Fast(a), HELD)
+}
+
+/// Ends the test where these are not the holds.
+fn expect_holds(rt: &impl Abort, plain: &Plain, expected: &[Hold]) -> Result<(), Fail> {
+    assert_eq!(rt; plain.holds().len(), expected.len());
+    for (hold, other) in plain.holds().iter().zip(expected) {
+        assert_eq!(rt; *hold, *other);
+    }
+    Ok(())
+}
+
+#[test]
+fn a_hold_in_a_slot_is_listed(rt: HostRuntime) -> Result<(), Fail> {
+    let a = session(&rt, 0);
+    let tag = Tag::relation(5, 16384);
+    let index = 796;
+    assert_eq!(rt; tag.strong_index(), index);
+    let hold = Hold {
+        session: a,
+        tag,
+        mode: Mode::AccessShare,
+        spot: Spot::Slot(15),
+    };
+    let events = |shown| {
+        [
+            opens(a),
+            stores(a, 5),
+            takes_fast(a, a),
+            does(a, Step::LoadStrong { index, shown }),
+            sets(a, 15, tag, Mode::AccessShare),
+            puts_fast(a, a),
+        ]
+    };
+    let plain = run_events(rt.alloc(), &events(0))?;
+    expect_holds(&rt, &plain, &[hold])?;
+    let plain = run_events(rt.alloc(), &events(0)[..4])?;
+    expect_holds(&rt, &plain, &[])?;
+    // The counter does not show 1, so nothing was read, and nothing is set.
+    let plain = run_events(rt.alloc(), &events(1))?;
+    expect_holds(&rt, &plain, &[])
+}
+
+#[test]
+fn holds_in_slots_are_listed_in_order(rt: HostRuntime) -> Result<(), Fail> {
+    let (a, b) = (session(&rt, 0), session(&rt, 1));
+    let partition = table().partition();
+    let granted = Move::Grant {
+        tag: table(),
+        mode: Mode::ShareUpdateExclusive,
+    };
+    let events = [
+        takes(b, 15),
+        puts(b, 15, grant(Mode::Share)),
+        takes(a, 15),
+        puts(a, 15, grant(Mode::Share)),
+        stores(b, 5),
+        takes_fast(b, b),
+        reads_zero(b, table()),
+        sets(b, 0, table(), Mode::AccessShare),
+        stores(a, 5),
+        takes_fast(a, a),
+        reads_zero(a, table()),
+        sets(a, 3, same_index(), Mode::RowShare),
+        sets(a, 15, table(), Mode::RowExclusive),
+        sets(a, 15, table(), Mode::AccessShare),
+        sets(a, 15, table(), Mode::RowShare),
+        takes(a, partition),
+        puts(a, partition, granted),
+    ];
+    let plain = run_open(&rt, &events)?;
+    let hold = |session, tag, mode, spot| Hold {
+        session,
+        tag,
+        mode,
+        spot,
+    };
+    let expected = [
+        hold(a, table(), Mode::AccessShare, Spot::Slot(15)),
+        hold(a, table(), Mode::RowShare, Spot::Slot(15)),
+        hold(a, table(), Mode::RowExclusive, Spot::Slot(15)),
+        hold(a, table(), Mode::ShareUpdateExclusive, Spot::Table),
+        hold(a, same_index(), Mode::RowShare, Spot::Slot(3)),
+        hold(a, object(), Mode::Share, Spot::Table),
+        hold(b, table(), Mode::AccessShare, Spot::Slot(0)),
+        hold(b, object(), Mode::Share, Spot::Table),
+    ];
+    expect_holds(&rt, &plain, &expected)
 }

@@ -1,5 +1,5 @@
 use super::{FREE, HELD, is_kept, puts, puts_word, run_open, session, takes, takes_word};
-use crate::machine::{Plain, Spot};
+use crate::machine::{Hold, Plain, Spot};
 use lock_table::Move;
 use lock_world::{Event, Step, Word};
 use modes_core::{Mode, SessionId, Tag};
@@ -95,20 +95,28 @@ fn run_next<R: Abort + AllocGlobal>(rt: &R, more: &[Event]) -> Result<Plain, Fai
     run_open(rt, events.as_slice())
 }
 
-/// Ends the test where these are not the holds, all of the table and of this session, in the order of their modes.
+/// Ends the test where these are not the holds, all of this session: those of the table, in the order of their modes,
+/// and the one of the other table in slot 1.
 fn expect_holds(
     rt: &impl Abort,
     plain: &Plain,
     whose: SessionId,
-    modes: &[Mode],
+    modes: &[(Mode, Spot)],
 ) -> Result<(), Fail> {
-    assert_eq!(rt; plain.holds().len(), modes.len());
-    for (hold, mode) in plain.holds().iter().zip(modes) {
+    assert_eq!(rt; plain.holds().len(), modes.len() + 1);
+    for (hold, (mode, spot)) in plain.holds().iter().zip(modes) {
         assert_eq!(rt; hold.session, whose);
         assert_eq!(rt; hold.tag, table());
         assert_eq!(rt; hold.mode, *mode);
-        assert_eq!(rt; hold.spot, Spot::Table);
+        assert_eq!(rt; hold.spot, *spot);
     }
+    let last = Hold {
+        session: whose,
+        tag: other_table(),
+        mode: Mode::AccessShare,
+        spot: Spot::Slot(1),
+    };
+    assert_eq!(rt; plain.holds()[modes.len()], last);
     Ok(())
 }
 
@@ -125,16 +133,19 @@ fn the_modes_of_a_slot_are_moved_to_the_table(rt: HostRuntime) -> Result<(), Fai
         passes(a, b, table()),
     ];
     let before = run_next(&rt, &more[..2])?;
-    expect_holds(&rt, &before, b, &[])?;
+    let (first, second) = (Mode::AccessShare, Mode::RowExclusive);
+    let in_slot = [(first, Spot::Slot(0)), (second, Spot::Slot(0))];
+    expect_holds(&rt, &before, b, &in_slot)?;
     assert_eq!(rt;
         before.word(Word::Slot(b, 0)),
         ACCESS_SHARE + ROW_EXCLUSIVE + 100
     );
     let one = run_next(&rt, &more[..3])?;
-    expect_holds(&rt, &one, b, &[Mode::AccessShare])?;
+    let apart = [(first, Spot::Table), (second, Spot::Slot(0))];
+    expect_holds(&rt, &one, b, &apart)?;
     assert_eq!(rt; one.word(Word::Slot(b, 0)), ROW_EXCLUSIVE + 100);
     assert_eq!(rt; one.word(Word::Partition(p)), HELD);
-    let both = [Mode::AccessShare, Mode::RowExclusive];
+    let both = [(first, Spot::Table), (second, Spot::Table)];
     let two = run_next(&rt, &more[..4])?;
     expect_holds(&rt, &two, b, &both)?;
     assert_eq!(rt; two.word(Word::Slot(b, 0)), 0);
@@ -163,7 +174,7 @@ fn what_was_moved_is_its_sessions_own(rt: HostRuntime) -> Result<(), Fail> {
         puts(b, p, Move::Release { tag, mode }),
     ];
     let plain = run_next(&rt, &more)?;
-    expect_holds(&rt, &plain, b, &[])?;
+    expect_holds(&rt, &plain, b, &[(Mode::RowExclusive, Spot::Slot(0))])?;
     assert_eq!(rt; plain.word(Word::Partition(p)), FREE);
     assert_eq!(rt; plain.word(Word::Slot(b, 0)), ROW_EXCLUSIVE + 100);
     // The adopt alone is put.
@@ -191,7 +202,11 @@ fn the_own_slots_are_moved_too(rt: HostRuntime) -> Result<(), Fail> {
     ];
     events.extend_from_slice(&more)?;
     let plain = run_open(&rt, events.as_slice())?;
-    expect_holds(&rt, &plain, a, &[Mode::AccessShare, Mode::RowExclusive])?;
+    let moved = [
+        (Mode::AccessShare, Spot::Table),
+        (Mode::RowExclusive, Spot::Table),
+    ];
+    expect_holds(&rt, &plain, a, &moved)?;
     assert_eq!(rt; plain.word(Word::Slot(a, 0)), 0);
     assert_eq!(rt; plain.word(Word::Partition(p)), FREE);
     assert_eq!(rt; plain.word(Word::Fast(a)), FREE);

@@ -1,4 +1,4 @@
-use Rattle.std.proofs.Common.{◌≡◌, ◌<◌, true, get_or, sym, ap, ◌∙◌, arith}
+use Rattle.std.proofs.Common.{◌≡◌, ◌<◌, get_or, sym, ap, ◌∙◌, arith}
 use Rattle.lock_model.specs.ListWords.{may_lock_list}
 use Rattle.lock_model.proofs.Follows.ListWords.{locked_fast_list}
 use Rattle.lock_model.proofs.machine.state.Machine.lock_fast_list.Goals as goal

@@ -1,4 +1,4 @@
-use Rattle.std.proofs.Common.{◌≡◌, ◌<◌, true, length, get_or, sym, ap, ◌∙◌, arith}
+use Rattle.std.proofs.Common.{◌≡◌, ◌<◌, length, get_or, sym, ap, ◌∙◌, arith}
 use Rattle.lock_model.specs.ListWords.{may_lock_list}
 use Rattle.lock_model.proofs.Follows.ListWords.{locked_partition_list}
 use Rattle.lock_model.proofs.machine.state.Machine.lock_partition_list.Goals as goal

@@ -10,7 +10,7 @@ use Rattle.lock_table.specs.Queue.{awaits_mode}
 use Rattle.lock_model.specs.declared.machine.state.Machine.{Machine}
 use Rattle.lock_model.specs.Shows.{Shows, hand_of}
 use Rattle.lock_model.specs.SlotLooks.{slots_at}
-use Rattle.lock_model.specs.Transfers.{may_transfer}
+use Rattle.lock_model.specs.Transfers.{may_adopt, may_transfer}
 use Rattle.lock_world.specs.declared.events.Step.TheVariants.{TransferSlot}
 use Rattle.lock_world.specs.World.{World}
 use Rattle.lock_world.specs.Happens.{Next}
@@ -37,7 +37,8 @@ returns-then-not-may_adopt-clause-followed c = λ w safe shows.
     let hand = ap (hand_of now c.args.session) (sym c.partition-partition.ensures.value) ∙ sym c.hand_of.ensures ∙ c.in-Some.is in
     elim c.then-not-may_adopt.branch [
       | then-not-may_adopt-via-then-not-may_adopt b ↦
-          transfer_after_move now w safe shows c.args.session c.args.owner c.args.slot c.args.tag c.args.mode c.args.strong c.in-Some.hand hand (sym b.if-not-may_adopt.ensures)
+          transfer_after_move now w safe shows c.args.session c.args.owner c.args.slot c.args.tag c.args.mode c.args.strong c.in-Some.hand hand
+          (ap (λ k. may_adopt c.in-Some.hand.recorded k c.args.slot) (sym c.number-number.ensures.value) ∙ sym b.if-not-may_adopt.ensures)
       | then-not-may_adopt-via-else-not-may_adopt+then-not-may_transfer b ↦
           not_transferred now w safe shows c.args.session c.args.owner c.args.slot c.args.tag c.args.mode c.args.strong
           (ap (λ k. may_transfer now c.args.session c.args.owner k c.args.tag c.args.mode c.args.strong) (sym c.from-place.ensures) ∙ sym b.if-not-may_transfer.ensures)
@@ -92,7 +93,7 @@ returns-clause-followed c = λ w safe shows.
     let in_parts : c.from.result < length now.contents.parts.items = omega arith in
     let part = part_read now.contents.parts.items c.from.result (partition_of c.args.tag) c.index_mut-part.result.now in_part in_parts c.index_mut-part.ensures.value in
     let place : c.from-place.result ≡ c.args.slot = c.from-place.ensures in
-    let whose : c.from-index.result ≡ c.args.owner = c.from-index.ensures ∙ c.number.ensures.value in
+    let whose : c.from-index.result ≡ c.args.owner = c.from-index.ensures ∙ c.number-number.ensures.value in
     let below : c.args.owner < 64 = omega arith in
     let may : may_transfer now c.args.session c.args.owner c.args.slot c.args.tag c.args.mode c.args.strong ≡ true =
     ap (λ k. may_transfer now c.args.session c.args.owner k c.args.tag c.args.mode c.args.strong) (sym place) ∙ sym c.if-not-may_transfer.ensures in
@@ -104,13 +105,12 @@ returns-clause-followed c = λ w safe shows.
     let word : c.without.result ≡ word_without (get_or (slots_at now c.args.owner) c.args.slot 0) c.args.mode =
     c.without.ensures.number ∙ ap (λ x. word_without x c.args.mode) slots_read in
     let P : Machine → Type 0 = λ m. (v : World) × Next w (record { session = c.args.session; step = TransferSlot c.args.owner c.args.slot c.args.tag c.args.mode c.args.strong }) v
-    × Shows (record m {
-      fast_path = record (m.fast_path) {
-        slots = set m.fast_path.slots c.from-index.result (set (get_or m.fast_path.slots c.from-index.result []) c.from-place.result c.without.result);
-      };
-    }) v in
+    × Shows (record m { fast_path = record (m.fast_path) {
+      slots = set m.fast_path.slots c.from-index.result (set (get_or m.fast_path.slots c.from-index.result []) c.from-place.result c.without.result);
+    } }) v in
     subst P (sym c.record.ensures)
-    (rw (word, place, whose, in_part, c.partition-partition.ensures.value)
+    (rw (word, place, whose, in_part, c.number-number.ensures.value, c.partition-partition.ensures.value)
     (was_transferred now w safe shows c.args.session c.args.owner c.args.slot c.args.tag c.args.mode c.args.strong c.in-Some.hand c.grant.new.self
-    (ap (hand_of now c.args.session) (sym c.partition-partition.ensures.value) ∙ sym c.hand_of.ensures ∙ c.in-Some.is) (sym c.if-not-may_adopt.ensures) may below
+    (ap (hand_of now c.args.session) (sym c.partition-partition.ensures.value) ∙ sym c.hand_of.ensures ∙ c.in-Some.is)
+    (ap (λ k. may_adopt c.in-Some.hand.recorded k c.args.slot) (sym c.number-number.ensures.value) ∙ sym c.if-not-may_adopt.ensures) may below
     (c.grant.ensures.content ∙ ap (λ (x : Content). add_hold x c.args.owner c.args.tag c.args.mode) (c.begin.ensures.content ∙ ap content_of part)) c.grant.ensures.ended))

@@ -1,0 +1,244 @@
+use super::{FREE, HELD, opens, puts, puts_word, session, takes, takes_word};
+use crate::machine::{Plain, Spot, run_events};
+use lock_table::Move;
+use lock_world::{Event, Step, Word};
+use lw_word::LwMode;
+use modes_core::{Mode, SessionId, Tag};
+use std::process::Abort;
+use std::test::Fail;
+
+fn does(session: SessionId, step: Step) -> Event {
+    Event { session, step }
+}
+
+/// A table of database 5, whose strong lock counter is 796.
+fn table() -> Tag {
+    Tag::relation(5, 16384)
+}
+
+const ACCESS_SHARE: u64 = 0x1_0000_0000;
+
+const HAS_WAITERS: u64 = 0x4000_0000;
+
+const LIST_LOCKED: u64 = 0x1000_0000;
+
+/// The session takes `AccessShareLock` on the table by the fast path, into slot 15.
+fn weak_acquire(events: &mut Vec<Event>, whose: SessionId) -> Result<(), Fail> {
+    let tag = table();
+    let mode = Mode::AccessShare;
+    events.push(does(whose, Step::StoreDatabase { database: 5 }))?;
+    events.push(takes_word(whose, Word::Fast(whose)))?;
+    events.push(does(
+        whose,
+        Step::LoadStrong {
+            index: 796,
+            shown: 0,
+        },
+    ))?;
+    events.push(does(
+        whose,
+        Step::SetSlot {
+            slot: 15,
+            tag,
+            mode,
+        },
+    ))?;
+    events.push(puts_word(whose, Word::Fast(whose), Move::Keep))?;
+    Ok(())
+}
+
+/// The session counts `ShareLock` on the table, goes past every session number, and moves what the other has in slot 15 on
+/// its way; then it is granted the lock.
+fn strong_acquire<R: Abort>(
+    rt: &R,
+    events: &mut Vec<Event>,
+    whose: SessionId,
+    other: SessionId,
+) -> Result<(), Fail> {
+    let tag = table();
+    let (weak, strong) = (Mode::AccessShare, Mode::Share);
+    let partition = tag.partition();
+    events.push(does(whose, Step::Count { tag, mode: strong }))?;
+    for number in 0..64u8 {
+        let owner = session(rt, number);
+        events.push(takes_word(whose, Word::Fast(owner)))?;
+        if owner == other {
+            events.push(takes(whose, partition))?;
+            events.push(does(
+                whose,
+                Step::TransferSlot {
+                    owner,
+                    slot: 15,
+                    tag,
+                    mode: weak,
+                    strong,
+                },
+            ))?;
+            events.push(puts(whose, partition, Move::Adopt { owner: owner.number(), slot: 15 }))?;
+        }
+        events.push(does(
+            whose,
+            Step::PutPassing {
+                owner,
+                tag,
+                mode: strong,
+            },
+        ))?;
+    }
+    events.push(takes(whose, partition))?;
+    events.push(puts(whose, partition, Move::Grant { tag, mode: strong }))?;
+    Ok(())
+}
+
+/// The session finds the partition's lock taken and queues for it.
+fn queue(events: &mut Vec<Event>, whose: SessionId, word: Word) -> Result<(), Fail> {
+    events.push(takes_word(whose, word))?;
+    events.push(does(whose, Step::LockList { word }))?;
+    events.push(does(
+        whose,
+        Step::SetHasWaiters {
+            word,
+            shown: HELD + LIST_LOCKED,
+        },
+    ))?;
+    events.push(does(
+        whose,
+        Step::JoinList {
+            mode: LwMode::Exclusive,
+        },
+    ))?;
+    events.push(does(
+        whose,
+        Step::UnlockList {
+            word,
+            has_waiters: true,
+            release_ok: true,
+        },
+    ))?;
+    events.push(does(whose, Step::LoadSleep { shown: 1 }))?;
+    Ok(())
+}
+
+/// The holder puts the partition after the release of its lock, and wakes the one who waits.
+fn release(
+    events: &mut Vec<Event>,
+    whose: SessionId,
+    other: SessionId,
+    word: Word,
+) -> Result<(), Fail> {
+    let tag = table();
+    let mode = Mode::Share;
+    events.push(puts_word(whose, word, Move::Release { tag, mode }))?;
+    events.push(does(whose, Step::LockList { word }))?;
+    events.push(does(whose, Step::TakeOff { other }))?;
+    events.push(does(
+        whose,
+        Step::UnlockList {
+            word,
+            has_waiters: false,
+            release_ok: false,
+        },
+    ))?;
+    events.push(does(whose, Step::Uncount { tag, mode }))?;
+    Ok(())
+}
+
+/// The one who was woken goes on.
+fn go_on(
+    events: &mut Vec<Event>,
+    whose: SessionId,
+    other: SessionId,
+    word: Word,
+) -> Result<(), Fail> {
+    events.push(does(other, Step::Tell { other: whose }))?;
+    events.push(does(whose, Step::LoadSleep { shown: 0 }))?;
+    events.push(does(whose, Step::SetReleaseOk { word, shown: 0 }))?;
+    events.push(takes_word(whose, word))?;
+    Ok(())
+}
+
+/// What there is of the walk between two steps.
+#[derive(Drop)]
+struct Seen<'a> {
+    /// The session numbers, modes and places of the holds, all of the table.
+    holds: &'a [(u8, Mode, Spot)],
+    partition: u64,
+    slot: u64,
+    counter: u64,
+    sleep: u64,
+    sleepers: usize,
+}
+
+fn expect(rt: &impl Abort, plain: &Plain, seen: &Seen) -> Result<(), Fail> {
+    let (a, c) = (session(rt, 0), session(rt, 2));
+    assert_eq!(rt; plain.holds().len(), seen.holds.len());
+    for (hold, (number, mode, spot)) in plain.holds().iter().zip(seen.holds) {
+        assert_eq!(rt; hold.session.number(), *number);
+        assert_eq!(rt; hold.tag, table());
+        assert_eq!(rt; hold.mode, *mode);
+        assert_eq!(rt; hold.spot, *spot);
+    }
+    assert_eq!(rt; plain.waits().len(), 0);
+    assert_eq!(rt; plain.word(Word::Partition(table().partition())), seen.partition);
+    assert_eq!(rt; plain.word(Word::Slot(a, 15)), seen.slot);
+    assert_eq!(rt; plain.counter(796), seen.counter);
+    assert_eq!(rt; plain.word(Word::Sleep(c)), seen.sleep);
+    assert_eq!(rt; plain.sleepers().len(), seen.sleepers);
+    for number in 0..64u8 {
+        assert_eq!(rt; plain.word(Word::Fast(session(rt, number))), FREE);
+    }
+    Ok(())
+}
+
+#[test]
+fn a_walk_by_slot_transfer_and_sleep(rt: HostRuntime) -> Result<(), Fail> {
+    let (a, b, c) = (session(&rt, 0), session(&rt, 1), session(&rt, 2));
+    let word = Word::Partition(table().partition());
+    let mut events = Vec::new(rt.alloc());
+    for whose in [a, b, c] {
+        events.push(opens(whose))?;
+    }
+    weak_acquire(&mut events, a)?;
+    let after_weak = events.len();
+    strong_acquire(&rt, &mut events, b, a)?;
+    let after_strong = events.len();
+    events.push(takes_word(b, word))?;
+    queue(&mut events, c, word)?;
+    let after_queue = events.len();
+    release(&mut events, b, c, word)?;
+    let after_release = events.len();
+    go_on(&mut events, c, b, word)?;
+    let all = events.as_slice();
+
+    let in_slot = [(0, Mode::AccessShare, Spot::Slot(15))];
+    let both = [
+        (0, Mode::AccessShare, Spot::Table),
+        (1, Mode::Share, Spot::Table),
+    ];
+    let mut seen = Seen {
+        holds: &in_slot,
+        partition: FREE,
+        slot: ACCESS_SHARE + 16384,
+        counter: 0,
+        sleep: 0,
+        sleepers: 0,
+    };
+    expect(&rt, &run_events(rt.alloc(), &all[..after_weak])?, &seen)?;
+    seen.holds = &both;
+    seen.slot = 0;
+    seen.counter = 1;
+    expect(&rt, &run_events(rt.alloc(), &all[..after_strong])?, &seen)?;
+    seen.partition = HELD + HAS_WAITERS;
+    seen.sleep = 1;
+    seen.sleepers = 1;
+    expect(&rt, &run_events(rt.alloc(), &all[..after_queue])?, &seen)?;
+    seen.holds = &both[..1];
+    seen.partition = 0;
+    seen.counter = 0;
+    seen.sleep = 2;
+    seen.sleepers = 0;
+    expect(&rt, &run_events(rt.alloc(), &all[..after_release])?, &seen)?;
+    seen.partition = HELD;
+    seen.sleep = 0;
+    expect(&rt, &run_events(rt.alloc(), all)?, &seen)
+}
