@@ -44,7 +44,15 @@ impl Machine {
         let part = &mut self.contents.parts[usize::from(partition)];
         part.begin(owner, &tag, mode)?;
         part.grant(owner, &tag, mode);
-        self.record(partition, hand, Move::Adopt { owner: number, slot }, hand.unmarked);
+        self.record(
+            partition,
+            hand,
+            Move::Adopt {
+                owner: number,
+                slot,
+            },
+            hand.unmarked,
+        );
         let word = self.fast_path.slots[index][place];
         self.fast_path.slots[index][place] = word.without(mode);
         Ok(())

@@ -22,29 +22,33 @@ const HAS_WAITERS: u64 = 0x4000_0000;
 
 const LIST_LOCKED: u64 = 0x1000_0000;
 
+/// The lightweight lock of the table's partition.
+fn word() -> Word {
+    Word::Partition(table().partition())
+}
+
 /// The session takes `AccessShareLock` on the table by the fast path, into slot 15.
-fn weak_acquire(events: &mut Vec<Event>, whose: SessionId) -> Result<(), Fail> {
-    let tag = table();
-    let mode = Mode::AccessShare;
-    events.push(does(whose, Step::StoreDatabase { database: 5 }))?;
-    events.push(takes_word(whose, Word::Fast(whose)))?;
-    events.push(does(
-        whose,
-        Step::LoadStrong {
-            index: 796,
-            shown: 0,
-        },
-    ))?;
-    events.push(does(
-        whose,
-        Step::SetSlot {
-            slot: 15,
-            tag,
-            mode,
-        },
-    ))?;
-    events.push(puts_word(whose, Word::Fast(whose), Move::Keep))?;
-    Ok(())
+fn weak_acquire(whose: SessionId) -> [Event; 5] {
+    [
+        does(whose, Step::StoreDatabase { database: 5 }),
+        takes_word(whose, Word::Fast(whose)),
+        does(
+            whose,
+            Step::LoadStrong {
+                index: 796,
+                shown: 0,
+            },
+        ),
+        does(
+            whose,
+            Step::SetSlot {
+                slot: 15,
+                tag: table(),
+                mode: Mode::AccessShare,
+            },
+        ),
+        puts_word(whose, Word::Fast(whose), Move::Keep),
+    ]
 }
 
 /// The session counts `ShareLock` on the table, goes past every session number, and moves what the other has in slot 15 on
@@ -74,7 +78,14 @@ fn strong_acquire<R: Abort>(
                     strong,
                 },
             ))?;
-            events.push(puts(whose, partition, Move::Adopt { owner: owner.number(), slot: 15 }))?;
+            events.push(puts(
+                whose,
+                partition,
+                Move::Adopt {
+                    owner: owner.number(),
+                    slot: 15,
+                },
+            ))?;
         }
         events.push(does(
             whose,
@@ -91,70 +102,66 @@ fn strong_acquire<R: Abort>(
 }
 
 /// The session finds the partition's lock taken and queues for it.
-fn queue(events: &mut Vec<Event>, whose: SessionId, word: Word) -> Result<(), Fail> {
-    events.push(takes_word(whose, word))?;
-    events.push(does(whose, Step::LockList { word }))?;
-    events.push(does(
-        whose,
-        Step::SetHasWaiters {
-            word,
-            shown: HELD + LIST_LOCKED,
-        },
-    ))?;
-    events.push(does(
-        whose,
-        Step::JoinList {
-            mode: LwMode::Exclusive,
-        },
-    ))?;
-    events.push(does(
-        whose,
-        Step::UnlockList {
-            word,
-            has_waiters: true,
-            release_ok: true,
-        },
-    ))?;
-    events.push(does(whose, Step::LoadSleep { shown: 1 }))?;
-    Ok(())
+fn queue(whose: SessionId) -> [Event; 6] {
+    let shown = HELD + LIST_LOCKED;
+    let mode = LwMode::Exclusive;
+    [
+        takes_word(whose, word()),
+        does(whose, Step::LockList { word: word() }),
+        does(
+            whose,
+            Step::SetHasWaiters {
+                word: word(),
+                shown,
+            },
+        ),
+        does(whose, Step::JoinList { mode }),
+        does(
+            whose,
+            Step::UnlockList {
+                word: word(),
+                has_waiters: true,
+                release_ok: true,
+            },
+        ),
+        does(whose, Step::LoadSleep { shown: 1 }),
+    ]
 }
 
-/// The holder puts the partition after the release of its lock, and wakes the one who waits.
-fn release(
-    events: &mut Vec<Event>,
-    whose: SessionId,
-    other: SessionId,
-    word: Word,
-) -> Result<(), Fail> {
+/// The holder puts the partition after the release of its lock, and takes the one who waits off the list.
+fn release(whose: SessionId, other: SessionId) -> [Event; 5] {
     let tag = table();
     let mode = Mode::Share;
-    events.push(puts_word(whose, word, Move::Release { tag, mode }))?;
-    events.push(does(whose, Step::LockList { word }))?;
-    events.push(does(whose, Step::TakeOff { other }))?;
-    events.push(does(
-        whose,
-        Step::UnlockList {
-            word,
-            has_waiters: false,
-            release_ok: false,
-        },
-    ))?;
-    events.push(does(whose, Step::Uncount { tag, mode }))?;
-    Ok(())
+    [
+        puts_word(whose, word(), Move::Release { tag, mode }),
+        does(whose, Step::LockList { word: word() }),
+        does(whose, Step::TakeOff { other }),
+        does(
+            whose,
+            Step::UnlockList {
+                word: word(),
+                has_waiters: false,
+                release_ok: false,
+            },
+        ),
+        does(whose, Step::Uncount { tag, mode }),
+    ]
 }
 
-/// The one who was woken goes on.
-fn go_on(
-    events: &mut Vec<Event>,
-    whose: SessionId,
-    other: SessionId,
-    word: Word,
-) -> Result<(), Fail> {
-    events.push(does(other, Step::Tell { other: whose }))?;
-    events.push(does(whose, Step::LoadSleep { shown: 0 }))?;
-    events.push(does(whose, Step::SetReleaseOk { word, shown: 0 }))?;
-    events.push(takes_word(whose, word))?;
-    Ok(())
+/// The one who was taken off is told, and goes on.
+fn go_on(whose: SessionId, by: SessionId) -> [Event; 4] {
+    [
+        does(by, Step::Tell { other: whose }),
+        does(whose, Step::LoadSleep { shown: 0 }),
+        does(
+            whose,
+            Step::SetReleaseOk {
+                word: word(),
+                shown: 0,
+            },
+        ),
+        takes_word(whose, word()),
+    ]
 }
 
 /// What there is of the walk between two steps.
@@ -179,7 +186,10 @@ fn expect(rt: &impl Abort, plain: &Plain, seen: &Seen) -> Result<(), Fail> {
         assert_eq!(rt; hold.spot, *spot);
     }
     assert_eq!(rt; plain.waits().len(), 0);
-    assert_eq!(rt; plain.word(Word::Partition(table().partition())), seen.partition);
+    assert_eq!(rt;
+        plain.word(Word::Partition(table().partition())),
+        seen.partition
+    );
     assert_eq!(rt; plain.word(Word::Slot(a, 15)), seen.slot);
     assert_eq!(rt; plain.counter(796), seen.counter);
     assert_eq!(rt; plain.word(Word::Sleep(c)), seen.sleep);
@@ -193,28 +203,13 @@ fn expect(rt: &impl Abort, plain: &Plain, seen: &Seen) -> Result<(), Fail> {
 #[test]
 fn a_walk_by_slot_transfer_and_sleep(rt: HostRuntime) -> Result<(), Fail> {
     let (a, b, c) = (session(&rt, 0), session(&rt, 1), session(&rt, 2));
-    let word = Word::Partition(table().partition());
-    let mut events = Vec::new(rt.alloc());
-    for whose in [a, b, c] {
-        events.push(opens(whose))?;
-    }
-    weak_acquire(&mut events, a)?;
-    let after_weak = events.len();
-    strong_acquire(&rt, &mut events, b, a)?;
-    let after_strong = events.len();
-    events.push(takes_word(b, word))?;
-    queue(&mut events, c, word)?;
-    let after_queue = events.len();
-    release(&mut events, b, c, word)?;
-    let after_release = events.len();
-    go_on(&mut events, c, b, word)?;
-    let all = events.as_slice();
-
     let in_slot = [(0, Mode::AccessShare, Spot::Slot(15))];
+    let moved = [(0, Mode::AccessShare, Spot::Table)];
     let both = [
         (0, Mode::AccessShare, Spot::Table),
         (1, Mode::Share, Spot::Table),
     ];
+    let mut events = Vec::new(rt.alloc());
     let mut seen = Seen {
         holds: &in_slot,
         partition: FREE,
@@ -223,22 +218,33 @@ fn a_walk_by_slot_transfer_and_sleep(rt: HostRuntime) -> Result<(), Fail> {
         sleep: 0,
         sleepers: 0,
     };
-    expect(&rt, &run_events(rt.alloc(), &all[..after_weak])?, &seen)?;
+    events.extend_from_slice(&[opens(a), opens(b), opens(c)])?;
+    events.extend_from_slice(&weak_acquire(a))?;
+    expect(&rt, &run_events(rt.alloc(), events.as_slice())?, &seen)?;
+
+    strong_acquire(&rt, &mut events, b, a)?;
     seen.holds = &both;
     seen.slot = 0;
     seen.counter = 1;
-    expect(&rt, &run_events(rt.alloc(), &all[..after_strong])?, &seen)?;
+    expect(&rt, &run_events(rt.alloc(), events.as_slice())?, &seen)?;
+
+    events.push(takes_word(b, word()))?;
+    events.extend_from_slice(&queue(c))?;
     seen.partition = HELD + HAS_WAITERS;
     seen.sleep = 1;
     seen.sleepers = 1;
-    expect(&rt, &run_events(rt.alloc(), &all[..after_queue])?, &seen)?;
-    seen.holds = &both[..1];
+    expect(&rt, &run_events(rt.alloc(), events.as_slice())?, &seen)?;
+
+    events.extend_from_slice(&release(b, c))?;
+    seen.holds = &moved;
     seen.partition = 0;
     seen.counter = 0;
     seen.sleep = 2;
     seen.sleepers = 0;
-    expect(&rt, &run_events(rt.alloc(), &all[..after_release])?, &seen)?;
+    expect(&rt, &run_events(rt.alloc(), events.as_slice())?, &seen)?;
+
+    events.extend_from_slice(&go_on(c, b))?;
     seen.partition = HELD;
     seen.sleep = 0;
-    expect(&rt, &run_events(rt.alloc(), all)?, &seen)
+    expect(&rt, &run_events(rt.alloc(), events.as_slice())?, &seen)
 }

@@ -44,7 +44,14 @@ fn transfers(session: SessionId, owner: SessionId, slot: u8, tag: Tag, mode: Mod
 }
 
 fn puts_adopted(session: SessionId, owner: SessionId, slot: u8) -> Event {
-    puts(session, table().partition(), Move::Adopt { owner: owner.number(), slot })
+    puts(
+        session,
+        table().partition(),
+        Move::Adopt {
+            owner: owner.number(),
+            slot,
+        },
+    )
 }
 
 /// A table of database 5.
@@ -320,7 +327,15 @@ fn nothing_is_moved_out_of_turn(rt: HostRuntime) -> Result<(), Fail> {
         locks[0],
     ];
     let late = transfers(a, b, 1, other_table(), mode);
-    is_skipped(&rt, &passed, late, Move::Adopt { owner: b.number(), slot: 1 })
+    is_skipped(
+        &rt,
+        &passed,
+        late,
+        Move::Adopt {
+            owner: b.number(),
+            slot: 1,
+        },
+    )
 }
 
 #[test]
@@ -342,7 +357,15 @@ fn only_what_the_slot_shows_is_moved(rt: HostRuntime) -> Result<(), Fail> {
     // What was moved is there no more.
     let one = transfers(a, b, 0, table(), Mode::AccessShare);
     let moved = [locks[0], locks[1], one];
-    is_skipped(&rt, &moved, one, Move::Adopt { owner: b.number(), slot: 0 })
+    is_skipped(
+        &rt,
+        &moved,
+        one,
+        Move::Adopt {
+            owner: b.number(),
+            slot: 0,
+        },
+    )
 }
 
 #[test]
@@ -353,7 +376,15 @@ fn nothing_is_moved_after_another_move(rt: HostRuntime) -> Result<(), Fail> {
     let other = transfers(a, b, 1, other_table(), Mode::AccessShare);
     // Another slot's modes were moved.
     let slots = [takes_fast(a, b), takes(a, p), other];
-    is_skipped(&rt, &slots, one, Move::Adopt { owner: b.number(), slot: 1 })?;
+    is_skipped(
+        &rt,
+        &slots,
+        one,
+        Move::Adopt {
+            owner: b.number(),
+            slot: 1,
+        },
+    )?;
     // The session has joined the queue.
     let (tag, mode) = (table(), Mode::ShareUpdateExclusive);
     let joined = [

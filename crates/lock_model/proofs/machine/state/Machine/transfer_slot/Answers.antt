@@ -105,9 +105,11 @@ returns-clause-followed c = λ w safe shows.
     let word : c.without.result ≡ word_without (get_or (slots_at now c.args.owner) c.args.slot 0) c.args.mode =
     c.without.ensures.number ∙ ap (λ x. word_without x c.args.mode) slots_read in
     let P : Machine → Type 0 = λ m. (v : World) × Next w (record { session = c.args.session; step = TransferSlot c.args.owner c.args.slot c.args.tag c.args.mode c.args.strong }) v
-    × Shows (record m { fast_path = record (m.fast_path) {
-      slots = set m.fast_path.slots c.from-index.result (set (get_or m.fast_path.slots c.from-index.result []) c.from-place.result c.without.result);
-    } }) v in
+    × Shows (record m {
+      fast_path = record (m.fast_path) {
+        slots = set m.fast_path.slots c.from-index.result (set (get_or m.fast_path.slots c.from-index.result []) c.from-place.result c.without.result);
+      };
+    }) v in
     subst P (sym c.record.ensures)
     (rw (word, place, whose, in_part, c.number-number.ensures.value, c.partition-partition.ensures.value)
     (was_transferred now w safe shows c.args.session c.args.owner c.args.slot c.args.tag c.args.mode c.args.strong c.in-Some.hand c.grant.new.self
