@@ -11,6 +11,7 @@ mod counters;
 mod hands;
 mod list_words;
 mod lists;
+mod lock_bits;
 mod moved_part;
 mod own_waits;
 mod partitions;

@@ -6,6 +6,7 @@ ghost use Rattle.lock_model.specs.CountedLists.{is_by, is_by_at, passed_by};
 use super::state::{CountedBy, Machine};
 use lock_table::{NoMemory, PartTable};
 use modes_core::{Mode, SessionId, Tag, is_strong};
+use super::lock_bits::EXCLUSIVE;
 
 /// How many strong locks a session may have counted.
 const MOST_COUNTED: usize = 65_536;
@@ -223,7 +224,7 @@ impl Machine {
         let index = usize::from(owner.number());
         let whose = usize::from(session.number());
         // A word that is held shows it, so that nothing is cut off here.
-        self.words.fast[index] = self.words.fast[index].saturating_sub(0x100_0000);
+        self.words.fast[index] = self.words.fast[index].saturating_sub(EXCLUSIVE);
         self.locks.fast_holders[index][whose] = false;
         if owner == session {
             self.fast_path.zeros[whose] = None;

@@ -7,6 +7,7 @@ ghost use Rattle.lock_model.specs.Transfers.{may_adopt};
 use super::state::Machine;
 use lock_table::{Move, Woken};
 use modes_core::SessionId;
+use super::lock_bits::EXCLUSIVE;
 
 /// A partition in a session's hand.
 #[derive(Clone, Copy)]
@@ -97,7 +98,7 @@ impl Machine {
         } }
     {
         let index = usize::from(partition);
-        self.words.partitions[index] += 0x100_0000;
+        self.words.partitions[index] += EXCLUSIVE;
         self.contents.hands[index] = Some(InHand {
             holder: session,
             recorded: None,
@@ -169,7 +170,7 @@ impl Machine {
     {
         let index = usize::from(partition);
         // A word that is held shows it, so that nothing is cut off here.
-        self.words.partitions[index] = self.words.partitions[index].saturating_sub(0x100_0000);
+        self.words.partitions[index] = self.words.partitions[index].saturating_sub(EXCLUSIVE);
         self.contents.hands[index] = None;
     }
 }

@@ -7,6 +7,7 @@ use super::state::Machine;
 use lock_world::Word;
 use lw_word::LwWord;
 use modes_core::SessionId;
+use super::lock_bits::{HAS_WAITERS, LIST_LOCKED, RELEASE_OK};
 
 /// The word with its wait list unlocked, and without the flags that are not to stay.
 fn unlocked(word: u32, has_waiters: bool, release_ok: bool) -> u32
@@ -98,7 +99,7 @@ impl Machine {
         ensures { result ≡ may_lock_list self.now session word }
     {
         self.makes_steps(session)
-            && word / 0x1000_0000 % 2 == 0
+            && word / LIST_LOCKED % 2 == 0
             && self.lists.has_list[usize::from(session.number())].is_none()
     }
 
@@ -116,7 +117,7 @@ impl Machine {
     {
         let index = usize::from(partition);
         if index < 16 && self.may_lock_list(session, self.words.partitions[index]) {
-            self.words.partitions[index] |= 0x1000_0000;
+            self.words.partitions[index] |= LIST_LOCKED;
             self.lists.has_list[usize::from(session.number())] = Some(2 * partition);
         }
     }
@@ -127,7 +128,7 @@ impl Machine {
     {
         let index = usize::from(owner.number());
         if self.may_lock_list(session, self.words.fast[index]) {
-            self.words.fast[index] |= 0x1000_0000;
+            self.words.fast[index] |= LIST_LOCKED;
             self.lists.has_list[usize::from(session.number())] = Some(2 * owner.number() + 1);
         }
     }
@@ -178,7 +179,7 @@ impl Machine {
             && self.makes_steps(session)
             && shown == u64::from(self.words.partitions[index])
         {
-            self.words.partitions[index] |= 0x2000_0000;
+            self.words.partitions[index] |= RELEASE_OK;
         }
     }
 
@@ -188,7 +189,7 @@ impl Machine {
     {
         let index = usize::from(owner.number());
         if self.makes_steps(session) && shown == u64::from(self.words.fast[index]) {
-            self.words.fast[index] |= 0x2000_0000;
+            self.words.fast[index] |= RELEASE_OK;
         }
     }
 
@@ -201,7 +202,7 @@ impl Machine {
             && self.has_list(session, 2 * partition)
             && shown == u64::from(self.words.partitions[index])
         {
-            self.words.partitions[index] |= 0x4000_0000;
+            self.words.partitions[index] |= HAS_WAITERS;
         }
     }
 
@@ -213,7 +214,7 @@ impl Machine {
         if self.has_list(session, 2 * owner.number() + 1)
             && shown == u64::from(self.words.fast[index])
         {
-            self.words.fast[index] |= 0x4000_0000;
+            self.words.fast[index] |= HAS_WAITERS;
         }
     }
 }

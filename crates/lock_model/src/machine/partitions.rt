@@ -4,6 +4,7 @@ use super::state::Machine;
 use lock_table::{Answer, Move, NoMemory, PartTable, waiting_answer};
 use lock_world::Word;
 use modes_core::{Mode, SessionId, Tag};
+use super::lock_bits::PAST_HOLDERS;
 
 impl Machine {
     ghost use Rattle.std.specs.Prelude.{◌≡◌, OnOk, slice_index_or, None};
@@ -60,7 +61,7 @@ impl Machine {
         let index = usize::from(partition);
         if self.makes_steps(session)
             && index < 16
-            && self.words.partitions[index] % 0x200_0000 == 0
+            && self.words.partitions[index] % PAST_HOLDERS == 0
         {
             self.set_held(session, partition);
         }

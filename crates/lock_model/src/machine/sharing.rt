@@ -4,6 +4,7 @@
 use super::state::{Machine, has_a_mark};
 use lock_world::Word;
 use modes_core::SessionId;
+use super::lock_bits::EXCLUSIVE;
 
 impl Machine {
     ghost use Rattle.std.specs.Prelude.{◌≡◌, ◌||◌};
@@ -50,7 +51,7 @@ impl Machine {
         let whose = usize::from(session.number());
         if index < 16
             && self.makes_steps(session)
-            && self.words.partitions[index] / 0x100_0000 % 2 == 0
+            && self.words.partitions[index] / EXCLUSIVE % 2 == 0
             && !self.locks.partition_sharers[index][whose]
         {
             self.words.partitions[index] += 1;
@@ -78,7 +79,7 @@ impl Machine {
         let index = usize::from(owner.number());
         let whose = usize::from(session.number());
         if self.makes_steps(session)
-            && self.words.fast[index] / 0x100_0000 % 2 == 0
+            && self.words.fast[index] / EXCLUSIVE % 2 == 0
             && !self.locks.fast_sharers[index][whose]
         {
             self.words.fast[index] += 1;

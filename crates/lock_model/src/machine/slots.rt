@@ -12,6 +12,7 @@ use lock_table::Move;
 use lock_world::Word;
 use lw_word::SlotWord;
 use modes_core::{Mode, SessionId, Tag, is_eligible};
+use super::lock_bits::{EXCLUSIVE, PAST_HOLDERS};
 
 /// Whether a slot is in use.
 fn some_slot_in_use(slots: &[SlotWord]) -> bool
@@ -61,8 +62,8 @@ impl Machine {
     {
         let index = usize::from(owner.number());
         let whose = usize::from(session.number());
-        if self.makes_steps(session) && self.words.fast[index] % 0x200_0000 == 0 {
-            self.words.fast[index] += 0x100_0000;
+        if self.makes_steps(session) && self.words.fast[index] % PAST_HOLDERS == 0 {
+            self.words.fast[index] += EXCLUSIVE;
             self.locks.fast_holders[index][whose] = true;
         }
     }
@@ -79,7 +80,7 @@ impl Machine {
             && self.locks.fast_holders[index][whose]
         {
             // A word that is held shows it, so that nothing is cut off here.
-            self.words.fast[index] = self.words.fast[index].saturating_sub(0x100_0000);
+            self.words.fast[index] = self.words.fast[index].saturating_sub(EXCLUSIVE);
             self.locks.fast_holders[index][whose] = false;
             if index == whose {
                 self.fast_path.zeros[whose] = None;

@@ -12,6 +12,7 @@ use lock_world::{Event, Step};
 use lw_word::{LwWaiter, SlotWord};
 use modes_core::{Mode, SessionId, Tag};
 use std::alloc::Global;
+use super::lock_bits::RELEASE_OK;
 
 /// The session numbers in use.
 #[derive(Clone, Copy)]
@@ -189,8 +190,8 @@ impl Machine {
                 kept_by: [None; 64],
             },
             words: Words {
-                partitions: [0x2000_0000; 16],
-                fast: [0x2000_0000; 64],
+                partitions: [RELEASE_OK; 16],
+                fast: [RELEASE_OK; 64],
                 waits: [0; 64],
             },
             locks: Locks {
