@@ -3,10 +3,10 @@
 ghost use Rattle.std.specs.Prelude.{◌≡◌, not, map, filter};
 ghost use Rattle.lock_model.specs.CountedLists.{is_by, is_by_at, passed_by};
 
+use super::lock_bits::EXCLUSIVE;
 use super::state::{CountedBy, Machine};
 use lock_table::{NoMemory, PartTable};
 use modes_core::{Mode, SessionId, Tag, is_strong};
-use super::lock_bits::EXCLUSIVE;
 
 /// How many strong locks a session may have counted.
 const MOST_COUNTED: usize = 65_536;

@@ -4,10 +4,10 @@ ghost use Rattle.std.specs.Prelude.{◌≡◌, ℕ};
 ghost use Rattle.lock_model.specs.Shows.{has_made, is_unmarked_in, none_unmarked, names_in};
 ghost use Rattle.lock_model.specs.Transfers.{may_adopt};
 
+use super::lock_bits::EXCLUSIVE;
 use super::state::Machine;
 use lock_table::{Move, Woken};
 use modes_core::SessionId;
-use super::lock_bits::EXCLUSIVE;
 
 /// A partition in a session's hand.
 #[derive(Clone, Copy)]

@@ -3,11 +3,11 @@
 ghost use Rattle.std.specs.Prelude.{◌≡◌};
 ghost use Rattle.lw_word.specs.LightweightWord.{list_unlocked_word};
 
+use super::lock_bits::{HAS_WAITERS, LIST_LOCKED, RELEASE_OK};
 use super::state::Machine;
 use lock_world::Word;
 use lw_word::LwWord;
 use modes_core::SessionId;
-use super::lock_bits::{HAS_WAITERS, LIST_LOCKED, RELEASE_OK};
 
 /// The word with its wait list unlocked, and without the flags that are not to stay.
 fn unlocked(word: u32, has_waiters: bool, release_ok: bool) -> u32

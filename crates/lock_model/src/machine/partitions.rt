@@ -1,10 +1,10 @@
 //! The plain machine's steps on lightweight locks: a partition is taken, and put back after a move.
 
+use super::lock_bits::PAST_HOLDERS;
 use super::state::Machine;
 use lock_table::{Answer, Move, NoMemory, PartTable, waiting_answer};
 use lock_world::Word;
 use modes_core::{Mode, SessionId, Tag};
-use super::lock_bits::PAST_HOLDERS;
 
 impl Machine {
     ghost use Rattle.std.specs.Prelude.{◌≡◌, OnOk, slice_index_or, None};

@@ -1,10 +1,10 @@
 //! The plain machine's steps of sharing a lightweight lock: that of a partition, whose content does not come with it,
 //! and that of a session's fast-path slots.
 
+use super::lock_bits::EXCLUSIVE;
 use super::state::{Machine, has_a_mark};
 use lock_world::Word;
 use modes_core::SessionId;
-use super::lock_bits::EXCLUSIVE;
 
 impl Machine {
     ghost use Rattle.std.specs.Prelude.{◌≡◌, ◌||◌};

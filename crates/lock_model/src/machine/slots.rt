@@ -6,13 +6,13 @@ ghost use Rattle.lw_word.specs.SlotWord.{in_use};
 ghost use Rattle.lock_world.specs.SlotHolds.{is_slot_of};
 ghost use Rattle.lock_model.specs.SlotLooks.{is_slot_to_grant};
 
+use super::lock_bits::{EXCLUSIVE, PAST_HOLDERS};
 use super::slot_looks::relation_of;
 use super::state::{Machine, has_a_mark};
 use lock_table::Move;
 use lock_world::Word;
 use lw_word::SlotWord;
 use modes_core::{Mode, SessionId, Tag, is_eligible};
-use super::lock_bits::{EXCLUSIVE, PAST_HOLDERS};
 
 /// Whether a slot is in use.
 fn some_slot_in_use(slots: &[SlotWord]) -> bool

@@ -4,6 +4,7 @@ ghost use Rattle.lock_table.specs.Parts.{part_at, contents_in};
 ghost use Rattle.lock_model.specs.Shows.{has_a_mark};
 
 use super::hands::InHand;
+use super::lock_bits::RELEASE_OK;
 use super::own_waits::Awaited;
 use super::plain::{Hold, Plain};
 use super::plain_lists::{gather_holds, gather_waits};
@@ -12,7 +13,6 @@ use lock_world::{Event, Step};
 use lw_word::{LwWaiter, SlotWord};
 use modes_core::{Mode, SessionId, Tag};
 use std::alloc::Global;
-use super::lock_bits::RELEASE_OK;
 
 /// The session numbers in use.
 #[derive(Clone, Copy)]
