@@ -1,1 +1,3 @@
 mod Shown
+pub mod Frame
+pub mod Events

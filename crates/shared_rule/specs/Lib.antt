@@ -1,2 +1,5 @@
 pub mod Layout
 pub mod Shown
+pub mod History
+pub mod Ruled
+pub mod Plays

@@ -1,7 +1,12 @@
-//! The shared table of atomic words under one rule. Today its layout: where each word stands.
+//! The shared table of atomic words under one rule: where each word stands, what each session's seat knows, and what
+//! holds between any two steps.
 #![tactic(auto)]
 
+pub mod history;
 pub mod laws;
 pub mod layout;
+pub mod plays;
+pub mod rule;
+mod steps;
 #[cfg(test)]
 mod tests;

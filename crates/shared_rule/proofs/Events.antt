@@ -1,0 +1,5 @@
+pub mod Marks
+pub mod Partitions
+pub mod Fast
+pub mod Counters
+pub mod Loads

@@ -1,0 +1,90 @@
+use Rattle.std.proofs.Common.{◌≡◌, ◌≢◌, ℕ, ◌<◌, ◌^◌, ◌==◌, List, [], ◌∷◌, length, Option, Some, refl, sym, ap, ◌∙◌, subst, arith}
+use Rattle.std.specs.Prelude.{slice_set, slice_index}
+use mathlib.Core.Option.{some}
+use lib.ListN.{get_elem?}
+use lib.Seq.{set-get_or}
+use prog.Atomic.{either}
+use Rattle.atomic_table.specs.Table.{State, Step, Me, keeps, Allows}
+use Rattle.atomic_table.proofs.Lists.{set_again, exchanged}
+use Rattle.lock_table.specs.declared.request.Request.{Request}
+use Rattle.lock_table.specs.Content.{Content}
+use Rattle.lock_world.specs.declared.events.Word.{Word}
+use Rattle.lock_world.specs.World.{World, Contents, word_in}
+use Rattle.lock_world.specs.Account.{Account}
+use Rattle.shared_rule.specs.declared.history.Mark.{Mark}
+use Rattle.shared_rule.specs.declared.history.History.{History}
+use Rattle.shared_rule.specs.declared.history.View.{View}
+use Rattle.shared_rule.specs.Layout.{index_of_word, IsInTable}
+use Rattle.shared_rule.specs.Shown.{set_word}
+use Rattle.shared_rule.specs.History.{told, noting}
+use Rattle.shared_rule.specs.Ruled.{ContentsAreHome, Ruled}
+use Rattle.shared_rule.specs.Plays.{Side, Marked, Won}
+use Rattle.shared_rule.proofs.Shown.{words-set}
+use Rattle.shared_rule.proofs.Frame.{Steps, IsNoted, ruled-steps, ruled-noted}
+
+-- A step that only leaves a mark is allowed where in each World it is lawful and makes that of the account, and no content comes or goes.
+
+module _ {T : Type 0} (content : T → Content) where
+  -- Whatever the World is, the step on a word that shows this is noted so, and leaves the contents alone.
+  pub record IsLawful (limit : ℕ) (x : History T) (word : Word) (shown next : ℕ) (mark : Mark T) (w : World) : Type 0 where
+    pub noted : IsNoted content w x.number (told content x.number x.marks) mark (set_word w.words word next)
+    pub contents : noted.after.contents ≡ w.contents
+
+  abbrev pub IsAlwaysLawful : ℕ → History T → Word → (ℕ → Type 0) → (ℕ → ℕ) → (ℕ → Mark T) → Type 0
+  IsAlwaysLawful limit x word expected next mark =
+      (w : World) → Steps limit w x.number (told content x.number x.marks)
+      → (n : ℕ) → n < 2 ^ 64 → n ≡ word_in w.words word → expected n
+      → IsLawful limit x word n (next n) (mark n) w
+
+module _ {T : Type 0} (content : T → Content) (begun : T → Option Request) (limit slots id : ℕ) (me : Side T) (x : History T) (others : List (History T)) (is : me.0.sessions ≡ x ∷ others)
+    (word : Word) (exists : IsInTable word) (next : ℕ → ℕ) (mark : ℕ → Mark T) where
+
+  -- After it the rule holds.
+  after :
+      (expected : ℕ → Type 0) → IsAlwaysLawful content limit x word expected next mark
+      → (s : State (Option T) (View T)) → Ruled content begun limit s → get_elem? s.views id ≡ some me.0
+      → (n : ℕ) → n < 2 ^ 64 → n ≡ slice_index s.words (index_of_word word) → expected n
+      → Ruled content begun limit (record { words = slice_set s.words (index_of_word word) (next n); homes = s.homes; views = slice_set s.views id (noting me.0 (mark n)) })
+  after expected lawful s r at n below shows is_so =
+      let steps = ruled-steps content begun limit s r id me.0 x others at is in
+      let now = lawful r.world steps n below (shows ∙ r.words.word word exists) is_so in
+      ruled-noted content begun limit s r id me.0 x others at is (mark n) (set_word r.world.words word (next n)) (slice_set s.words (index_of_word word) (next n)) s.homes
+      now.noted (words-set s.words r.world.words word (next n) r.words exists)
+      (subst (ContentsAreHome content begun s.homes) (sym now.contents) r.contents)
+
+  -- A fetch-and-add, a fetch-and-subtract, or with `next` as it is a load.
+  pub marks : (step : Step (Option T)) → IsAlwaysLawful content limit x word (λ _. Unit {0}) next mark
+      → Allows (Ruled content begun limit) slots id me (index_of_word word) next (Marked mark step me)
+  marks step lawful s r many at below =
+      (noting me.0 (mark (slice_index s.words (index_of_word word))), keeps, tt, after (λ _. Unit {0}) lawful s r at (slice_index s.words (index_of_word word)) below refl tt, refl)
+
+-- A step that changes nothing.
+pub nothing-changes :
+    {T : Type 0} (content : T → Content) (begun : T → Option Request) (limit id i : ℕ) (view : View T) (s : State (Option T) (View T))
+    → Ruled content begun limit s → get_elem? s.views id ≡ some view
+    → Ruled content begun limit (record { words = slice_set s.words i (slice_index s.words i); homes = s.homes; views = slice_set s.views id view })
+nothing-changes {T} content begun limit id i view s r at =
+    subst (λ (words : List ℕ). Ruled content begun limit (record { words = words; homes = s.homes; views = slice_set s.views id view })) (sym (set-get_or s.words i 0))
+    (subst (λ (views : List (View T)). Ruled content begun limit (record { words = s.words; homes = s.homes; views = views })) (sym (set_again s.views id view at)) r)
+
+-- A compare-exchange, which changes nothing where it finds another number than the one expected.
+pub wins :
+    {T : Type 0} (content : T → Content) (begun : T → Option Request) (limit slots id : ℕ) (me : Side T) (x : History T) (others : List (History T)) → me.0.sessions ≡ x ∷ others
+    → (word : Word) → IsInTable word → (old new : ℕ) (mark : ℕ → Mark T) (step : Step (Option T)) → step.first ≡ old
+    → IsAlwaysLawful content limit x word (λ n. n ≡ old) (λ _. new) mark
+    → Allows (Ruled content begun limit) slots id me (index_of_word word) (λ n. either (n == old) new n) (Won mark step me)
+wins {T} content begun limit slots id me x others is word exists old new mark step first lawful s r many at below =
+    exchanged n old new (λ m. (view : View T) × (act : Rattle.atomic_table.specs.Table.Act (Option T)) × Rattle.atomic_table.specs.Table.Valid s.homes me.1 act
+        × Ruled content begun limit (Rattle.atomic_table.specs.Table.stepped s (index_of_word word) m id me.1 view act)
+        × Won mark step me n (view, Rattle.atomic_table.specs.Table.carried_after me.1 act))
+    (λ hit. (
+      noting me.0 (mark n),
+      keeps,
+      tt,
+      after content begun limit slots id me x others is word exists (λ _. new) mark (λ n. n ≡ old) lawful s r at n below refl hit,
+      ((λ _. refl), (λ miss. absurd (miss (hit ∙ sym first)))),
+    ))
+    (λ miss. (me.0, keeps, tt, nothing-changes content begun limit id (index_of_word word) me.0 s r at, ((λ hit. absurd (miss (hit ∙ first))), λ _. refl)))
+  where
+    n : ℕ
+    n = slice_index s.words (index_of_word word)

@@ -1,0 +1,213 @@
+use Rattle.std.proofs.Common.{◌≡◌, ◌≢◌, ℕ, ◌+◌, ◌*◌, ◌-◌, ◌%◌, ◌^◌, ◌<◌, ◌≤◌, ◌==◌, List, [], ◌∷◌, length, Option, Some, None, refl, sym, ap, ◌∙◌, subst, inl, inr, arith, length-set}
+use Rattle.std.specs.Prelude.{slice_set, slice_index}
+use Rattle.std.proofs.lemmas.Bool.{cases_eq}
+use mathlib.Core.Option.{some, none}
+use mathlib.Core.Option as maybe
+use lib.ListN.{get_elem?}
+use prog.Atomic.{either}
+use Rattle.atomic_table.specs.Table.{State, Step, Act, takes, gives, keeps, Allows, Valid, stepped, carried_after, rest}
+use Rattle.atomic_table.proofs.Lists.{set_here, set_else, exchanged}
+use Rattle.lw_word.specs.LightweightWord.{IsHeldByNobody, IsHeldExclusively, taken_word, put_word}
+use Rattle.lock_table.specs.declared.request.Request.{Request}
+use Rattle.lock_table.specs.declared.moves.Move.{Move}
+use Rattle.lock_table.specs.Content.{Content}
+use Rattle.lock_table.proofs.PutLemmas.{set_at-here, set_at-else}
+use Rattle.lock_table.specs.Put.{set_at}
+use Rattle.lock_world.specs.declared.events.Word.TheVariants.{Partition}
+use Rattle.lock_world.specs.declared.events.Step.TheVariants.{TakeExclusive, PutExclusive}
+use Rattle.lock_world.specs.World.{World, Contents, Hand}
+use Rattle.lock_world.specs.Safe.{is_hand_of}
+use Rattle.lock_world.specs.SafeWorld.{SafeWorld}
+use Rattle.lock_world.specs.Happens.Partitions.{after_taking_partition, after_putting_partition, content_taken}
+use Rattle.lock_world.specs.Account.{Account, InHand, account}
+use Rattle.lock_world.specs.AccountSteps.{account_taking, account_putting}
+use Rattle.lock_world.specs.AccountLaw.{MayPutBy}
+use Rattle.lock_world.specs.AccountFacts.{KnowsContent}
+use Rattle.lock_world.proofs.Words.Holders.{free-not_held}
+use Rattle.lock_world.proofs.Accounts.Lawful.{put-lawful, hand-known}
+use Rattle.lock_world.proofs.Accounts.Parts.{mine}
+use Rattle.lock_world.proofs.Accounts.Partitions.{account-taking, account-putting}
+use Rattle.lock_world.proofs.Accounts.Facts.{content-known}
+use Rattle.shared_rule.specs.declared.history.Mark.TheVariants as mark
+use Rattle.shared_rule.specs.declared.history.Mark.{Mark}
+use Rattle.shared_rule.specs.declared.history.History.{History}
+use Rattle.shared_rule.specs.declared.history.View.{View}
+use Rattle.shared_rule.specs.declared.layout.TheConstants.{CONTENT_SLOTS}
+use Rattle.shared_rule.specs.Layout.{index_of_word, content_slot_of}
+use Rattle.shared_rule.specs.Shown.{set_word}
+use Rattle.shared_rule.specs.History.{told, noting, taken_of, first_account, first_number}
+use Rattle.shared_rule.specs.Ruled.{IsAtHome, IsHomeUnlessInHand, ContentsAreHome, Ruled}
+use Rattle.shared_rule.specs.Plays.{Side, WentHome, TookContent, TookPartition}
+use Rattle.shared_rule.proofs.Shown.{words-set}
+use Rattle.shared_rule.proofs.Frame.{Steps, IsNoted, ruled-steps, ruled-noted}
+use Rattle.shared_rule.proofs.Events.Marks.{nothing-changes}
+use Rattle.shared_rule.proofs.Events.Fast.{put_word-wraps}
+
+-- Taking a partition in hand with its content, and putting it home.
+
+-- Two partitions' contents have slots of their own.
+slots-apart : (p q : ℕ) → q ≢ p → content_slot_of q ≢ content_slot_of p
+slots-apart p q other same = other (omega (arith, same))
+
+-- A partition whose word is free is in nobody's hand.
+free-in_no_hand : (w : World) → SafeWorld w → (p : ℕ) → IsHeldByNobody (w.words.partition p) → w.contents.hand p ≡ None
+free-in_no_hand w safe p free = go (w.contents.hand p) refl where
+  go : (hand : Option Hand) → w.contents.hand p ≡ hand → hand ≡ None
+  go None is = refl
+  go (Some hand) is =
+      let held = safe.but_slots.table.carriers.hands p hand.holder ∙ ap (λ h. is_hand_of h hand.holder) is ∙ Rattle.std.proofs.Common.eq-eqb hand.holder hand.holder refl in
+      absurd (free-not_held w.numbers.limit (w.words.partition p) (λ s. w.sessions.holds_partition s p) (λ s. w.sessions.shares_partition s p)
+          (safe.but_slots.table.promise.words p) free hand.holder held)
+
+module _ {T : Type 0} (content : T → Content) (begun : T → Option Request) where
+  -- What is at home stays so where one content is taken in hand,
+  home-taken :
+      (homes : List (maybe.Option (Option T))) (contents : Contents) (p : ℕ) (hand : Hand) → ContentsAreHome content begun homes contents
+      → ContentsAreHome content begun (slice_set homes (content_slot_of p) none) (record { now = contents.now; hand = set_at contents.hand p (Some hand) })
+  home-taken homes contents p hand home q within =
+      elim (cases_eq q p) [
+        | inl same ↦ subst (λ h. IsHomeUnlessInHand content begun h (contents.now q) (get_elem? (slice_set homes (content_slot_of p) none) (content_slot_of q)))
+            (sym (set_at-here contents.hand p (Some hand) q same)) tt
+        | inr other ↦ subst (λ h. IsHomeUnlessInHand content begun h (contents.now q) (get_elem? (slice_set homes (content_slot_of p) none) (content_slot_of q)))
+            (sym (set_at-else contents.hand p (Some hand) q other))
+            (subst (IsHomeUnlessInHand content begun (contents.hand q) (contents.now q)) (sym (set_else homes (content_slot_of p) (content_slot_of q) none (slots-apart p q other))) (home q within))
+      ]
+
+  -- and where one goes home.
+  home-put :
+      (homes : List (maybe.Option (Option T))) (contents : Contents) (p : ℕ) (part : T) → length homes ≡ CONTENT_SLOTS → p < 16 → begun part ≡ None → ContentsAreHome content begun homes contents
+      → ContentsAreHome content begun (slice_set homes (content_slot_of p) (some (Some part))) (record { now = set_at contents.now p (content part); hand = set_at contents.hand p None })
+  home-put homes contents p part many exists none_begun home q within =
+      elim (cases_eq q p) [
+        | inl same ↦
+            subst (λ h. IsHomeUnlessInHand content begun h (set_at contents.now p (content part) q) (get_elem? (slice_set homes (content_slot_of p) (some (Some part))) (content_slot_of q)))
+            (sym (set_at-here contents.hand p None q same)) (record {
+              part = part;
+              at_home = ap (λ j. get_elem? (slice_set homes (content_slot_of p) (some (Some part))) (content_slot_of j)) same
+                  ∙ set_here homes (content_slot_of p) (some (Some part)) (omega (arith, many, exists));
+              is_content = sym (set_at-here contents.now p (content part) q same);
+              none_begun = none_begun;
+            })
+        | inr other ↦
+            subst (λ h. IsHomeUnlessInHand content begun h (set_at contents.now p (content part) q) (get_elem? (slice_set homes (content_slot_of p) (some (Some part))) (content_slot_of q)))
+            (sym (set_at-else contents.hand p None q other))
+            (subst (λ now. IsHomeUnlessInHand content begun (contents.hand q) now (get_elem? (slice_set homes (content_slot_of p) (some (Some part))) (content_slot_of q)))
+            (sym (set_at-else contents.now p (content part) q other))
+            (subst (IsHomeUnlessInHand content begun (contents.hand q) (contents.now q))
+            (sym (set_else homes (content_slot_of p) (content_slot_of q) (some (Some part)) (slots-apart p q other))) (home q within)))
+      ]
+
+module _ {T : Type 0} (content : T → Content) (begun : T → Option Request) (limit id : ℕ) (me : Side T) (x : History T) (others : List (History T)) (is : me.0.sessions ≡ x ∷ others)
+    (p : ℕ) (exists : p < 16) where
+
+  -- What is at home in a partition that is free.
+  at_home : (s : State (Option T) (View T)) (r : Ruled content begun limit s) → IsHeldByNobody (r.world.words.partition p)
+      → IsAtHome content begun (r.world.contents.now p) (get_elem? s.homes (content_slot_of p))
+  at_home s r free = subst (λ h. IsHomeUnlessInHand content begun h (r.world.contents.now p) (get_elem? s.homes (content_slot_of p))) (free-in_no_hand r.world r.safe p free) (r.contents p exists)
+
+  -- Taking it is noted so.
+  abbrev taking-noted : (w : World) → Steps limit w x.number (told content x.number x.marks) → IsHeldByNobody (w.words.partition p) → (part : T) → content part ≡ w.contents.now p
+      → IsNoted content w x.number (told content x.number x.marks) (mark.TookPart p part) (set_word w.words (Partition p) (taken_word (w.words.partition p)))
+  taking-noted w steps free part is_content = record {
+    step = TakeExclusive (Partition p);
+    after = after_taking_partition w x.number p;
+    happens = (record { steps = steps.makes; exists = exists; free = free }, refl);
+    numbers = refl;
+    account = (λ i. account_taking (steps.account i) p (is_content i)) ∙ sym (account-taking w x.number p);
+    words = refl;
+    unused = record { database = steps.unused.database; slot = steps.unused.slot };
+    few_counted = steps.few_counted x.number;
+  }
+
+  -- The exchange takes it where it finds the number of a free word.
+  pub takes_part : (old new : ℕ) (step : Step (Option T)) → step.first ≡ old → step.word ≡ index_of_word (Partition p) → IsHeldByNobody old → new ≡ taken_word old
+      → Allows (Ruled content begun limit) CONTENT_SLOTS id me (index_of_word (Partition p)) (λ n. either (n == old) new n) (TookPartition content begun step me)
+  takes_part old new step first word free is_new s r many at below =
+      exchanged n old new (λ m. (view : View T) × (act : Act (Option T)) × Valid s.homes me.1 act
+          × Ruled content begun limit (stepped s (index_of_word (Partition p)) m id me.1 view act)
+          × TookPartition content begun step me n (view, carried_after me.1 act))
+      (λ hit.
+        let shown : r.world.words.partition p ≡ old = sym (r.words.word (Partition p) (exists, tt)) ∙ hit in
+        let is_free : IsHeldByNobody (r.world.words.partition p) = subst IsHeldByNobody (sym shown) free in
+        let home = at_home s r is_free in
+        let steps = ruled-steps content begun limit s r id me.0 x others at is in
+        let noted = taking-noted r.world steps is_free home.part home.is_content in
+        let next : taken_word (r.world.words.partition p) ≡ new = ap taken_word shown ∙ sym is_new in
+        (
+          noting me.0 (mark.TookPart p home.part),
+          takes (content_slot_of p) (Some home.part),
+          home.at_home,
+          ruled-noted content begun limit s r id me.0 x others at is (mark.TookPart p home.part)
+              (set_word r.world.words (Partition p) (taken_word (r.world.words.partition p))) (slice_set s.words (index_of_word (Partition p)) new)
+              (slice_set s.homes (content_slot_of p) none) noted
+              (subst (λ k. Rattle.shared_rule.specs.Shown.WordsAreShown (slice_set s.words (index_of_word (Partition p)) k) (set_word r.world.words (Partition p) (taken_word (r.world.words.partition p)))) next
+              (words-set s.words r.world.words (Partition p) (taken_word (r.world.words.partition p)) r.words (exists, tt)))
+              (home-taken content begun s.homes r.world.contents p
+              (record { holder = x.number; taken = r.world.contents.now p; recorded = None; unmarked = λ _. Rattle.std.proofs.Common.false }) r.contents),
+          (
+            (λ _ q within same. 
+              let one : p ≡ q = omega (arith, same, word) in
+              subst (λ k. TookContent content begun k me (noting me.0 (mark.TookPart p home.part), (content_slot_of p, Some home.part) ∷ me.1)) one (record {
+                part = home.part;
+                side = refl;
+                none_begun = home.none_begun;
+                knows = subst (λ (sessions : List (History T)). KnowsContent (first_number sessions) (first_account content sessions) p (content home.part)) (sym is)
+                    (subst (λ a. KnowsContent x.number a p (content home.part)) (sym steps.account)
+                    (subst (KnowsContent x.number (account r.world x.number) p) (sym home.is_content) (content-known r.world r.safe x.number p)));
+              })),
+            (λ miss. absurd (miss (hit ∙ sym first))),
+          ),
+        ))
+      (λ miss. (me.0, keeps, tt, nothing-changes content begun limit id (index_of_word (Partition p)) me.0 s r at, ((λ hit. absurd (miss (hit ∙ first))), λ _. refl)))
+    where
+      n : ℕ
+      n = slice_index s.words (index_of_word (Partition p))
+
+  -- Putting it is noted so.
+  abbrev putting-noted : (w : World) → Steps limit w x.number (told content x.number x.marks) → (its : InHand) (done : Move) (part : T)
+      → MayPutBy limit x.number (told content x.number x.marks) p its done (content part)
+      → IsNoted content w x.number (told content x.number x.marks) (mark.PutPart p done part) (set_word w.words (Partition p) (put_word (w.words.partition p)))
+  putting-noted w steps its done part may =
+      let may' : MayPutBy w.numbers.limit x.number (account w x.number) p its done (content part) =
+          subst (λ k. MayPutBy k x.number (account w x.number) p its done (content part)) (sym steps.is_limit) (subst (λ a. MayPutBy limit x.number a p its done (content part)) steps.account may) in
+      let own = hand-known (w.contents.hand p) (w.contents.now p) x.number its may'.may_move.in_hand in
+      let taken : taken_of ((told content x.number x.marks).hand p) ≡ content_taken (w.contents.now p) (w.contents.hand p) =
+          ap taken_of may.may_move.in_hand ∙ ap (λ (k : InHand). k.taken) own.as_known ∙ sym (ap (content_taken (w.contents.now p)) own.is_hand) in
+      record {
+        step = PutExclusive (Partition p) done;
+        after = after_putting_partition w x.number p done (content part);
+        happens = inl (content part, put-lawful w steps.safe x.number steps.makes p its done (content part) may', refl);
+        numbers = refl;
+        account = (λ i. account_putting (steps.account i) p (taken i) (content part) done) ∙ sym (account-putting w x.number p done (content part));
+        words = refl;
+        unused = record { database = steps.unused.database; slot = steps.unused.slot };
+        few_counted = steps.few_counted x.number;
+      }
+
+  pub puts_part : (step : Step (Option T)) (its : InHand) (done : Move) (part : T) → MayPutBy limit x.number (told content x.number x.marks) p its done (content part)
+      → begun part ≡ None → me.1 ≡ (content_slot_of p, Some part) ∷ rest me.1
+      → Allows (Ruled content begun limit) CONTENT_SLOTS id me (index_of_word (Partition p)) (λ n. (n + (2 ^ 64 - 2 ^ 24)) % 2 ^ 64) (WentHome (λ _. mark.PutPart p done part) step me)
+  puts_part step its done part may none_begun carried s r many at below =
+      let steps = ruled-steps content begun limit s r id me.0 x others at is in
+      let noted = putting-noted r.world steps its done part may in
+      let own = hand-known (r.world.contents.hand p) (r.world.contents.now p) x.number its (subst (λ (a : Account). a.hand p ≡ Some its) steps.account may.may_move.in_hand) in
+      let holds : r.world.sessions.holds_partition x.number p ≡ Rattle.std.proofs.Common.true =
+          r.safe.but_slots.table.carriers.hands p x.number ∙ ap (λ h. is_hand_of h x.number) own.is_hand ∙ Rattle.std.proofs.Common.eq-eqb own.hand_of.holder x.number own.whose in
+      let shown = r.words.word (Partition p) (exists, tt) in
+      let held : IsHeldExclusively (slice_index s.words (index_of_word (Partition p))) =
+          subst IsHeldExclusively (sym shown) ((r.safe.but_slots.table.promise.words p).held_is_shown x.number holds) in
+      let next : put_word (r.world.words.partition p) ≡ (slice_index s.words (index_of_word (Partition p)) + (2 ^ 64 - 2 ^ 24)) % 2 ^ 64 =
+          ap put_word (sym shown) ∙ put_word-wraps (slice_index s.words (index_of_word (Partition p))) below held in
+      (
+        noting me.0 (mark.PutPart p done part),
+        gives,
+        tt,
+        ruled-noted content begun limit s r id me.0 x others at is (mark.PutPart p done part)
+            (set_word r.world.words (Partition p) (put_word (r.world.words.partition p))) (slice_set s.words (index_of_word (Partition p)) ((slice_index s.words (index_of_word (Partition p)) + (2 ^ 64 - 2 ^ 24)) % 2 ^ 64))
+            (Rattle.atomic_table.specs.Table.put_back s.homes me.1) noted
+            (subst (λ k. Rattle.shared_rule.specs.Shown.WordsAreShown (slice_set s.words (index_of_word (Partition p)) k) (set_word r.world.words (Partition p) (put_word (r.world.words.partition p)))) next
+            (words-set s.words r.world.words (Partition p) (put_word (r.world.words.partition p)) r.words (exists, tt)))
+            (subst (λ (homes : List (maybe.Option (Option T))). ContentsAreHome content begun homes noted.after.contents) (sym (ap (Rattle.atomic_table.specs.Table.put_back s.homes) carried))
+            (home-put content begun s.homes r.world.contents p part many exists none_begun r.contents)),
+        refl,
+      )

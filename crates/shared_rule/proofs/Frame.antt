@@ -1,0 +1,218 @@
+use Rattle.std.proofs.Common.{◌≡◌, ◌≢◌, ◌⊎◌, ℕ, zero, suc, true, ◌<◌, ◌≤◌, ◌^◌, List, [], ◌∷◌, length, Option, Some, None, refl, sym, ap, ◌∙◌, subst, inl, inr, arith, length-set}
+use Rattle.std.specs.Prelude.{slice_get, slice_set, slice_index}
+use Rattle.std.proofs.lemmas.Bool.{cases_eq}
+use mathlib.Core.Option.{some, some-injective, some-ne-none}
+use mathlib.Core.Option as maybe
+use lib.ListN.{get_elem?}
+use Rattle.atomic_table.specs.Table.{State}
+use Rattle.atomic_table.proofs.Lists.{at_set, set_here, set_else}
+use Rattle.lock_table.specs.declared.request.Request.{Request}
+use Rattle.lock_table.specs.Content.{Content}
+use Rattle.lock_world.specs.declared.events.Event.{Event}
+use Rattle.lock_world.specs.declared.events.Step.{Step}
+use Rattle.lock_world.specs.World.{World, Words, Numbers, MakesSteps}
+use Rattle.lock_world.specs.SafeWorld.{SafeWorld}
+use Rattle.lock_world.specs.Account.{Account, account, IsLeftAlone}
+use Rattle.lock_world.specs.Happens.{HappensStep}
+use Rattle.lock_world.specs.Happens.Counters.{most_counted}
+use Rattle.lock_world.proofs.SafeWorld.Runs.{event-safe}
+use Rattle.lock_world.proofs.Others.Events.{event-others}
+use Rattle.shared_rule.specs.declared.history.Mark.{Mark}
+use Rattle.shared_rule.specs.declared.history.History.{History}
+use Rattle.shared_rule.specs.declared.history.View.{View}
+use Rattle.shared_rule.specs.Shown.{WordsAreShown}
+use Rattle.shared_rule.specs.History.{noted, told, noting_first, noting, keeper}
+use Rattle.shared_rule.specs.Ruled.{SlotsAreUnused, ContentsAreHome, HistoryIsShown, IsBehind, SeatsAreShown, Ruled}
+
+-- A step of the session that goes on by itself at a seat, noted there, keeps the rule.
+
+-- a place where something stands is within the list
+pub there-within : {A : Type 0} (xs : List A) (i : ℕ) (a : A) → get_elem? xs i ≡ some a → i < length xs
+there-within [] i a at = absurd (some-ne-none a (sym at))
+there-within (x ∷ xs) zero a at = omega arith
+there-within (x ∷ xs) (suc i) a at = let less = there-within xs i a at in omega (arith, less)
+
+-- one thing stands at a place
+pub there-one : {A : Type 0} (xs : List A) (i : ℕ) (a b : A) → get_elem? xs i ≡ some a → get_elem? xs i ≡ some b → a ≡ b
+there-one xs i a b at its = some-injective a b (sym at ∙ its)
+
+module _ {T : Type 0} where
+  -- The first history with a step more, or another as it was.
+  noting-get :
+      (x : History T) (others : List (History T)) (mark : Mark T) (j : ℕ) (y : History T) → slice_get (noting_first (x ∷ others) mark) j ≡ Some y
+      → ((j ≡ 0) × (y ≡ record { number = x.number; marks = mark ∷ x.marks })) ⊎ ((j ≢ 0) × (slice_get (x ∷ others) j ≡ Some y))
+  noting-get x others mark zero y get = let same : record { number = x.number; marks = mark ∷ x.marks } ≡ y = cc (get) in inl (refl, sym same)
+  noting-get x others mark (suc j) y get = inr ((λ e. omega (arith, e)), get)
+
+  -- It keeps the same ones apart.
+  noting-keeper : (x : History T) (others : List (History T)) (mark : Mark T) (j : ℕ) → keeper (noting_first (x ∷ others) mark) j ≡ keeper (x ∷ others) j
+  noting-keeper x others mark zero = refl
+  noting-keeper x others mark (suc j) = refl
+
+  -- the view with a step noted has its histories
+  noting-sessions : (view : View T) (x : History T) (others : List (History T)) (mark : Mark T) → view.sessions ≡ x ∷ others → (noting view mark).sessions ≡ noting_first (x ∷ others) mark
+  noting-sessions view x others mark is = ap (λ sessions. noting_first sessions mark) is
+
+-- What the views show of the World stays, but for the step that is noted.
+module _ {T : Type 0} (content : T → Content) (w v : World) (views : List (View T)) (id : ℕ) (view : View T) (x : History T) (others : List (History T)) (mark : Mark T)
+    (at : get_elem? views id ≡ some view) (is : view.sessions ≡ x ∷ others) (numbers : v.numbers ≡ w.numbers) (left : (k : ℕ) → k ≢ x.number → account v k ≡ account w k)
+    (now : noted content x.number (told content x.number x.marks) mark ≡ account v x.number) (issued : (k : ℕ) → w.numbers.live k ≡ true → k < w.numbers.issued)
+    (seats : SeatsAreShown content views w) where
+
+  -- the history of the session
+  own : HistoryIsShown content w seats.seat_of seats.place_in id 0 view.sessions x
+  own = seats.history id 0 view x at (ap (λ sessions. slice_get sessions 0) is)
+
+  -- any other is as it was
+  another : (i j : ℕ) (sessions sessions' : List (History T)) (y : History T) → y.number ≢ x.number → keeper sessions' j ≡ keeper sessions j
+      → HistoryIsShown content w seats.seat_of seats.place_in i j sessions y → HistoryIsShown content v seats.seat_of seats.place_in i j sessions' y
+  another i j sessions sessions' y apart same old = record {
+    account = old.account ∙ sym (left y.number apart);
+    live = ap (λ (n : Numbers). n.live y.number) numbers ∙ old.live;
+    kept_by = ap (λ (n : Numbers). n.kept_by y.number) numbers ∙ old.kept_by ∙ sym same;
+    seat = old.seat;
+    place = old.place;
+  }
+
+  sessions' : (noting view mark).sessions ≡ noting_first (x ∷ others) mark
+  sessions' = noting-sessions view x others mark is
+
+  -- who keeps whom apart there
+  keepers : (j : ℕ) → keeper (noting view mark).sessions j ≡ keeper view.sessions j
+  keepers j = ap (λ sessions. keeper sessions j) sessions' ∙ noting-keeper x others mark j ∙ sym (ap (λ sessions. keeper sessions j) is)
+
+  first : (y : History T) → y ≡ record { number = x.number; marks = mark ∷ x.marks } → HistoryIsShown content v seats.seat_of seats.place_in id 0 (noting view mark).sessions y
+  first y same = subst (HistoryIsShown content v seats.seat_of seats.place_in id 0 (noting view mark).sessions) (sym same) (record {
+    account = now;
+    live = ap (λ (n : Numbers). n.live x.number) numbers ∙ own.live;
+    kept_by = ap (λ (n : Numbers). n.kept_by x.number) numbers ∙ own.kept_by ∙ sym (keepers 0);
+    seat = own.seat;
+    place = own.place;
+  })
+
+  here : (j : ℕ) (y : History T) → slice_get (noting view mark).sessions j ≡ Some y → HistoryIsShown content v seats.seat_of seats.place_in id j (noting view mark).sessions y
+  here j y get =
+      elim (noting-get x others mark j y (sym (ap (λ sessions. slice_get sessions j) sessions') ∙ get)) [
+        | inl one ↦ subst (λ k. HistoryIsShown content v seats.seat_of seats.place_in id k (noting view mark).sessions y) (sym one.0) (first y one.1)
+        | inr other ↦
+            let old = seats.history id j view y at (ap (λ sessions. slice_get sessions j) is ∙ other.1) in
+            another id j view.sessions (noting view mark).sessions y (λ e. other.0 (sym old.place ∙ ap seats.place_in e ∙ own.place)) (keepers j) old
+      ]
+
+  shown : (i j : ℕ) (u : View T) (y : History T) → get_elem? (slice_set views id (noting view mark)) i ≡ some u → slice_get u.sessions j ≡ Some y
+      → HistoryIsShown content v seats.seat_of seats.place_in i j u.sessions y
+  shown i j u y there get =
+      elim (at_set views id i (noting view mark) u there) [
+        | inl one ↦
+            subst (λ k. HistoryIsShown content v seats.seat_of seats.place_in k j u.sessions y) (sym one.0)
+            (subst (λ (z : View T). slice_get z.sessions j ≡ Some y → HistoryIsShown content v seats.seat_of seats.place_in id j z.sessions y) one.1 (here j y) get)
+        | inr other ↦
+            let old = seats.history i j u y other.1 get in
+            another i j u.sessions u.sessions y (λ e. other.0 (sym old.seat ∙ ap seats.seat_of e ∙ own.seat)) refl old
+      ]
+
+  behind : (k by : ℕ) → v.numbers.kept_by k ≡ Some by → IsBehind content (slice_set views id (noting view mark)) seats.seat_of seats.place_in k by
+  behind k by kept =
+      let old = seats.behind k by (sym (ap (λ (n : Numbers). n.kept_by k) numbers) ∙ kept) in
+      elim (cases_eq (seats.seat_of by) id) [
+        | inl same ↦
+            let one : old.view ≡ view = there-one views id old.view view (ap (get_elem? views) (sym same) ∙ old.there) at in
+            record {
+              view = noting view mark;
+              there = ap (get_elem? (slice_set views id (noting view mark))) same ∙ set_here views id (noting view mark) (there-within views id view at);
+              same_seat = old.same_seat;
+              within = subst (λ (n : ℕ). seats.place_in k < n) (ap (λ (z : View T). length z.sessions) one ∙ ap length is ∙ sym (ap length sessions')) old.within;
+              behind = old.behind;
+            }
+        | inr other ↦ record {
+            view = old.view;
+            there = set_else views id (seats.seat_of by) (noting view mark) other ∙ old.there;
+            same_seat = old.same_seat;
+            within = old.within;
+            behind = old.behind;
+          }
+      ]
+
+  next : (i : ℕ) (u : View T) (n : ℕ) → get_elem? (slice_set views id (noting view mark)) i ≡ some u → u.next ≡ Some n → (i ≡ seats.opener) × (n ≡ v.numbers.issued)
+  next i u n there says =
+      elim (at_set views id i (noting view mark) u there) [
+        | inl one ↦
+            let old = seats.next id view n at (ap (λ (z : View T). z.next) one.1 ∙ says) in
+            (one.0 ∙ old.0, old.1 ∙ sym (ap (λ (z : Numbers). z.issued) numbers))
+        | inr other ↦ let old = seats.next i u n other.1 says in (old.0, old.1 ∙ sym (ap (λ (z : Numbers). z.issued) numbers))
+      ]
+
+  pub seats-noted : SeatsAreShown content (slice_set views id (noting view mark)) v
+  seats-noted = record {
+    seat_of = seats.seat_of;
+    place_in = seats.place_in;
+    history = shown;
+    behind = behind;
+    opener = seats.opener;
+    next = next;
+    not_issued = λ n not_yet.
+        let old_issued : w.numbers.issued ≤ n = subst (λ (z : Numbers). z.issued ≤ n) numbers not_yet in
+        let young = issued x.number own.live in
+        left n (λ e. let eq : ◌≡◌ {A = ℕ} n x.number = e in omega (arith, old_issued, young, eq)) ∙ seats.not_issued n old_issued;
+  }
+
+-- What the session that goes on by itself at a seat knows of the World, and what holds there.
+pub record Steps (limit : ℕ) (w : World) (number : ℕ) (a : Account) : Type 0 where
+  pub safe : SafeWorld w
+  pub is_limit : w.numbers.limit ≡ limit
+  pub few : limit ≤ 64
+  pub makes : MakesSteps w.numbers number
+  pub account : a ≡ account w number
+  pub unused : SlotsAreUnused w.words
+  pub few_counted : (session : ℕ) → length (w.sessions.counted session) ≤ most_counted
+
+-- A step of it, and what it makes of the World.
+pub record IsNoted {T : Type 0} (content : T → Content) (w : World) (number : ℕ) (a : Account) (mark : Mark T) (next : Words) : Type 0 where
+  pub step : Step
+  pub after : World
+  pub happens : HappensStep w number step after
+  pub numbers : after.numbers ≡ w.numbers
+  pub account : noted content number a mark ≡ account after number
+  pub words : after.words ≡ next
+  pub unused : SlotsAreUnused next
+  pub few_counted : length (after.sessions.counted number) ≤ most_counted
+
+module _ {T : Type 0} (content : T → Content) (begun : T → Option Request) (limit : ℕ) (s : State (Option T) (View T)) (r : Ruled content begun limit s)
+    (id : ℕ) (view : View T) (x : History T) (others : List (History T)) (at : get_elem? s.views id ≡ some view) (is : view.sessions ≡ x ∷ others) where
+
+  pub history_of : HistoryIsShown content r.world r.seats.seat_of r.seats.place_in id 0 view.sessions x
+  history_of = r.seats.history id 0 view x at (ap (λ sessions. slice_get sessions 0) is)
+
+  pub ruled-steps : Steps limit r.world x.number (told content x.number x.marks)
+  ruled-steps = record {
+    safe = r.safe;
+    is_limit = r.is_limit;
+    few = r.few;
+    makes = record { live = history_of.live; by_itself = history_of.kept_by ∙ ap (λ sessions. keeper sessions 0) is };
+    account = history_of.account;
+    unused = r.unused;
+    few_counted = r.few_counted;
+  }
+
+  pub ruled-noted :
+      (mark : Mark T) (words : Words) (table : List ℕ) (homes : List (maybe.Option (Option T))) (noted : IsNoted content r.world x.number (told content x.number x.marks) mark words)
+      → WordsAreShown table words → ContentsAreHome content begun homes noted.after.contents
+      → Ruled content begun limit (record { words = table; homes = homes; views = slice_set s.views id (noting view mark) })
+  ruled-noted mark words table homes noted shown home =
+      let event : Event = record { session = x.number; step = noted.step } in
+      let left : (k : ℕ) → k ≢ x.number → account noted.after k ≡ account r.world k = λ k other. (event-others r.world noted.after event k r.safe noted.happens other).account in
+      record {
+        world = noted.after;
+        safe = event-safe r.world event noted.after r.safe noted.happens;
+        is_limit = ap (λ (n : Numbers). n.limit) noted.numbers ∙ r.is_limit;
+        few = r.few;
+        words = subst (WordsAreShown table) (sym noted.words) shown;
+        unused = subst SlotsAreUnused (sym noted.words) noted.unused;
+        few_counted = λ k. elim (cases_eq k x.number) [
+          | inl same ↦ subst (λ n. length (noted.after.sessions.counted n) ≤ most_counted) (sym same) noted.few_counted
+          | inr other ↦ subst (λ (a : Account). length a.fast.counted ≤ most_counted) (sym (left k other)) (r.few_counted k)
+        ];
+        contents = home;
+        seats = seats-noted content r.world noted.after s.views id view x others mark at is noted.numbers left noted.account
+            r.safe.but_slots.table.carriers.numbers.live_is_issued r.seats;
+      }

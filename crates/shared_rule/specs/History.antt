@@ -1,0 +1,91 @@
+use Rattle.std.specs.Prelude.{◌≡◌, ℕ, zero, suc, false, List, [], ◌∷◌, Option, Some, None}
+use Rattle.modes_core.specs.declared.modes.Mode.{Mode}
+use Rattle.modes_core.specs.declared.tags.Tag.{Tag}
+use Rattle.lock_table.specs.Content.{Content, empty_content}
+use Rattle.lock_world.specs.declared.events.Word.TheVariants.{Database}
+use Rattle.lock_world.specs.SlotHolds.{slot_holds}
+use Rattle.lock_world.specs.World.{Loaded}
+use Rattle.lock_world.specs.Account.{Account, InHand, SlotsInHand}
+use Rattle.lock_world.specs.AccountSteps.{account_taking, account_putting, account_taking_fast, account_putting_fast, account_passing, account_counting, account_uncounting, account_tracing}
+use Rattle.shared_rule.specs.declared.history.Mark.{Mark}
+use Rattle.shared_rule.specs.declared.history.Mark.TheVariants.{TookPart, PutPart, TookFast, PutFast, Passed, Counted, Uncounted, LoadedDatabase}
+use Rattle.shared_rule.specs.declared.history.History.{History}
+use Rattle.shared_rule.specs.declared.history.View.{View}
+
+-- What a session's history tells: its account.
+
+-- the account of a session that has made no step
+abbrev pub blank_account : Account
+blank_account = record {
+  own = λ _ _. false;
+  awaited = None;
+  seen = false;
+  hand = λ _. None;
+  shares = λ _. false;
+  fast = record { slots = λ _. None; shared_slots = λ _. None; database = 0; zero = None; counted = [] };
+  lists = record { in_hand = None; stands = None; off = λ _. false };
+  trace = [];
+}
+
+-- the content as it was taken, of a partition in hand
+abbrev pub taken_of : Option InHand → Content
+taken_of None = empty_content
+taken_of (Some mine) = mine.taken
+
+-- the slots of a session that has no lock by the fast path
+abbrev pub no_slots : SlotsInHand
+no_slots = record { word = λ _. 0; holds = slot_holds 0 (λ _. 0) }
+
+module _ {T : Type 0} (content : T → Content) where
+  -- what a step makes of the account of the session of this number
+  abbrev pub noted : ℕ → Account → Mark T → Account
+  noted number a (TookPart part taken) = account_taking a part (content taken)
+  noted number a (PutPart part done put) = account_putting a part (taken_of (a.hand part)) (content put) done
+  noted number a (TookFast owner) = account_taking_fast a owner no_slots
+  noted number a (PutFast owner) = account_putting_fast number a owner
+  noted number a (Passed owner tag mode) = account_passing number a owner tag mode
+  noted number a (Counted tag mode) = account_counting a tag mode
+  noted number a (Uncounted tag mode) = account_uncounting a tag mode
+  noted number a (LoadedDatabase owner shown) = account_tracing a (Loaded (Database owner) shown)
+
+  -- the account that these steps tell, the last one first
+  abbrev pub told : ℕ → List (Mark T) → Account
+  told number [] = blank_account
+  told number (mark ∷ marks) = noted number (told number marks) mark
+
+  -- the account of the session that makes its steps with the seat
+  abbrev pub first_account : List (History T) → Account
+  first_account [] = blank_account
+  first_account (history ∷ others) = told history.number history.marks
+
+module _ {T : Type 0} where
+  -- its number
+  abbrev pub first_number : List (History T) → ℕ
+  first_number [] = 0
+  first_number (history ∷ others) = history.number
+
+  -- who keeps the history at this place apart: the first, which goes on by itself
+  abbrev pub keeper : List (History T) → ℕ → Option ℕ
+  keeper [] place = None
+  keeper (history ∷ others) zero = None
+  keeper (history ∷ others) (suc place) = Some history.number
+
+  -- the histories with a step of the first
+  abbrev pub noting_first : List (History T) → Mark T → List (History T)
+  noting_first [] mark = []
+  noting_first (history ∷ others) mark = record { number = history.number; marks = mark ∷ history.marks } ∷ others
+
+  -- the view with a step of its session
+  abbrev pub noting : View T → Mark T → View T
+  noting view mark = record { next = view.next; sessions = noting_first view.sessions mark }
+
+  -- the view of the opener's seat before the first session, and of one session's seat
+  abbrev pub opening_view : View T
+  opening_view = record { next = Some 0; sessions = [] }
+
+  abbrev pub lone : ℕ → List (Mark T) → View T
+  lone number marks = record { next = None; sessions = record { number = number; marks = marks } ∷ [] }
+
+  -- the view of a seat that was joined to another
+  abbrev pub spent_view : View T
+  spent_view = record { next = None; sessions = [] }

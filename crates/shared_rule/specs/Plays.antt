@@ -1,0 +1,68 @@
+use Rattle.std.specs.Prelude.{◌≡◌, ◌≢◌, ℕ, ◌<◌, List, ◌∷◌, Option, Some, None}
+use Rattle.atomic_table.specs.Table.{Me, Step, rest}
+use Rattle.atomic_table.specs.Seated.{TableId}
+use Rattle.lock_table.specs.declared.request.Request.{Request}
+use Rattle.lock_table.specs.Content.{Content}
+use Rattle.lock_world.specs.declared.events.Word.TheVariants.{Partition}
+use Rattle.lock_world.specs.AccountFacts.{KnowsContent}
+use Rattle.atomic_table.specs.declared.shared.Seat.{Seat}
+use Rattle.shared_rule.specs.declared.history.History.{History}
+use Rattle.shared_rule.specs.declared.history.Mark.{Mark}
+use Rattle.shared_rule.specs.declared.history.Mark.TheVariants.{TookPart}
+use Rattle.shared_rule.specs.declared.history.View.{View}
+use Rattle.shared_rule.specs.declared.layout.TheConstants.{TABLE_WORDS, CONTENT_SLOTS}
+use Rattle.shared_rule.specs.Layout.{index_of_word, content_slot_of}
+use Rattle.shared_rule.specs.History.{noting, first_account, first_number}
+
+-- What each step tells. A session's side of a step: its view, and the contents that it has in hand, each with its slot.
+
+abbrev pub Side : Type 0 → Type 0
+Side T = Me (Option T) (View T)
+
+-- the table has a place for each word and each content
+pub record IsSized (table : TableId) : Type 0 where
+  pub words : table.words ≡ TABLE_WORDS
+  pub slots : table.slots ≡ CONTENT_SLOTS
+
+module _ {T : Type 0} where
+  -- the seat is at this table
+  pub record FitsTable (place : Seat (Option T) (View T)) (table : TableId) : Type 0 where
+    pub at : place.table_id ≡ table
+    pub sized : IsSized table
+
+  -- it is for a session, which makes its steps with it
+  pub record HasSession (view : View T) : Type 0 where
+    pub history : History T
+    pub others : List (History T)
+    pub sessions : view.sessions ≡ history ∷ others
+
+  -- it is the same seat after a step
+  pub record IsSameSeat (before after : Seat (Option T) (View T)) : Type 0 where
+    pub table_id : after.table_id ≡ before.table_id
+    pub id : after.id ≡ before.id
+
+
+  -- its session's step was noted, and no content came or went
+  abbrev pub Marked : (ℕ → Mark T) → Step (Option T) → Side T → ℕ → Side T → Type 0
+  Marked mark step before found after = after ≡ (noting before.0 (mark found), before.1)
+
+  abbrev pub Won : (ℕ → Mark T) → Step (Option T) → Side T → ℕ → Side T → Type 0
+  Won mark step before found after =
+      (found ≡ step.first → after ≡ (noting before.0 (mark found), before.1)) × (found ≢ step.first → after ≡ before)
+
+  -- it was noted, and the content that came last went home
+  abbrev pub WentHome : (ℕ → Mark T) → Step (Option T) → Side T → ℕ → Side T → Type 0
+  WentHome mark step before found after = after ≡ (noting before.0 (mark found), rest before.1)
+
+module _ {T : Type 0} (content : T → Content) (begun : T → Option Request) where
+  -- A partition came into hand with its content, of which the session knows what its account tells, and in which no request is begun.
+  pub record TookContent (p : ℕ) (before after : Side T) : Type 0 where
+    pub part : T
+    pub side : after ≡ (noting before.0 (TookPart p part), (content_slot_of p, Some part) ∷ before.1)
+    pub none_begun : begun part ≡ None
+    pub knows : KnowsContent (first_number before.0.sessions) (first_account content before.0.sessions) p (content part)
+
+  abbrev pub TookPartition : Step (Option T) → Side T → ℕ → Side T → Type 0
+  TookPartition step before found after =
+      (found ≡ step.first → (p : ℕ) → p < 16 → step.word ≡ index_of_word (Partition p) → TookContent p before after)
+      × (found ≢ step.first → after ≡ before)

@@ -1,0 +1,90 @@
+use Rattle.std.specs.Prelude.{◌≡◌, ◌≢◌, ℕ, zero, suc, ◌<◌, ◌≤◌, true, List, length, slice_get, Option, Some, None}
+use mathlib.Core.Option.{some}
+use mathlib.Core.Option as maybe
+use lib.ListN.{get_elem?}
+use Rattle.atomic_table.specs.Table.{State}
+use Rattle.lock_table.specs.declared.request.Request.{Request}
+use Rattle.lock_table.specs.Content.{Content}
+use Rattle.lock_world.specs.World.{World, Words, Contents, Hand}
+use Rattle.lock_world.specs.SafeWorld.{SafeWorld}
+use Rattle.lock_world.specs.Account.{account}
+use Rattle.lock_world.specs.Happens.Counters.{most_counted}
+use Rattle.shared_rule.specs.declared.history.History.{History}
+use Rattle.shared_rule.specs.declared.history.View.{View}
+use Rattle.shared_rule.specs.Layout.{content_slot_of}
+use Rattle.shared_rule.specs.Shown.{WordsAreShown}
+use Rattle.shared_rule.specs.History.{blank_account, told, keeper}
+
+-- The rule of the table: there is a World which its words, its contents at home and the histories of all sessions show, and which is
+-- safe.
+
+-- No session has a database or a fast-path slot: no step stores one yet.
+pub record SlotsAreUnused (words : Words) : Type 0 where
+  pub database : words.database ≡ (λ _. 0)
+  pub slot : words.slot ≡ (λ _ _. 0)
+
+-- What the slots of contents show.
+module _ {T : Type 0} (content : T → Content) (begun : T → Option Request) where
+  -- A partition that is in nobody's hand has its content at home, and no request is begun in it.
+  pub record IsAtHome (now : Content) (there : maybe.Option (maybe.Option (Option T))) : Type 0 where
+    pub part : T
+    pub at_home : there ≡ some (some (Some part))
+    pub is_content : content part ≡ now
+    pub none_begun : begun part ≡ None
+
+  abbrev pub IsHomeUnlessInHand : Option Hand → Content → maybe.Option (maybe.Option (Option T)) → Type 0
+  IsHomeUnlessInHand None now there = IsAtHome now there
+  IsHomeUnlessInHand (Some hand) now there = Unit {0}
+
+  abbrev pub ContentsAreHome : List (maybe.Option (Option T)) → Contents → Type 0
+  ContentsAreHome homes contents =
+      (p : ℕ) → p < 16 → IsHomeUnlessInHand (contents.hand p) (contents.now p) (get_elem? homes (content_slot_of p))
+
+-- What the views of the seats show.
+module _ {T : Type 0} (content : T → Content) where
+  -- A history tells the account of its session, which is live, stands in no other view and not twice in this one, and makes steps of
+  -- its own if it is the first there.
+  pub record HistoryIsShown (w : World) (seat_of place_in : ℕ → ℕ) (its_seat its_place : ℕ) (sessions : List (History T)) (history : History T) : Type 0 where
+    pub account : told content history.number history.marks ≡ account w history.number
+    pub live : w.numbers.live history.number ≡ true
+    pub kept_by : w.numbers.kept_by history.number ≡ keeper sessions its_place
+    pub seat : seat_of history.number ≡ its_seat
+    pub place : place_in history.number ≡ its_place
+
+  -- Whoever is kept apart stands behind its keeper.
+  pub record IsBehind (views : List (View T)) (seat_of place_in : ℕ → ℕ) (session joiner : ℕ) : Type 0 where
+    pub view : View T
+    pub there : get_elem? views (seat_of joiner) ≡ some view
+    pub same_seat : seat_of session ≡ seat_of joiner
+    pub within : place_in session < length view.sessions
+    pub behind : place_in joiner < place_in session
+
+  pub record SeatsAreShown (views : List (View T)) (w : World) : Type 0 where
+    -- in which seat's view each session's history stands, and at which place
+    pub seat_of : ℕ → ℕ
+    pub place_in : ℕ → ℕ
+    pub history :
+        (seat place : ℕ) (view : View T) (history : History T) → get_elem? views seat ≡ some view
+        → slice_get view.sessions place ≡ Some history
+        → HistoryIsShown w seat_of place_in seat place view.sessions history
+    pub behind : (session joiner : ℕ) → w.numbers.kept_by session ≡ Some joiner → IsBehind views seat_of place_in session joiner
+    -- one seat is the opener's, and knows the next number
+    pub opener : ℕ
+    pub next :
+        (seat : ℕ) (view : View T) (number : ℕ) → get_elem? views seat ≡ some view → view.next ≡ Some number
+        → (seat ≡ opener) × (number ≡ w.numbers.issued)
+    -- a number not yet given out has an account with nothing in it
+    pub not_issued : (number : ℕ) → w.numbers.issued ≤ number → account w number ≡ blank_account
+
+-- The rule.
+module _ {T : Type 0} (content : T → Content) (begun : T → Option Request) where
+  pub record Ruled (limit : ℕ) (state : State (Option T) (View T)) : Type 0 where
+    pub world : World
+    pub safe : SafeWorld world
+    pub is_limit : world.numbers.limit ≡ limit
+    pub few : limit ≤ 64
+    pub words : WordsAreShown state.words world.words
+    pub unused : SlotsAreUnused world.words
+    pub few_counted : (session : ℕ) → length (world.sessions.counted session) ≤ most_counted
+    pub contents : ContentsAreHome content begun state.homes world.contents
+    pub seats : SeatsAreShown content state.views world

@@ -1,0 +1,64 @@
+//! What each session's seat at the table knows: the session's history, all steps that it has made. No value of
+//! these types is ever made. Clauses alone read them, and what they say of a session is its account
+//! (`lock_world`'s `Account`), which the history tells.
+
+use lock_table::Move;
+use modes_core::{Mode, Tag};
+
+/// One atomic step of a session, as its history has it.
+pub enum Mark<T> {
+    /// It took the partition in hand, with this content.
+    TookPart {
+        part: u8,
+        taken: T,
+    },
+    /// It put the partition home with this content, after this move that it made as it put it.
+    PutPart {
+        part: u8,
+        done: Move,
+        put: T,
+    },
+    /// It took the lock of a session's fast-path slots.
+    TookFast {
+        owner: u8,
+    },
+    /// It put that lock.
+    PutFast {
+        owner: u8,
+    },
+    /// It put that lock, and its strong lock, which it has counted, is past the session.
+    Passed {
+        owner: u8,
+        tag: Tag,
+        mode: Mode,
+    },
+    /// It counted a strong lock.
+    Counted {
+        tag: Tag,
+        mode: Mode,
+    },
+    /// It counts the strong lock no more.
+    Uncounted {
+        tag: Tag,
+        mode: Mode,
+    },
+    /// It loaded a session's database, which was this.
+    LoadedDatabase {
+        owner: u8,
+        shown: u64,
+    },
+}
+
+/// A session's number and its steps, the last one first. A clause reads the array as a list, of any length.
+pub struct History<T> {
+    pub number: u8,
+    pub marks: [Mark<T>; 0],
+}
+
+/// What a seat knows: the histories of the sessions that it is for, and, if it is the opener's, the number that the
+/// next session gets. A seat is one session's, which makes its steps with it. Where two sessions meet, the first one's
+/// seat has the other's history behind its own for that time.
+pub struct View<T> {
+    pub next: Option<u8>,
+    pub sessions: [History<T>; 0],
+}

@@ -1,0 +1,62 @@
+//! What a step on the table tells the session that makes it.
+
+use crate::history::{Mark, View};
+use atomic_table::Play;
+use lock_table::PartTable;
+use std::marker::{Brand, PhantomData};
+
+/// The mark that a step leaves in its session's history, by the number that it finds in its word. Each call picks it.
+pub trait Marking<T> {
+    ghost use Rattle.std.specs.Prelude.{ℕ};
+    ghost use Rattle.shared_rule.specs.declared.history.Mark.{Mark};
+
+    ghost mark: { ℕ → Mark T };
+}
+
+impl<T> Marking<T> for Brand {
+    ghost use Rattle.shared_rule.specs.declared.history.Mark.TheVariants.{PutFast};
+
+    ghost mark = { λ _. PutFast 0 };
+}
+
+/// A step that leaves its mark.
+pub struct Marks<M> {
+    of: PhantomData<M>,
+}
+
+impl<T, M: Marking<T>> Play<Option<T>, View<T>> for Marks<M> {
+    ghost use Rattle.shared_rule.specs.Plays.{Marked};
+
+    ghost then = { Marked M.mark };
+}
+
+/// An exchange that leaves its mark where it finds the number that it expects, and else changes nothing.
+pub struct Wins<M> {
+    of: PhantomData<M>,
+}
+
+impl<T, M: Marking<T>> Play<Option<T>, View<T>> for Wins<M> {
+    ghost use Rattle.shared_rule.specs.Plays.{Won};
+
+    ghost then = { Won M.mark };
+}
+
+/// A step that leaves its mark and puts home the content in hand.
+pub struct PutsHome<M> {
+    of: PhantomData<M>,
+}
+
+impl<T, M: Marking<T>> Play<Option<T>, View<T>> for PutsHome<M> {
+    ghost use Rattle.shared_rule.specs.Plays.{WentHome};
+
+    ghost then = { WentHome M.mark };
+}
+
+/// An exchange that takes a partition in hand where it finds the number that it expects, and else changes nothing.
+pub struct TakesPart;
+
+impl<T: PartTable> Play<Option<T>, View<T>> for TakesPart {
+    ghost use Rattle.shared_rule.specs.Plays.{TookPartition};
+
+    ghost then = { TookPartition T.content T.begun };
+}
