@@ -58,7 +58,6 @@ module _ {T : Type 0} (content : T → Content) (w v : World) (views : List (Vie
     (at : get_elem? views id ≡ some view) (is : view.sessions ≡ x ∷ others) (numbers : v.numbers ≡ w.numbers) (left : (k : ℕ) → k ≢ x.number → account v k ≡ account w k)
     (now : noted content x.number (told content x.number x.marks) mark ≡ account v x.number) (issued : (k : ℕ) → w.numbers.live k ≡ true → k < w.numbers.issued)
     (seats : SeatsAreShown content views w) where
-
   -- the history of the session
   own : HistoryIsShown content w seats.seat_of seats.place_in id 0 view.sessions x
   own = seats.history id 0 view x at (ap (λ sessions. slice_get sessions 0) is)
@@ -125,12 +124,12 @@ module _ {T : Type 0} (content : T → Content) (w v : World) (views : List (Vie
               behind = old.behind;
             }
         | inr other ↦ record {
-            view = old.view;
-            there = set_else views id (seats.seat_of by) (noting view mark) other ∙ old.there;
-            same_seat = old.same_seat;
-            within = old.within;
-            behind = old.behind;
-          }
+          view = old.view;
+          there = set_else views id (seats.seat_of by) (noting view mark) other ∙ old.there;
+          same_seat = old.same_seat;
+          within = old.within;
+          behind = old.behind;
+        }
       ]
 
   next : (i : ℕ) (u : View T) (n : ℕ) → get_elem? (slice_set views id (noting view mark)) i ≡ some u → u.next ≡ Some n → (i ≡ seats.opener) × (n ≡ v.numbers.issued)
@@ -179,7 +178,6 @@ pub record IsNoted {T : Type 0} (content : T → Content) (w : World) (number : 
 
 module _ {T : Type 0} (content : T → Content) (begun : T → Option Request) (limit : ℕ) (s : State (Option T) (View T)) (r : Ruled content begun limit s)
     (id : ℕ) (view : View T) (x : History T) (others : List (History T)) (at : get_elem? s.views id ≡ some view) (is : view.sessions ≡ x ∷ others) where
-
   pub history_of : HistoryIsShown content r.world r.seats.seat_of r.seats.place_in id 0 view.sessions x
   history_of = r.seats.history id 0 view x at (ap (λ sessions. slice_get sessions 0) is)
 

@@ -1,3 +1,4 @@
 mod Shown
 pub mod Frame
 pub mod Events
+pub mod Sides

@@ -41,7 +41,6 @@ module _ {T : Type 0} where
     pub table_id : after.table_id ≡ before.table_id
     pub id : after.id ≡ before.id
 
-
   -- its session's step was noted, and no content came or went
   abbrev pub Marked : (ℕ → Mark T) → Step (Option T) → Side T → ℕ → Side T → Type 0
   Marked mark step before found after = after ≡ (noting before.0 (mark found), before.1)

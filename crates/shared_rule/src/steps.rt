@@ -2,11 +2,13 @@
 //! session's history first in its view; what each does to the view is in its clauses, and what that does to the
 //! session's account is in `noted` of specs/History.
 
+ghost use Rattle.std.specs.Bool.{OnTrue, OnFalse};
 ghost use Rattle.std.specs.Prelude.{ℕ, ◌≡◌, ◌<◌, ◌+◌, ◌-◌, ◌^◌, ◌%◌, ◌∷◌, ◌==◌, None, IfSome, IfNone};
 ghost use prog.Atomic.{either};
 ghost use mathlib.Core.Option.{none};
 ghost use Rattle.atomic_table.specs.Table.{Allows, step, rest};
 ghost use Rattle.lw_word.specs.LightweightWord.{IsHeldByNobody, taken_word};
+ghost use Rattle.lock_world.specs.Account.{InHand, SlotsInHand};
 ghost use Rattle.lock_world.specs.AccountFacts.{KnowsContent};
 ghost use Rattle.lock_world.specs.AccountLaw.{MayPutBy, MayPutFastBy, MayPassBy, MayCountBy, MayUncountBy};
 ghost use Rattle.shared_rule.specs.declared.history.Mark.TheVariants.{TookPart, PutPart, TookFast, PutFast, Passed, Counted, Uncounted, LoadedDatabase};
@@ -84,4 +86,307 @@ fn put_home_as<T: PartTable, M: Marking<T>>(top: &Top<T>, place: &mut Place<T>, 
     ensures side { (n : ℕ) × (place.new.me ≡ (noting place.old.me.0 (M.mark n), rest place.old.me.1)) }
 {
     top.fetch_sub::<PutsHome<M>>(place, word, EXCLUSIVE);
+}
+
+fn exchange_as<T: PartTable, M: Marking<T>>(
+    top: &Top<T>,
+    place: &mut Place<T>,
+    word: usize,
+    old: u64,
+    new: u64,
+) -> bool
+    requires table { FitsTable place.old top.now.table_id × (word < top.now.table_id.words) }
+    requires allowed { Allows (Ruled T.content T.begun top.now.key) top.now.table_id.slots place.old.id place.old.me word
+        (λ n. either (n == old) new n) (Won M.mark (step top.now.table_id.slots word old new none) place.old.me) }
+    ensures seat { IsSameSeat place.old place.new }
+    ensures won { OnTrue result (place.new.me ≡ (noting place.old.me.0 (M.mark old), place.old.me.1)) }
+    ensures lost { OnFalse result (place.new.me ≡ place.old.me) }
+{
+    top.compare_exchange::<Wins<M>>(place, word, old, new) == old
+}
+
+// One attempt to take a partition in hand, by the number that its word may show.
+fn attempt_part<T: PartTable>(
+    top: &Top<T>,
+    place: &mut Place<T>,
+    part: u8,
+    shown: u64,
+    taken: u64,
+) -> Option<T>
+    requires table { FitsTable place.old top.now.table_id }
+    requires exists { part < 16 }
+    requires session { HasSession place.old.me.0 }
+    requires free { IsHeldByNobody shown × (taken ≡ taken_word shown) }
+    ensures seat { IsSameSeat place.old place.new }
+    ensures lost { IfNone result (place.new.me ≡ place.old.me) }
+    ensures side { IfSome result (λ content. place.new.me ≡ (noting place.old.me.0 (TookPart part content), (content_slot_of part, None) ∷ place.old.me.1)) }
+    ensures none_begun { IfSome result (λ content. T.begun content ≡ None) }
+    ensures knows { IfSome result (λ content.
+        KnowsContent (first_number place.old.me.0.sessions) (first_account T.content place.old.me.0.sessions) part (T.content content)) }
+{
+    if top.compare_exchange::<TakesPart>(place, partition_word(part), shown, taken) != shown {
+        return None;
+    }
+    Some(top.exchange(place, content_slot(part), None).unwrap())
+}
+
+/// Takes a partition's lightweight lock exclusively, and its content in hand (`LWLockAcquire` in lwlock.c). It waits
+/// until the lock is free. Of the content it tells what the session's account knows of it.
+pub(crate) fn take_part<T: PartTable, R: Wait>(
+    rt: &R,
+    top: &Top<T>,
+    place: &mut Place<T>,
+    part: u8,
+) -> T
+    requires table { FitsTable place.old top.now.table_id }
+    requires exists { part < 16 }
+    requires session { HasSession place.old.me.0 }
+    ensures seat { IsSameSeat place.old place.new }
+    ensures side { place.new.me ≡ (noting place.old.me.0 (TookPart part result), (content_slot_of part, None) ∷ place.old.me.1) }
+    ensures none_begun { T.begun result ≡ None }
+    ensures knows { KnowsContent (first_number place.old.me.0.sessions) (first_account T.content place.old.me.0.sessions) part (T.content result) }
+{
+    let backoff = Backoff::new();
+    for _ in rt.forever() {
+        let shown = top.peek(partition_word(part));
+        if let Some(taken) = taken(shown) {
+            if let Some(content) = attempt_part(top, place, part, shown, taken) {
+                return content;
+            }
+        }
+        backoff.snooze();
+    }
+    unreachable!()
+}
+
+fn put_part_as<T: PartTable, M: Marking<T>>(
+    top: &Top<T>,
+    place: &mut Place<T>,
+    part: u8,
+    done: &Move,
+    content: T,
+)
+    requires table { FitsTable place.old top.now.table_id }
+    requires exists { part < 16 }
+    requires session { HasSession place.old.me.0 }
+    requires in_hand { place.old.me.1 ≡ (content_slot_of part, None) ∷ rest place.old.me.1 }
+    requires none_begun { T.begun content ≡ None }
+    requires lawful { (mine : InHand) × MayPutBy top.now.key (first_number place.old.me.0.sessions)
+        (first_account T.content place.old.me.0.sessions) part mine done.now (T.content content) }
+    requires mark { M.mark ≡ (λ _. PutPart part done.now content) }
+    ensures seat { IsSameSeat place.old place.new }
+    ensures side { place.new.me ≡ (noting place.old.me.0 (PutPart part done.now content), rest place.old.me.1) }
+{
+    match top.exchange(place, content_slot(part), Some(content)) {
+        None => put_home_as::<T, M>(top, place, partition_word(part)),
+        Some(_) => unreachable!(),
+    }
+}
+
+/// Puts a partition's content home, after this move, and its lightweight lock (`LWLockRelease` in lwlock.c).
+pub(crate) fn put_part<T: PartTable>(
+    top: &Top<T>,
+    place: &mut Place<T>,
+    part: u8,
+    done: &Move,
+    content: T,
+)
+    requires table { FitsTable place.old top.now.table_id }
+    requires exists { part < 16 }
+    requires session { HasSession place.old.me.0 }
+    requires in_hand { place.old.me.1 ≡ (content_slot_of part, None) ∷ rest place.old.me.1 }
+    requires none_begun { T.begun content ≡ None }
+    requires lawful { (mine : InHand) × MayPutBy top.now.key (first_number place.old.me.0.sessions)
+        (first_account T.content place.old.me.0.sessions) part mine done.now (T.content content) }
+    ensures seat { IsSameSeat place.old place.new }
+    ensures side { place.new.me ≡ (noting place.old.me.0 (PutPart part done.now content), rest place.old.me.1) }
+{
+    put_part_as::<T, Brand>(top, place, part, done, content);
+}
+
+fn take_fast_as<T: PartTable, M: Marking<T>, R: Wait>(
+    rt: &R,
+    top: &Top<T>,
+    place: &mut Place<T>,
+    owner: SessionId,
+)
+    requires table { FitsTable place.old top.now.table_id }
+    requires exists { owner < top.now.key }
+    requires session { HasSession place.old.me.0 }
+    requires mark { M.mark ≡ (λ _. TookFast owner) }
+    ensures seat { IsSameSeat place.old place.new }
+    ensures side { place.new.me ≡ (noting place.old.me.0 (TookFast owner), place.old.me.1) }
+{
+    let word = fast_word(owner);
+    let backoff = Backoff::new();
+    for _ in rt.forever() {
+        let shown = top.peek(word);
+        if let Some(taken) = taken(shown) {
+            if exchange_as::<T, M>(top, place, word, shown, taken) {
+                return;
+            }
+        }
+        backoff.snooze();
+    }
+    unreachable!()
+}
+
+/// Takes the lock of a session's fast-path slots exclusively, issued or not (`LWLockAcquire` of `fpInfoLock`). It
+/// waits until the lock is free.
+pub(crate) fn take_fast<T: PartTable, R: Wait>(
+    rt: &R,
+    top: &Top<T>,
+    place: &mut Place<T>,
+    owner: SessionId,
+)
+    requires table { FitsTable place.old top.now.table_id }
+    requires exists { owner < top.now.key }
+    requires session { HasSession place.old.me.0 }
+    ensures seat { IsSameSeat place.old place.new }
+    ensures side { place.new.me ≡ (noting place.old.me.0 (TookFast owner), place.old.me.1) }
+{
+    take_fast_as::<T, Brand, R>(rt, top, place, owner);
+}
+
+fn put_fast_as<T: PartTable, M: Marking<T>>(top: &Top<T>, place: &mut Place<T>, owner: SessionId)
+    requires table { FitsTable place.old top.now.table_id }
+    requires exists { owner < top.now.key }
+    requires session { HasSession place.old.me.0 }
+    requires lawful { (slots : SlotsInHand) × MayPutFastBy (first_account T.content place.old.me.0.sessions) owner slots }
+    requires mark { M.mark ≡ (λ _. PutFast owner) }
+    ensures seat { IsSameSeat place.old place.new }
+    ensures side { place.new.me ≡ (noting place.old.me.0 (PutFast owner), place.old.me.1) }
+{
+    fetch_sub_as::<T, M>(top, place, fast_word(owner), EXCLUSIVE);
+}
+
+/// Puts that lock.
+pub(crate) fn put_fast<T: PartTable>(top: &Top<T>, place: &mut Place<T>, owner: SessionId)
+    requires table { FitsTable place.old top.now.table_id }
+    requires exists { owner < top.now.key }
+    requires session { HasSession place.old.me.0 }
+    requires lawful { (slots : SlotsInHand) × MayPutFastBy (first_account T.content place.old.me.0.sessions) owner slots }
+    ensures seat { IsSameSeat place.old place.new }
+    ensures side { place.new.me ≡ (noting place.old.me.0 (PutFast owner), place.old.me.1) }
+{
+    put_fast_as::<T, Brand>(top, place, owner);
+}
+
+fn pass_fast_as<T: PartTable, M: Marking<T>>(
+    top: &Top<T>,
+    place: &mut Place<T>,
+    owner: SessionId,
+    tag: &Tag,
+    mode: Mode,
+)
+    requires table { FitsTable place.old top.now.table_id }
+    requires exists { owner < top.now.key }
+    requires session { HasSession place.old.me.0 }
+    requires lawful { (slots : SlotsInHand) × MayPassBy (first_account T.content place.old.me.0.sessions) owner slots tag.now mode }
+    requires mark { M.mark ≡ (λ _. Passed owner tag.now mode) }
+    ensures seat { IsSameSeat place.old place.new }
+    ensures side { place.new.me ≡ (noting place.old.me.0 (Passed owner tag.now mode), place.old.me.1) }
+{
+    fetch_sub_as::<T, M>(top, place, fast_word(owner), EXCLUSIVE);
+}
+
+/// Puts that lock, and goes past its session with a strong lock that is counted (the end of a turn of the loop in
+/// `FastPathTransferRelationLocks` in lock.c): the session has no slot on the object.
+pub(crate) fn pass_fast<T: PartTable>(
+    top: &Top<T>,
+    place: &mut Place<T>,
+    owner: SessionId,
+    tag: &Tag,
+    mode: Mode,
+)
+    requires table { FitsTable place.old top.now.table_id }
+    requires exists { owner < top.now.key }
+    requires session { HasSession place.old.me.0 }
+    requires lawful { (slots : SlotsInHand) × MayPassBy (first_account T.content place.old.me.0.sessions) owner slots tag.now mode }
+    ensures seat { IsSameSeat place.old place.new }
+    ensures side { place.new.me ≡ (noting place.old.me.0 (Passed owner tag.now mode), place.old.me.1) }
+{
+    pass_fast_as::<T, Brand>(top, place, owner, tag, mode);
+}
+
+fn add_strong_as<T: PartTable, M: Marking<T>>(
+    top: &Top<T>,
+    place: &mut Place<T>,
+    tag: &Tag,
+    mode: Mode,
+)
+    requires table { FitsTable place.old top.now.table_id }
+    requires session { HasSession place.old.me.0 }
+    requires lawful { MayCountBy (first_account T.content place.old.me.0.sessions) tag.now mode }
+    requires mark { M.mark ≡ (λ _. Counted tag.now mode) }
+    ensures seat { IsSameSeat place.old place.new }
+    ensures side { place.new.me ≡ (noting place.old.me.0 (Counted tag.now mode), place.old.me.1) }
+{
+    fetch_add_as::<T, M>(top, place, strong_word(tag.strong_index()), 1);
+}
+
+/// Counts a strong lock, past nobody yet (`BeginStrongLockAcquire` in lock.c).
+pub(crate) fn add_strong<T: PartTable>(top: &Top<T>, place: &mut Place<T>, tag: &Tag, mode: Mode)
+    requires table { FitsTable place.old top.now.table_id }
+    requires session { HasSession place.old.me.0 }
+    requires lawful { MayCountBy (first_account T.content place.old.me.0.sessions) tag.now mode }
+    ensures seat { IsSameSeat place.old place.new }
+    ensures side { place.new.me ≡ (noting place.old.me.0 (Counted tag.now mode), place.old.me.1) }
+{
+    add_strong_as::<T, Brand>(top, place, tag, mode);
+}
+
+fn sub_strong_as<T: PartTable, M: Marking<T>>(
+    top: &Top<T>,
+    place: &mut Place<T>,
+    tag: &Tag,
+    mode: Mode,
+)
+    requires table { FitsTable place.old top.now.table_id }
+    requires session { HasSession place.old.me.0 }
+    requires lawful { MayUncountBy (first_account T.content place.old.me.0.sessions) tag.now mode }
+    requires mark { M.mark ≡ (λ _. Uncounted tag.now mode) }
+    ensures seat { IsSameSeat place.old place.new }
+    ensures side { place.new.me ≡ (noting place.old.me.0 (Uncounted tag.now mode), place.old.me.1) }
+{
+    fetch_sub_as::<T, M>(top, place, strong_word(tag.strong_index()), 1);
+}
+
+/// Counts it no more (`AbortStrongLockAcquire`, and `RemoveLocalLock` in lock.c).
+pub(crate) fn sub_strong<T: PartTable>(top: &Top<T>, place: &mut Place<T>, tag: &Tag, mode: Mode)
+    requires table { FitsTable place.old top.now.table_id }
+    requires session { HasSession place.old.me.0 }
+    requires lawful { MayUncountBy (first_account T.content place.old.me.0.sessions) tag.now mode }
+    ensures seat { IsSameSeat place.old place.new }
+    ensures side { place.new.me ≡ (noting place.old.me.0 (Uncounted tag.now mode), place.old.me.1) }
+{
+    sub_strong_as::<T, Brand>(top, place, tag, mode);
+}
+
+fn load_database_as<T: PartTable, M: Marking<T>>(
+    top: &Top<T>,
+    place: &mut Place<T>,
+    owner: SessionId,
+) -> u64
+    requires table { FitsTable place.old top.now.table_id }
+    requires session { HasSession place.old.me.0 }
+    requires mark { M.mark ≡ LoadedDatabase owner }
+    ensures seat { IsSameSeat place.old place.new }
+    ensures side { place.new.me ≡ (noting place.old.me.0 (LoadedDatabase owner result), place.old.me.1) }
+{
+    load_as::<T, M>(top, place, database_word(owner))
+}
+
+/// Loads a session's database, 0 where it has none (`databaseId` in proc.h).
+pub(crate) fn load_database<T: PartTable>(
+    top: &Top<T>,
+    place: &mut Place<T>,
+    owner: SessionId,
+) -> u64
+    requires table { FitsTable place.old top.now.table_id }
+    requires session { HasSession place.old.me.0 }
+    ensures seat { IsSameSeat place.old place.new }
+    ensures side { place.new.me ≡ (noting place.old.me.0 (LoadedDatabase owner result), place.old.me.1) }
+{
+    load_database_as::<T, Brand>(top, place, owner)
 }

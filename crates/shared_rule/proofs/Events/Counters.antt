@@ -41,8 +41,8 @@ total-most (suc limit) f most each =
 pub counter-most : (limit : ℕ) (counted : ℕ → Rattle.std.proofs.Common.List Counted) (index : ℕ) → limit ≤ 64 → ((k : ℕ) → length (counted k) ≤ most_counted) → counter limit counted index ≤ 4194304
 counter-most limit counted index few each =
     let most = total-most limit (λ k. count_at index (counted k)) 65536 (λ k.
-        let most_here : count_at index (counted k) ≤ length (counted k) = count_by-le-length (λ (c : Counted). index_of c.tag == index) (counted k) in
-        let few_here = each k in omega (arith, most_here, few_here)) in
+    let most_here : count_at index (counted k) ≤ length (counted k) = count_by-le-length (λ (c : Counted). index_of c.tag == index) (counted k) in
+    let few_here = each k in omega (arith, most_here, few_here)) in
     omega (arith, most, few)
 
 module _ {T : Type 0} (content : T → Content) (limit : ℕ) (x : History T) (tag : Tag) (mode : Mode) where
@@ -89,9 +89,9 @@ module _ {T : Type 0} (content : T → Content) (limit : ℕ) (x : History T) (t
       let issued = numbers.live_is_issued x.number steps.makes.live in
       let within : x.number < w.numbers.limit = let all = numbers.within in omega (arith, issued, all) in
       let some : count_at index (uncounting (w.sessions.counted x.number) tag mode) + 1 ≡ count_at index (w.sessions.counted x.number) =
-          count_at-uncounting (w.sessions.counted x.number) tag mode index (steps.safe.counters.once x.number) may'.is refl in
+      count_at-uncounting (w.sessions.counted x.number) tag mode index (steps.safe.counters.once x.number) may'.is refl in
       let least : count_at index (w.sessions.counted x.number) ≤ counter w.numbers.limit w.sessions.counted index =
-          total-least w.numbers.limit (λ k. count_at index (w.sessions.counted k)) x.number within in
+      total-least w.numbers.limit (λ k. count_at index (w.sessions.counted k)) x.number within in
       let is : w.words.strong index ≡ counter w.numbers.limit w.sessions.counted index = steps.safe.counters.shown index in
       let next : w.words.strong index - 1 ≡ (n + (2 ^ 64 - 1)) % 2 ^ 64 = omega (arith, shown, some, least, is, below) in
       record {

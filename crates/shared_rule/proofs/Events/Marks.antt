@@ -38,7 +38,6 @@ module _ {T : Type 0} (content : T → Content) where
 
 module _ {T : Type 0} (content : T → Content) (begun : T → Option Request) (limit slots id : ℕ) (me : Side T) (x : History T) (others : List (History T)) (is : me.0.sessions ≡ x ∷ others)
     (word : Word) (exists : IsInTable word) (next : ℕ → ℕ) (mark : ℕ → Mark T) where
-
   -- After it the rule holds.
   after :
       (expected : ℕ → Type 0) → IsAlwaysLawful content limit x word expected next mark
@@ -75,8 +74,8 @@ pub wins :
     → Allows (Ruled content begun limit) slots id me (index_of_word word) (λ n. either (n == old) new n) (Won mark step me)
 wins {T} content begun limit slots id me x others is word exists old new mark step first lawful s r many at below =
     exchanged n old new (λ m. (view : View T) × (act : Rattle.atomic_table.specs.Table.Act (Option T)) × Rattle.atomic_table.specs.Table.Valid s.homes me.1 act
-        × Ruled content begun limit (Rattle.atomic_table.specs.Table.stepped s (index_of_word word) m id me.1 view act)
-        × Won mark step me n (view, Rattle.atomic_table.specs.Table.carried_after me.1 act))
+    × Ruled content begun limit (Rattle.atomic_table.specs.Table.stepped s (index_of_word word) m id me.1 view act)
+    × Won mark step me n (view, Rattle.atomic_table.specs.Table.carried_after me.1 act))
     (λ hit. (
       noting me.0 (mark n),
       keeps,
@@ -88,3 +87,22 @@ wins {T} content begun limit slots id me x others is word exists old new mark st
   where
     n : ℕ
     n = slice_index s.words (index_of_word word)
+
+-- The same of the word at an index.
+pub marks_at :
+    {T : Type 0} (content : T → Content) (begun : T → Option Request) (limit slots id : ℕ) (me : Side T) (x : History T) (others : List (History T)) → me.0.sessions ≡ x ∷ others
+    → (word : Word) → IsInTable word → (i : ℕ) → i ≡ index_of_word word → (next : ℕ → ℕ) (mark : ℕ → Mark T) (step : Step (Option T))
+    → IsAlwaysLawful content limit x word (λ _. Unit {0}) next mark
+    → Allows (Ruled content begun limit) slots id me i next (Marked mark step me)
+marks_at {T} content begun limit slots id me x others is word exists i at next mark step lawful =
+    subst (λ k. Allows (Ruled content begun limit) slots id me k next (Marked mark step me)) (sym at)
+    (marks content begun limit slots id me x others is word exists next mark step lawful)
+
+pub wins_at :
+    {T : Type 0} (content : T → Content) (begun : T → Option Request) (limit slots id : ℕ) (me : Side T) (x : History T) (others : List (History T)) → me.0.sessions ≡ x ∷ others
+    → (word : Word) → IsInTable word → (i : ℕ) → i ≡ index_of_word word → (old new : ℕ) (mark : ℕ → Mark T) (step : Step (Option T)) → step.first ≡ old
+    → IsAlwaysLawful content limit x word (λ n. n ≡ old) (λ _. new) mark
+    → Allows (Ruled content begun limit) slots id me i (λ n. either (n == old) new n) (Won mark step me)
+wins_at {T} content begun limit slots id me x others is word exists i at old new mark step first lawful =
+    subst (λ k. Allows (Ruled content begun limit) slots id me k (λ n. either (n == old) new n) (Won mark step me)) (sym at)
+    (wins content begun limit slots id me x others is word exists old new mark step first lawful)

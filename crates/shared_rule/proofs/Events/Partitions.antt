@@ -5,7 +5,7 @@ use mathlib.Core.Option.{some, none}
 use mathlib.Core.Option as maybe
 use lib.ListN.{get_elem?}
 use prog.Atomic.{either}
-use Rattle.atomic_table.specs.Table.{State, Step, Act, takes, gives, keeps, Allows, Valid, stepped, carried_after, rest}
+use Rattle.atomic_table.specs.Table.{State, Step, step, Act, takes, gives, keeps, Allows, Valid, stepped, carried_after, rest}
 use Rattle.atomic_table.proofs.Lists.{set_here, set_else, exchanged}
 use Rattle.lw_word.specs.LightweightWord.{IsHeldByNobody, IsHeldExclusively, taken_word, put_word}
 use Rattle.lock_table.specs.declared.request.Request.{Request}
@@ -28,7 +28,7 @@ use Rattle.lock_world.proofs.Accounts.Lawful.{put-lawful, hand-known}
 use Rattle.lock_world.proofs.Accounts.Parts.{mine}
 use Rattle.lock_world.proofs.Accounts.Partitions.{account-taking, account-putting}
 use Rattle.lock_world.proofs.Accounts.Facts.{content-known}
-use Rattle.shared_rule.specs.declared.history.Mark.TheVariants as mark
+use Rattle.shared_rule.specs.declared.history.Mark.TheVariants.{TookPart, PutPart}
 use Rattle.shared_rule.specs.declared.history.Mark.{Mark}
 use Rattle.shared_rule.specs.declared.history.History.{History}
 use Rattle.shared_rule.specs.declared.history.View.{View}
@@ -57,7 +57,7 @@ free-in_no_hand w safe p free = go (w.contents.hand p) refl where
   go (Some hand) is =
       let held = safe.but_slots.table.carriers.hands p hand.holder ∙ ap (λ h. is_hand_of h hand.holder) is ∙ Rattle.std.proofs.Common.eq-eqb hand.holder hand.holder refl in
       absurd (free-not_held w.numbers.limit (w.words.partition p) (λ s. w.sessions.holds_partition s p) (λ s. w.sessions.shares_partition s p)
-          (safe.but_slots.table.promise.words p) free hand.holder held)
+      (safe.but_slots.table.promise.words p) free hand.holder held)
 
 module _ {T : Type 0} (content : T → Content) (begun : T → Option Request) where
   -- What is at home stays so where one content is taken in hand,
@@ -99,7 +99,6 @@ module _ {T : Type 0} (content : T → Content) (begun : T → Option Request) w
 
 module _ {T : Type 0} (content : T → Content) (begun : T → Option Request) (limit id : ℕ) (me : Side T) (x : History T) (others : List (History T)) (is : me.0.sessions ≡ x ∷ others)
     (p : ℕ) (exists : p < 16) where
-
   -- What is at home in a partition that is free.
   at_home : (s : State (Option T) (View T)) (r : Ruled content begun limit s) → IsHeldByNobody (r.world.words.partition p)
       → IsAtHome content begun (r.world.contents.now p) (get_elem? s.homes (content_slot_of p))
@@ -107,7 +106,7 @@ module _ {T : Type 0} (content : T → Content) (begun : T → Option Request) (
 
   -- Taking it is noted so.
   abbrev taking-noted : (w : World) → Steps limit w x.number (told content x.number x.marks) → IsHeldByNobody (w.words.partition p) → (part : T) → content part ≡ w.contents.now p
-      → IsNoted content w x.number (told content x.number x.marks) (mark.TookPart p part) (set_word w.words (Partition p) (taken_word (w.words.partition p)))
+      → IsNoted content w x.number (told content x.number x.marks) (TookPart p part) (set_word w.words (Partition p) (taken_word (w.words.partition p)))
   taking-noted w steps free part is_content = record {
     step = TakeExclusive (Partition p);
     after = after_taking_partition w x.number p;
@@ -124,30 +123,29 @@ module _ {T : Type 0} (content : T → Content) (begun : T → Option Request) (
       → Allows (Ruled content begun limit) CONTENT_SLOTS id me (index_of_word (Partition p)) (λ n. either (n == old) new n) (TookPartition content begun step me)
   takes_part old new step first word free is_new s r many at below =
       exchanged n old new (λ m. (view : View T) × (act : Act (Option T)) × Valid s.homes me.1 act
-          × Ruled content begun limit (stepped s (index_of_word (Partition p)) m id me.1 view act)
-          × TookPartition content begun step me n (view, carried_after me.1 act))
+      × Ruled content begun limit (stepped s (index_of_word (Partition p)) m id me.1 view act)
+      × TookPartition content begun step me n (view, carried_after me.1 act))
       (λ hit.
-        let shown : r.world.words.partition p ≡ old = sym (r.words.word (Partition p) (exists, tt)) ∙ hit in
-        let is_free : IsHeldByNobody (r.world.words.partition p) = subst IsHeldByNobody (sym shown) free in
-        let home = at_home s r is_free in
-        let steps = ruled-steps content begun limit s r id me.0 x others at is in
-        let noted = taking-noted r.world steps is_free home.part home.is_content in
-        let next : taken_word (r.world.words.partition p) ≡ new = ap taken_word shown ∙ sym is_new in
+      let shown : r.world.words.partition p ≡ old = sym (r.words.word (Partition p) (exists, tt)) ∙ hit in
+      let is_free : IsHeldByNobody (r.world.words.partition p) = subst IsHeldByNobody (sym shown) free in
+      let home = at_home s r is_free in
+      let steps = ruled-steps content begun limit s r id me.0 x others at is in
+      let noted = taking-noted r.world steps is_free home.part home.is_content in
+      let next : taken_word (r.world.words.partition p) ≡ new = ap taken_word shown ∙ sym is_new in (
+        noting me.0 (TookPart p home.part),
+        takes (content_slot_of p) (Some home.part),
+        home.at_home,
+        ruled-noted content begun limit s r id me.0 x others at is (TookPart p home.part)
+            (set_word r.world.words (Partition p) (taken_word (r.world.words.partition p))) (slice_set s.words (index_of_word (Partition p)) new)
+            (slice_set s.homes (content_slot_of p) none) noted
+            (subst (λ k. Rattle.shared_rule.specs.Shown.WordsAreShown (slice_set s.words (index_of_word (Partition p)) k) (set_word r.world.words (Partition p) (taken_word (r.world.words.partition p)))) next
+            (words-set s.words r.world.words (Partition p) (taken_word (r.world.words.partition p)) r.words (exists, tt)))
+            (home-taken content begun s.homes r.world.contents p
+            (record { holder = x.number; taken = r.world.contents.now p; recorded = None; unmarked = λ _. Rattle.std.proofs.Common.false }) r.contents),
         (
-          noting me.0 (mark.TookPart p home.part),
-          takes (content_slot_of p) (Some home.part),
-          home.at_home,
-          ruled-noted content begun limit s r id me.0 x others at is (mark.TookPart p home.part)
-              (set_word r.world.words (Partition p) (taken_word (r.world.words.partition p))) (slice_set s.words (index_of_word (Partition p)) new)
-              (slice_set s.homes (content_slot_of p) none) noted
-              (subst (λ k. Rattle.shared_rule.specs.Shown.WordsAreShown (slice_set s.words (index_of_word (Partition p)) k) (set_word r.world.words (Partition p) (taken_word (r.world.words.partition p)))) next
-              (words-set s.words r.world.words (Partition p) (taken_word (r.world.words.partition p)) r.words (exists, tt)))
-              (home-taken content begun s.homes r.world.contents p
-              (record { holder = x.number; taken = r.world.contents.now p; recorded = None; unmarked = λ _. Rattle.std.proofs.Common.false }) r.contents),
-          (
-            (λ _ q within same. 
+          (λ _ q within same.
               let one : p ≡ q = omega (arith, same, word) in
-              subst (λ k. TookContent content begun k me (noting me.0 (mark.TookPart p home.part), (content_slot_of p, Some home.part) ∷ me.1)) one (record {
+              subst (λ k. TookContent content begun k me (noting me.0 (TookPart p home.part), (content_slot_of p, Some home.part) ∷ me.1)) one (record {
                 part = home.part;
                 side = refl;
                 none_begun = home.none_begun;
@@ -155,9 +153,9 @@ module _ {T : Type 0} (content : T → Content) (begun : T → Option Request) (
                     (subst (λ a. KnowsContent x.number a p (content home.part)) (sym steps.account)
                     (subst (KnowsContent x.number (account r.world x.number) p) (sym home.is_content) (content-known r.world r.safe x.number p)));
               })),
-            (λ miss. absurd (miss (hit ∙ sym first))),
-          ),
-        ))
+          (λ miss. absurd (miss (hit ∙ sym first))),
+        ),
+      ))
       (λ miss. (me.0, keeps, tt, nothing-changes content begun limit id (index_of_word (Partition p)) me.0 s r at, ((λ hit. absurd (miss (hit ∙ first))), λ _. refl)))
     where
       n : ℕ
@@ -166,13 +164,13 @@ module _ {T : Type 0} (content : T → Content) (begun : T → Option Request) (
   -- Putting it is noted so.
   abbrev putting-noted : (w : World) → Steps limit w x.number (told content x.number x.marks) → (its : InHand) (done : Move) (part : T)
       → MayPutBy limit x.number (told content x.number x.marks) p its done (content part)
-      → IsNoted content w x.number (told content x.number x.marks) (mark.PutPart p done part) (set_word w.words (Partition p) (put_word (w.words.partition p)))
+      → IsNoted content w x.number (told content x.number x.marks) (PutPart p done part) (set_word w.words (Partition p) (put_word (w.words.partition p)))
   putting-noted w steps its done part may =
       let may' : MayPutBy w.numbers.limit x.number (account w x.number) p its done (content part) =
-          subst (λ k. MayPutBy k x.number (account w x.number) p its done (content part)) (sym steps.is_limit) (subst (λ a. MayPutBy limit x.number a p its done (content part)) steps.account may) in
+      subst (λ k. MayPutBy k x.number (account w x.number) p its done (content part)) (sym steps.is_limit) (subst (λ a. MayPutBy limit x.number a p its done (content part)) steps.account may) in
       let own = hand-known (w.contents.hand p) (w.contents.now p) x.number its may'.may_move.in_hand in
       let taken : taken_of ((told content x.number x.marks).hand p) ≡ content_taken (w.contents.now p) (w.contents.hand p) =
-          ap taken_of may.may_move.in_hand ∙ ap (λ (k : InHand). k.taken) own.as_known ∙ sym (ap (content_taken (w.contents.now p)) own.is_hand) in
+      ap taken_of may.may_move.in_hand ∙ ap (λ (k : InHand). k.taken) own.as_known ∙ sym (ap (content_taken (w.contents.now p)) own.is_hand) in
       record {
         step = PutExclusive (Partition p) done;
         after = after_putting_partition w x.number p done (content part);
@@ -186,23 +184,22 @@ module _ {T : Type 0} (content : T → Content) (begun : T → Option Request) (
 
   pub puts_part : (step : Step (Option T)) (its : InHand) (done : Move) (part : T) → MayPutBy limit x.number (told content x.number x.marks) p its done (content part)
       → begun part ≡ None → me.1 ≡ (content_slot_of p, Some part) ∷ rest me.1
-      → Allows (Ruled content begun limit) CONTENT_SLOTS id me (index_of_word (Partition p)) (λ n. (n + (2 ^ 64 - 2 ^ 24)) % 2 ^ 64) (WentHome (λ _. mark.PutPart p done part) step me)
+      → Allows (Ruled content begun limit) CONTENT_SLOTS id me (index_of_word (Partition p)) (λ n. (n + (2 ^ 64 - 2 ^ 24)) % 2 ^ 64) (WentHome (λ _. PutPart p done part) step me)
   puts_part step its done part may none_begun carried s r many at below =
       let steps = ruled-steps content begun limit s r id me.0 x others at is in
       let noted = putting-noted r.world steps its done part may in
       let own = hand-known (r.world.contents.hand p) (r.world.contents.now p) x.number its (subst (λ (a : Account). a.hand p ≡ Some its) steps.account may.may_move.in_hand) in
       let holds : r.world.sessions.holds_partition x.number p ≡ Rattle.std.proofs.Common.true =
-          r.safe.but_slots.table.carriers.hands p x.number ∙ ap (λ h. is_hand_of h x.number) own.is_hand ∙ Rattle.std.proofs.Common.eq-eqb own.hand_of.holder x.number own.whose in
+      r.safe.but_slots.table.carriers.hands p x.number ∙ ap (λ h. is_hand_of h x.number) own.is_hand ∙ Rattle.std.proofs.Common.eq-eqb own.hand_of.holder x.number own.whose in
       let shown = r.words.word (Partition p) (exists, tt) in
       let held : IsHeldExclusively (slice_index s.words (index_of_word (Partition p))) =
-          subst IsHeldExclusively (sym shown) ((r.safe.but_slots.table.promise.words p).held_is_shown x.number holds) in
+      subst IsHeldExclusively (sym shown) ((r.safe.but_slots.table.promise.words p).held_is_shown x.number holds) in
       let next : put_word (r.world.words.partition p) ≡ (slice_index s.words (index_of_word (Partition p)) + (2 ^ 64 - 2 ^ 24)) % 2 ^ 64 =
-          ap put_word (sym shown) ∙ put_word-wraps (slice_index s.words (index_of_word (Partition p))) below held in
-      (
-        noting me.0 (mark.PutPart p done part),
+      ap put_word (sym shown) ∙ put_word-wraps (slice_index s.words (index_of_word (Partition p))) below held in (
+        noting me.0 (PutPart p done part),
         gives,
         tt,
-        ruled-noted content begun limit s r id me.0 x others at is (mark.PutPart p done part)
+        ruled-noted content begun limit s r id me.0 x others at is (PutPart p done part)
             (set_word r.world.words (Partition p) (put_word (r.world.words.partition p))) (slice_set s.words (index_of_word (Partition p)) ((slice_index s.words (index_of_word (Partition p)) + (2 ^ 64 - 2 ^ 24)) % 2 ^ 64))
             (Rattle.atomic_table.specs.Table.put_back s.homes me.1) noted
             (subst (λ k. Rattle.shared_rule.specs.Shown.WordsAreShown (slice_set s.words (index_of_word (Partition p)) k) (set_word r.world.words (Partition p) (put_word (r.world.words.partition p)))) next
@@ -211,3 +208,22 @@ module _ {T : Type 0} (content : T → Content) (begun : T → Option Request) (
             (home-put content begun s.homes r.world.contents p part many exists none_begun r.contents)),
         refl,
       )
+
+-- The same of the word at an index, in a table with this many slots.
+module _ {T : Type 0} (content : T → Content) (begun : T → Option Request) (limit id : ℕ) (me : Side T) (x : History T) (others : List (History T)) (is : me.0.sessions ≡ x ∷ others)
+    (p : ℕ) (exists : p < 16) (slots i : ℕ) (many : slots ≡ CONTENT_SLOTS) (at : i ≡ index_of_word (Partition p)) where
+  pub takes_part_at : (old new : ℕ) → IsHeldByNobody old → new ≡ taken_word old
+      → Allows (Ruled content begun limit) slots id me i (λ n. either (n == old) new n) (TookPartition content begun (step slots i old new none) me)
+  takes_part_at old new free is_new =
+      subst (λ n. Allows (Ruled content begun limit) n id me i (λ n. either (n == old) new n) (TookPartition content begun (step n i old new none) me)) (sym many)
+      (subst (λ k. Allows (Ruled content begun limit) CONTENT_SLOTS id me k (λ n. either (n == old) new n) (TookPartition content begun (step CONTENT_SLOTS k old new none) me)) (sym at)
+      (takes_part content begun limit id me x others is p exists old new (step CONTENT_SLOTS (index_of_word (Partition p)) old new none) refl refl free is_new))
+
+  pub puts_part_at : (its : InHand) (done : Move) (part : T) → MayPutBy limit x.number (told content x.number x.marks) p its done (content part)
+      → begun part ≡ None → me.1 ≡ (content_slot_of p, Some part) ∷ rest me.1 → (mark : ℕ → Mark T) → mark ≡ (λ _. PutPart p done part)
+      → Allows (Ruled content begun limit) slots id me i (λ n. (n + (2 ^ 64 - 16777216)) % 2 ^ 64) (WentHome mark (step slots i 16777216 0 none) me)
+  puts_part_at its done part may none_begun carried mark marked =
+      subst (λ n. Allows (Ruled content begun limit) n id me i (λ n. (n + (2 ^ 64 - 16777216)) % 2 ^ 64) (WentHome mark (step n i 16777216 0 none) me)) (sym many)
+      (subst (λ k. Allows (Ruled content begun limit) CONTENT_SLOTS id me k (λ n. (n + (2 ^ 64 - 16777216)) % 2 ^ 64) (WentHome mark (step CONTENT_SLOTS k 16777216 0 none) me)) (sym at)
+      (subst (λ (m : ℕ → Mark T). Allows (Ruled content begun limit) CONTENT_SLOTS id me (index_of_word (Partition p)) (λ n. (n + (2 ^ 64 - 16777216)) % 2 ^ 64) (WentHome m (step CONTENT_SLOTS (index_of_word (Partition p)) 16777216 0 none) me)) (sym marked)
+      (puts_part content begun limit id me x others is p exists (step CONTENT_SLOTS (index_of_word (Partition p)) 16777216 0 none) its done part may none_begun carried)))
