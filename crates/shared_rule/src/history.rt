@@ -4,6 +4,7 @@
 
 use lock_table::Move;
 use modes_core::{Mode, Tag};
+use std::collections::LinkedList;
 
 /// One atomic step of a session, as its history has it.
 pub enum Mark<T> {
@@ -36,5 +37,5 @@ pub struct History<T> {
 /// seat has the other's history behind its own for that time.
 pub struct View<T> {
     pub next: Option<u8>,
-    pub sessions: [History<T>; 0],
+    pub sessions: LinkedList<History<T>>,
 }

@@ -1,10 +1,10 @@
 use Rattle.std.proofs.Common.{◌≡◌, ◌≢◌, ℕ, ◌<◌, ◌^◌, ◌==◌, List, [], ◌∷◌, length, Option, Some, refl, sym, ap, ◌∙◌, subst, arith}
 use Rattle.std.specs.Prelude.{slice_set, slice_index}
-use mathlib.Core.Option.{some}
+use mathlib.Core.Option.{some, none}
 use lib.ListN.{get_elem?}
 use lib.Seq.{set-get_or}
 use prog.Atomic.{either}
-use Rattle.atomic_table.specs.Table.{State, Step, Me, keeps, Allows}
+use Rattle.atomic_table.specs.Table.{State, Step, step, Me, keeps, Allows}
 use Rattle.atomic_table.proofs.Lists.{set_again, exchanged}
 use Rattle.lock_table.specs.declared.request.Request.{Request}
 use Rattle.lock_table.specs.Content.{Content}
@@ -88,21 +88,21 @@ wins {T} content begun limit slots id me x others is word exists old new mark st
     n : ℕ
     n = slice_index s.words (index_of_word word)
 
--- The same of the word at an index.
+-- The same of the word at an index: a play of a mark reads nothing else of its step.
 pub marks_at :
     {T : Type 0} (content : T → Content) (begun : T → Option Request) (limit slots id : ℕ) (me : Side T) (x : History T) (others : List (History T)) → me.0.sessions ≡ x ∷ others
-    → (word : Word) → IsInTable word → (i : ℕ) → i ≡ index_of_word word → (next : ℕ → ℕ) (mark : ℕ → Mark T) (step : Step (Option T))
+    → (word : Word) → IsInTable word → (i : ℕ) → i ≡ index_of_word word → (next : ℕ → ℕ) (mark : ℕ → Mark T)
     → IsAlwaysLawful content limit x word (λ _. Unit {0}) next mark
-    → Allows (Ruled content begun limit) slots id me i next (Marked mark step me)
-marks_at {T} content begun limit slots id me x others is word exists i at next mark step lawful =
-    subst (λ k. Allows (Ruled content begun limit) slots id me k next (Marked mark step me)) (sym at)
-    (marks content begun limit slots id me x others is word exists next mark step lawful)
+    → Allows (Ruled content begun limit) slots id me i next (Marked mark (step 0 0 0 0 none) me)
+marks_at {T} content begun limit slots id me x others is word exists i at next mark lawful =
+    subst (λ k. Allows (Ruled content begun limit) slots id me k next (Marked mark (step 0 0 0 0 none) me)) (sym at)
+    (marks content begun limit slots id me x others is word exists next mark (step 0 0 0 0 none) lawful)
 
 pub wins_at :
     {T : Type 0} (content : T → Content) (begun : T → Option Request) (limit slots id : ℕ) (me : Side T) (x : History T) (others : List (History T)) → me.0.sessions ≡ x ∷ others
-    → (word : Word) → IsInTable word → (i : ℕ) → i ≡ index_of_word word → (old new : ℕ) (mark : ℕ → Mark T) (step : Step (Option T)) → step.first ≡ old
+    → (word : Word) → IsInTable word → (i : ℕ) → i ≡ index_of_word word → (old new : ℕ) (mark : ℕ → Mark T)
     → IsAlwaysLawful content limit x word (λ n. n ≡ old) (λ _. new) mark
-    → Allows (Ruled content begun limit) slots id me i (λ n. either (n == old) new n) (Won mark step me)
-wins_at {T} content begun limit slots id me x others is word exists i at old new mark step first lawful =
-    subst (λ k. Allows (Ruled content begun limit) slots id me k (λ n. either (n == old) new n) (Won mark step me)) (sym at)
-    (wins content begun limit slots id me x others is word exists old new mark step first lawful)
+    → Allows (Ruled content begun limit) slots id me i (λ n. either (n == old) new n) (Won mark (step 0 0 old 0 none) me)
+wins_at {T} content begun limit slots id me x others is word exists i at old new mark lawful =
+    subst (λ k. Allows (Ruled content begun limit) slots id me k (λ n. either (n == old) new n) (Won mark (step 0 0 old 0 none) me)) (sym at)
+    (wins content begun limit slots id me x others is word exists old new mark (step 0 0 old 0 none) refl lawful)
