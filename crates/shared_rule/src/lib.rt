@@ -2,11 +2,13 @@
 //! holds between any two steps.
 #![tactic(auto)]
 
+pub mod board;
 pub mod history;
 pub mod laws;
 pub mod layout;
 pub mod plays;
 pub mod rule;
+pub mod seat_board;
 mod steps;
 #[cfg(test)]
 mod tests;

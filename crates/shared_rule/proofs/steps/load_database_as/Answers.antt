@@ -13,6 +13,6 @@ load_as-requires-clause-allowed g c =
     let place = c.args.place.now in
     let session = c.requires.session in
     marks_at content g.T.PartTable.begun c.args.top.now.key c.args.top.now.table_id.slots place.id place.me session.history session.others session.sessions
-        (Database c.args.owner) (tt, search rules) c.database_word.result (c.database_word.ensures.index) (λ n. n) g.M.Marking.mark
-        (subst (IsAlwaysLawful content c.args.top.now.key session.history (Database c.args.owner) (λ _. Unit {0}) (λ n. n)) (sym c.requires.mark)
-        (loading_database-lawful content c.args.top.now.key session.history c.args.owner))
+    (Database c.args.owner) (tt, search rules) c.database_word.result (c.database_word.ensures.index) (λ n. n) g.M.Marking.mark
+    (subst (IsAlwaysLawful content c.args.top.now.key session.history (Database c.args.owner) (λ _. Unit {0}) (λ n. n)) (sym c.requires.mark)
+    (loading_database-lawful content c.args.top.now.key session.history c.args.owner))

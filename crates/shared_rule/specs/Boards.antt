@@ -1,0 +1,25 @@
+use Rattle.std.specs.Prelude.{◌≡◌, ℕ, ◌*◌, ◌/◌, List, [], ◌∷◌, map, Option, None}
+use Rattle.shared_rule.specs.declared.history.History.{History}
+use Rattle.shared_rule.specs.declared.history.Mark.{Mark}
+use Rattle.shared_rule.specs.declared.history.View.{View}
+use Rattle.shared_rule.specs.Layout.{content_slot_of}
+
+-- What a board is: shared state as one session sees it.
+
+-- whose it is, and how many sessions there can be
+pub record Seated : Type 0 where
+  pub number : ℕ
+  pub limit : ℕ
+
+-- the partitions in hand, the last one taken first, by the slots that are out
+abbrev pub parts_in_hand : {T : Type 0} → List (ℕ × Option T) → List ℕ
+parts_in_hand slots = map (λ slot. slot.0 / 8) slots
+
+-- the slots that are out for these partitions: a content in hand is not in its slot
+abbrev pub slots_out : {T : Type 0} → List ℕ → List (ℕ × Option T)
+slots_out parts = map (λ part. (content_slot_of part, None)) parts
+
+-- the steps of the first session of a view
+abbrev pub first_marks : {T : Type 0} → List (History T) → List (Mark T)
+first_marks [] = []
+first_marks (history ∷ others) = history.marks

@@ -1,0 +1,75 @@
+//! The board that threads run: a seat at the shared table.
+
+ghost use Rattle.std.specs.Prelude.{◌≡◌, ◌<◌, ℕ, List, ◌∷◌, None};
+ghost use Rattle.shared_rule.specs.History.{first_account, lone};
+ghost use Rattle.shared_rule.specs.declared.layout.TheConstants.{TABLE_WORDS, CONTENT_SLOTS};
+ghost use Rattle.shared_rule.specs.Boards.{Seated, parts_in_hand, slots_out, first_marks};
+
+use crate::board::Board;
+use crate::rule::{Place, Top};
+use crate::steps;
+use lock_table::{Move, PartTable};
+use modes_core::{Mode, SessionId, Tag};
+use std::sync::Wait;
+
+/// A session's seat at the table that all sessions share.
+pub struct SeatBoard<'a, T: PartTable> {
+    table: &'a Top<T>,
+    place: Place<T>,
+    number: SessionId,
+    sessions: u8,
+    ghost at: { place.table_id ≡ table.now.table_id },
+    ghost words: { table.now.table_id.words ≡ TABLE_WORDS },
+    ghost slots: { table.now.table_id.slots ≡ CONTENT_SLOTS },
+    ghost limit: { sessions ≡ table.now.key },
+    ghost lone: { place.me.0 ≡ lone number (first_marks place.me.0.sessions) },
+    ghost out: { place.me.1 ≡ slots_out (parts_in_hand place.me.1) },
+}
+
+impl<'a, T: PartTable> Board<T> for SeatBoard<'a, T> {
+    ghost seat = { λ board. record { number = board.number; limit = board.sessions } };
+
+    ghost view = { λ board. first_account T.content board.place.me.0.sessions };
+
+    ghost stack = { λ board. parts_in_hand board.place.me.1 };
+
+    fn number(&self) -> SessionId {
+        self.number
+    }
+
+    fn sessions(&self) -> u8 {
+        self.sessions
+    }
+
+    fn take_part<R: Wait>(&mut self, rt: &R, part: u8) -> T {
+        steps::take_part(rt, self.table, &mut self.place, part)
+    }
+
+    fn put_part(&mut self, part: u8, done: &Move, content: T) {
+        steps::put_part(self.table, &mut self.place, part, done, content);
+    }
+
+    fn take_fast<R: Wait>(&mut self, rt: &R, owner: SessionId) {
+        steps::take_fast(rt, self.table, &mut self.place, owner);
+    }
+
+    fn put_fast(&mut self, owner: SessionId) {
+        steps::put_fast(self.table, &mut self.place, owner);
+    }
+
+    fn pass_fast(&mut self, owner: SessionId, tag: &Tag, mode: Mode) {
+        steps::pass_fast(self.table, &mut self.place, owner, tag, mode);
+    }
+
+    fn add_strong(&mut self, tag: &Tag, mode: Mode) {
+        steps::add_strong(self.table, &mut self.place, tag, mode);
+    }
+
+    fn sub_strong(&mut self, tag: &Tag, mode: Mode) {
+        steps::sub_strong(self.table, &mut self.place, tag, mode);
+    }
+
+    fn load_database(&mut self, owner: SessionId) -> u64 {
+        steps::load_database(self.table, &mut self.place, owner)
+    }
+}
