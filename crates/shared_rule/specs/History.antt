@@ -1,14 +1,21 @@
-use Rattle.std.specs.Prelude.{◌≡◌, ℕ, zero, suc, false, List, [], ◌∷◌, Option, Some, None}
+use Rattle.std.specs.Prelude.{◌≡◌, ℕ, zero, suc, Bool, false, ◌||◌, ◌==◌, List, [], ◌∷◌, Option, Some, None}
 use Rattle.modes_core.specs.declared.modes.Mode.{Mode}
 use Rattle.modes_core.specs.declared.tags.Tag.{Tag}
+use Rattle.std.specs.List.{list_any}
+use Rattle.modes_core.specs.Tag.{partition_of}
+use Rattle.lock_table.specs.declared.moves.Move.{Move}
+use Rattle.lock_table.specs.declared.moves.Move.TheVariants.{Keep}
 use Rattle.lock_table.specs.Content.{Content, empty_content}
-use Rattle.lock_world.specs.declared.events.Word.TheVariants.{Database}
+use Rattle.lock_table.specs.OwnWait.{OwnWait}
+use Rattle.lock_world.specs.declared.events.Word.TheVariants.{Database, Wait}
 use Rattle.lock_world.specs.SlotHolds.{slot_holds}
-use Rattle.lock_world.specs.World.{Loaded}
+use Rattle.lock_world.specs.WaitWord.{wait_state}
+use Rattle.lock_world.specs.World.{Loaded, AskedToCancel}
+use Rattle.lock_world.specs.Happens.Waits.{unmarked_but}
 use Rattle.lock_world.specs.Account.{Account, InHand, SlotsInHand}
-use Rattle.lock_world.specs.AccountSteps.{account_taking, account_putting, account_taking_fast, account_putting_fast, account_passing, account_counting, account_uncounting, account_tracing}
+use Rattle.lock_world.specs.AccountSteps.{account_taking, account_putting, account_taking_fast, account_putting_fast, account_passing, account_counting, account_uncounting, account_tracing, account_waiting, account_marking, account_clearing, account_leaving}
 use Rattle.shared_rule.specs.declared.history.Mark.{Mark}
-use Rattle.shared_rule.specs.declared.history.Mark.TheVariants.{TookPart, PutPart, TookFast, PutFast, Passed, Counted, Uncounted, LoadedDatabase}
+use Rattle.shared_rule.specs.declared.history.Mark.TheVariants.{TookPart, PutPart, TookFast, PutFast, Passed, Counted, Uncounted, SetWaiting, MarkedGranted, LoadedWait, Asked, ClearedWait, LeftQueue, LoadedDatabase}
 use Rattle.shared_rule.specs.declared.history.History.{History}
 use Rattle.shared_rule.specs.declared.history.View.{View}
 
@@ -32,6 +39,36 @@ abbrev pub taken_of : Option InHand → Content
 taken_of None = empty_content
 taken_of (Some mine) = mine.taken
 
+-- a partition in hand; where there is none, one with nothing in it
+abbrev pub in_hand : Option InHand → InHand
+in_hand None = record { taken = empty_content; now = empty_content; recorded = None; unmarked = λ _. false }
+in_hand (Some mine) = mine
+
+-- whether the session is among these
+abbrev pub is_among : List ℕ → ℕ → Bool
+is_among sessions session = list_any (λ other. other == session) sessions
+
+-- what marking a session granted makes of the account: the move is made by the first such step, and stands recorded at each further one
+abbrev pub account_granting_by : Option Move → Account → ℕ → InHand → ℕ → Move → List ℕ → Content → Account
+account_granting_by None a part mine other done woken now = account_marking a part mine now done done (unmarked_but (is_among woken) other)
+account_granting_by (Some made) a part mine other done woken now = account_marking a part mine mine.now Keep made (unmarked_but mine.unmarked other)
+
+abbrev pub account_granting : Account → ℕ → InHand → ℕ → Move → List ℕ → Content → Account
+account_granting a part mine other done woken now = account_granting_by mine.recorded a part mine other done woken now
+
+-- whether the own wait was granted, as far as the session can tell: it has seen that, or the content in hand has the hold
+abbrev pub is_granted : ℕ → Account → OwnWait → Bool
+is_granted number a wait = a.seen || (in_hand (a.hand (partition_of wait.tag))).now.holds number wait.tag wait.mode
+
+-- what clearing the own wait word makes of it, and what leaving the queue by that does
+abbrev pub account_cleared : ℕ → Account → Option OwnWait → Account
+account_cleared number a None = a
+account_cleared number a (Some wait) = account_clearing a wait (is_granted number a wait)
+
+abbrev pub account_left : Account → Option OwnWait → Content → List ℕ → Account
+account_left a None now woken = a
+account_left a (Some wait) now woken = account_leaving a (in_hand (a.hand (partition_of wait.tag))) wait now (is_among woken)
+
 -- the slots of a session that has no lock by the fast path
 abbrev pub no_slots : SlotsInHand
 no_slots = record { word = λ _. 0; holds = slot_holds 0 (λ _. 0) }
@@ -46,6 +83,14 @@ module _ {T : Type 0} (content : T → Content) where
   noted number a (Passed owner tag mode) = account_passing number a owner tag mode
   noted number a (Counted tag mode) = account_counting a tag mode
   noted number a (Uncounted tag mode) = account_uncounting a tag mode
+  noted number a (SetWaiting tag mode now) =
+      account_waiting a (in_hand (a.hand (partition_of tag))) tag mode (content now) ((in_hand (a.hand (partition_of tag))).now.holds number tag)
+  noted number a (MarkedGranted part other done woken now) = account_granting a part (in_hand (a.hand part)) other done woken (content now)
+  noted number a (LoadedWait shown) =
+      record (account_tracing a (Loaded (Wait number) shown)) { seen = a.seen || (wait_state shown == 2) }
+  noted number a (Asked other before) = account_tracing a (AskedToCancel other before)
+  noted number a ClearedWait = account_cleared number a a.awaited
+  noted number a (LeftQueue woken now) = account_left a a.awaited (content now) woken
   noted number a (LoadedDatabase owner shown) = account_tracing a (Loaded (Database owner) shown)
 
   -- the account that these steps tell, the last one first

@@ -22,6 +22,38 @@ pub enum Mark<T> {
     Counted { tag: Tag, mode: Mode },
     /// It counts the strong lock no more.
     Uncounted { tag: Tag, mode: Mode },
+    /// Its wait word was set to waiting, and the content in hand is this, after its join.
+    SetWaiting {
+        tag: Tag,
+        mode: Mode,
+        now: T,
+    },
+    /// It marked the wait of a session granted. Its move, by which the content in hand is this, granted the waits of
+    /// these sessions.
+    MarkedGranted {
+        part: u8,
+        other: u8,
+        done: Move,
+        woken: [u8; 0],
+        now: T,
+    },
+    /// It loaded its own wait word, which showed this.
+    LoadedWait {
+        shown: u64,
+    },
+    /// It asked a session to cancel, whose wait word showed this before.
+    Asked {
+        other: u8,
+        before: u64,
+    },
+    /// It cleared its own wait word.
+    ClearedWait,
+    /// It cleared its own wait word and left the queue, by which the content in hand is this, and the waits of these
+    /// sessions are granted.
+    LeftQueue {
+        woken: [u8; 0],
+        now: T,
+    },
     /// It loaded a session's database, which was this.
     LoadedDatabase { owner: u8, shown: u64 },
 }

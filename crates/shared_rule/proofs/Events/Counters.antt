@@ -78,7 +78,7 @@ module _ {T : Type 0} (content : T → Content) (limit : ℕ) (x : History T) (t
               let longer : length (counting (w.sessions.counted x.number) tag mode) ≡ length (w.sessions.counted x.number) + 1 = length-append (w.sessions.counted x.number) _ in
               omega (arith, few, longer));
         };
-        contents = refl;
+        home = λ p none. (none, refl);
       }
 
   pub uncounting-lawful : MayUncountBy (told content x.number x.marks) tag mode
@@ -109,5 +109,5 @@ module _ {T : Type 0} (content : T → Content) (limit : ℕ) (x : History T) (t
               let fewer = count_by-le-length (λ (c : Counted). not (is_of tag mode c)) (w.sessions.counted x.number) in
               omega (arith, few, as_many, fewer));
         };
-        contents = refl;
+        home = λ p none. (none, refl);
       }

@@ -57,7 +57,7 @@ module _ {T : Type 0} (content : T → Content) (limit : ℕ) (x : History T) (o
           unused = record { database = steps.unused.database; slot = steps.unused.slot };
           few_counted = steps.few_counted x.number;
         };
-        contents = refl;
+        home = λ p none. (none, refl);
       }
 
   -- whoever knows the slots holds the word
@@ -83,7 +83,7 @@ module _ {T : Type 0} (content : T → Content) (limit : ℕ) (x : History T) (o
           unused = record { database = steps.unused.database; slot = steps.unused.slot };
           few_counted = steps.few_counted x.number;
         };
-        contents = refl;
+        home = λ p none. (none, refl);
       }
 
   pub passing-lawful : (slots : SlotsInHand) (tag : Tag) (mode : Mode) → MayPassBy (told content x.number x.marks) owner slots tag mode
@@ -103,5 +103,5 @@ module _ {T : Type 0} (content : T → Content) (limit : ℕ) (x : History T) (o
           few_counted = subst (λ list. length list ≤ most_counted) (sym (set_at-here w.sessions.counted x.number (passing (w.sessions.counted x.number) tag mode owner) x.number refl))
               (subst (λ k. k ≤ most_counted) (sym (lib.ListN.length-map (w.sessions.counted x.number) (passed tag mode owner))) (steps.few_counted x.number));
         };
-        contents = refl;
+        home = λ p none. (none, refl);
       }

@@ -31,5 +31,5 @@ loading_database-lawful {T} content limit x owner w steps n below shown _ =
         unused = subst SlotsAreUnused same steps.unused;
         few_counted = steps.few_counted x.number;
       };
-      contents = refl;
+      home = λ p none. (none, refl);
     }

@@ -1,4 +1,4 @@
-use Rattle.std.proofs.Common.{◌≡◌, ◌≢◌, ℕ, ◌<◌, ◌^◌, ◌==◌, List, [], ◌∷◌, length, Option, Some, refl, sym, ap, ◌∙◌, subst, arith}
+use Rattle.std.proofs.Common.{◌≡◌, ◌≢◌, ℕ, ◌<◌, ◌^◌, ◌==◌, List, [], ◌∷◌, length, Option, Some, None, refl, sym, ap, ◌∙◌, subst, arith}
 use Rattle.std.specs.Prelude.{slice_set, slice_index}
 use mathlib.Core.Option.{some, none}
 use lib.ListN.{get_elem?}
@@ -9,26 +9,42 @@ use Rattle.atomic_table.proofs.Lists.{set_again, exchanged}
 use Rattle.lock_table.specs.declared.request.Request.{Request}
 use Rattle.lock_table.specs.Content.{Content}
 use Rattle.lock_world.specs.declared.events.Word.{Word}
-use Rattle.lock_world.specs.World.{World, Contents, word_in}
+use mathlib.Core.Option as maybe
+use Rattle.lock_world.specs.World.{World, Contents, Hand, word_in}
 use Rattle.lock_world.specs.Account.{Account}
 use Rattle.shared_rule.specs.declared.history.Mark.{Mark}
 use Rattle.shared_rule.specs.declared.history.History.{History}
 use Rattle.shared_rule.specs.declared.history.View.{View}
-use Rattle.shared_rule.specs.Layout.{index_of_word, IsInTable}
+use Rattle.shared_rule.specs.Layout.{index_of_word, content_slot_of, IsInTable}
 use Rattle.shared_rule.specs.Shown.{set_word}
 use Rattle.shared_rule.specs.History.{told, noting}
-use Rattle.shared_rule.specs.Ruled.{ContentsAreHome, Ruled}
+use Rattle.shared_rule.specs.Ruled.{IsHomeUnlessInHand, ContentsAreHome, Ruled}
 use Rattle.shared_rule.specs.Plays.{Side, Marked, Won}
 use Rattle.shared_rule.proofs.Shown.{words-set}
 use Rattle.shared_rule.proofs.Frame.{Steps, IsNoted, ruled-steps, ruled-noted}
 
 -- A step that only leaves a mark is allowed where in each World it is lawful and makes that of the account, and no content comes or goes.
 
+-- Whatever is at home after a step was at home before it, with the same content.
+abbrev pub KeepsHome : Contents → Contents → Type 0
+KeepsHome before after = (p : ℕ) → after.hand p ≡ None → (before.hand p ≡ None) × (after.now p ≡ before.now p)
+
+home-kept :
+    {T : Type 0} (content : T → Content) (begun : T → Option Request) (homes : List (maybe.Option (Option T))) (before after : Contents) → KeepsHome before after
+    → ContentsAreHome content begun homes before → ContentsAreHome content begun homes after
+home-kept {T} content begun homes before after kept home p within = go (after.hand p) refl where
+  go : (hand : Option Hand) → after.hand p ≡ hand → IsHomeUnlessInHand content begun hand (after.now p) (get_elem? homes (content_slot_of p))
+  go None home_now =
+      let was = kept p home_now in
+      subst (λ now. IsHomeUnlessInHand content begun None now (get_elem? homes (content_slot_of p))) (sym was.1)
+      (subst (λ h. IsHomeUnlessInHand content begun h (before.now p) (get_elem? homes (content_slot_of p))) was.0 (home p within))
+  go (Some hand) away = tt
+
 module _ {T : Type 0} (content : T → Content) where
   -- Whatever the World is, the step on a word that shows this is noted so, and leaves the contents alone.
   pub record IsLawful (limit : ℕ) (x : History T) (word : Word) (shown next : ℕ) (mark : Mark T) (w : World) : Type 0 where
     pub noted : IsNoted content w x.number (told content x.number x.marks) mark (set_word w.words word next)
-    pub contents : noted.after.contents ≡ w.contents
+    pub home : KeepsHome w.contents noted.after.contents
 
   abbrev pub IsAlwaysLawful : ℕ → History T → Word → (ℕ → Type 0) → (ℕ → ℕ) → (ℕ → Mark T) → Type 0
   IsAlwaysLawful limit x word expected next mark =
@@ -49,7 +65,7 @@ module _ {T : Type 0} (content : T → Content) (begun : T → Option Request) (
       let now = lawful r.world steps n below (shows ∙ r.words.word word exists) is_so in
       ruled-noted content begun limit s r id me.0 x others at is (mark n) (set_word r.world.words word (next n)) (slice_set s.words (index_of_word word) (next n)) s.homes
       now.noted (words-set s.words r.world.words word (next n) r.words exists)
-      (subst (ContentsAreHome content begun s.homes) (sym now.contents) r.contents)
+      (home-kept content begun s.homes r.world.contents now.noted.after.contents now.home r.contents)
 
   -- A fetch-and-add, a fetch-and-subtract, or with `next` as it is a load.
   pub marks : (step : Step (Option T)) → IsAlwaysLawful content limit x word (λ _. Unit {0}) next mark
