@@ -4,4 +4,4 @@ pub mod History
 pub mod Ruled
 pub mod Plays
 pub mod Boards
-pub mod Granting
+pub mod Lawful

@@ -8,9 +8,10 @@ ghost use Rattle.lock_world.specs.World.{Loaded};
 ghost use Rattle.lock_world.specs.Account.{Account, InHand, SlotsInHand};
 ghost use Rattle.lock_world.specs.AccountSteps.{account_taking, account_putting, account_taking_fast, account_putting_fast, account_passing, account_counting, account_uncounting, account_tracing};
 ghost use Rattle.lock_world.specs.AccountFacts.{KnowsContent};
-ghost use Rattle.lock_world.specs.AccountLaw.{MayPutBy, MayPutFastBy, MayPassBy, MayCountBy, MayUncountBy};
+ghost use Rattle.lock_world.specs.AccountLaw.{MayPutFastBy, MayPassBy, MayCountBy, MayUncountBy};
 ghost use Rattle.shared_rule.specs.History.{taken_of, no_slots};
 ghost use Rattle.shared_rule.specs.Boards.{Seated};
+ghost use Rattle.shared_rule.specs.Lawful.{MayPutSo};
 
 use lock_table::{Move, PartTable};
 use modes_core::{Mode, SessionId, Tag};
@@ -52,7 +53,7 @@ pub trait Board<T: PartTable> {
         requires in_hand { (others : List ℕ) × (stack self.old ≡ part ∷ others) }
         requires none_begun { T.begun content ≡ None }
         requires lawful { (mine : InHand) ×
-            MayPutBy (seat self.old).limit (seat self.old).number (view self.old) part mine done.now (T.content content) }
+            MayPutSo (seat self.old).limit (seat self.old).number (view self.old) part mine done.now (T.content content) }
         ensures seat { seat self.new ≡ seat self.old }
         ensures view { view self.new ≡
             account_putting (view self.old) part (taken_of ((view self.old).hand part)) (T.content content) done.now }

@@ -10,11 +10,12 @@ ghost use Rattle.atomic_table.specs.Table.{Allows, step, rest};
 ghost use Rattle.lw_word.specs.LightweightWord.{IsHeldByNobody, taken_word};
 ghost use Rattle.lock_world.specs.Account.{InHand, SlotsInHand};
 ghost use Rattle.lock_world.specs.AccountFacts.{KnowsContent};
-ghost use Rattle.lock_world.specs.AccountLaw.{MayPutBy, MayPutFastBy, MayPassBy, MayCountBy, MayUncountBy};
+ghost use Rattle.lock_world.specs.AccountLaw.{MayPutFastBy, MayPassBy, MayCountBy, MayUncountBy};
 ghost use Rattle.shared_rule.specs.declared.history.Mark.TheVariants.{TookPart, PutPart, TookFast, PutFast, Passed, Counted, Uncounted, LoadedDatabase};
 ghost use Rattle.shared_rule.specs.Layout.{content_slot_of};
 ghost use Rattle.shared_rule.specs.History.{noting, first_account, first_number};
 ghost use Rattle.shared_rule.specs.Ruled.{Ruled};
+ghost use Rattle.shared_rule.specs.Lawful.{MayPutSo};
 ghost use Rattle.shared_rule.specs.Plays.{FitsTable, HasSession, IsSameSeat, Marked, Won, WentHome};
 
 use crate::layout::{content_slot, database_word, fast_word, partition_word, strong_word};
@@ -171,7 +172,7 @@ fn put_part_as<T: PartTable, M: Marking<T>>(
     requires session { HasSession place.old.me.0 }
     requires in_hand { place.old.me.1 ≡ (content_slot_of part, None) ∷ rest place.old.me.1 }
     requires none_begun { T.begun content ≡ None }
-    requires lawful { (mine : InHand) × MayPutBy top.now.key (first_number place.old.me.0.sessions)
+    requires lawful { (mine : InHand) × MayPutSo top.now.key (first_number place.old.me.0.sessions)
         (first_account T.content place.old.me.0.sessions) part mine done.now (T.content content) }
     requires mark { M.mark ≡ (λ _. PutPart part done.now content) }
     ensures seat { IsSameSeat place.old place.new }
@@ -196,7 +197,7 @@ pub(crate) fn put_part<T: PartTable>(
     requires session { HasSession place.old.me.0 }
     requires in_hand { place.old.me.1 ≡ (content_slot_of part, None) ∷ rest place.old.me.1 }
     requires none_begun { T.begun content ≡ None }
-    requires lawful { (mine : InHand) × MayPutBy top.now.key (first_number place.old.me.0.sessions)
+    requires lawful { (mine : InHand) × MayPutSo top.now.key (first_number place.old.me.0.sessions)
         (first_account T.content place.old.me.0.sessions) part mine done.now (T.content content) }
     ensures seat { IsSameSeat place.old place.new }
     ensures side { place.new.me ≡ (noting place.old.me.0 (PutPart part done.now content), rest place.old.me.1) }

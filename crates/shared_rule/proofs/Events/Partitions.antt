@@ -15,16 +15,19 @@ use Rattle.lock_table.proofs.PutLemmas.{set_at-here, set_at-else}
 use Rattle.lock_table.specs.Put.{set_at}
 use Rattle.lock_world.specs.declared.events.Word.TheVariants.{Partition}
 use Rattle.lock_world.specs.declared.events.Step.TheVariants.{TakeExclusive, PutExclusive}
-use Rattle.lock_world.specs.World.{World, Contents, Hand}
+use Rattle.lock_world.specs.declared.events.Step as event
+use Rattle.lock_world.specs.World.{World, Contents, Hand, MakesSteps}
 use Rattle.lock_world.specs.Safe.{is_hand_of}
 use Rattle.lock_world.specs.SafeWorld.{SafeWorld}
 use Rattle.lock_world.specs.Happens.Partitions.{after_taking_partition, after_putting_partition, content_taken}
 use Rattle.lock_world.specs.Account.{Account, InHand, account}
 use Rattle.lock_world.specs.AccountSteps.{account_taking, account_putting}
 use Rattle.lock_world.specs.AccountLaw.{MayPutBy}
+use Rattle.lock_world.specs.Happens.{HappensStep}
+use Rattle.shared_rule.specs.Lawful.{PutsRecorded, MayPutSo}
 use Rattle.lock_world.specs.AccountFacts.{KnowsContent}
 use Rattle.lock_world.proofs.Words.Holders.{free-not_held}
-use Rattle.lock_world.proofs.Accounts.Lawful.{put-lawful, hand-known}
+use Rattle.lock_world.proofs.Accounts.Lawful.{put-lawful, put_recorded-lawful, hand-known}
 use Rattle.lock_world.proofs.Accounts.Parts.{mine}
 use Rattle.lock_world.proofs.Accounts.Partitions.{account-taking, account-putting}
 use Rattle.lock_world.proofs.Accounts.Facts.{content-known}
@@ -161,20 +164,39 @@ module _ {T : Type 0} (content : T → Content) (begun : T → Option Request) (
       n : ℕ
       n = slice_index s.words (index_of_word (Partition p))
 
+  -- Whoever may put it has it in hand.
+  may_put-in_hand : (a : Account) (its : InHand) (done : Move) (now : Content) → MayPutSo limit x.number a p its done now → a.hand p ≡ Some its
+  may_put-in_hand a its done now (inl may) = may.may_move.in_hand
+  may_put-in_hand a its done now (inr may) = may.may_put.in_hand
+
+  -- Putting it is an event.
+  put-happens : (w : World) → SafeWorld w → MakesSteps w.numbers x.number → w.numbers.limit ≡ limit → (its : InHand) (done : Move) (part : T)
+      → MayPutSo limit x.number (account w x.number) p its done (content part) → (step : event.Step) × HappensStep w x.number step (after_putting_partition w x.number p done (content part))
+  put-happens w safe makes is_limit its done part (inl may) =
+      let may' : MayPutBy w.numbers.limit x.number (account w x.number) p its done (content part) =
+          subst (λ k. MayPutBy k x.number (account w x.number) p its done (content part)) (sym is_limit) may in
+      (PutExclusive (Partition p) done, inl (content part, put-lawful w safe x.number makes p its done (content part) may', refl))
+  put-happens w safe makes is_limit its done part (inr may) =
+      let own = hand-known (w.contents.hand p) (w.contents.now p) x.number its may.may_put.in_hand in
+      let same : content part ≡ w.contents.now p = may.same ∙ ap (λ (k : InHand). k.now) own.as_known in
+      (PutExclusive (Partition p) may.made,
+      inr (put_recorded-lawful w safe x.number makes p its may.made may.may_put, λ i. after_putting_partition w x.number p (may.keeps i) (same i)))
+
   -- Putting it is noted so.
   abbrev putting-noted : (w : World) → Steps limit w x.number (told content x.number x.marks) → (its : InHand) (done : Move) (part : T)
-      → MayPutBy limit x.number (told content x.number x.marks) p its done (content part)
+      → MayPutSo limit x.number (told content x.number x.marks) p its done (content part)
       → IsNoted content w x.number (told content x.number x.marks) (PutPart p done part) (set_word w.words (Partition p) (put_word (w.words.partition p)))
   putting-noted w steps its done part may =
-      let may' : MayPutBy w.numbers.limit x.number (account w x.number) p its done (content part) =
-      subst (λ k. MayPutBy k x.number (account w x.number) p its done (content part)) (sym steps.is_limit) (subst (λ a. MayPutBy limit x.number a p its done (content part)) steps.account may) in
-      let own = hand-known (w.contents.hand p) (w.contents.now p) x.number its may'.may_move.in_hand in
+      let may' : MayPutSo limit x.number (account w x.number) p its done (content part) = subst (λ a. MayPutSo limit x.number a p its done (content part)) steps.account may in
+      let had = may_put-in_hand (told content x.number x.marks) its done (content part) may in
+      let made = put-happens w steps.safe steps.makes steps.is_limit its done part may' in
+      let own = hand-known (w.contents.hand p) (w.contents.now p) x.number its (may_put-in_hand (account w x.number) its done (content part) may') in
       let taken : taken_of ((told content x.number x.marks).hand p) ≡ content_taken (w.contents.now p) (w.contents.hand p) =
-      ap taken_of may.may_move.in_hand ∙ ap (λ (k : InHand). k.taken) own.as_known ∙ sym (ap (content_taken (w.contents.now p)) own.is_hand) in
+          ap taken_of had ∙ (ap (λ (k : InHand). k.taken) own.as_known ∙ sym (ap (content_taken (w.contents.now p)) own.is_hand)) in
       record {
-        step = PutExclusive (Partition p) done;
+        step = made.0;
         after = after_putting_partition w x.number p done (content part);
-        happens = inl (content part, put-lawful w steps.safe x.number steps.makes p its done (content part) may', refl);
+        happens = made.1;
         numbers = refl;
         account = (λ i. account_putting (steps.account i) p (taken i) (content part) done) ∙ sym (account-putting w x.number p done (content part));
         words = refl;
@@ -182,13 +204,13 @@ module _ {T : Type 0} (content : T → Content) (begun : T → Option Request) (
         few_counted = steps.few_counted x.number;
       }
 
-  pub puts_part : (step : Step (Option T)) (its : InHand) (done : Move) (part : T) → MayPutBy limit x.number (told content x.number x.marks) p its done (content part)
+  pub puts_part : (step : Step (Option T)) (its : InHand) (done : Move) (part : T) → MayPutSo limit x.number (told content x.number x.marks) p its done (content part)
       → begun part ≡ None → me.1 ≡ (content_slot_of p, Some part) ∷ rest me.1
       → Allows (Ruled content begun limit) CONTENT_SLOTS id me (index_of_word (Partition p)) (λ n. (n + (2 ^ 64 - 2 ^ 24)) % 2 ^ 64) (WentHome (λ _. PutPart p done part) step me)
   puts_part step its done part may none_begun carried s r many at below =
       let steps = ruled-steps content begun limit s r id me.0 x others at is in
       let noted = putting-noted r.world steps its done part may in
-      let own = hand-known (r.world.contents.hand p) (r.world.contents.now p) x.number its (subst (λ (a : Account). a.hand p ≡ Some its) steps.account may.may_move.in_hand) in
+      let own = hand-known (r.world.contents.hand p) (r.world.contents.now p) x.number its (subst (λ (a : Account). a.hand p ≡ Some its) steps.account (may_put-in_hand (told content x.number x.marks) its done (content part) may)) in
       let holds : r.world.sessions.holds_partition x.number p ≡ Rattle.std.proofs.Common.true =
       r.safe.but_slots.table.carriers.hands p x.number ∙ ap (λ h. is_hand_of h x.number) own.is_hand ∙ Rattle.std.proofs.Common.eq-eqb own.hand_of.holder x.number own.whose in
       let shown = r.words.word (Partition p) (exists, tt) in
@@ -219,7 +241,7 @@ module _ {T : Type 0} (content : T → Content) (begun : T → Option Request) (
       (subst (λ k. Allows (Ruled content begun limit) CONTENT_SLOTS id me k (λ n. either (n == old) new n) (TookPartition content begun (step CONTENT_SLOTS k old new none) me)) (sym at)
       (takes_part content begun limit id me x others is p exists old new (step CONTENT_SLOTS (index_of_word (Partition p)) old new none) refl refl free is_new))
 
-  pub puts_part_at : (its : InHand) (done : Move) (part : T) → MayPutBy limit x.number (told content x.number x.marks) p its done (content part)
+  pub puts_part_at : (its : InHand) (done : Move) (part : T) → MayPutSo limit x.number (told content x.number x.marks) p its done (content part)
       → begun part ≡ None → me.1 ≡ (content_slot_of p, Some part) ∷ rest me.1 → (mark : ℕ → Mark T) → mark ≡ (λ _. PutPart p done part)
       → Allows (Ruled content begun limit) slots id me i (λ n. (n + (2 ^ 64 - 16777216)) % 2 ^ 64) (WentHome mark (step slots i 16777216 0 none) me)
   puts_part_at its done part may none_begun carried mark marked =

@@ -1,4 +1,4 @@
-use Rattle.std.proofs.Common.{◌≡◌, ◌≢◌, ℕ, ◌+◌, ◌%◌, ◌^◌, ◌<◌, Bool, true, false, ◌||◌, List, [], ◌∷◌, map, length, Option, Some, None, refl, sym, ap, ◌∙◌, subst, inl, inr, arith, eq-eqb}
+use Rattle.std.proofs.Common.{◌≡◌, ◌≢◌, ◌⊎◌, ℕ, ◌+◌, ◌%◌, ◌^◌, ◌<◌, Bool, true, false, ◌||◌, List, [], ◌∷◌, map, length, Option, Some, None, refl, sym, ap, ◌∙◌, subst, inl, inr, arith, eq-eqb}
 use Rattle.std.specs.Prelude.{bit_or, ◌==◌}
 use Rattle.std.specs.List.{list_any}
 use Rattle.std.proofs.lemmas.Bool.{cases_eq, cases_Bool}
@@ -13,24 +13,26 @@ use Rattle.lock_table.proofs.PutLemmas.{set_at-here, set_at-else, set_at-same}
 use Rattle.lock_world.specs.declared.events.Word.TheVariants as word
 use Rattle.lock_world.specs.declared.events.Step.TheVariants as step
 use Rattle.lock_table.specs.Queue.{waits_there}
-use Rattle.lock_world.specs.World.{World, Contents, Hand, is_unmarked}
-use Rattle.lock_world.specs.Happens.Waits.{recording, unmarked_but, after_asking, after_loading_wait, after_setting_waiting, after_marking_first, after_marking_next, HappensMarkingIn, HappensMarking}
+use Rattle.lock_world.specs.World.{World, Contents, Hand, MakesSteps, is_unmarked}
+use Rattle.lock_world.specs.SafeWorld.{SafeWorld}
+use Rattle.lock_table.specs.OwnWait.{OwnWait}
+use Rattle.lock_world.specs.Happens.Waits.{recording, unmarked_but, after_asking, after_loading_wait, after_setting_waiting, after_marking_first, after_marking_next, HappensMarkingIn, HappensMarking, MayClearSeen, MayClearInHand, after_clearing, after_leaving}
 use Rattle.lock_world.specs.Happens.Counters.{most_counted}
 use Rattle.lock_world.specs.Account.{Account, InHand, account}
-use Rattle.lock_world.specs.AccountSteps.{account_tracing, account_waiting, account_marking}
-use Rattle.lock_world.specs.AccountLaw.{MayMoveBy, MayMarkFirstBy, MayMarkNextBy}
+use Rattle.lock_world.specs.AccountSteps.{account_tracing, account_waiting, account_marking, account_clearing, account_leaving}
+use Rattle.lock_world.specs.AccountLaw.{MayMoveBy, MayMarkFirstBy, MayMarkNextBy, MayLeaveBy}
 use Rattle.lock_world.specs.WaitWord.{wait_state, asked_word, granted_word}
 use Rattle.lock_world.specs.World.{Loaded, AskedToCancel}
-use Rattle.lock_world.proofs.Accounts.Lawful.{IsMine, hand-known, move-lawful}
+use Rattle.lock_world.proofs.Accounts.Lawful.{IsMine, hand-known, move-lawful, clear_seen-lawful, clear_in_hand-lawful, leave-lawful}
 use Rattle.lock_world.proofs.Accounts.Parts.{mine}
-use Rattle.lock_world.proofs.Accounts.Waits.{account-asking, account-loading_wait, account-waiting, account-marking_first, account-marking_next}
+use Rattle.lock_world.proofs.Accounts.Waits.{account-asking, account-loading_wait, account-waiting, account-marking_first, account-marking_next, account-clearing, account-leaving}
 use Rattle.lock_world.proofs.Accounts.Marks.{mark_first-lawful, mark_next-lawful}
 use Rattle.lock_world.proofs.Counters.Lists.{any-map}
 use Rattle.shared_rule.specs.declared.history.Mark.TheVariants as mark
 use Rattle.shared_rule.specs.declared.history.History.{History}
 use Rattle.shared_rule.specs.Shown.{set_word}
-use Rattle.shared_rule.specs.History.{told, in_hand, is_among, account_granting, account_granting_by}
-use Rattle.shared_rule.specs.Granting.{IsGrantingIn, MayMarkBy}
+use Rattle.shared_rule.specs.History.{told, in_hand, is_among, account_granting, account_granting_by, is_granted, account_cleared, account_left}
+use Rattle.shared_rule.specs.Lawful.{IsGrantingIn, MayMarkBy, MayClearBy}
 use Rattle.shared_rule.specs.Ruled.{SlotsAreUnused}
 use Rattle.shared_rule.proofs.Frame.{Steps}
 use Rattle.shared_rule.proofs.Events.Marks.{IsAlwaysLawful, KeepsHome}
@@ -195,3 +197,75 @@ module _ {T : Type 0} (content : T → Content) (limit : ℕ) (x : History T) (p
       → IsAlwaysLawful content limit x (word.Wait other) (λ _. Unit {0}) (λ n. (n + 1) % 2 ^ 64) (λ _. mark.MarkedGranted p other done woken now)
   marking-lawful (inl may) = marking_first-lawful may
   marking-lawful (inr may) = marking_next-lawful may
+
+-- Clearing the own wait word.
+
+-- Whether the wait was granted, as the session can tell, is so in the World: it has seen it, or has the content in hand.
+granted-known : (w : World) (s : ℕ) (wait : OwnWait) → MayClearBy s (account w s) wait
+    → is_granted s (account w s) wait ≡ (w.sessions.seen s || (w.contents.now (partition_of wait.tag)).holds s wait.tag wait.mode)
+granted-known w s wait (inl seen) =
+    ap (λ b. b || (in_hand ((account w s).hand (partition_of wait.tag))).now.holds s wait.tag wait.mode) seen.has_seen
+    ∙ sym (ap (λ b. b || (w.contents.now (partition_of wait.tag)).holds s wait.tag wait.mode) seen.has_seen)
+granted-known w s wait (inr gone) =
+    let own = hand-known (w.contents.hand (partition_of wait.tag)) (w.contents.now (partition_of wait.tag)) s gone.0 gone.1.in_hand in
+    ap (λ (k : InHand). w.sessions.seen s || k.now.holds s wait.tag wait.mode) (ap in_hand gone.1.in_hand ∙ own.as_known)
+
+-- Whoever may clear it waits.
+may_clear-waits : (s : ℕ) (b : Account) (wait : OwnWait) → MayClearBy s b wait → b.awaited ≡ Some wait
+may_clear-waits s b wait (inl seen) = seen.is_wait
+may_clear-waits s b wait (inr gone) = gone.1.is_wait
+
+clearing-happens : (w : World) → SafeWorld w → (s : ℕ) → MakesSteps w.numbers s → (wait : OwnWait) → MayClearBy s (account w s) wait → MayClearSeen w s wait ⊎ MayClearInHand w s wait
+clearing-happens w safe s makes wait (inl seen) = inl (clear_seen-lawful w safe s makes wait seen)
+clearing-happens w safe s makes wait (inr gone) = inr (clear_in_hand-lawful w safe s makes wait gone.0 gone.1)
+
+module _ {T : Type 0} (content : T → Content) (limit : ℕ) (x : History T) (wait : OwnWait) where
+  pub clearing-lawful : MayClearBy x.number (told content x.number x.marks) wait
+      → IsAlwaysLawful content limit x (word.Wait x.number) (λ _. Unit {0}) (λ _. 0) (λ _. mark.ClearedWait)
+  clearing-lawful may w steps n below shown _ =
+      let may' : MayClearBy x.number (account w x.number) wait = subst (λ b. MayClearBy x.number b wait) steps.account may in
+      let waits : (account w x.number).awaited ≡ Some wait = may_clear-waits x.number (account w x.number) wait may' in
+      record {
+        noted = record {
+          step = step.ClearWait false;
+          after = after_clearing w x.number wait;
+          happens = (wait, clearing-happens w steps.safe x.number steps.makes wait may', refl);
+          numbers = refl;
+          account = (λ i. account_cleared x.number (steps.account i) (steps.account i).awaited)
+              ∙ (ap (account_cleared x.number (account w x.number)) waits
+              ∙ (ap (account_clearing (account w x.number) wait) (granted-known w x.number wait may')
+              ∙ sym (account-clearing w x.number wait)));
+          words = refl;
+          unused = record { database = steps.unused.database; slot = steps.unused.slot };
+          few_counted = steps.few_counted x.number;
+        };
+        home = λ p none. (none, refl);
+      }
+
+  -- Leaving the queue by it.
+  pub leaving-lawful : (its : InHand) (granted : List Wait) (now : T) → MayLeaveBy limit x.number (told content x.number x.marks) wait its granted (content now)
+      → IsAlwaysLawful content limit x (word.Wait x.number) (λ _. Unit {0}) (λ _. 0) (λ _. mark.LeftQueue (map (λ (w : Wait). w.session) granted) now)
+  leaving-lawful its granted now may w steps n below shown _ =
+      let p : ℕ = partition_of wait.tag in
+      let may' : MayLeaveBy w.numbers.limit x.number (account w x.number) wait its granted (content now) =
+          subst (λ k. MayLeaveBy k x.number (account w x.number) wait its granted (content now)) (sym steps.is_limit)
+          (subst (λ b. MayLeaveBy limit x.number b wait its granted (content now)) steps.account may) in
+      let own = hand-known (w.contents.hand p) (w.contents.now p) x.number its may'.may_move.in_hand in
+      let known : in_hand ((account w x.number).hand p) ≡ mine own.hand_of (w.contents.now p) = ap in_hand may'.may_move.in_hand ∙ own.as_known in
+      let sessions : List ℕ = map (λ (z : Wait). z.session) granted in
+      record {
+        noted = record {
+          step = step.ClearWait true;
+          after = after_leaving w x.number wait granted (content now);
+          happens = inl (wait, granted, content now, leave-lawful w steps.safe x.number steps.makes wait its granted (content now) may', refl);
+          numbers = refl;
+          account = (λ i. account_left (steps.account i) (steps.account i).awaited (content now) sessions)
+              ∙ (ap (λ found. account_left (account w x.number) found (content now) sessions) may'.is_wait
+              ∙ ((λ i. account_leaving (account w x.number) (known i) wait (content now) (among-granted granted i))
+              ∙ sym (account-leaving w x.number wait granted (content now) own.hand_of own.is_hand own.whose)));
+          words = refl;
+          unused = record { database = steps.unused.database; slot = steps.unused.slot };
+          few_counted = steps.few_counted x.number;
+        };
+        home = home-recorded w.contents p x.number its own (set_at w.contents.now p (content now)) (Leave wait.tag) (waits_there granted) (set_at-else w.contents.now p (content now));
+      }

@@ -4,7 +4,10 @@ use Rattle.lock_table.specs.declared.moves.Move.{Move}
 use Rattle.lock_table.specs.declared.moves.Move.TheVariants.{Keep, Grant, Join, Release, Leave, Adopt}
 use Rattle.lock_table.specs.Content.{Wait, Content}
 use Rattle.lock_world.specs.Account.{Account, InHand}
-use Rattle.lock_world.specs.AccountLaw.{MayMarkFirstBy, MayMarkNextBy}
+use Rattle.lock_table.specs.OwnWait.{OwnWait}
+use Rattle.lock_world.specs.AccountLaw.{MayPutBy, MayPutRecordedBy, MayMarkFirstBy, MayMarkNextBy, MayClearSeenBy, MayClearInHandBy}
+
+-- Where a step is lawful by the account of the session that makes it, whichever way it is.
 
 -- Marking the waits that a move granted.
 
@@ -21,3 +24,18 @@ IsGrantingIn partition (Adopt owner slot) = ⊥
 abbrev pub MayMarkBy : ℕ → ℕ → Account → ℕ → InHand → Move → List Wait → Content → ℕ → Type 0
 MayMarkBy limit number a partition mine done granted content other =
     MayMarkFirstBy limit number a partition mine done granted content other ⊎ MayMarkNextBy a partition mine done other
+
+-- Putting a partition: after a move that is made as it is put, or, with nothing changed since, after the one that stands recorded.
+pub record PutsRecorded (a : Account) (partition : ℕ) (mine : InHand) (done : Move) (content : Content) : Type 0 where
+  pub made : Move
+  pub may_put : MayPutRecordedBy a partition mine made
+  pub keeps : done ≡ Keep
+  pub same : content ≡ mine.now
+
+abbrev pub MayPutSo : ℕ → ℕ → Account → ℕ → InHand → Move → Content → Type 0
+MayPutSo limit number a partition mine done content =
+    MayPutBy limit number a partition mine done content ⊎ PutsRecorded a partition mine done content
+
+-- Clearing the own wait word: the grant was seen, or the wait is gone from the content in hand.
+abbrev pub MayClearBy : ℕ → Account → OwnWait → Type 0
+MayClearBy number a wait = MayClearSeenBy a wait ⊎ ((mine : InHand) × MayClearInHandBy number a wait mine)
