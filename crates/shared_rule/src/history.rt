@@ -9,19 +9,40 @@ use std::collections::LinkedList;
 /// One atomic step of a session, as its history has it.
 pub enum Mark<T> {
     /// It took the partition in hand, with this content.
-    TookPart { part: u8, taken: T },
+    TookPart {
+        part: u8,
+        taken: T,
+    },
     /// It put the partition home with this content, after this move that it made as it put it.
-    PutPart { part: u8, done: Move, put: T },
+    PutPart {
+        part: u8,
+        done: Move,
+        put: T,
+    },
     /// It took the lock of a session's fast-path slots.
-    TookFast { owner: u8 },
+    TookFast {
+        owner: u8,
+    },
     /// It put that lock.
-    PutFast { owner: u8 },
+    PutFast {
+        owner: u8,
+    },
     /// It put that lock, and its strong lock, which it has counted, is past the session.
-    Passed { owner: u8, tag: Tag, mode: Mode },
+    Passed {
+        owner: u8,
+        tag: Tag,
+        mode: Mode,
+    },
     /// It counted a strong lock.
-    Counted { tag: Tag, mode: Mode },
+    Counted {
+        tag: Tag,
+        mode: Mode,
+    },
     /// It counts the strong lock no more.
-    Uncounted { tag: Tag, mode: Mode },
+    Uncounted {
+        tag: Tag,
+        mode: Mode,
+    },
     /// Its wait word was set to waiting, and the content in hand is this, after its join.
     SetWaiting {
         tag: Tag,
@@ -55,7 +76,10 @@ pub enum Mark<T> {
         now: T,
     },
     /// It loaded a session's database, which was this.
-    LoadedDatabase { owner: u8, shown: u64 },
+    LoadedDatabase {
+        owner: u8,
+        shown: u64,
+    },
 }
 
 /// A session's number and its steps, the last one first. A clause reads the array as a list, of any length.

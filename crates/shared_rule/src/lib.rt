@@ -12,3 +12,4 @@ pub mod seat_board;
 mod steps;
 #[cfg(test)]
 mod tests;
+mod waits;

@@ -39,7 +39,11 @@ pub(crate) fn taken(shown: u64) -> Option<u64>
     Some(word.attempt(LwMode::Exclusive)?.number())
 }
 
-fn load_as<T: PartTable, M: Marking<T>>(top: &Top<T>, place: &mut Place<T>, word: usize) -> u64
+pub(crate) fn load_as<T: PartTable, M: Marking<T>>(
+    top: &Top<T>,
+    place: &mut Place<T>,
+    word: usize,
+) -> u64
     requires table { FitsTable place.old top.now.table_id × (word < top.now.table_id.words) }
     requires allowed { Allows (Ruled T.content T.begun top.now.key) top.now.table_id.slots place.old.id place.old.me word (λ n. n)
         (Marked M.mark (step top.now.table_id.slots word 0 0 none) place.old.me) }
@@ -49,7 +53,7 @@ fn load_as<T: PartTable, M: Marking<T>>(top: &Top<T>, place: &mut Place<T>, word
     top.load::<Marks<M>>(place, word)
 }
 
-fn fetch_add_as<T: PartTable, M: Marking<T>>(
+pub(crate) fn fetch_add_as<T: PartTable, M: Marking<T>>(
     top: &Top<T>,
     place: &mut Place<T>,
     word: usize,

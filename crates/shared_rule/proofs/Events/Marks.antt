@@ -122,3 +122,13 @@ pub wins_at :
 wins_at {T} content begun limit slots id me x others is word exists i at old new mark lawful =
     subst (λ k. Allows (Ruled content begun limit) slots id me k (λ n. either (n == old) new n) (Won mark (step 0 0 old 0 none) me)) (sym at)
     (wins content begun limit slots id me x others is word exists old new mark (step 0 0 old 0 none) refl lawful)
+
+-- A store, which leaves the same mark whatever it found.
+pub stores_at :
+    {T : Type 0} (content : T → Content) (begun : T → Option Request) (limit slots id : ℕ) (me : Side T) (x : History T) (others : List (History T)) → me.0.sessions ≡ x ∷ others
+    → (word : Word) → IsInTable word → (i : ℕ) → i ≡ index_of_word word → (new : ℕ) (mark : ℕ → Mark T) (left : Mark T) → mark ≡ (λ _. left)
+    → IsAlwaysLawful content limit x word (λ _. Unit {0}) (λ _. new) (λ _. left)
+    → Allows (Ruled content begun limit) slots id me i (λ _. new) (λ _. Marked mark (step 0 0 0 0 none) me new)
+stores_at {T} content begun limit slots id me x others is word exists i at new mark left same lawful =
+    subst (λ (m : ℕ → Mark T). Allows (Ruled content begun limit) slots id me i (λ _. new) (λ _. Marked m (step 0 0 0 0 none) me new)) (sym same)
+    (marks_at content begun limit slots id me x others is word exists i at (λ _. new) (λ _. left) lawful)

@@ -174,13 +174,14 @@ module _ {T : Type 0} (content : T → Content) (begun : T → Option Request) (
       → MayPutSo limit x.number (account w x.number) p its done (content part) → (step : event.Step) × HappensStep w x.number step (after_putting_partition w x.number p done (content part))
   put-happens w safe makes is_limit its done part (inl may) =
       let may' : MayPutBy w.numbers.limit x.number (account w x.number) p its done (content part) =
-          subst (λ k. MayPutBy k x.number (account w x.number) p its done (content part)) (sym is_limit) may in
+      subst (λ k. MayPutBy k x.number (account w x.number) p its done (content part)) (sym is_limit) may in
       (PutExclusive (Partition p) done, inl (content part, put-lawful w safe x.number makes p its done (content part) may', refl))
   put-happens w safe makes is_limit its done part (inr may) =
       let own = hand-known (w.contents.hand p) (w.contents.now p) x.number its may.may_put.in_hand in
-      let same : content part ≡ w.contents.now p = may.same ∙ ap (λ (k : InHand). k.now) own.as_known in
-      (PutExclusive (Partition p) may.made,
-      inr (put_recorded-lawful w safe x.number makes p its may.made may.may_put, λ i. after_putting_partition w x.number p (may.keeps i) (same i)))
+      let same : content part ≡ w.contents.now p = may.same ∙ ap (λ (k : InHand). k.now) own.as_known in (
+        PutExclusive (Partition p) may.made,
+        inr (put_recorded-lawful w safe x.number makes p its may.made may.may_put, λ i. after_putting_partition w x.number p (may.keeps i) (same i)),
+      )
 
   -- Putting it is noted so.
   abbrev putting-noted : (w : World) → Steps limit w x.number (told content x.number x.marks) → (its : InHand) (done : Move) (part : T)
@@ -192,7 +193,7 @@ module _ {T : Type 0} (content : T → Content) (begun : T → Option Request) (
       let made = put-happens w steps.safe steps.makes steps.is_limit its done part may' in
       let own = hand-known (w.contents.hand p) (w.contents.now p) x.number its (may_put-in_hand (account w x.number) its done (content part) may') in
       let taken : taken_of ((told content x.number x.marks).hand p) ≡ content_taken (w.contents.now p) (w.contents.hand p) =
-          ap taken_of had ∙ (ap (λ (k : InHand). k.taken) own.as_known ∙ sym (ap (content_taken (w.contents.now p)) own.is_hand)) in
+      ap taken_of had ∙ (ap (λ (k : InHand). k.taken) own.as_known ∙ sym (ap (content_taken (w.contents.now p)) own.is_hand)) in
       record {
         step = made.0;
         after = after_putting_partition w x.number p done (content part);

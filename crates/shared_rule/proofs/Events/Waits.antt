@@ -13,6 +13,7 @@ use Rattle.lock_table.proofs.PutLemmas.{set_at-here, set_at-else, set_at-same}
 use Rattle.lock_world.specs.declared.events.Word.TheVariants as word
 use Rattle.lock_world.specs.declared.events.Step.TheVariants as step
 use Rattle.lock_table.specs.Queue.{waits_there}
+use Rattle.lock_table.specs.Waiter.{whose_and_mode}
 use Rattle.lock_world.specs.World.{World, Contents, Hand, MakesSteps, is_unmarked}
 use Rattle.lock_world.specs.SafeWorld.{SafeWorld}
 use Rattle.lock_table.specs.OwnWait.{OwnWait}
@@ -93,8 +94,8 @@ module _ {T : Type 0} (content : T → Content) (limit : ℕ) (x : History T) wh
   setting_waiting-lawful its tag mode now may w steps n below shown _ =
       let p : ℕ = partition_of tag in
       let may' : MayMoveBy w.numbers.limit x.number (account w x.number) p its (Join tag mode) [] (content now) =
-          subst (λ k. MayMoveBy k x.number (account w x.number) p its (Join tag mode) [] (content now)) (sym steps.is_limit)
-          (subst (λ a. MayMoveBy limit x.number a p its (Join tag mode) [] (content now)) steps.account may) in
+      subst (λ k. MayMoveBy k x.number (account w x.number) p its (Join tag mode) [] (content now)) (sym steps.is_limit)
+      (subst (λ a. MayMoveBy limit x.number a p its (Join tag mode) [] (content now)) steps.account may) in
       let own = hand-known (w.contents.hand p) (w.contents.now p) x.number its may'.in_hand in
       let known : in_hand ((told content x.number x.marks).hand p) ≡ mine own.hand_of (w.contents.now p) = ap in_hand may.in_hand ∙ own.as_known in
       record {
@@ -117,6 +118,13 @@ module _ {T : Type 0} (content : T → Content) (limit : ℕ) (x : History T) wh
 -- The sessions of these waits are among their numbers.
 among-granted : (granted : List Wait) → is_among (map (λ (wait : Wait). wait.session) granted) ≡ waits_there granted
 among-granted granted = λ i session. any-map (λ (wait : Wait). wait.session) (λ other. other == session) granted i
+
+-- What a wakeup tells of the waits that it grants has these numbers.
+pub told-granted : (told : List (ℕ × Mode)) (granted : List Wait) → told ≡ map whose_and_mode granted → map (λ (z : ℕ × Mode). z.0) told ≡ map (λ (wait : Wait). wait.session) granted
+told-granted told granted is = ap (map (λ (z : ℕ × Mode). z.0)) is ∙ again granted where
+  again : (waits : List Wait) → map (λ (z : ℕ × Mode). z.0) (map whose_and_mode waits) ≡ map (λ (wait : Wait). wait.session) waits
+  again [] = refl
+  again (wait ∷ waits) = ap (λ rest. wait.session ∷ rest) (again waits)
 
 -- A mark is the event of its move.
 marking-happens : (w : World) (s other p : ℕ) (done : Move) (v : World) → IsGrantingIn p done → HappensMarkingIn w s other p done v → HappensMarking w s other done v
@@ -142,8 +150,8 @@ module _ {T : Type 0} (content : T → Content) (limit : ℕ) (x : History T) (p
       → IsAlwaysLawful content limit x (word.Wait other) (λ _. Unit {0}) (λ n. (n + 1) % 2 ^ 64) (λ _. mark.MarkedGranted p other done woken now)
   marking_first-lawful may w steps n below shown _ =
       let may' : MayMarkFirstBy w.numbers.limit x.number (account w x.number) p its done granted (content now) other =
-          subst (λ k. MayMarkFirstBy k x.number (account w x.number) p its done granted (content now) other) (sym steps.is_limit)
-          (subst (λ b. MayMarkFirstBy limit x.number b p its done granted (content now) other) steps.account may) in
+      subst (λ k. MayMarkFirstBy k x.number (account w x.number) p its done granted (content now) other) (sym steps.is_limit)
+      (subst (λ b. MayMarkFirstBy limit x.number b p its done granted (content now) other) steps.account may) in
       let lawful = mark_first-lawful w steps.safe x.number steps.makes p its done granted (content now) other may' in
       let own = hand-known (w.contents.hand p) (w.contents.now p) x.number its may'.may_move.in_hand in
       let known : in_hand (a.hand p) ≡ mine own.hand_of (w.contents.now p) = ap in_hand may.may_move.in_hand ∙ own.as_known in
@@ -248,8 +256,8 @@ module _ {T : Type 0} (content : T → Content) (limit : ℕ) (x : History T) (w
   leaving-lawful its granted now may w steps n below shown _ =
       let p : ℕ = partition_of wait.tag in
       let may' : MayLeaveBy w.numbers.limit x.number (account w x.number) wait its granted (content now) =
-          subst (λ k. MayLeaveBy k x.number (account w x.number) wait its granted (content now)) (sym steps.is_limit)
-          (subst (λ b. MayLeaveBy limit x.number b wait its granted (content now)) steps.account may) in
+      subst (λ k. MayLeaveBy k x.number (account w x.number) wait its granted (content now)) (sym steps.is_limit)
+      (subst (λ b. MayLeaveBy limit x.number b wait its granted (content now)) steps.account may) in
       let own = hand-known (w.contents.hand p) (w.contents.now p) x.number its may'.may_move.in_hand in
       let known : in_hand ((account w x.number).hand p) ≡ mine own.hand_of (w.contents.now p) = ap in_hand may'.may_move.in_hand ∙ own.as_known in
       let sessions : List ℕ = map (λ (z : Wait). z.session) granted in
