@@ -2,18 +2,24 @@
 //! (or several attempts at one), so what is proved over any board holds for the table that threads share and for the
 //! fake that tests use.
 
-ghost use Rattle.std.specs.Prelude.{◌≡◌, ◌<◌, ℕ, List, ◌∷◌, Some, None};
-ghost use Rattle.lock_world.specs.declared.events.Word.TheVariants.{Database};
-ghost use Rattle.lock_world.specs.World.{Loaded};
+ghost use Rattle.std.specs.Prelude.{◌≡◌, ◌<◌, ◌||◌, ◌==◌, ℕ, List, [], ◌∷◌, map, Some, None};
+ghost use Rattle.modes_core.specs.Tag.{partition_of};
+ghost use Rattle.lock_table.specs.declared.moves.Move.TheVariants.{Join};
+ghost use Rattle.lock_table.specs.Content as contents;
+ghost use Rattle.lock_table.specs.OwnWait.{OwnWait};
+ghost use Rattle.lock_table.specs.Waiter.{whose_and_mode};
+ghost use Rattle.lock_world.specs.declared.events.Word.TheVariants.{Database, Wait};
+ghost use Rattle.lock_world.specs.WaitWord.{wait_state};
+ghost use Rattle.lock_world.specs.World.{Loaded, AskedToCancel};
 ghost use Rattle.lock_world.specs.Account.{Account, InHand, SlotsInHand};
-ghost use Rattle.lock_world.specs.AccountSteps.{account_taking, account_putting, account_taking_fast, account_putting_fast, account_passing, account_counting, account_uncounting, account_tracing};
+ghost use Rattle.lock_world.specs.AccountSteps.{account_taking, account_putting, account_taking_fast, account_putting_fast, account_passing, account_counting, account_uncounting, account_tracing, account_waiting};
 ghost use Rattle.lock_world.specs.AccountFacts.{KnowsContent};
-ghost use Rattle.lock_world.specs.AccountLaw.{MayPutFastBy, MayPassBy, MayCountBy, MayUncountBy};
-ghost use Rattle.shared_rule.specs.History.{taken_of, no_slots};
+ghost use Rattle.lock_world.specs.AccountLaw.{MayMoveBy, MayLeaveBy, MayPutFastBy, MayPassBy, MayCountBy, MayUncountBy};
+ghost use Rattle.shared_rule.specs.History.{taken_of, no_slots, in_hand, account_granting, account_cleared, account_left};
 ghost use Rattle.shared_rule.specs.Boards.{Seated};
-ghost use Rattle.shared_rule.specs.Lawful.{MayPutSo};
+ghost use Rattle.shared_rule.specs.Lawful.{MayPutSo, IsGrantingIn, MayMarkBy, MayClearBy};
 
-use lock_table::{Move, PartTable};
+use lock_table::{Move, PartTable, Woken};
 use modes_core::{Mode, SessionId, Tag};
 use std::sync::Wait;
 
@@ -103,4 +109,69 @@ pub trait Board<T: PartTable> {
         ensures seat { seat self.new ≡ seat self.old }
         ensures view { view self.new ≡ account_tracing (view self.old) (Loaded (Database owner) result) }
         ensures stack { stack self.new ≡ stack self.old };
+
+    /// Stores in the own wait word that the session waits, with its join made in the content in hand (`ProcSleep` in
+    /// proc.c sets `waitStatus` so).
+    fn set_waiting(&mut self, tag: &Tag, mode: Mode, content: &T)
+        requires lawful { (mine : InHand) × MayMoveBy (seat self.old).limit (seat self.old).number (view self.old)
+            (partition_of tag.now) mine (Join tag.now mode) [] (T.content content.now) }
+        ensures seat { seat self.new ≡ seat self.old }
+        ensures view { view self.new ≡ account_waiting (view self.old) (in_hand ((view self.old).hand (partition_of tag.now)))
+            tag.now mode (T.content content.now)
+            ((in_hand ((view self.old).hand (partition_of tag.now))).now.holds (seat self.old).number tag.now) }
+        ensures stack { stack self.new ≡ stack self.old };
+
+    /// Marks the wait of a session granted, one of those whom the move in the content in hand grants. By the first mark
+    /// the move stands recorded, and own holds follow it; the partition is put once all are marked, as after `Keep`
+    /// (`ProcWakeup` in proc.c sets `waitStatus`).
+    fn mark_granted(&mut self, part: u8, other: SessionId, done: &Move, woken: &Woken, content: &T)
+        requires grants { IsGrantingIn part done.now }
+        requires lawful { (mine : InHand) × (granted : List contents.Wait) × (woken.now.items ≡ map whose_and_mode granted)
+            × MayMarkBy (seat self.old).limit (seat self.old).number (view self.old) part mine done.now granted
+            (T.content content.now) other }
+        ensures seat { seat self.new ≡ seat self.old }
+        ensures view { view self.new ≡ account_granting (view self.old) part (in_hand ((view self.old).hand part)) other done.now
+            (map (λ told. told.0) woken.now.items) (T.content content.now) }
+        ensures stack { stack self.new ≡ stack self.old };
+
+    /// Loads the own wait word: 2 in bits 0 to 1 where the wait was granted, bit 2 set where it was asked to cancel
+    /// (`waitStatus` in proc.h, as `ProcSleep` in proc.c reads it).
+    fn load_wait(&mut self) -> u64
+        ensures seat { seat self.new ≡ seat self.old }
+        ensures view { view self.new ≡
+            record (account_tracing (view self.old) (Loaded (Wait (seat self.old).number) result))
+            { seen = (view self.old).seen || (wait_state result == 2) } }
+        ensures stack { stack self.new ≡ stack self.old };
+
+    /// Asks a session to cancel its wait, and tells what its wait word showed before (`pg_cancel_backend` in
+    /// signalfuncs.c).
+    fn ask_cancel(&mut self, other: SessionId) -> u64
+        ensures seat { seat self.new ≡ seat self.old }
+        ensures view { view self.new ≡ account_tracing (view self.old) (AskedToCancel other result) }
+        ensures stack { stack self.new ≡ stack self.old };
+
+    /// Clears the own wait word: the wait is over, since the grant was seen or the wait is gone from the content in hand.
+    fn clear_wait(&mut self)
+        requires lawful { (wait : OwnWait) × MayClearBy (seat self.old).number (view self.old) wait }
+        ensures seat { seat self.new ≡ seat self.old }
+        ensures view { view self.new ≡ account_cleared (seat self.old).number (view self.old) (view self.old).awaited }
+        ensures stack { stack self.new ≡ stack self.old };
+
+    /// Clears the own wait word and records that the wait was taken out of the queue of the content in hand, which granted
+    /// the waits of those told (`RemoveFromWaitQueue` in lock.c).
+    fn leave_queue(&mut self, woken: &Woken, content: &T)
+        requires lawful { (wait : OwnWait) × (mine : InHand) × (granted : List contents.Wait)
+            × (woken.now.items ≡ map whose_and_mode granted)
+            × MayLeaveBy (seat self.old).limit (seat self.old).number (view self.old) wait mine granted (T.content content.now) }
+        ensures seat { seat self.new ≡ seat self.old }
+        ensures view { view self.new ≡ account_left (view self.old) (view self.old).awaited (T.content content.now)
+            (map (λ told. told.0) woken.now.items) }
+        ensures stack { stack self.new ≡ stack self.old };
+
+    /// Sleeps while the own wait word shows this, until somebody wakes the session; it may also return for no reason
+    /// (`WaitLatch` in `ProcSleep` of proc.c).
+    fn sleep<R: Wait>(&self, rt: &R, shown: u64);
+
+    /// Wakes a session that sleeps so (`SetLatch` in `ProcWakeup` of proc.c). It is no step.
+    fn wake(&self, other: SessionId);
 }

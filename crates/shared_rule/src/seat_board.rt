@@ -6,9 +6,10 @@ ghost use Rattle.shared_rule.specs.declared.layout.TheConstants.{TABLE_WORDS, CO
 ghost use Rattle.shared_rule.specs.Boards.{Seated, parts_in_hand, slots_out, first_marks};
 
 use crate::board::Board;
+use crate::layout::wait_word;
 use crate::rule::{Place, Top};
-use crate::steps;
-use lock_table::{Move, PartTable};
+use crate::{steps, waits};
+use lock_table::{Move, PartTable, Woken};
 use modes_core::{Mode, SessionId, Tag};
 use std::sync::Wait;
 
@@ -71,5 +72,53 @@ impl<'a, T: PartTable> Board<T> for SeatBoard<'a, T> {
 
     fn load_database(&mut self, owner: SessionId) -> u64 {
         steps::load_database(self.table, &mut self.place, owner)
+    }
+
+    fn set_waiting(&mut self, tag: &Tag, mode: Mode, content: &T) {
+        waits::set_waiting(self.table, &mut self.place, self.number, tag, mode, content);
+    }
+
+    fn mark_granted(
+        &mut self,
+        part: u8,
+        other: SessionId,
+        done: &Move,
+        woken: &Woken,
+        content: &T,
+    ) {
+        waits::mark_granted(
+            self.table,
+            &mut self.place,
+            part,
+            other,
+            done,
+            woken,
+            content,
+        );
+    }
+
+    fn load_wait(&mut self) -> u64 {
+        waits::load_wait(self.table, &mut self.place, self.number)
+    }
+
+    fn ask_cancel(&mut self, other: SessionId) -> u64 {
+        waits::ask_cancel(self.table, &mut self.place, other)
+    }
+
+    fn clear_wait(&mut self) {
+        waits::clear_wait(self.table, &mut self.place, self.number);
+    }
+
+    fn leave_queue(&mut self, woken: &Woken, content: &T) {
+        waits::leave_queue(self.table, &mut self.place, self.number, woken, content);
+    }
+
+    fn sleep<R: Wait>(&self, rt: &R, shown: u64) {
+        let low_bits = (shown & u64::from(u32::MAX)) as u32;
+        self.table.park(rt, wait_word(self.number), low_bits);
+    }
+
+    fn wake(&self, other: SessionId) {
+        self.table.wake_one(wait_word(other));
     }
 }

@@ -14,5 +14,5 @@ fetch_or_as-requires-clause-allowed g c =
     let place = c.args.place.now in
     let session = c.requires.session in
     marks_at content g.T.PartTable.begun c.args.top.now.key c.args.top.now.table_id.slots place.id place.me session.history session.others session.sessions
-        (Wait c.args.other) (tt, search rules) c.wait_word.result c.wait_word.ensures.index (λ n. bit_or n 4) g.M.Marking.mark
-        (subst (IsAlwaysLawful content c.args.top.now.key session.history (Wait c.args.other) (λ _. Unit {0}) (λ n. bit_or n 4)) (sym c.requires.mark) (asking-lawful content c.args.top.now.key session.history c.args.other))
+    (Wait c.args.other) (tt, search rules) c.wait_word.result c.wait_word.ensures.index (λ n. bit_or n 4) g.M.Marking.mark
+    (subst (IsAlwaysLawful content c.args.top.now.key session.history (Wait c.args.other) (λ _. Unit {0}) (λ n. bit_or n 4)) (sym c.requires.mark) (asking-lawful content c.args.top.now.key session.history c.args.other))

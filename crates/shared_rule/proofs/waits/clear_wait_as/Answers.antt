@@ -19,5 +19,5 @@ store_as-requires-clause-allowed g c =
     let at = c.wait_word.ensures.index ∙ ap (λ n. index_of_word (Wait n)) own in
     let may = subst (λ (sessions : List (History g.row.T.Denot)). (wait : OwnWait) × MayClearBy (first_number sessions) (first_account content sessions) wait) session.sessions c.requires.lawful in
     stores_at content g.T.PartTable.begun c.args.top.now.key c.args.top.now.table_id.slots place.id place.me session.history session.others session.sessions
-        (Wait session.history.number) (tt, exists) c.wait_word.result at 0 g.M.Marking.mark _ c.requires.mark
-        (clearing-lawful content c.args.top.now.key session.history may.0 may.1)
+    (Wait session.history.number) (tt, exists) c.wait_word.result at 0 g.M.Marking.mark _ c.requires.mark
+    (clearing-lawful content c.args.top.now.key session.history may.0 may.1)

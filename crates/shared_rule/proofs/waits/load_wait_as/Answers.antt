@@ -16,5 +16,5 @@ load_as-requires-clause-allowed g c =
     let exists : session.history.number < 64 = subst (λ n. n < 64) own (search rules) in
     let at = c.wait_word.ensures.index ∙ ap (λ n. index_of_word (Wait n)) own in
     marks_at content g.T.PartTable.begun c.args.top.now.key c.args.top.now.table_id.slots place.id place.me session.history session.others session.sessions
-        (Wait session.history.number) (tt, exists) c.wait_word.result at (λ n. n) g.M.Marking.mark
-        (subst (IsAlwaysLawful content c.args.top.now.key session.history (Wait session.history.number) (λ _. Unit {0}) (λ n. n)) (sym c.requires.mark) (loading_wait-lawful content c.args.top.now.key session.history))
+    (Wait session.history.number) (tt, exists) c.wait_word.result at (λ n. n) g.M.Marking.mark
+    (subst (IsAlwaysLawful content c.args.top.now.key session.history (Wait session.history.number) (λ _. Unit {0}) (λ n. n)) (sym c.requires.mark) (loading_wait-lawful content c.args.top.now.key session.history))
