@@ -3,3 +3,4 @@ pub mod Partitions
 pub mod Fast
 pub mod Counters
 pub mod Loads
+pub mod Seats

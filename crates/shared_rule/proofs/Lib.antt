@@ -1,4 +1,5 @@
 mod Shown
 pub mod Frame
+pub mod Views
 pub mod Events
 pub mod Sides

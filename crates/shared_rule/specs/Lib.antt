@@ -3,3 +3,4 @@ pub mod Shown
 pub mod History
 pub mod Ruled
 pub mod Plays
+pub mod Seats

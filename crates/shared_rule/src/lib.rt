@@ -7,6 +7,7 @@ pub mod laws;
 pub mod layout;
 pub mod plays;
 pub mod rule;
+mod seats;
 mod steps;
 #[cfg(test)]
 mod tests;
