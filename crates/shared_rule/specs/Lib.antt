@@ -4,3 +4,4 @@ pub mod History
 pub mod Ruled
 pub mod Plays
 pub mod Seats
+pub mod Opening

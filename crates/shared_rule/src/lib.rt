@@ -9,5 +9,6 @@ pub mod plays;
 pub mod rule;
 mod seats;
 mod steps;
+pub mod table;
 #[cfg(test)]
 mod tests;
