@@ -1,5 +1,5 @@
-use Rattle.std.proofs.Common.{◌≡◌, ◌≢◌, ◌⊎◌, ℕ, zero, suc, true, ◌<◌, ◌≤◌, ◌^◌, List, [], ◌∷◌, length, Option, Some, None, refl, sym, ap, ◌∙◌, subst, inl, inr, arith, length-set}
-use Rattle.std.specs.Prelude.{slice_get, slice_set, slice_index}
+use Rattle.std.proofs.Common.{◌≡◌, ◌≢◌, ◌⊎◌, ℕ, zero, suc, true, ◌<◌, ◌≤◌, List, [], ◌∷◌, length, Option, Some, refl, sym, ap, ◌∙◌, subst, inl, inr, arith}
+use Rattle.std.specs.Prelude.{slice_get, slice_set}
 use Rattle.std.proofs.lemmas.Bool.{cases_eq}
 use mathlib.Core.Option.{some, some-injective, some-ne-none}
 use mathlib.Core.Option as maybe
@@ -12,7 +12,7 @@ use Rattle.lock_world.specs.declared.events.Event.{Event}
 use Rattle.lock_world.specs.declared.events.Step.{Step}
 use Rattle.lock_world.specs.World.{World, Words, Numbers, MakesSteps}
 use Rattle.lock_world.specs.SafeWorld.{SafeWorld}
-use Rattle.lock_world.specs.Account.{Account, account, IsLeftAlone}
+use Rattle.lock_world.specs.Account.{Account, account}
 use Rattle.lock_world.specs.Happens.{HappensStep}
 use Rattle.lock_world.specs.Happens.Counters.{most_counted}
 use Rattle.lock_world.proofs.SafeWorld.Runs.{event-safe}
@@ -36,6 +36,10 @@ there-within (x ∷ xs) (suc i) a at = let less = there-within xs i a at in omeg
 pub there-one : {A : Type 0} (xs : List A) (i : ℕ) (a b : A) → get_elem? xs i ≡ some a → get_elem? xs i ≡ some b → a ≡ b
 there-one xs i a b at its = some-injective a b (sym at ∙ its)
 
+-- what is above a number is above 0
+pub after-none : (i j : ℕ) → i < j → 0 < j
+after-none i j less = omega (arith, less)
+
 module _ {T : Type 0} where
   -- The first history with a step more, or another as it was.
   noting-get :
@@ -48,6 +52,11 @@ module _ {T : Type 0} where
   noting-keeper : (x : History T) (others : List (History T)) (mark : Mark T) (j : ℕ) → keeper (noting_first (x ∷ others) mark) j ≡ keeper (x ∷ others) j
   noting-keeper x others mark zero = refl
   noting-keeper x others mark (suc j) = refl
+
+  -- One behind the first is as it was.
+  noting-behind : (x : History T) (others : List (History T)) (mark : Mark T) (j : ℕ) (y : History T) → 0 < j → slice_get (x ∷ others) j ≡ Some y → slice_get (noting_first (x ∷ others) mark) j ≡ Some y
+  noting-behind x others mark zero y after get = absurd (omega (arith, after))
+  noting-behind x others mark (suc j) y after get = get
 
   -- the view with a step noted has its histories
   noting-sessions : (view : View T) (x : History T) (others : List (History T)) (mark : Mark T) → view.sessions ≡ x ∷ others → (noting view mark).sessions ≡ noting_first (x ∷ others) mark
@@ -120,14 +129,19 @@ module _ {T : Type 0} (content : T → Content) (w v : World) (views : List (Vie
               view = noting view mark;
               there = ap (get_elem? (slice_set views id (noting view mark))) same ∙ set_here views id (noting view mark) (there-within views id view at);
               same_seat = old.same_seat;
-              within = subst (λ (n : ℕ). seats.place_in k < n) (ap (λ (z : View T). length z.sessions) one ∙ ap length is ∙ sym (ap length sessions')) old.within;
+              history = old.history;
+              stands = ap (λ sessions. slice_get sessions (seats.place_in k)) sessions' ∙ noting-behind x others mark (seats.place_in k) old.history (after-none (seats.place_in by) (seats.place_in k) old.behind)
+                  (sym (ap (λ sessions. slice_get sessions (seats.place_in k)) is) ∙ ap (λ (z : View T). slice_get z.sessions (seats.place_in k)) (sym one) ∙ old.stands);
+              whose = old.whose;
               behind = old.behind;
             }
         | inr other ↦ record {
           view = old.view;
           there = set_else views id (seats.seat_of by) (noting view mark) other ∙ old.there;
           same_seat = old.same_seat;
-          within = old.within;
+          history = old.history;
+          stands = old.stands;
+          whose = old.whose;
           behind = old.behind;
         }
       ]

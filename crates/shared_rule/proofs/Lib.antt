@@ -1,4 +1,6 @@
 mod Shown
 pub mod Frame
+pub mod Views
+pub mod Opening
 pub mod Events
 pub mod Sides

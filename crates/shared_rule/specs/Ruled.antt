@@ -1,4 +1,4 @@
-use Rattle.std.specs.Prelude.{◌≡◌, ◌≢◌, ℕ, zero, suc, ◌<◌, ◌≤◌, true, List, length, slice_get, Option, Some, None}
+use Rattle.std.specs.Prelude.{◌≡◌, ℕ, ◌<◌, ◌≤◌, true, List, length, slice_get, Option, Some, None}
 use mathlib.Core.Option.{some}
 use mathlib.Core.Option as maybe
 use lib.ListN.{get_elem?}
@@ -56,7 +56,9 @@ module _ {T : Type 0} (content : T → Content) where
     pub view : View T
     pub there : get_elem? views (seat_of joiner) ≡ some view
     pub same_seat : seat_of session ≡ seat_of joiner
-    pub within : place_in session < length view.sessions
+    pub history : History T
+    pub stands : slice_get view.sessions (place_in session) ≡ Some history
+    pub whose : history.number ≡ session
     pub behind : place_in joiner < place_in session
 
   pub record SeatsAreShown (views : List (View T)) (w : World) : Type 0 where

@@ -15,17 +15,17 @@ use modes_core::sessions::SESSIONS;
 use modes_core::tags::{PARTITIONS, STRONG_COUNTERS};
 
 /// 128 bytes, in words.
-const GAP: usize = 16;
+pub(crate) const GAP: usize = 16;
 
 /// The counters come after the 16 partition words, each with its gap.
-const COUNTERS_START: usize = PARTITIONS as usize * GAP;
+pub(crate) const COUNTERS_START: usize = PARTITIONS as usize * GAP;
 
 /// The sessions come after the 1,024 counters, with a gap: all sessions write the counters.
-const SESSIONS_START: usize = COUNTERS_START + STRONG_COUNTERS as usize + GAP;
+pub(crate) const SESSIONS_START: usize = COUNTERS_START + STRONG_COUNTERS as usize + GAP;
 
 /// A session's 20 words, and a gap to the next session's. The words that others write come last, next to the
 /// gap: a grant or a wakeup then does not slow down the neighbour.
-const BLOCK: usize = 20 + GAP;
+pub(crate) const BLOCK: usize = 20 + GAP;
 
 /// How many words the table has.
 pub const TABLE_WORDS: usize = SESSIONS_START + BLOCK * SESSIONS as usize;

@@ -10,6 +10,7 @@ pub mod plays;
 pub mod rule;
 pub mod seat_board;
 mod steps;
+pub mod table;
 #[cfg(test)]
 mod tests;
 mod waits;

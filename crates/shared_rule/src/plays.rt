@@ -60,3 +60,12 @@ impl<T: PartTable> Play<Option<T>, View<T>> for TakesPart {
 
     ghost then = { TookPartition T.content T.begun };
 }
+
+/// A load that changes nothing, and tells that no hold of the first session conflicts with one of the session behind it.
+pub struct TellsApart;
+
+impl<T: PartTable> Play<Option<T>, View<T>> for TellsApart {
+    ghost use Rattle.shared_rule.specs.Seats.{ToldApart};
+
+    ghost then = { ToldApart T.content };
+}

@@ -1,0 +1,68 @@
+use Rattle.std.proofs.Common.{◌≡◌, ℕ, zero, suc, ◌≤◌, List, [], ◌∷◌, Option, Some, None, refl, sym, ap, ◌∙◌, arith}
+use Rattle.std.specs.Prelude.{slice_get}
+use mathlib.Core.Option.{some, some-injective, some-ne-none}
+use lib.ListN.{get_elem?}
+use Rattle.atomic_table.specs.Table as table
+use Rattle.atomic_table.proofs.Lists.{at_map}
+use Rattle.lock_table.specs.declared.request.Request.{Request}
+use Rattle.lock_table.specs.Content.{Content}
+use Rattle.lock_world.specs.World.{opening}
+use Rattle.lock_world.proofs.SafeWorld.Opening.{opening-safe}
+use Rattle.shared_rule.specs.declared.history.History.{History}
+use Rattle.shared_rule.specs.declared.history.View.{View}
+use Rattle.shared_rule.specs.Layout.{content_slot_of}
+use Rattle.shared_rule.specs.Shown.{WordsAreShown}
+use Rattle.shared_rule.specs.History.{opening_view}
+use Rattle.shared_rule.specs.Opening.{AreNew}
+use Rattle.shared_rule.specs.Ruled.{SeatsAreShown, Ruled}
+
+-- The table before the first step meets the rule.
+
+-- What one list says is there the other says too.
+get-there : {A : Type 0} (xs : List A) (i : ℕ) (a : A) → slice_get xs i ≡ Some a → get_elem? xs i ≡ some a
+get-there [] i a get = absurd (cc (get))
+get-there (x ∷ xs) zero a get = let same : x ≡ a = cc (get) in ap some same
+get-there (x ∷ xs) (suc i) a get = get-there xs i a get
+
+module _ {T : Type 0} (content : T → Content) (begun : T → Option Request) (limit : ℕ) where
+  -- the opener's seat is the only one
+  only-one : (seat : ℕ) (view : View T) → get_elem? (opening_view ∷ []) seat ≡ some view → (seat ≡ 0) × (opening_view ≡ view)
+  only-one zero view there = (refl, some-injective opening_view view there)
+  only-one (suc seat) view there = absurd (some-ne-none view (sym there))
+
+  opening-seats : SeatsAreShown content (opening_view ∷ []) (opening limit)
+  opening-seats = record {
+    seat_of = λ _. 0;
+    place_in = λ _. 0;
+    history = λ seat place view history there stands.
+        let never : ◌≡◌ {A = Option (History T)} None (Some history) = ap (λ (z : View T). slice_get z.sessions place) (only-one seat view there).1 ∙ stands in absurd (cc (never));
+    behind = λ session joiner kept. absurd (cc (kept));
+    opener = 0;
+    next = λ seat view number there says.
+        let only = only-one seat view there in
+        let both : Some 0 ≡ Some number = ap (λ (z : View T). z.next) only.1 ∙ says in
+        let same : ◌≡◌ {A = ℕ} 0 number = cc (both) in
+        (only.0, sym same);
+    not_issued = λ number later. refl;
+  }
+
+  pub opening-ruled : limit ≤ 64 → (words : List ℕ) → WordsAreShown words (opening 0).words → (slots : List (Option T)) → AreNew content begun slots
+      → Ruled content begun limit (table.opening words slots opening_view)
+  opening-ruled few words shown slots new = record {
+    world = opening limit;
+    safe = opening-safe limit (omega (arith, few));
+    is_limit = refl;
+    few = few;
+    words = shown;
+    unused = record { database = refl; slot = refl };
+    few_counted = λ session. omega arith;
+    contents = λ p exists.
+        let part = new.new p exists in
+        record {
+          part = part.part;
+          at_home = at_map some slots (content_slot_of p) (Some part.part) (get-there slots (content_slot_of p) (Some part.part) part.is_there);
+          is_content = part.is_empty;
+          none_begun = part.none_begun;
+        };
+    seats = opening-seats;
+  }

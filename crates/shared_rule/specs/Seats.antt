@@ -1,0 +1,97 @@
+use Rattle.std.specs.Prelude.{◌≡◌, ℕ, ◌+◌, ◌<◌, true, false, List, [], ◌∷◌, ◌++◌, Option, Some, None}
+use Rattle.modes_core.specs.declared.modes.Mode.{Mode}
+use Rattle.modes_core.specs.declared.tags.Tag.{Tag}
+use Rattle.modes_core.specs.Conflict.{conflict}
+use Rattle.atomic_table.specs.Table.{Step}
+use Rattle.lock_table.specs.Content.{Content}
+use Rattle.lock_world.specs.Account.{Account}
+use Rattle.shared_rule.specs.declared.history.History.{History}
+use Rattle.shared_rule.specs.declared.history.Mark.{Mark}
+use Rattle.shared_rule.specs.declared.history.View.{View}
+use Rattle.shared_rule.specs.History.{lone, first_account}
+use Rattle.shared_rule.specs.Plays.{Side}
+
+-- Seats that are cut in two and joined: sessions open and close, and two of them meet.
+
+-- Closing, by the session's account: nothing is held, awaited or counted, and it has no wait list nor stands in one.
+pub record MayCloseBy (a : Account) : Type 0 where
+  pub no_hold : (tag : Tag) (mode : Mode) → a.own tag mode ≡ false
+  pub no_wait : a.awaited ≡ None
+  pub no_partition : (partition : ℕ) → a.hand partition ≡ None
+  pub no_shared_partition : (partition : ℕ) → a.shares partition ≡ false
+  pub no_fast_word : (owner : ℕ) → a.fast.slots owner ≡ None
+  pub no_shared_fast_word : (owner : ℕ) → a.fast.shared_slots owner ≡ None
+  pub no_count : a.fast.counted ≡ []
+  pub no_list : a.lists.in_hand ≡ None
+  pub no_stand : a.lists.stands ≡ None
+
+-- Being kept apart, by the session's account: it holds no word exclusively.
+pub record MayBeKeptApartBy (a : Account) : Type 0 where
+  pub no_partition : (partition : ℕ) → a.hand partition ≡ None
+  pub no_fast_word : (owner : ℕ) → a.fast.slots owner ≡ None
+
+-- No hold of the one conflicts with a hold of the other on an object.
+abbrev pub DoNotConflict : Account → Account → Type 0
+DoNotConflict a b = (tag : Tag) (mode its : Mode) → a.own tag mode ≡ true → b.own tag its ≡ true → conflict mode its ≡ false
+
+-- the number that the next session gets, and the one after that
+abbrev pub number_in : Option ℕ → ℕ
+number_in None = 0
+number_in (Some number) = number
+
+abbrev pub number_after : Option ℕ → Option ℕ
+number_after None = None
+number_after (Some number) = Some (number + 1)
+
+module _ {T : Type 0} where
+  -- the history of the session that makes its steps with the seat, and those behind it
+  abbrev pub first_of : List (History T) → List (History T)
+  first_of [] = []
+  first_of (history ∷ others) = history ∷ []
+
+  abbrev pub behind_of : List (History T) → List (History T)
+  behind_of [] = []
+  behind_of (history ∷ others) = others
+
+  -- the view of the opener's seat once it has given a number out, and the view of the session that got it
+  abbrev pub opened : View T → View T
+  opened view = record { next = number_after view.next; sessions = view.sessions }
+
+  abbrev pub newcomer : View T → View T
+  newcomer view = lone (number_in view.next) []
+
+  -- the view with another's histories behind its own
+  abbrev pub met : View T → View T → View T
+  met view other = record { next = view.next; sessions = view.sessions ++ other.sessions }
+
+  -- the view with its first session alone, and the view of those behind it
+  abbrev pub parted : View T → View T
+  parted view = record { next = view.next; sessions = first_of view.sessions }
+
+  abbrev pub handed_back : View T → View T
+  handed_back view = record { next = None; sessions = behind_of view.sessions }
+
+  -- The opener's seat gives out a number below the limit.
+  pub record HasNumber (view : View T) (limit : ℕ) : Type 0 where
+    pub number : ℕ
+    pub next : view.next ≡ Some number
+    pub within : number < limit
+
+  -- The seat is for one session,
+  pub record IsForOne (view : View T) : Type 0 where
+    pub number : ℕ
+    pub marks : List (Mark T)
+    pub one : view ≡ lone number marks
+
+  -- or for two that meet.
+  pub record IsForTwo (view : View T) : Type 0 where
+    pub first : History T
+    pub second : History T
+    pub two : view ≡ record { next = None; sessions = first ∷ second ∷ [] }
+
+module _ {T : Type 0} (content : T → Content) where
+  -- Nothing changed, and no hold of the first session conflicts with a hold of the one behind it.
+  abbrev pub ToldApart : Step (Option T) → Side T → ℕ → Side T → Type 0
+  ToldApart step before found after =
+      (after ≡ before)
+      × DoNotConflict (first_account content before.0.sessions) (first_account content (behind_of before.0.sessions))

@@ -1,0 +1,83 @@
+//! Seats that are cut in two and joined: a session opens and closes, and two sessions meet. What each does to the views
+//! is in specs/Seats.
+
+ghost use Rattle.std.specs.Prelude.{◌≡◌, []};
+ghost use Rattle.shared_rule.specs.History.{first_account};
+ghost use Rattle.shared_rule.specs.Plays.{FitsTable, IsSameSeat};
+ghost use Rattle.shared_rule.specs.Seats.{MayCloseBy, MayBeKeptApartBy, DoNotConflict, HasNumber, IsForOne, IsForTwo, behind_of, opened, newcomer, met, parted, handed_back};
+
+use crate::history::View;
+use crate::plays::TellsApart;
+use crate::rule::{Place, Top};
+use atomic_table::{Join, Split};
+use lock_table::PartTable;
+
+/// A session opens: the opener's seat gives it the next number, and a seat of its own.
+struct Opens;
+
+impl<T> Split<View<T>> for Opens {
+    ghost use Rattle.shared_rule.specs.Seats.{opened, newcomer};
+
+    ghost left = { opened };
+
+    ghost right = { newcomer };
+}
+
+/// A session closes: its seat goes to the opener's, and nothing stays of its history.
+struct Closes;
+
+impl<T> Join<View<T>> for Closes {
+    ghost use Rattle.shared_rule.specs.History.{spent_view};
+
+    ghost both = { λ view _. view };
+
+    ghost spent = { spent_view };
+}
+
+/// A session is kept apart: its history goes behind that of the other one.
+struct KeepsApart;
+
+impl<T> Join<View<T>> for KeepsApart {
+    ghost use Rattle.shared_rule.specs.History.{spent_view};
+    ghost use Rattle.shared_rule.specs.Seats.{met};
+
+    ghost both = { met };
+
+    ghost spent = { spent_view };
+}
+
+/// It goes on by itself: a seat with its history comes back.
+struct HandsBack;
+
+impl<T> Split<View<T>> for HandsBack {
+    ghost use Rattle.shared_rule.specs.Seats.{parted, handed_back};
+
+    ghost left = { parted };
+
+    ghost right = { handed_back };
+}
+
+/// Opens a session, which gets the opener's next number (`InitProcess` in proc.c). It has made no step yet.
+pub(crate) fn open<T: PartTable>(top: &Top<T>, opener: &mut Place<T>) -> Place<T>
+    requires table { FitsTable opener.old top.now.table_id }
+    requires number { HasNumber opener.old.me.0 top.now.key }
+    ensures seat { IsSameSeat opener.old opener.new }
+    ensures opener { opener.new.me ≡ (opened opener.old.me.0, opener.old.me.1) }
+    ensures table { result.table_id ≡ opener.old.table_id }
+    ensures session { result.me ≡ (newcomer opener.old.me.0, []) }
+{
+    top.split_seat::<Opens>(opener)
+}
+
+/// Closes a session that has nothing any more (`ProcKill` in proc.c).
+pub(crate) fn close<T: PartTable>(top: &Top<T>, opener: &mut Place<T>, session: Place<T>)
+    requires table { FitsTable opener.old top.now.table_id }
+    requires session_table { FitsTable session top.now.table_id }
+    requires one { IsForOne session.me.0 }
+    requires nothing_in_hand { session.me.1 ≡ [] }
+    requires lawful { MayCloseBy (first_account T.content session.me.0.sessions) }
+    ensures seat { IsSameSeat opener.old opener.new }
+    ensures side { opener.new.me ≡ opener.old.me }
+{
+    top.join_seat::<Closes>(opener, session);
+}
