@@ -4,3 +4,4 @@ pub mod Fast
 pub mod Counters
 pub mod Loads
 pub mod Waits
+pub mod Seats

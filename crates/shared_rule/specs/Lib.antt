@@ -5,3 +5,5 @@ pub mod Ruled
 pub mod Plays
 pub mod Boards
 pub mod Lawful
+pub mod Opening
+pub mod Seats

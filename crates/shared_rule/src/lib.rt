@@ -9,6 +9,7 @@ pub mod layout;
 pub mod plays;
 pub mod rule;
 pub mod seat_board;
+mod seats;
 mod steps;
 pub mod table;
 #[cfg(test)]
