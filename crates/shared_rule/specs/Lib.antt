@@ -7,3 +7,4 @@ pub mod Boards
 pub mod Lawful
 pub mod Opening
 pub mod Seats
+pub mod Openers

@@ -1,8 +1,9 @@
 //! The board that threads run: a seat at the shared table.
 
-ghost use Rattle.std.specs.Prelude.{◌≡◌, ◌<◌, ℕ, List, ◌∷◌, None};
+ghost use Rattle.std.specs.Prelude.{◌≡◌, ◌<◌, ℕ, List, [], ◌∷◌, None};
 ghost use Rattle.shared_rule.specs.History.{first_account, lone};
 ghost use Rattle.shared_rule.specs.declared.layout.TheConstants.{TABLE_WORDS, CONTENT_SLOTS};
+ghost use Rattle.shared_rule.specs.Plays.{FitsTable};
 ghost use Rattle.shared_rule.specs.Boards.{Seated, parts_in_hand, slots_out, first_marks};
 
 use crate::board::Board;
@@ -15,7 +16,8 @@ use std::sync::Wait;
 
 /// A session's seat at the table that all sessions share.
 pub struct SeatBoard<'a, T: PartTable> {
-    table: &'a Top<T>,
+    /// The table.
+    pub table: &'a Top<T>,
     place: Place<T>,
     number: SessionId,
     sessions: u8,
@@ -25,6 +27,42 @@ pub struct SeatBoard<'a, T: PartTable> {
     ghost limit: { sessions ≡ table.now.key },
     ghost lone: { place.me.0 ≡ lone number (first_marks place.me.0.sessions) },
     ghost out: { place.me.1 ≡ slots_out (parts_in_hand place.me.1) },
+}
+
+impl<'a, T: PartTable> SeatBoard<'a, T> {
+    // The board of the session with this number, at its seat.
+    pub(crate) fn at(
+        table: &'a Top<T>,
+        place: Place<T>,
+        number: SessionId,
+        sessions: u8,
+    ) -> SeatBoard<'a, T>
+        requires table { FitsTable place table.now.table_id }
+        requires limit { sessions ≡ table.now.key }
+        requires lone { place.me.0 ≡ lone number (first_marks place.me.0.sessions) }
+        requires out { place.me.1 ≡ [] }
+        ensures { (result.table.now ≡ table.now) × (result.place ≡ place) × (result.number ≡ number) × (result.sessions ≡ sessions) }
+    {
+        SeatBoard {
+            table,
+            place,
+            number,
+            sessions,
+        }
+    }
+
+    // Its table and its seat.
+    pub(crate) fn into_place(self) -> (&'a Top<T>, Place<T>)
+        ensures { (result.0.now ≡ self.entry.table.now) × (result.1 ≡ self.entry.place) }
+    {
+        let SeatBoard {
+            table,
+            place,
+            number: _,
+            sessions: _,
+        } = self;
+        (table, place)
+    }
 }
 
 impl<'a, T: PartTable> Board<T> for SeatBoard<'a, T> {

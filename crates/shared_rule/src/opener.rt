@@ -1,0 +1,68 @@
+//! The opener, who gives out session numbers and takes closed sessions back.
+
+ghost use Rattle.std.specs.Prelude.{◌≡◌, ◌+◌, ◌↔◌, [], IfSome, IsNone, OnSome};
+ghost use Rattle.shared_rule.specs.History.{blank_account};
+ghost use Rattle.shared_rule.specs.Seats.{MayCloseBy};
+
+use crate::board::Board;
+use crate::rule::{Place, Top};
+use crate::seat_board::SeatBoard;
+use crate::seats;
+use lock_table::PartTable;
+use modes_core::SessionId;
+use std::marker::Model;
+
+/// Gives out session numbers, each once, in rising order (`InitProcess` in proc.c). Contracts see at which table it is,
+/// how many numbers it has given out, and how many there can be.
+pub struct Opener<T: PartTable> {
+    place: Place<T>,
+    issued: u8,
+    sessions: u8,
+}
+
+impl<T: PartTable> Model for Opener<T> {
+    ghost use Rattle.std.specs.Prelude.{◌≡◌, ◌≤◌, Some};
+    ghost use Rattle.shared_rule.specs.Openers.{OpenerState};
+    ghost use Rattle.shared_rule.specs.Plays.{IsSized};
+
+    ghost Value = { OpenerState };
+
+    ghost view = { λ opener. record { table = opener.place.table_id; issued = opener.issued; limit = opener.sessions } };
+
+    ghost invariant = { λ opener. (opener.place.me.0.next ≡ Some opener.issued) × (opener.issued ≤ opener.sessions)
+        × (opener.sessions ≤ 64) × IsSized opener.place.table_id };
+}
+
+impl<T: PartTable> Opener<T> {
+    /// The next session's board, whose account has nothing in it, or `None` where all numbers are given out.
+    pub fn session<'a>(&mut self, table: &'a Top<T>) -> Option<SeatBoard<'a, T>>
+        requires table { (self.old.table ≡ table.now.table_id) × (self.old.limit ≡ table.now.key) }
+        ensures none { IsNone result ↔ (self.old.issued ≡ self.old.limit) }
+        ensures opener { (self.new.table ≡ self.old.table) × (self.new.limit ≡ self.old.limit) }
+        ensures issued { OnSome result (self.new.issued ≡ self.old.issued + 1) }
+        ensures table { IfSome result (λ board. board.table.now ≡ table.now) }
+        ensures blank { IfSome result (λ board. ⟦<SeatBoard<'a, T> as Board<T>>⟧.view board ≡ blank_account) }
+        ensures stack { IfSome result (λ board. ⟦<SeatBoard<'a, T> as Board<T>>⟧.stack board ≡ []) }
+        ensures seat { IfSome result (λ board. ⟦<SeatBoard<'a, T> as Board<T>>⟧.seat board
+            ≡ record { number = self.old.issued; limit = self.old.limit }) }
+    {
+        if self.issued == self.sessions {
+            return None;
+        }
+        let number = SessionId::new(self.issued)?;
+        let place = seats::open(table, &mut self.place);
+        self.issued += 1;
+        Some(SeatBoard::at(table, place, number, self.sessions))
+    }
+
+    /// Takes a session's board back, which has nothing any more (`ProcKill` in proc.c).
+    pub fn close<'a>(&mut self, board: SeatBoard<'a, T>)
+        requires table { board.table.now.table_id ≡ self.old.table }
+        requires stack { ⟦<SeatBoard<'a, T> as Board<T>>⟧.stack board ≡ [] }
+        requires lawful { MayCloseBy (⟦<SeatBoard<'a, T> as Board<T>>⟧.view board) }
+        ensures same { self.new ≡ self.old }
+    {
+        let (table, place) = board.into_place();
+        seats::close(table, &mut self.place, place);
+    }
+}
