@@ -1,6 +1,7 @@
 mod Shown
 pub mod Frame
 pub mod Views
+pub mod Meetings
 pub mod Opening
 pub mod Events
 pub mod Sides

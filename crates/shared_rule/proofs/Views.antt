@@ -27,7 +27,7 @@ abbrev pub with_numbers : World → Numbers → World
 with_numbers w numbers = record { words = w.words; contents = w.contents; sessions = w.sessions; numbers = numbers }
 
 -- What stands in a list with one more behind.
-there-snoc : {A : Type 0} (xs : List A) (a b : A) (j : ℕ) → get_elem? (xs ++ a ∷ []) j ≡ some b → (get_elem? xs j ≡ some b) ⊎ ((j ≡ length xs) × (a ≡ b))
+pub there-snoc : {A : Type 0} (xs : List A) (a b : A) (j : ℕ) → get_elem? (xs ++ a ∷ []) j ≡ some b → (get_elem? xs j ≡ some b) ⊎ ((j ≡ length xs) × (a ≡ b))
 there-snoc [] a b zero e = inr (refl, some-injective a b e)
 there-snoc [] a b (suc j) e = absurd (some-ne-none b (sym e))
 there-snoc (x ∷ xs) a b zero e = inl e
@@ -43,13 +43,13 @@ none-if None never = refl
 none-if (Some a) never = absurd (never a refl)
 
 -- The only one in a list.
-one-get : {A : Type 0} (x : A) (j : ℕ) (y : A) → slice_get (x ∷ []) j ≡ Some y → (j ≡ 0) × (y ≡ x)
+pub one-get : {A : Type 0} (x : A) (j : ℕ) (y : A) → slice_get (x ∷ []) j ≡ Some y → (j ≡ 0) × (y ≡ x)
 one-get x zero y get = let same : x ≡ y = cc (get) in (refl, sym same)
 one-get x (suc j) y get = absurd (cc (get))
 
 module _ {T : Type 0} (content : T → Content) (w : World) (numbers : Numbers) (seat_of place_in seats places : ℕ → ℕ) where
   -- A history is shown as before.
-  still-shown :
+  pub still-shown :
       (i j : ℕ) (sessions after : List (History T)) (y : History T) → numbers.live y.number ≡ w.numbers.live y.number → numbers.kept_by y.number ≡ w.numbers.kept_by y.number
       → seats y.number ≡ seat_of y.number → places y.number ≡ place_in y.number → keeper after j ≡ keeper sessions j
       → HistoryIsShown content w seat_of place_in i j sessions y → HistoryIsShown content (with_numbers w numbers) seats places i j after y
@@ -185,7 +185,7 @@ module _ {T : Type 0} (content : T → Content) (w : World) (views : List (View 
   history-alone = seats.history other 0 (lone k marks) closing at refl
 
   -- Nobody stands behind it.
-  nobody-behind : (j by : ℕ) → w.numbers.kept_by j ≡ Some by → seats.seat_of by ≢ other
+  pub nobody-behind : (j by : ℕ) → w.numbers.kept_by j ≡ Some by → seats.seat_of by ≢ other
   nobody-behind j by kept same =
       let old = seats.behind j by kept in
       let one : old.view ≡ lone k marks = there-one views other old.view (lone k marks) (ap (get_elem? views) (sym same) ∙ old.there) at in

@@ -61,7 +61,7 @@ impl<T: PartTable> Play<Option<T>, View<T>> for TakesPart {
     ghost then = { TookPartition T.content T.begun };
 }
 
-/// A load that changes nothing, and tells that no hold of the first session conflicts with one of the session behind it.
+/// A load that changes nothing, and tells that no hold of the first session conflicts with one of the next.
 pub struct TellsApart;
 
 impl<T: PartTable> Play<Option<T>, View<T>> for TellsApart {

@@ -4,7 +4,8 @@
 ghost use Rattle.std.specs.Prelude.{◌≡◌, []};
 ghost use Rattle.shared_rule.specs.History.{first_account};
 ghost use Rattle.shared_rule.specs.Plays.{FitsTable, IsSameSeat};
-ghost use Rattle.shared_rule.specs.Seats.{MayCloseBy, MayBeKeptApartBy, DoNotConflict, HasNumber, IsForOne, IsForTwo, behind_of, opened, newcomer, met, parted, handed_back};
+ghost use Rattle.shared_rule.specs.Seats.{MayCloseBy, MayBeKeptApartBy, DoNotConflict, HasNumber, IsForOne, IsForTwo};
+ghost use Rattle.shared_rule.specs.Seats.{behind_of, opened, newcomer, met, parted, handed_back};
 
 use crate::history::View;
 use crate::plays::TellsApart;
@@ -80,4 +81,43 @@ pub(crate) fn close<T: PartTable>(top: &Top<T>, opener: &mut Place<T>, session: 
     ensures side { opener.new.me ≡ opener.old.me }
 {
     top.join_seat::<Closes>(opener, session);
+}
+
+/// Keeps a session apart that holds no word: its history goes behind that of the other, for as long as the two meet.
+pub(crate) fn keep_apart<T: PartTable>(top: &Top<T>, place: &mut Place<T>, other: Place<T>)
+    requires table { FitsTable place.old top.now.table_id }
+    requires other_table { FitsTable other top.now.table_id }
+    requires one { IsForOne place.old.me.0 }
+    requires another { IsForOne other.me.0 }
+    requires nothing_in_hand { other.me.1 ≡ [] }
+    requires lawful { MayBeKeptApartBy (first_account T.content other.me.0.sessions) }
+    ensures seat { IsSameSeat place.old place.new }
+    ensures side { place.new.me ≡ (met place.old.me.0 other.me.0, place.old.me.1) }
+{
+    top.join_seat::<KeepsApart>(place, other);
+}
+
+/// Hands the seat of the session that was kept apart back: it goes on by itself.
+pub(crate) fn hand_back<T: PartTable>(top: &Top<T>, place: &mut Place<T>) -> Place<T>
+    requires table { FitsTable place.old top.now.table_id }
+    requires two { IsForTwo place.old.me.0 }
+    ensures seat { IsSameSeat place.old place.new }
+    ensures side { place.new.me ≡ (parted place.old.me.0, place.old.me.1) }
+    ensures table { result.table_id ≡ place.old.table_id }
+    ensures other { result.me ≡ (handed_back place.old.me.0, []) }
+{
+    top.split_seat::<HandsBack>(place)
+}
+
+/// Tells that no hold of the one session conflicts with a hold of the other on an object, where the two meet
+/// (`LockConflicts` in lock.c says which modes do). It loads a word, and ignores what it finds.
+pub(crate) fn tell_apart<T: PartTable>(top: &Top<T>, place: &mut Place<T>)
+    requires table { FitsTable place.old top.now.table_id }
+    requires two { IsForTwo place.old.me.0 }
+    ensures seat { IsSameSeat place.old place.new }
+    ensures side { place.new.me ≡ place.old.me }
+    ensures apart { DoNotConflict (first_account T.content place.old.me.0.sessions)
+        (first_account T.content (behind_of place.old.me.0.sessions)) }
+{
+    top.load::<TellsApart>(place, 0);
 }

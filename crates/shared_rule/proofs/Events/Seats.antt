@@ -1,23 +1,27 @@
-use Rattle.std.proofs.Common.{◌≡◌, ◌≢◌, ℕ, ◌<◌, Bool, true, false, List, [], Option, Some, None, refl, sym, ap, ◌∙◌, subst}
+use Rattle.std.proofs.Common.{◌≡◌, ◌≢◌, ℕ, ◌<◌, Bool, true, false, List, [], ◌∷◌, ◌++◌, Option, Some, None, refl, sym, ap, ◌∙◌, subst}
 use Rattle.std.specs.Prelude.{if◌then◌else◌, ◌==◌, slice_set}
 use mathlib.Core.Option.{some}
 use lib.ListN.{get_elem?}
-use Rattle.atomic_table.specs.Table.{Splits, Joins}
-use Rattle.atomic_table.proofs.Lists.{set_again}
+use Rattle.atomic_table.specs.Table.{Step, keeps, Allows, Splits, Joins}
+use Rattle.atomic_table.proofs.Lists.{set_again, set_else}
 use Rattle.lw_word.specs.declared.wait_lists.LwWaiter.{LwWaiter}
 use Rattle.lock_table.specs.declared.request.Request.{Request}
 use Rattle.lock_table.specs.Content.{Content}
 use Rattle.lock_world.specs.World.{World, Hand, MakesSteps}
 use Rattle.lock_world.specs.Safe.{is_hand_of}
 use Rattle.lock_world.specs.SafeWorld.{SafeWorld}
-use Rattle.lock_world.specs.Account.{account, own_hand, list_in_hand}
-use Rattle.lock_world.specs.Happens.Seats.{MayBeIssued, after_issuing, MayClose, after_closing}
-use Rattle.lock_world.proofs.SafeWorld.Seats.{issuing-safe_world, closing-safe_world}
+use Rattle.lock_world.specs.Account.{Account, account, own_hand, list_in_hand}
+use Rattle.lock_world.specs.Happens.Seats.{MayBeIssued, after_issuing, MayBeKeptApart, after_keeping_apart, after_going_on, MayClose, after_closing}
+use Rattle.lock_world.proofs.SafeWorld.Seats.{issuing-safe_world, going_on-safe_world, keeping_apart-safe_world, closing-safe_world}
+use Rattle.lock_world.proofs.FromSafeWorld.{no_conflict-own_world}
 use Rattle.shared_rule.specs.declared.history.View.{View}
 use Rattle.shared_rule.specs.History.{lone, spent_view, first_account}
 use Rattle.shared_rule.specs.Ruled.{Ruled}
-use Rattle.shared_rule.specs.Seats.{MayCloseBy, HasNumber, IsForOne, number_in, number_after, opened, newcomer}
+use Rattle.shared_rule.specs.Plays.{Side}
+use Rattle.shared_rule.specs.Seats.{MayCloseBy, MayBeKeptApartBy, DoNotConflict, HasNumber, IsForOne, IsForTwo, number_in, number_after, behind_of, opened, newcomer, met, parted, handed_back, ToldApart}
 use Rattle.shared_rule.proofs.Views.{ruled-numbered, seats-opened, seats-closed, history-alone, keeps-nobody}
+use Rattle.shared_rule.proofs.Meetings.{first-shown, second-shown, are-two, seats-met, one-shown, two-shown, are-two_behind, seats-parted}
+use Rattle.shared_rule.proofs.Events.Marks.{nothing-changes}
 
 -- Seats that are cut in two and joined keep the rule.
 
@@ -76,3 +80,56 @@ module _ {T : Type 0} (content : T → Content) (begun : T → Option Request) (
       subst (λ (views : List (View T)). Ruled content begun limit (record { words = s.words; homes = s.homes; views = slice_set views other spent_view })) (sym same)
       (ruled-numbered content begun limit s r (after_closing r.world k).numbers (slice_set s.views other spent_view) refl (closing-safe_world r.world k r.safe may_close)
       (seats-closed content r.world s.views other k one.marks stands r.seats))
+
+  -- A session is kept apart.
+  pub keeps_apart : (id : ℕ) (view : View T) (other : ℕ) (theirs : View T) → IsForOne view → IsForOne theirs → MayBeKeptApartBy (first_account content theirs.sessions)
+      → Joins (Ruled content begun limit) id view other theirs (met view theirs) spent_view
+  keeps_apart id view other theirs one two may s r at apart there =
+      let a = one.number in
+      let b = two.number in
+      let same : met view theirs ≡ met (lone a one.marks) (lone b two.marks) = λ i. met (one.one i) (two.one i) in
+      let stands : get_elem? s.views id ≡ some (lone a one.marks) = at ∙ ap some one.one in
+      let others : get_elem? s.views other ≡ some (lone b two.marks) = sym (set_else s.views id other (met view theirs) apart) ∙ there ∙ ap some two.one in
+      let joiner = first-shown content r.world s.views id other a b one.marks two.marks stands others apart r.seats in
+      let joins = second-shown content r.world s.views id other a b one.marks two.marks stands others apart r.seats in
+      let may_by : MayBeKeptApartBy (account r.world b) = subst MayBeKeptApartBy (ap (λ (z : View T). first_account content z.sessions) two.one ∙ joins.account) may in
+      let may_be : MayBeKeptApart r.world b a = record {
+        steps = record { live = joins.live; by_itself = joins.kept_by };
+        another = are-two content r.world s.views id other a b one.marks two.marks stands others apart r.seats;
+        joiner_steps = record { live = joiner.live; by_itself = joiner.kept_by };
+        no_word = λ p. r.safe.but_slots.table.carriers.hands p b ∙ no-hand (r.world.contents.hand p) (r.world.contents.now p) b (may_by.no_partition p);
+        no_fast_word = λ o. none-tested (r.world.sessions.holds_fast b o) _ (may_by.no_fast_word o);
+      } in
+      subst (λ (v : View T). Ruled content begun limit (record { words = s.words; homes = s.homes; views = slice_set (slice_set s.views id v) other spent_view })) (sym same)
+      (ruled-numbered content begun limit s r (after_keeping_apart r.world b a).numbers _ refl (keeping_apart-safe_world r.world b a r.safe may_be)
+      (seats-met content r.world s.views id other a b one.marks two.marks stands others apart r.seats))
+
+  -- It goes on by itself.
+  pub hands_back : (id : ℕ) (view : View T) → IsForTwo view → Splits (Ruled content begun limit) id view (parted view) (handed_back view)
+  hands_back id view is s r at =
+      let stands = at ∙ ap some is.two in
+      let shown = two-shown content r.world s.views id is.first is.second stands r.seats in
+      let y = is.second.number in
+      subst (λ (v : View T). Ruled content begun limit (record { words = s.words; homes = s.homes; views = slice_set s.views id (parted v) ++ handed_back v ∷ [] })) (sym is.two)
+      (ruled-numbered content begun limit s r (after_going_on r.world y).numbers _ refl (going_on-safe_world r.world y r.safe (is.first.number, shown.kept_by))
+      (seats-parted content r.world s.views id is.first is.second stands r.seats))
+
+  -- Where two meet, no hold of the one conflicts with a hold of the other.
+  pub tells_apart : (slots id i : ℕ) (me : Side T) (step : Step (Option T)) → IsForTwo me.0 → Allows (Ruled content begun limit) slots id me i (λ n. n) (ToldApart content step me)
+  tells_apart slots id i me step is s r many at below =
+      let stands = at ∙ ap some is.two in
+      let one = one-shown content r.world s.views id is.first is.second stands r.seats in
+      let other = two-shown content r.world s.views id is.first is.second stands r.seats in
+      let apart = are-two_behind content r.world s.views id is.first is.second stands r.seats in (
+        me.0,
+        keeps,
+        tt,
+        nothing-changes content begun limit id i me.0 s r at,
+        (
+          refl,
+          subst (λ (v : View T). DoNotConflict (first_account content v.sessions) (first_account content (behind_of v.sessions))) (sym is.two)
+              (λ tag mode its own theirs.
+              no_conflict-own_world r.world r.safe is.first.number is.second.number tag mode its apart
+              (ap (λ (a : Account). a.own tag mode) (sym one.account) ∙ own) (ap (λ (a : Account). a.own tag its) (sym other.account) ∙ theirs)),
+        ),
+      )

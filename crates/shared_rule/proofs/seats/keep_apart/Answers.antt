@@ -1,0 +1,14 @@
+use Rattle.std.proofs.Common.{rules}
+use Rattle.shared_rule.proofs.Events.Seats.{keeps_apart}
+use Rattle.shared_rule.proofs.seats.keep_apart.Goals as goal
+
+pub join_seat-requires : goal.join_seat-requires
+join_seat-requires g c =
+    let place = c.args.place.now in
+    let other = c.args.other in (
+      c.requires.table.at,
+      c.requires.other_table.at,
+      c.requires.nothing_in_hand,
+      search rules,
+      keeps_apart g.T.PartTable.content g.T.PartTable.begun c.args.top.now.key place.id place.me.0 other.id other.me.0 c.requires.one c.requires.another c.requires.lawful,
+    )

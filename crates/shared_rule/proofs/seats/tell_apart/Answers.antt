@@ -1,0 +1,14 @@
+use Rattle.std.proofs.Common.{rules}
+use mathlib.Core.Option.{none}
+use Rattle.atomic_table.specs.Table.{step}
+use Rattle.shared_rule.proofs.Events.Seats.{tells_apart}
+use Rattle.shared_rule.proofs.seats.tell_apart.Goals as goal
+
+pub load-requires : goal.load-requires
+load-requires g c =
+    let place = c.args.place.now in
+    let slots = c.args.top.now.table_id.slots in (
+      c.requires.table.at,
+      search rules,
+      tells_apart g.T.PartTable.content g.T.PartTable.begun c.args.top.now.key slots place.id 0 place.me (step slots 0 0 0 none) c.requires.two,
+    )
