@@ -4,12 +4,13 @@ ghost use Rattle.std.specs.Prelude.{◌≡◌, ◌<◌, ℕ, List, [], ◌∷◌
 ghost use Rattle.shared_rule.specs.History.{first_account, lone};
 ghost use Rattle.shared_rule.specs.declared.layout.TheConstants.{TABLE_WORDS, CONTENT_SLOTS};
 ghost use Rattle.shared_rule.specs.Plays.{FitsTable};
+ghost use Rattle.shared_rule.specs.Seats.{DoNotConflict, MayBeKeptApartBy};
 ghost use Rattle.shared_rule.specs.Boards.{Seated, parts_in_hand, slots_out, first_marks};
 
 use crate::board::Board;
 use crate::layout::wait_word;
 use crate::rule::{Place, Top};
-use crate::{steps, waits};
+use crate::{seats, steps, waits};
 use lock_table::{Move, PartTable, Woken};
 use modes_core::{Mode, SessionId, Tag};
 use std::sync::Wait;
@@ -43,6 +44,37 @@ impl<'a, T: PartTable> SeatBoard<'a, T> {
         requires out { place.me.1 ≡ [] }
         ensures { (result.table.now ≡ table.now) × (result.place ≡ place) × (result.number ≡ number) × (result.sessions ≡ sessions) }
     {
+        SeatBoard {
+            table,
+            place,
+            number,
+            sessions,
+        }
+    }
+
+    /// Meets another session of the same table, whose board comes back: no hold of the one conflicts with a hold of the
+    /// other on an object. Both accounts are as before.
+    pub fn meet(&mut self, other: SeatBoard<'a, T>) -> SeatBoard<'a, T>
+        requires table { other.table.now.table_id ≡ self.old.table.now.table_id }
+        requires stack { ⟦<SeatBoard<'a, T> as Board<T>>⟧.stack other ≡ [] }
+        requires no_word { MayBeKeptApartBy (⟦<SeatBoard<'a, T> as Board<T>>⟧.view other) }
+        ensures told { DoNotConflict (⟦<SeatBoard<'a, T> as Board<T>>⟧.view self.old) (⟦<SeatBoard<'a, T> as Board<T>>⟧.view other.entry) }
+        ensures view { ⟦<SeatBoard<'a, T> as Board<T>>⟧.view self.new ≡ ⟦<SeatBoard<'a, T> as Board<T>>⟧.view self.old }
+        ensures stack { ⟦<SeatBoard<'a, T> as Board<T>>⟧.stack self.new ≡ ⟦<SeatBoard<'a, T> as Board<T>>⟧.stack self.old }
+        ensures seat { ⟦<SeatBoard<'a, T> as Board<T>>⟧.seat self.new ≡ ⟦<SeatBoard<'a, T> as Board<T>>⟧.seat self.old }
+        ensures its_view { ⟦<SeatBoard<'a, T> as Board<T>>⟧.view result ≡ ⟦<SeatBoard<'a, T> as Board<T>>⟧.view other.entry }
+        ensures its_stack { ⟦<SeatBoard<'a, T> as Board<T>>⟧.stack result ≡ [] }
+        ensures its_seat { ⟦<SeatBoard<'a, T> as Board<T>>⟧.seat result ≡ ⟦<SeatBoard<'a, T> as Board<T>>⟧.seat other.entry }
+    {
+        let SeatBoard {
+            table,
+            place,
+            number,
+            sessions,
+        } = other;
+        seats::keep_apart(self.table, &mut self.place, place);
+        seats::tell_apart(self.table, &mut self.place);
+        let place = seats::hand_back(self.table, &mut self.place);
         SeatBoard {
             table,
             place,
