@@ -1,5 +1,6 @@
-use Rattle.std.proofs.Common.{◌≡◌, ℕ, zero, suc, ◌≤◌, List, [], ◌∷◌, Option, Some, None, refl, sym, ap, ◌∙◌, arith}
-use Rattle.std.specs.Prelude.{slice_get}
+use Rattle.std.proofs.Common.{◌≡◌, ℕ, zero, suc, ◌≤◌, List, [], ◌∷◌, ◌++◌, length, Option, Some, None, IsSome, refl, sym, ap, ◌∙◌, arith}
+use Rattle.std.specs.Prelude.{slice_get, option_to_list}
+use Rattle.std.proofs.lemmas.Bool.{false≢true}
 use mathlib.Core.Option.{some, some-injective, some-ne-none}
 use lib.ListN.{get_elem?}
 use Rattle.atomic_table.specs.Table as table
@@ -13,7 +14,7 @@ use Rattle.shared_rule.specs.declared.history.View.{View}
 use Rattle.shared_rule.specs.Layout.{content_slot_of}
 use Rattle.shared_rule.specs.Shown.{WordsAreShown}
 use Rattle.shared_rule.specs.History.{opening_view}
-use Rattle.shared_rule.specs.Opening.{AreNew}
+use Rattle.shared_rule.specs.Opening.{IsNew, AreNew, AreEmptyParts}
 use Rattle.shared_rule.specs.Ruled.{SeatsAreShown, Ruled}
 
 -- The table before the first step meets the rule.
@@ -66,3 +67,23 @@ module _ {T : Type 0} (content : T → Content) (begun : T → Option Request) (
         };
     seats = opening-seats;
   }
+
+-- The last of parts with nothing in them, and the others.
+module _ {T : Type 0} (content : T → Content) (begun : T → Option Request) where
+  there-longer : (xs ys : List T) (i : ℕ) (x : T) → slice_get xs i ≡ Some x → slice_get (xs ++ ys) i ≡ Some x
+  there-longer [] ys i x there = absurd (cc (there))
+  there-longer (z ∷ xs) ys zero x there = there
+  there-longer (z ∷ xs) ys (suc i) x there = there-longer xs ys i x there
+
+  there-last : (xs : List T) (x : T) → slice_get (xs ++ x ∷ []) (length xs) ≡ Some x
+  there-last [] x = refl
+  there-last (z ∷ xs) x = there-last xs x
+
+  pub others-empty : (old new : List T) (last : Option T) → old ≡ new ++ option_to_list last → AreEmptyParts content begun old → AreEmptyParts content begun new
+  others-empty old new last is empty i part there = empty i part (ap (λ parts. slice_get parts i) is ∙ there-longer new (option_to_list last) i part there)
+
+  pub last-new : (old new : List T) (last : Option T) → old ≡ new ++ option_to_list last → IsSome last → AreEmptyParts content begun old → IsNew content begun (Some last)
+  last-new old new None is there empty = absurd (false≢true there)
+  last-new old new (Some part) is there empty =
+      let nothing = empty (length new) part (ap (λ parts. slice_get parts (length new)) is ∙ there-last new part) in
+      record { part = part; is_there = refl; is_empty = nothing.0; none_begun = nothing.1 }

@@ -24,6 +24,10 @@ module _ {T : Type 0} (content : T → Content) (begun : T → Option Request) w
     pub is_empty : content part ≡ empty_content
     pub none_begun : begun part ≡ None
 
+  -- These parts have nothing in them.
+  abbrev pub AreEmptyParts : List T → Type 0
+  AreEmptyParts parts = (i : ℕ) (part : T) → slice_get parts i ≡ Some part → (content part ≡ empty_content) × (begun part ≡ None)
+
   -- Each partition's part is in its slot, with nothing in it.
   pub record AreNew (slots : List (Option T)) : Type 0 where
     pub many : length slots ≡ CONTENT_SLOTS

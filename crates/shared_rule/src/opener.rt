@@ -1,7 +1,8 @@
 //! The opener, who gives out session numbers and takes closed sessions back.
 
-ghost use Rattle.std.specs.Prelude.{◌≡◌, ◌+◌, ◌↔◌, [], IfSome, IsNone, OnSome};
-ghost use Rattle.shared_rule.specs.History.{blank_account};
+ghost use Rattle.std.specs.Prelude.{◌≡◌, ◌≤◌, ◌+◌, ◌↔◌, [], IfSome, IsNone, OnSome};
+ghost use Rattle.shared_rule.specs.History.{blank_account, opening_view};
+ghost use Rattle.shared_rule.specs.Plays.{IsSized};
 ghost use Rattle.shared_rule.specs.Seats.{MayCloseBy};
 
 use crate::board::Board;
@@ -34,6 +35,20 @@ impl<T: PartTable> Model for Opener<T> {
 }
 
 impl<T: PartTable> Opener<T> {
+    // The opener at its seat, who has given no number out.
+    pub(crate) fn at(place: Place<T>, sessions: u8) -> Opener<T>
+        requires first { place.me ≡ (opening_view, []) }
+        requires sized { IsSized place.table_id }
+        requires few { sessions ≤ 64 }
+        ensures { result ≡ record { table = place.table_id; issued = 0; limit = sessions } }
+    {
+        Opener {
+            place,
+            issued: 0,
+            sessions,
+        }
+    }
+
     /// The next session's board, whose account has nothing in it, or `None` where all numbers are given out.
     pub fn session<'a>(&mut self, table: &'a Top<T>) -> Option<SeatBoard<'a, T>>
         requires table { (self.old.table ≡ table.now.table_id) × (self.old.limit ≡ table.now.key) }

@@ -1,15 +1,16 @@
 //! The table with its memory, before the first step.
 
-ghost use Rattle.std.specs.Prelude.{◌≡◌, ◌≤◌, [], IfOk, IfErr};
+ghost use Rattle.std.specs.Prelude.{◌≡◌, ◌<◌, ◌≤◌, ◌+◌, ◌/◌, ◌%◌, length, Some, IfOk, IfErr};
 ghost use Rattle.lock_world.specs.World.{opening};
 ghost use Rattle.shared_rule.specs.Shown.{WordsAreShown};
-ghost use Rattle.shared_rule.specs.History.{opening_view};
-ghost use Rattle.shared_rule.specs.Plays.{FitsTable};
-ghost use Rattle.shared_rule.specs.Opening.{IsFirst, AreNew};
+ghost use Rattle.shared_rule.specs.Opening.{IsFirst, IsNew, AreNew, AreEmptyParts};
 
 use crate::history::View;
-use crate::layout::{BLOCK, COUNTERS_START, GAP, SESSIONS_START, TABLE_WORDS};
-use crate::rule::{Law, Place};
+use crate::layout::{
+    BLOCK, CONTENT_GAP, CONTENT_SLOTS, COUNTERS_START, GAP, SESSIONS_START, TABLE_WORDS,
+};
+use crate::opener::Opener;
+use crate::rule::Law;
 use atomic_table::{Refused, Table};
 use lock_table::{NoMemory, PartTable};
 use std::alloc::Global;
@@ -48,23 +49,55 @@ fn first_words(alloc: Global) -> Result<Vec<u64>, NoMemory>
     Ok(words)
 }
 
-/// Makes the table for so many sessions, and the opener's seat at it (`InitProcGlobal` in proc.c, `InitLocks` in
-/// lock.c). The parts come each in its slot of the table, by `content_slot`. Without memory they come back.
+// What the slot at an index has: the next part where it is a partition's.
+fn next_part<T: PartTable>(parts: &mut Vec<T>, index: usize) -> Option<T>
+    requires empty { AreEmptyParts T.content T.begun parts.old.items }
+    requires some { index % 8 ≡ 0 → 0 < length parts.old.items }
+    ensures empty { AreEmptyParts T.content T.begun parts.new.items }
+    ensures part { index % 8 ≡ 0 → IsNew T.content T.begun (Some result) }
+    ensures left { length parts.new.items + (index + 8) / 8 ≡ length parts.old.items + (index + 7) / 8 }
+{
+    if index % CONTENT_GAP == 0 {
+        parts.pop()
+    } else {
+        None
+    }
+}
+
+/// The slots of the table with these parts of the sixteen partitions, each in its place (`content_slot`).
+pub fn in_slots<T: PartTable + Drop>(
+    alloc: Global,
+    mut parts: Vec<T>,
+) -> Result<Vec<Option<T>>, NoMemory>
+    requires sixteen { length parts.items ≡ 16 }
+    requires new { AreEmptyParts T.content T.begun parts.items }
+    ensures { IfOk result (λ slots. AreNew T.content T.begun slots.items) }
+{
+    let mut slots = Vec::with_capacity(alloc, CONTENT_SLOTS)?;
+    for index in 0..CONTENT_SLOTS {
+        slots.push_reserved(next_part(&mut parts, index));
+    }
+    Ok(slots)
+}
+
+/// Makes the table for so many sessions, and the opener at it (`InitProcGlobal` in proc.c, `InitLocks` in lock.c).
+/// The parts come each in its slot of the table, as `in_slots` puts them. Without memory they come back.
 pub fn open<T: PartTable>(
     alloc: Global,
     sessions: u8,
     parts: Vec<Option<T>>,
-) -> Result<(SharedTable<T>, Place<T>), Refused<Option<T>, Global>>
+) -> Result<(SharedTable<T>, Opener<T>), Refused<Option<T>, Global>>
     requires few { sessions ≤ 64 }
     requires parts { AreNew T.content T.begun parts.items }
     ensures key { IfOk result (λ opened. opened.0.shared.key ≡ sessions) }
-    ensures table { IfOk result (λ opened. FitsTable opened.1 opened.0.shared.table_id) }
-    ensures side { IfOk result (λ opened. opened.1.me ≡ (opening_view, [])) }
+    ensures opener { IfOk result (λ opened.
+        opened.1 ≡ record { table = opened.0.shared.table_id; issued = 0; limit = sessions }) }
     ensures refused { IfErr result (λ refused. refused.slots.items ≡ parts.items) }
 {
     let words = match first_words(alloc) {
         Ok(words) => words,
         Err(NoMemory) => return Err(Refused { slots: parts }),
     };
-    Table::new(alloc, words.as_slice(), parts, &sessions)
+    let (table, place) = Table::new(alloc, words.as_slice(), parts, &sessions)?;
+    Ok((table, Opener::at(place, sessions)))
 }

@@ -8,4 +8,4 @@ pub returns-clause-told : goal.returns-clause-told
 returns-clause-told g c =
     let place = c.args.self.now.place in
     told-of_both g.T.PartTable.content place.me.0 c.keep_apart.new.place.me.0 c.args.self.now.number (first_marks place.me.0.sessions) c.args.other.place.me.0.sessions
-        c.args.self.now.lone (ap (λ (m : Side g.row.T.Denot). m.0.sessions) c.keep_apart.ensures.side) c.tell_apart.ensures.apart
+    c.args.self.now.lone (ap (λ (m : Side g.row.T.Denot). m.0.sessions) c.keep_apart.ensures.side) c.tell_apart.ensures.apart
