@@ -1,4 +1,4 @@
-use Rattle.std.proofs.Common.{◌≡◌, ℕ, List, ◌∷◌, ◌++◌, refl, sym, ap, ◌∙◌, subst}
+use Rattle.std.proofs.Common.{◌≡◌, ℕ, List, ◌∷◌, ◌++◌, sym, ap, ◌∙◌, subst}
 use Rattle.atomic_table.specs.Table.{Me, rest}
 use Rattle.lock_table.specs.Content.{Content}
 use Rattle.shared_rule.specs.declared.history.History.{History}

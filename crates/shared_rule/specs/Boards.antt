@@ -1,7 +1,6 @@
-use Rattle.std.specs.Prelude.{◌≡◌, ℕ, ◌*◌, ◌/◌, List, [], ◌∷◌, map, Option, None}
+use Rattle.std.specs.Prelude.{ℕ, ◌/◌, List, [], ◌∷◌, map, Option, None}
 use Rattle.shared_rule.specs.declared.history.History.{History}
 use Rattle.shared_rule.specs.declared.history.Mark.{Mark}
-use Rattle.shared_rule.specs.declared.history.View.{View}
 use Rattle.shared_rule.specs.Layout.{content_slot_of}
 
 -- What a board is: shared state as one session sees it.

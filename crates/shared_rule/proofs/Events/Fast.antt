@@ -12,7 +12,7 @@ use Rattle.lock_world.specs.World.{World}
 use Rattle.lock_world.specs.Counted.{passing, passed}
 use Rattle.lock_world.specs.Happens.Slots.{after_taking_fast, after_putting_fast}
 use Rattle.lock_world.specs.Happens.Counters.{most_counted, after_passing}
-use Rattle.lock_world.specs.Account.{Account, SlotsInHand, account}
+use Rattle.lock_world.specs.Account.{SlotsInHand, account}
 use Rattle.lock_world.specs.AccountSteps.{account_taking_fast, account_putting_fast, account_passing}
 use Rattle.lock_world.specs.AccountLaw.{MayPutFastBy, MayPassBy}
 use Rattle.lock_world.proofs.Accounts.Lawful.{put_fast-lawful, pass-lawful, slots-known}
@@ -21,7 +21,6 @@ use Rattle.shared_rule.specs.declared.history.Mark.TheVariants as mark
 use Rattle.shared_rule.specs.declared.history.History.{History}
 use Rattle.shared_rule.specs.Shown.{set_word}
 use Rattle.shared_rule.specs.History.{told, no_slots}
-use Rattle.shared_rule.specs.Ruled.{SlotsAreUnused}
 use Rattle.shared_rule.proofs.Frame.{Steps}
 use Rattle.shared_rule.proofs.Events.Marks.{IsAlwaysLawful}
 

@@ -3,14 +3,13 @@ use Rattle.lock_table.specs.Content.{Content}
 use Rattle.lock_table.proofs.PutLemmas.{set_at-same}
 use Rattle.lock_world.specs.declared.events.Word.TheVariants.{Database}
 use Rattle.lock_world.specs.declared.events.Step.TheVariants.{LoadWord}
-use Rattle.lock_world.specs.World.{Words, Loaded}
+use Rattle.lock_world.specs.World.{Loaded}
 use Rattle.lock_world.specs.Happens.Slots.{after_loading}
 use Rattle.lock_world.specs.AccountSteps.{account_tracing}
 use Rattle.lock_world.proofs.Accounts.Slots.{account-loading}
 use Rattle.shared_rule.specs.declared.history.Mark.TheVariants as mark
 use Rattle.shared_rule.specs.declared.history.History.{History}
 use Rattle.shared_rule.specs.Shown.{set_word}
-use Rattle.shared_rule.specs.History.{told}
 use Rattle.shared_rule.specs.Ruled.{SlotsAreUnused}
 use Rattle.shared_rule.proofs.Events.Marks.{IsAlwaysLawful}
 

@@ -1,4 +1,4 @@
-use Rattle.std.proofs.Common.{◌≡◌, ◌≢◌, ℕ, ◌<◌, ◌^◌, ◌==◌, List, [], ◌∷◌, length, Option, Some, None, refl, sym, ap, ◌∙◌, subst, arith}
+use Rattle.std.proofs.Common.{◌≡◌, ℕ, ◌<◌, ◌^◌, ◌==◌, List, ◌∷◌, Option, Some, None, refl, sym, ◌∙◌, subst}
 use Rattle.std.specs.Prelude.{slice_set, slice_index}
 use mathlib.Core.Option.{some, none}
 use lib.ListN.{get_elem?}
@@ -11,7 +11,6 @@ use Rattle.lock_table.specs.Content.{Content}
 use Rattle.lock_world.specs.declared.events.Word.{Word}
 use mathlib.Core.Option as maybe
 use Rattle.lock_world.specs.World.{World, Contents, Hand, word_in}
-use Rattle.lock_world.specs.Account.{Account}
 use Rattle.shared_rule.specs.declared.history.Mark.{Mark}
 use Rattle.shared_rule.specs.declared.history.History.{History}
 use Rattle.shared_rule.specs.declared.history.View.{View}

@@ -24,11 +24,10 @@ use Rattle.lock_world.specs.Account.{Account, InHand, account}
 use Rattle.lock_world.specs.AccountSteps.{account_taking, account_putting}
 use Rattle.lock_world.specs.AccountLaw.{MayPutBy}
 use Rattle.lock_world.specs.Happens.{HappensStep}
-use Rattle.shared_rule.specs.Lawful.{PutsRecorded, MayPutSo}
+use Rattle.shared_rule.specs.Lawful.{MayPutSo}
 use Rattle.lock_world.specs.AccountFacts.{KnowsContent}
 use Rattle.lock_world.proofs.Words.Holders.{free-not_held}
 use Rattle.lock_world.proofs.Accounts.Lawful.{put-lawful, put_recorded-lawful, hand-known}
-use Rattle.lock_world.proofs.Accounts.Parts.{mine}
 use Rattle.lock_world.proofs.Accounts.Partitions.{account-taking, account-putting}
 use Rattle.lock_world.proofs.Accounts.Facts.{content-known}
 use Rattle.shared_rule.specs.declared.history.Mark.TheVariants.{TookPart, PutPart}

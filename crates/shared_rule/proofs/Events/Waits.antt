@@ -1,7 +1,6 @@
-use Rattle.std.proofs.Common.{◌≡◌, ◌≢◌, ◌⊎◌, ℕ, ◌+◌, ◌%◌, ◌^◌, ◌<◌, Bool, true, false, ◌||◌, List, [], ◌∷◌, map, length, Option, Some, None, refl, sym, ap, ◌∙◌, subst, inl, inr, arith, eq-eqb}
+use Rattle.std.proofs.Common.{◌≡◌, ◌≢◌, ◌⊎◌, ℕ, ◌+◌, ◌%◌, ◌^◌, ◌<◌, Bool, true, false, ◌||◌, List, [], ◌∷◌, map, Some, None, refl, sym, ap, ◌∙◌, subst, inl, inr, arith}
 use Rattle.std.specs.Prelude.{bit_or, ◌==◌}
-use Rattle.std.specs.List.{list_any}
-use Rattle.std.proofs.lemmas.Bool.{cases_eq, cases_Bool}
+use Rattle.std.proofs.lemmas.Bool.{cases_eq}
 use Rattle.modes_core.specs.declared.modes.Mode.{Mode}
 use Rattle.modes_core.specs.declared.tags.Tag.{Tag}
 use Rattle.modes_core.specs.Tag.{partition_of}
@@ -14,11 +13,10 @@ use Rattle.lock_world.specs.declared.events.Word.TheVariants as word
 use Rattle.lock_world.specs.declared.events.Step.TheVariants as step
 use Rattle.lock_table.specs.Queue.{waits_there}
 use Rattle.lock_table.specs.Waiter.{whose_and_mode}
-use Rattle.lock_world.specs.World.{World, Contents, Hand, MakesSteps, is_unmarked}
+use Rattle.lock_world.specs.World.{World, Contents, MakesSteps, is_unmarked}
 use Rattle.lock_world.specs.SafeWorld.{SafeWorld}
 use Rattle.lock_table.specs.OwnWait.{OwnWait}
 use Rattle.lock_world.specs.Happens.Waits.{recording, unmarked_but, after_asking, after_loading_wait, after_setting_waiting, after_marking_first, after_marking_next, HappensMarkingIn, HappensMarking, MayClearSeen, MayClearInHand, after_clearing, after_leaving}
-use Rattle.lock_world.specs.Happens.Counters.{most_counted}
 use Rattle.lock_world.specs.Account.{Account, InHand, account}
 use Rattle.lock_world.specs.AccountSteps.{account_tracing, account_waiting, account_marking, account_clearing, account_leaving}
 use Rattle.lock_world.specs.AccountLaw.{MayMoveBy, MayMarkFirstBy, MayMarkNextBy, MayLeaveBy}
@@ -34,8 +32,6 @@ use Rattle.shared_rule.specs.declared.history.History.{History}
 use Rattle.shared_rule.specs.Shown.{set_word}
 use Rattle.shared_rule.specs.History.{told, in_hand, is_among, account_granting, account_granting_by, is_granted, account_cleared, account_left}
 use Rattle.shared_rule.specs.Lawful.{IsGrantingIn, MayMarkBy, MayClearBy}
-use Rattle.shared_rule.specs.Ruled.{SlotsAreUnused}
-use Rattle.shared_rule.proofs.Frame.{Steps}
 use Rattle.shared_rule.proofs.Events.Marks.{IsAlwaysLawful, KeepsHome}
 
 -- Steps on wait words.

@@ -1,4 +1,4 @@
-use Rattle.std.proofs.Common.{rules, ◌≡◌, ◌∷◌, Option, Some, None, sym, ap, ◌∙◌, subst}
+use Rattle.std.proofs.Common.{rules, ◌≡◌, ◌∷◌, Some, None, ap, ◌∙◌, subst}
 use Rattle.lock_world.specs.AccountFacts.{KnowsContent}
 use Rattle.shared_rule.specs.declared.history.Mark.TheVariants.{TookPart}
 use Rattle.shared_rule.specs.Layout.{content_slot_of}

@@ -1,8 +1,5 @@
-use Rattle.std.proofs.Common.{rules, ℕ, List, ◌+◌, ◌-◌, ◌%◌, ◌^◌, sym, ap, ◌∙◌, subst}
+use Rattle.std.proofs.Common.{rules, sym, subst}
 use Rattle.lock_world.specs.declared.events.Word.TheVariants.{Database}
-use Rattle.shared_rule.specs.declared.history.History.{History}
-use Rattle.shared_rule.specs.Layout.{index_of_word}
-use Rattle.shared_rule.specs.History.{first_account}
 use Rattle.shared_rule.proofs.Events.Marks.{IsAlwaysLawful, marks_at}
 use Rattle.shared_rule.proofs.Events.Loads.{loading_database-lawful}
 use Rattle.shared_rule.proofs.steps.load_database_as.Goals as goal

@@ -1,9 +1,8 @@
-use Rattle.std.proofs.Common.{rules, ℕ, List, ◌+◌, ◌-◌, ◌%◌, ◌^◌, sym, ap, ◌∙◌, subst}
+use Rattle.std.proofs.Common.{rules, List, ◌+◌, ◌-◌, ◌%◌, ◌^◌, sym, subst}
 use Rattle.lock_world.specs.declared.events.Word.TheVariants.{Fast}
 use Rattle.lock_world.specs.Account.{SlotsInHand}
 use Rattle.lock_world.specs.AccountLaw.{MayPassBy}
 use Rattle.shared_rule.specs.declared.history.History.{History}
-use Rattle.shared_rule.specs.Layout.{index_of_word}
 use Rattle.shared_rule.specs.History.{first_account}
 use Rattle.shared_rule.proofs.Events.Marks.{IsAlwaysLawful, marks_at}
 use Rattle.shared_rule.proofs.Events.Fast.{passing-lawful}

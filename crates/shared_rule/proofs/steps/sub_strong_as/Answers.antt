@@ -1,4 +1,4 @@
-use Rattle.std.proofs.Common.{rules, ℕ, List, ◌+◌, ◌-◌, ◌%◌, ◌^◌, sym, ap, ◌∙◌, subst}
+use Rattle.std.proofs.Common.{rules, List, ◌+◌, ◌-◌, ◌%◌, ◌^◌, sym, ap, ◌∙◌, subst}
 use Rattle.lock_world.specs.declared.events.Word.TheVariants.{Strong}
 use Rattle.modes_core.specs.Tag.{index_of}
 use Rattle.lock_world.specs.AccountLaw.{MayUncountBy}

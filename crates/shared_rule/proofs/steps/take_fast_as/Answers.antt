@@ -1,7 +1,5 @@
-use Rattle.std.proofs.Common.{rules, ◌≡◌, ℕ, sym, ap, ◌∙◌, subst}
-use Rattle.lw_word.specs.LightweightWord.{taken_word}
+use Rattle.std.proofs.Common.{rules, ◌≡◌, sym, ap, ◌∙◌, subst}
 use Rattle.lock_world.specs.declared.events.Word.TheVariants.{Fast}
-use Rattle.shared_rule.specs.declared.history.History.{History}
 use Rattle.shared_rule.specs.declared.history.Mark.TheVariants.{TookFast}
 use Rattle.shared_rule.specs.Plays.{Side}
 use Rattle.shared_rule.proofs.Events.Marks.{IsAlwaysLawful, wins_at}

@@ -1,8 +1,5 @@
-use Rattle.std.proofs.Common.{rules, ◌≡◌, ℕ, ◌+◌, ◌%◌, ◌^◌, ◌<◌, List, [], map, refl, sym, ap, ◌∙◌, subst}
+use Rattle.std.proofs.Common.{rules, sym, subst}
 use Rattle.lock_world.specs.declared.events.Word.TheVariants.{Wait}
-use Rattle.shared_rule.specs.declared.history.History.{History}
-use Rattle.shared_rule.specs.Layout.{index_of_word}
-use Rattle.shared_rule.specs.History.{first_account, first_number}
 use Rattle.std.specs.Prelude.{bit_or}
 use Rattle.shared_rule.proofs.Events.Marks.{IsAlwaysLawful, marks_at}
 use Rattle.shared_rule.proofs.Events.Waits.{asking-lawful}
