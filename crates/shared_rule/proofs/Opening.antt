@@ -1,5 +1,6 @@
-use Rattle.std.proofs.Common.{◌≡◌, ℕ, zero, suc, ◌≤◌, List, [], ◌∷◌, Option, Some, None, refl, sym, ap, ◌∙◌, arith}
-use Rattle.std.specs.Prelude.{slice_get}
+use Rattle.std.proofs.Common.{◌≡◌, ℕ, zero, suc, ◌+◌, ◌*◌, ◌%◌, ◌<◌, ◌≤◌, List, ◌++◌, length, subst, inl, inr, [], ◌∷◌, Option, Some, None, refl, sym, ap, ◌∙◌, arith}
+use Rattle.std.specs.Prelude.{slice_get, IsSome, IfSome, option_to_list}
+use Rattle.std.proofs.lemmas.Bool.{cases_eq, false≢true}
 use mathlib.Core.Option.{some, some-injective, some-ne-none}
 use lib.ListN.{get_elem?}
 use Rattle.atomic_table.specs.Table as table
@@ -13,7 +14,7 @@ use Rattle.shared_rule.specs.declared.history.View.{View}
 use Rattle.shared_rule.specs.Layout.{content_slot_of}
 use Rattle.shared_rule.specs.Shown.{WordsAreShown}
 use Rattle.shared_rule.specs.History.{opening_view}
-use Rattle.shared_rule.specs.Opening.{AreNew}
+use Rattle.shared_rule.specs.Opening.{AreNew, IsBlank, IsNew}
 use Rattle.shared_rule.specs.Ruled.{SeatsAreShown, Ruled}
 
 -- The table before the first step meets the rule.
@@ -23,6 +24,43 @@ get-there : {A : Type 0} (xs : List A) (i : ℕ) (a : A) → slice_get xs i ≡ 
 get-there [] i a get = absurd (cc (get))
 get-there (x ∷ xs) zero a get = let same : x ≡ a = cc (get) in ap some same
 get-there (x ∷ xs) (suc i) a get = get-there xs i a get
+
+-- What stands in a list with one more behind: what stood there,
+get-before : {A : Type 0} (xs : List A) (a : A) (i : ℕ) → i < length xs → slice_get (xs ++ a ∷ []) i ≡ slice_get xs i
+get-before [] a i less = absurd (omega (arith, less))
+get-before (x ∷ xs) a zero less = refl
+get-before (x ∷ xs) a (suc i) less = get-before xs a i (omega (arith, less))
+
+-- and that one.
+get-last : {A : Type 0} (xs : List A) (a : A) (i : ℕ) → i ≡ length xs → slice_get (xs ++ a ∷ []) i ≡ Some a
+get-last [] a zero is = refl
+get-last [] a (suc i) is = absurd (omega (arith, is))
+get-last (x ∷ xs) a zero is = absurd (omega (arith, is))
+get-last (x ∷ xs) a (suc i) is = get-last xs a i (omega (arith, is))
+
+-- Where there is one, the list of it has one.
+pub one-listed : {A : Type 0} (o : Option A) → IsSome o → length (option_to_list o) ≡ 1
+one-listed None is = absurd (false≢true is)
+one-listed (Some a) is = refl
+
+module _ {T : Type 0} (content : T → Content) (begun : T → Option Request) where
+  -- A part that came out of a list of parts with nothing in them is there, with nothing in it.
+  pub new-popped : (o : Option T) → IsSome o → IfSome o (IsBlank content begun) → IsNew content begun (Some o)
+  new-popped None is blank = absurd (false≢true is)
+  new-popped (Some part) is blank = record { part = part; is_there = refl; blank = blank }
+
+  -- The partitions below an index are in their slots still with one slot more, and so is the one at it, if any.
+  pub new-pushed :
+      (slots : List (Option T)) (there : Option T) (index : ℕ) → length slots ≡ index → (index % 8 ≡ 0 → IsNew content begun (Some there))
+      → ((p : ℕ) → content_slot_of p < index → IsNew content begun (slice_get slots (content_slot_of p)))
+      → (p : ℕ) → content_slot_of p < index + 1 → IsNew content begun (slice_get (slots ++ there ∷ []) (content_slot_of p))
+  new-pushed slots there index many is_new before p below =
+      elim (cases_eq (content_slot_of p) index) [
+        | inl at ↦ subst (IsNew content begun) (sym (get-last slots there (content_slot_of p) (at ∙ sym many))) (is_new (let is : 8 * p ≡ index = at in omega (arith, is)))
+        | inr else ↦
+            let less : content_slot_of p < index = let other : (8 * p ≡ index → ⊥) = else in let next : 8 * p < index + 1 = below in omega (arith, other, next) in
+            subst (IsNew content begun) (sym (get-before slots there (content_slot_of p) (subst (λ n. content_slot_of p < n) (sym many) less))) (before p less)
+      ]
 
 module _ {T : Type 0} (content : T → Content) (begun : T → Option Request) (limit : ℕ) where
   -- the opener's seat is the only one
@@ -61,8 +99,8 @@ module _ {T : Type 0} (content : T → Content) (begun : T → Option Request) (
         record {
           part = part.part;
           at_home = at_map some slots (content_slot_of p) (Some part.part) (get-there slots (content_slot_of p) (Some part.part) part.is_there);
-          is_content = part.is_empty;
-          none_begun = part.none_begun;
+          is_content = part.blank.is_empty;
+          none_begun = part.blank.none_begun;
         };
     seats = opening-seats;
   }

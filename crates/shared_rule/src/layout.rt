@@ -32,7 +32,7 @@ pub const TABLE_WORDS: usize = SESSIONS_START + BLOCK * SESSIONS as usize;
 
 /// How far apart the contents of two partitions lie, in slots: with a content behind one pointer a slot has
 /// 16 bytes, so that is 128 bytes.
-const CONTENT_GAP: usize = 8;
+pub(crate) const CONTENT_GAP: usize = 8;
 
 /// How many slots the table has for contents.
 pub const CONTENT_SLOTS: usize = PARTITIONS as usize * CONTENT_GAP;

@@ -1,14 +1,17 @@
 //! The table with its memory, before the first step.
 
-ghost use Rattle.std.specs.Prelude.{◌≡◌, ◌≤◌, [], IfOk, IfErr};
+ghost use Rattle.std.specs.Prelude.{◌≡◌, ◌≤◌, [], length, IfOk, IfErr};
+ghost use Rattle.std.specs.List.{All};
 ghost use Rattle.lock_world.specs.World.{opening};
 ghost use Rattle.shared_rule.specs.Shown.{WordsAreShown};
 ghost use Rattle.shared_rule.specs.History.{opening_view};
 ghost use Rattle.shared_rule.specs.Plays.{FitsTable};
-ghost use Rattle.shared_rule.specs.Opening.{IsFirst, AreNew};
+ghost use Rattle.shared_rule.specs.Opening.{IsFirst, IsBlank, AreNew};
 
 use crate::history::View;
-use crate::layout::{BLOCK, COUNTERS_START, GAP, SESSIONS_START, TABLE_WORDS};
+use crate::layout::{
+    BLOCK, CONTENT_GAP, CONTENT_SLOTS, COUNTERS_START, GAP, SESSIONS_START, TABLE_WORDS,
+};
 use crate::rule::{Law, Place};
 use atomic_table::{Refused, Table};
 use lock_table::{NoMemory, PartTable};
@@ -48,8 +51,29 @@ fn first_words(alloc: Global) -> Result<Vec<u64>, NoMemory>
     Ok(words)
 }
 
+/// Lays the parts of all partitions, which have nothing in them, each in its slot, by `content_slot`. Without memory
+/// they are dropped.
+pub fn slots_of<T: PartTable + Drop>(
+    alloc: Global,
+    mut parts: Vec<T>,
+) -> Result<Vec<Option<T>>, NoMemory>
+    requires sixteen { length parts.items ≡ 16 }
+    requires blank { All (IsBlank T.content T.begun) parts.items }
+    ensures new { IfOk result (λ slots. AreNew T.content T.begun slots.items) }
+{
+    let mut slots = Vec::with_capacity(alloc, CONTENT_SLOTS)?;
+    for index in 0..CONTENT_SLOTS {
+        if index % CONTENT_GAP == 0 {
+            slots.push_reserved(parts.pop());
+        } else {
+            slots.push_reserved(None);
+        }
+    }
+    Ok(slots)
+}
+
 /// Makes the table for so many sessions, and the opener's seat at it (`InitProcGlobal` in proc.c, `InitLocks` in
-/// lock.c). The parts come each in its slot of the table, by `content_slot`. Without memory they come back.
+/// lock.c). The parts come in their slots, as `slots_of` lays them. Without memory they come back.
 pub fn open<T: PartTable>(
     alloc: Global,
     sessions: u8,
