@@ -1,12 +1,15 @@
 use Rattle.std.proofs.Common.{◌≡◌, ℕ, zero, suc, ◌+◌, ◌*◌, ◌%◌, ◌<◌, ◌≤◌, List, ◌++◌, length, subst, inl, inr, [], ◌∷◌, Option, Some, None, refl, sym, ap, ◌∙◌, arith}
-use Rattle.std.specs.Prelude.{slice_get, IsSome, IfSome, option_to_list}
+use Rattle.std.specs.Prelude.{slice_get, slice_index_or, IsSome, IfSome, option_to_list}
 use Rattle.std.proofs.lemmas.Bool.{cases_eq, false≢true}
 use mathlib.Core.Option.{some, some-injective, some-ne-none}
 use lib.ListN.{get_elem?}
 use Rattle.atomic_table.specs.Table as table
 use Rattle.atomic_table.proofs.Lists.{at_map}
 use Rattle.lock_table.specs.declared.request.Request.{Request}
+use Rattle.std.specs.List.{All}
 use Rattle.lock_table.specs.Content.{Content}
+use Rattle.lock_table.specs.PartView.{PartView, content_of}
+use Rattle.lock_table.specs.Parts.{AreEmpty, part_at, no_part}
 use Rattle.lock_world.specs.World.{opening}
 use Rattle.lock_world.proofs.SafeWorld.Opening.{opening-safe}
 use Rattle.shared_rule.specs.declared.history.History.{History}
@@ -37,6 +40,18 @@ get-last [] a zero is = refl
 get-last [] a (suc i) is = absurd (omega (arith, is))
 get-last (x ∷ xs) a zero is = absurd (omega (arith, is))
 get-last (x ∷ xs) a (suc i) is = get-last xs a i (omega (arith, is))
+
+-- What stands in a list, whatever would stand past it.
+index-any : {A : Type 0} (xs : List A) (k : ℕ) (a b : A) → k < length xs → slice_index_or xs k a ≡ slice_index_or xs k b
+index-any [] k a b less = absurd (omega (arith, less))
+index-any (x ∷ xs) zero a b less = refl
+index-any (x ∷ xs) (suc k) a b less = index-any xs k a b (omega (arith, less))
+
+-- The plain keepers of empty partitions have nothing in them.
+pub AreEmpty-blank : (parts : List PartView) → AreEmpty parts → All (IsBlank content_of (λ part. part.begun)) parts
+AreEmpty-blank parts empty k d less =
+    let same : slice_index_or parts k d ≡ part_at parts k = index-any parts k d no_part less in
+    record { is_empty = ap content_of same ∙ empty.content k; none_begun = ap (λ (part : PartView). part.begun) same ∙ empty.begun k }
 
 -- Where there is one, the list of it has one.
 pub one-listed : {A : Type 0} (o : Option A) → IsSome o → length (option_to_list o) ≡ 1
