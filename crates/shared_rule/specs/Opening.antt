@@ -10,19 +10,24 @@ use Rattle.shared_rule.specs.Layout.{index_of_word, IsInTable, content_slot_of}
 
 -- The number is what the word at this index shows then.
 abbrev pub IsFirst : ℕ → ℕ → Type 0
-IsFirst index number = (word : Word) → IsInTable word → index_of_word word ≡ index → number ≡ word_in (opening 0).words word
+IsFirst index number =
+    (word : Word) → IsInTable word → index_of_word word ≡ index → number ≡ word_in (opening 0).words word
 
 -- So are the numbers of these words.
 abbrev pub AreFirst : List ℕ → Type 0
 AreFirst words = (index : ℕ) → index < length words → IsFirst index (slice_index words index)
 
 module _ {T : Type 0} (content : T → Content) (begun : T → Option Request) where
-  -- There is a partition's part with nothing in it.
+  -- The part has nothing in it.
+  pub record IsBlank (part : T) : Type 0 where
+    pub is_empty : content part ≡ empty_content
+    pub none_begun : begun part ≡ None
+
+  -- There is a part with nothing in it.
   pub record IsNew (there : Option (Option T)) : Type 0 where
     pub part : T
     pub is_there : there ≡ Some (Some part)
-    pub is_empty : content part ≡ empty_content
-    pub none_begun : begun part ≡ None
+    pub blank : IsBlank part
 
   -- These parts have nothing in them.
   abbrev pub AreEmptyParts : List T → Type 0

@@ -32,7 +32,8 @@ pub record MayBeKeptApartBy (a : Account) : Type 0 where
 
 -- No hold of the one conflicts with a hold of the other on an object.
 abbrev pub DoNotConflict : Account → Account → Type 0
-DoNotConflict a b = (tag : Tag) (mode its : Mode) → a.own tag mode ≡ true → b.own tag its ≡ true → conflict mode its ≡ false
+DoNotConflict a b =
+    (tag : Tag) (mode its : Mode) → a.own tag mode ≡ true → b.own tag its ≡ true → conflict mode its ≡ false
 
 -- the number that the next session gets, and the one after that
 abbrev pub number_in : Option ℕ → ℕ
