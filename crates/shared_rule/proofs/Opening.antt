@@ -1,12 +1,11 @@
 use Rattle.std.proofs.Common.{◌≡◌, ℕ, zero, suc, ◌≤◌, List, [], ◌∷◌, ◌++◌, length, Option, Some, None, IsSome, refl, sym, ap, ◌∙◌, arith}
-use Rattle.std.specs.Prelude.{slice_get, option_to_list}
+use Rattle.std.specs.Prelude.{slice_get, slice_index_or, option_to_list}
 use Rattle.std.proofs.lemmas.Bool.{false≢true}
 use mathlib.Core.Option.{some, some-injective, some-ne-none}
 use lib.ListN.{get_elem?}
 use Rattle.atomic_table.specs.Table as table
 use Rattle.atomic_table.proofs.Lists.{at_map}
 use Rattle.lock_table.specs.declared.request.Request.{Request}
-use Rattle.std.specs.List.{All}
 use Rattle.lock_table.specs.Content.{Content}
 use Rattle.lock_table.specs.PartView.{PartView, content_of}
 use Rattle.lock_table.specs.Parts.{AreEmpty, part_at, no_part}
@@ -17,7 +16,7 @@ use Rattle.shared_rule.specs.declared.history.View.{View}
 use Rattle.shared_rule.specs.Layout.{content_slot_of}
 use Rattle.shared_rule.specs.Shown.{WordsAreShown}
 use Rattle.shared_rule.specs.History.{opening_view}
-use Rattle.shared_rule.specs.Opening.{IsNew, AreNew, AreEmptyParts}
+use Rattle.shared_rule.specs.Opening.{IsBlank, IsNew, AreNew, AreEmptyParts}
 use Rattle.shared_rule.specs.Ruled.{SeatsAreShown, Ruled}
 
 -- The table before the first step meets the rule.
@@ -28,54 +27,17 @@ get-there [] i a get = absurd (cc (get))
 get-there (x ∷ xs) zero a get = let same : x ≡ a = cc (get) in ap some same
 get-there (x ∷ xs) (suc i) a get = get-there xs i a get
 
--- What stands in a list with one more behind: what stood there,
-get-before : {A : Type 0} (xs : List A) (a : A) (i : ℕ) → i < length xs → slice_get (xs ++ a ∷ []) i ≡ slice_get xs i
-get-before [] a i less = absurd (omega (arith, less))
-get-before (x ∷ xs) a zero less = refl
-get-before (x ∷ xs) a (suc i) less = get-before xs a i (omega (arith, less))
-
--- and that one.
-get-last : {A : Type 0} (xs : List A) (a : A) (i : ℕ) → i ≡ length xs → slice_get (xs ++ a ∷ []) i ≡ Some a
-get-last [] a zero is = refl
-get-last [] a (suc i) is = absurd (omega (arith, is))
-get-last (x ∷ xs) a zero is = absurd (omega (arith, is))
-get-last (x ∷ xs) a (suc i) is = get-last xs a i (omega (arith, is))
-
--- What stands in a list, whatever would stand past it.
-index-any : {A : Type 0} (xs : List A) (k : ℕ) (a b : A) → k < length xs → slice_index_or xs k a ≡ slice_index_or xs k b
-index-any [] k a b less = absurd (omega (arith, less))
-index-any (x ∷ xs) zero a b less = refl
-index-any (x ∷ xs) (suc k) a b less = index-any xs k a b (omega (arith, less))
+-- What is there is read there.
+read-there : {A : Type 0} (xs : List A) (i : ℕ) (a d : A) → slice_get xs i ≡ Some a → slice_index_or xs i d ≡ a
+read-there [] i a d there = absurd (cc (there))
+read-there (x ∷ xs) zero a d there = cc (there)
+read-there (x ∷ xs) (suc i) a d there = read-there xs i a d there
 
 -- The plain keepers of empty partitions have nothing in them.
-pub AreEmpty-blank : (parts : List PartView) → AreEmpty parts → All (IsBlank content_of (λ part. part.begun)) parts
-AreEmpty-blank parts empty k d less =
-    let same : slice_index_or parts k d ≡ part_at parts k = index-any parts k d no_part less in
-    record { is_empty = ap content_of same ∙ empty.content k; none_begun = ap (λ (part : PartView). part.begun) same ∙ empty.begun k }
-
--- Where there is one, the list of it has one.
-pub one-listed : {A : Type 0} (o : Option A) → IsSome o → length (option_to_list o) ≡ 1
-one-listed None is = absurd (false≢true is)
-one-listed (Some a) is = refl
-
-module _ {T : Type 0} (content : T → Content) (begun : T → Option Request) where
-  -- A part that came out of a list of parts with nothing in them is there, with nothing in it.
-  pub new-popped : (o : Option T) → IsSome o → IfSome o (IsBlank content begun) → IsNew content begun (Some o)
-  new-popped None is blank = absurd (false≢true is)
-  new-popped (Some part) is blank = record { part = part; is_there = refl; blank = blank }
-
-  -- The partitions below an index are in their slots still with one slot more, and so is the one at it, if any.
-  pub new-pushed :
-      (slots : List (Option T)) (there : Option T) (index : ℕ) → length slots ≡ index → (index % 8 ≡ 0 → IsNew content begun (Some there))
-      → ((p : ℕ) → content_slot_of p < index → IsNew content begun (slice_get slots (content_slot_of p)))
-      → (p : ℕ) → content_slot_of p < index + 1 → IsNew content begun (slice_get (slots ++ there ∷ []) (content_slot_of p))
-  new-pushed slots there index many is_new before p below =
-      elim (cases_eq (content_slot_of p) index) [
-        | inl at ↦ subst (IsNew content begun) (sym (get-last slots there (content_slot_of p) (at ∙ sym many))) (is_new (let is : 8 * p ≡ index = at in omega (arith, is)))
-        | inr else ↦
-            let less : content_slot_of p < index = let other : (8 * p ≡ index → ⊥) = else in let next : 8 * p < index + 1 = below in omega (arith, other, next) in
-            subst (IsNew content begun) (sym (get-before slots there (content_slot_of p) (subst (λ n. content_slot_of p < n) (sym many) less))) (before p less)
-      ]
+pub AreEmpty-blank : (parts : List PartView) → AreEmpty parts → AreEmptyParts content_of (λ part. part.begun) parts
+AreEmpty-blank parts empty k part there =
+    let same : part_at parts k ≡ part = read-there parts k part no_part there in
+    record { is_empty = ap content_of (sym same) ∙ empty.content k; none_begun = ap (λ (p : PartView). p.begun) (sym same) ∙ empty.begun k }
 
 module _ {T : Type 0} (content : T → Content) (begun : T → Option Request) (limit : ℕ) where
   -- the opener's seat is the only one
@@ -137,5 +99,4 @@ module _ {T : Type 0} (content : T → Content) (begun : T → Option Request) w
   pub last-new : (old new : List T) (last : Option T) → old ≡ new ++ option_to_list last → IsSome last → AreEmptyParts content begun old → IsNew content begun (Some last)
   last-new old new None is there empty = absurd (false≢true there)
   last-new old new (Some part) is there empty =
-      let nothing = empty (length new) part (ap (λ parts. slice_get parts (length new)) is ∙ there-last new part) in
-      record { part = part; is_there = refl; is_empty = nothing.0; none_begun = nothing.1 }
+      record { part = part; is_there = refl; blank = empty (length new) part (ap (λ parts. slice_get parts (length new)) is ∙ there-last new part) }

@@ -1,14 +1,16 @@
 use Rattle.std.specs.Prelude.{ℕ, ◌/◌, List, [], ◌∷◌, map, Option, None}
+use Rattle.atomic_table.specs.Seated.{TableId}
 use Rattle.shared_rule.specs.declared.history.History.{History}
 use Rattle.shared_rule.specs.declared.history.Mark.{Mark}
 use Rattle.shared_rule.specs.Layout.{content_slot_of}
 
 -- What a board is: shared state as one session sees it.
 
--- whose it is, and how many sessions there can be
+-- whose it is, how many sessions there can be, and at which table
 pub record Seated : Type 0 where
   pub number : ℕ
   pub limit : ℕ
+  pub table : TableId
 
 -- the partitions in hand, the last one taken first, by the slots that are out
 abbrev pub parts_in_hand : {T : Type 0} → List (ℕ × Option T) → List ℕ

@@ -31,7 +31,7 @@ module _ {T : Type 0} (content : T → Content) (begun : T → Option Request) w
 
   -- These parts have nothing in them.
   abbrev pub AreEmptyParts : List T → Type 0
-  AreEmptyParts parts = (i : ℕ) (part : T) → slice_get parts i ≡ Some part → (content part ≡ empty_content) × (begun part ≡ None)
+  AreEmptyParts parts = (i : ℕ) (part : T) → slice_get parts i ≡ Some part → IsBlank part
 
   -- Each partition's part is in its slot, with nothing in it.
   pub record AreNew (slots : List (Option T)) : Type 0 where

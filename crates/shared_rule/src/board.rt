@@ -26,7 +26,7 @@ use std::sync::Wait;
 /// One session's board. Contracts see the session's account: its holds, what it has in hand and counted, its trace.
 /// Partitions go home in the opposite order of their taking.
 pub trait Board<T: PartTable> {
-    // Whose board it is, and how many sessions there can be.
+    // Whose board it is, how many sessions there can be, and at which table.
     ghost seat: { Self → Seated };
 
     // The session's account.

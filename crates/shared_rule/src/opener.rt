@@ -15,6 +15,7 @@ use std::marker::Model;
 
 /// Gives out session numbers, each once, in rising order (`InitProcess` in proc.c). Contracts see at which table it is,
 /// how many numbers it has given out, and how many there can be.
+#[derive(Drop)]
 pub struct Opener<T: PartTable> {
     place: Place<T>,
     issued: u8,
@@ -55,11 +56,10 @@ impl<T: PartTable> Opener<T> {
         ensures none { IsNone result ↔ (self.old.issued ≡ self.old.limit) }
         ensures opener { (self.new.table ≡ self.old.table) × (self.new.limit ≡ self.old.limit) }
         ensures issued { OnSome result (self.new.issued ≡ self.old.issued + 1) }
-        ensures table { IfSome result (λ board. board.table.now ≡ table.now) }
         ensures blank { IfSome result (λ board. ⟦<SeatBoard<'a, T> as Board<T>>⟧.view board ≡ blank_account) }
         ensures stack { IfSome result (λ board. ⟦<SeatBoard<'a, T> as Board<T>>⟧.stack board ≡ []) }
         ensures seat { IfSome result (λ board. ⟦<SeatBoard<'a, T> as Board<T>>⟧.seat board
-            ≡ record { number = self.old.issued; limit = self.old.limit }) }
+            ≡ record { number = self.old.issued; limit = self.old.limit; table = self.old.table }) }
     {
         if self.issued == self.sessions {
             return None;
@@ -72,7 +72,7 @@ impl<T: PartTable> Opener<T> {
 
     /// Takes a session's board back, which has nothing any more (`ProcKill` in proc.c).
     pub fn close<'a>(&mut self, board: SeatBoard<'a, T>)
-        requires table { board.table.now.table_id ≡ self.old.table }
+        requires table { (⟦<SeatBoard<'a, T> as Board<T>>⟧.seat board).table ≡ self.old.table }
         requires stack { ⟦<SeatBoard<'a, T> as Board<T>>⟧.stack board ≡ [] }
         requires lawful { MayCloseBy (⟦<SeatBoard<'a, T> as Board<T>>⟧.view board) }
         ensures same { self.new ≡ self.old }

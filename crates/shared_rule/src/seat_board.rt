@@ -17,8 +17,7 @@ use std::sync::Wait;
 
 /// A session's seat at the table that all sessions share.
 pub struct SeatBoard<'a, T: PartTable> {
-    /// The table.
-    pub table: &'a Top<T>,
+    table: &'a Top<T>,
     place: Place<T>,
     number: SessionId,
     sessions: u8,
@@ -55,7 +54,7 @@ impl<'a, T: PartTable> SeatBoard<'a, T> {
     /// Meets another session of the same table, whose board comes back: no hold of the one conflicts with a hold of the
     /// other on an object. Both accounts are as before.
     pub fn meet(&mut self, other: SeatBoard<'a, T>) -> SeatBoard<'a, T>
-        requires table { other.table.now.table_id ≡ self.old.table.now.table_id }
+        requires table { (⟦<SeatBoard<'a, T> as Board<T>>⟧.seat other).table ≡ (⟦<SeatBoard<'a, T> as Board<T>>⟧.seat self.old).table }
         requires stack { ⟦<SeatBoard<'a, T> as Board<T>>⟧.stack other ≡ [] }
         requires no_word { MayBeKeptApartBy (⟦<SeatBoard<'a, T> as Board<T>>⟧.view other) }
         ensures told { DoNotConflict (⟦<SeatBoard<'a, T> as Board<T>>⟧.view self.old) (⟦<SeatBoard<'a, T> as Board<T>>⟧.view other.entry) }
@@ -98,7 +97,7 @@ impl<'a, T: PartTable> SeatBoard<'a, T> {
 }
 
 impl<'a, T: PartTable> Board<T> for SeatBoard<'a, T> {
-    ghost seat = { λ board. record { number = board.number; limit = board.sessions } };
+    ghost seat = { λ board. record { number = board.number; limit = board.sessions; table = board.table.now.table_id } };
 
     ghost view = { λ board. first_account T.content board.place.me.0.sessions };
 

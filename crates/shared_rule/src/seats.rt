@@ -13,9 +13,6 @@ use crate::rule::{Place, Top};
 use atomic_table::{Join, Split};
 use lock_table::PartTable;
 
-#[cfg(test)]
-mod tests;
-
 /// A session opens: the opener's seat gives it the next number, and a seat of its own.
 struct Opens;
 

@@ -2,6 +2,8 @@ use crate::layout::{
     CONTENT_SLOTS, TABLE_WORDS, content_slot, database_word, fast_word, partition_word, sleep_word,
     slot_word, strong_word, wait_word,
 };
+use crate::table::{in_slots, open};
+use lock_table::empty_parts;
 use modes_core::SessionId;
 use std::process::Abort;
 use std::test::Fail;
@@ -59,5 +61,24 @@ fn each_content_has_eight_slots_to_itself(rt: HostRuntime) -> Result<(), Fail> {
     assert_eq!(rt; content_slot(1), 8);
     assert_eq!(rt; content_slot(15), 120);
     assert_eq!(rt; CONTENT_SLOTS, 128);
+    Ok(())
+}
+
+// One thread makes the steps of both sessions.
+#[test]
+fn two_sessions_open_meet_part_and_close(rt: HostRuntime) -> Result<(), Fail> {
+    let alloc = rt.alloc();
+    let slots = in_slots(alloc, empty_parts(alloc)?)?;
+    let Ok((table, mut opener)) = open(alloc, 2, slots) else {
+        return Err("out of memory".into());
+    };
+    let mut first = opener.session(&table.shared).ok_or("no first session")?;
+    let Some(second) = opener.session(&table.shared) else {
+        opener.close(first);
+        return Err("no second session".into());
+    };
+    let second = first.meet(second);
+    opener.close(second);
+    opener.close(first);
     Ok(())
 }
