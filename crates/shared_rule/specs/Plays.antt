@@ -4,6 +4,7 @@ use Rattle.atomic_table.specs.Seated.{TableId}
 use Rattle.lock_table.specs.declared.request.Request.{Request}
 use Rattle.lock_table.specs.Content.{Content}
 use Rattle.lock_world.specs.declared.events.Word.TheVariants.{Partition}
+use Rattle.lock_world.specs.Account.{Account}
 use Rattle.lock_world.specs.AccountFacts.{KnowsContent}
 use Rattle.atomic_table.specs.declared.shared.Seat.{Seat}
 use Rattle.shared_rule.specs.declared.history.History.{History}
@@ -25,6 +26,13 @@ pub record IsSized (table : TableId) : Type 0 where
   pub slots : table.slots ≡ CONTENT_SLOTS
 
 module _ {T : Type 0} where
+  -- the number of the session that makes its steps with the seat, and its account
+  abbrev pub number_at : Seat (Option T) (View T) → ℕ
+  number_at place = first_number place.me.0.sessions
+
+  abbrev pub account_at : (T → Content) → Seat (Option T) (View T) → Account
+  account_at content place = first_account content place.me.0.sessions
+
   -- the seat is at this table
   pub record FitsTable (place : Seat (Option T) (View T)) (table : TableId) : Type 0 where
     pub at : place.table_id ≡ table

@@ -13,10 +13,10 @@ ghost use Rattle.lock_world.specs.AccountFacts.{KnowsContent};
 ghost use Rattle.lock_world.specs.AccountLaw.{MayPutFastBy, MayPassBy, MayCountBy, MayUncountBy};
 ghost use Rattle.shared_rule.specs.declared.history.Mark.TheVariants.{TookPart, PutPart, TookFast, PutFast, Passed, Counted, Uncounted, LoadedDatabase};
 ghost use Rattle.shared_rule.specs.Layout.{content_slot_of};
-ghost use Rattle.shared_rule.specs.History.{noting, first_account, first_number};
+ghost use Rattle.shared_rule.specs.History.{noting};
 ghost use Rattle.shared_rule.specs.Ruled.{Ruled};
 ghost use Rattle.shared_rule.specs.Lawful.{MayPutSo};
-ghost use Rattle.shared_rule.specs.Plays.{FitsTable, HasSession, IsSameSeat, Marked, Won, WentHome};
+ghost use Rattle.shared_rule.specs.Plays.{account_at, number_at, FitsTable, HasSession, IsSameSeat, Marked, Won, WentHome};
 
 use crate::layout::{content_slot, database_word, fast_word, partition_word, strong_word};
 use crate::plays::{Marking, Marks, PutsHome, TakesPart, Wins};
@@ -45,7 +45,8 @@ pub(crate) fn load_as<T: PartTable, M: Marking<T>>(
     word: usize,
 ) -> u64
     requires table { FitsTable place.old top.now.table_id × (word < top.now.table_id.words) }
-    requires allowed { Allows (Ruled T.content T.begun top.now.key) top.now.table_id.slots place.old.id place.old.me word (λ n. n)
+    requires allowed { Allows (Ruled T.content T.begun top.now.key) top.now.table_id.slots
+        place.old.id place.old.me word (λ n. n)
         (Marked M.mark (step top.now.table_id.slots word 0 0 none) place.old.me) }
     ensures seat { IsSameSeat place.old place.new }
     ensures side { place.new.me ≡ (noting place.old.me.0 (M.mark result), place.old.me.1) }
@@ -60,7 +61,8 @@ pub(crate) fn fetch_add_as<T: PartTable, M: Marking<T>>(
     amount: u64,
 ) -> u64
     requires table { FitsTable place.old top.now.table_id × (word < top.now.table_id.words) }
-    requires allowed { Allows (Ruled T.content T.begun top.now.key) top.now.table_id.slots place.old.id place.old.me word
+    requires allowed { Allows (Ruled T.content T.begun top.now.key) top.now.table_id.slots
+        place.old.id place.old.me word
         (λ n. (n + amount) % 2 ^ 64) (Marked M.mark (step top.now.table_id.slots word amount 0 none) place.old.me) }
     ensures seat { IsSameSeat place.old place.new }
     ensures side { place.new.me ≡ (noting place.old.me.0 (M.mark result), place.old.me.1) }
@@ -75,8 +77,10 @@ fn fetch_sub_as<T: PartTable, M: Marking<T>>(
     amount: u64,
 ) -> u64
     requires table { FitsTable place.old top.now.table_id × (word < top.now.table_id.words) }
-    requires allowed { Allows (Ruled T.content T.begun top.now.key) top.now.table_id.slots place.old.id place.old.me word
-        (λ n. (n + (2 ^ 64 - amount)) % 2 ^ 64) (Marked M.mark (step top.now.table_id.slots word amount 0 none) place.old.me) }
+    requires allowed { Allows (Ruled T.content T.begun top.now.key) top.now.table_id.slots
+        place.old.id place.old.me word
+        (λ n. (n + (2 ^ 64 - amount)) % 2 ^ 64)
+        (Marked M.mark (step top.now.table_id.slots word amount 0 none) place.old.me) }
     ensures seat { IsSameSeat place.old place.new }
     ensures side { place.new.me ≡ (noting place.old.me.0 (M.mark result), place.old.me.1) }
 {
@@ -85,8 +89,10 @@ fn fetch_sub_as<T: PartTable, M: Marking<T>>(
 
 fn put_home_as<T: PartTable, M: Marking<T>>(top: &Top<T>, place: &mut Place<T>, word: usize)
     requires table { FitsTable place.old top.now.table_id × (word < top.now.table_id.words) }
-    requires allowed { Allows (Ruled T.content T.begun top.now.key) top.now.table_id.slots place.old.id place.old.me word
-        (λ n. (n + (2 ^ 64 - 16777216)) % 2 ^ 64) (WentHome M.mark (step top.now.table_id.slots word 16777216 0 none) place.old.me) }
+    requires allowed { Allows (Ruled T.content T.begun top.now.key) top.now.table_id.slots
+        place.old.id place.old.me word
+        (λ n. (n + (2 ^ 64 - 16777216)) % 2 ^ 64)
+        (WentHome M.mark (step top.now.table_id.slots word 16777216 0 none) place.old.me) }
     ensures seat { IsSameSeat place.old place.new }
     ensures side { (n : ℕ) × (place.new.me ≡ (noting place.old.me.0 (M.mark n), rest place.old.me.1)) }
 {
@@ -101,7 +107,8 @@ fn exchange_as<T: PartTable, M: Marking<T>>(
     new: u64,
 ) -> bool
     requires table { FitsTable place.old top.now.table_id × (word < top.now.table_id.words) }
-    requires allowed { Allows (Ruled T.content T.begun top.now.key) top.now.table_id.slots place.old.id place.old.me word
+    requires allowed { Allows (Ruled T.content T.begun top.now.key) top.now.table_id.slots
+        place.old.id place.old.me word
         (λ n. either (n == old) new n) (Won M.mark (step top.now.table_id.slots word old new none) place.old.me) }
     ensures seat { IsSameSeat place.old place.new }
     ensures won { OnTrue result (place.new.me ≡ (noting place.old.me.0 (M.mark old), place.old.me.1)) }
@@ -124,10 +131,11 @@ fn attempt_part<T: PartTable>(
     requires free { IsHeldByNobody shown × (taken ≡ taken_word shown) }
     ensures seat { IsSameSeat place.old place.new }
     ensures lost { IfNone result (place.new.me ≡ place.old.me) }
-    ensures side { IfSome result (λ content. place.new.me ≡ (noting place.old.me.0 (TookPart part content), (content_slot_of part, None) ∷ place.old.me.1)) }
+    ensures side { IfSome result (λ content. place.new.me
+        ≡ (noting place.old.me.0 (TookPart part content), (content_slot_of part, None) ∷ place.old.me.1)) }
     ensures none_begun { IfSome result (λ content. T.begun content ≡ None) }
     ensures knows { IfSome result (λ content.
-        KnowsContent (first_number place.old.me.0.sessions) (first_account T.content place.old.me.0.sessions) part (T.content content)) }
+        KnowsContent (number_at place.old) (account_at T.content place.old) part (T.content content)) }
 {
     if top.compare_exchange::<TakesPart>(place, partition_word(part), shown, taken) != shown {
         return None;
@@ -147,9 +155,10 @@ pub(crate) fn take_part<T: PartTable, R: Wait>(
     requires exists { part < 16 }
     requires session { HasSession place.old.me.0 }
     ensures seat { IsSameSeat place.old place.new }
-    ensures side { place.new.me ≡ (noting place.old.me.0 (TookPart part result), (content_slot_of part, None) ∷ place.old.me.1) }
+    ensures side { place.new.me
+        ≡ (noting place.old.me.0 (TookPart part result), (content_slot_of part, None) ∷ place.old.me.1) }
     ensures none_begun { T.begun result ≡ None }
-    ensures knows { KnowsContent (first_number place.old.me.0.sessions) (first_account T.content place.old.me.0.sessions) part (T.content result) }
+    ensures knows { KnowsContent (number_at place.old) (account_at T.content place.old) part (T.content result) }
 {
     let backoff = Backoff::new();
     for _ in rt.forever() {
@@ -176,8 +185,8 @@ fn put_part_as<T: PartTable, M: Marking<T>>(
     requires session { HasSession place.old.me.0 }
     requires in_hand { place.old.me.1 ≡ (content_slot_of part, None) ∷ rest place.old.me.1 }
     requires none_begun { T.begun content ≡ None }
-    requires lawful { (mine : InHand) × MayPutSo top.now.key (first_number place.old.me.0.sessions)
-        (first_account T.content place.old.me.0.sessions) part mine done.now (T.content content) }
+    requires lawful { (mine : InHand) × MayPutSo top.now.key (number_at place.old)
+        (account_at T.content place.old) part mine done.now (T.content content) }
     requires mark { M.mark ≡ (λ _. PutPart part done.now content) }
     ensures seat { IsSameSeat place.old place.new }
     ensures side { place.new.me ≡ (noting place.old.me.0 (PutPart part done.now content), rest place.old.me.1) }
@@ -201,8 +210,8 @@ pub(crate) fn put_part<T: PartTable>(
     requires session { HasSession place.old.me.0 }
     requires in_hand { place.old.me.1 ≡ (content_slot_of part, None) ∷ rest place.old.me.1 }
     requires none_begun { T.begun content ≡ None }
-    requires lawful { (mine : InHand) × MayPutSo top.now.key (first_number place.old.me.0.sessions)
-        (first_account T.content place.old.me.0.sessions) part mine done.now (T.content content) }
+    requires lawful { (mine : InHand) × MayPutSo top.now.key (number_at place.old)
+        (account_at T.content place.old) part mine done.now (T.content content) }
     ensures seat { IsSameSeat place.old place.new }
     ensures side { place.new.me ≡ (noting place.old.me.0 (PutPart part done.now content), rest place.old.me.1) }
 {
@@ -257,7 +266,7 @@ fn put_fast_as<T: PartTable, M: Marking<T>>(top: &Top<T>, place: &mut Place<T>, 
     requires table { FitsTable place.old top.now.table_id }
     requires exists { owner < top.now.key }
     requires session { HasSession place.old.me.0 }
-    requires lawful { (slots : SlotsInHand) × MayPutFastBy (first_account T.content place.old.me.0.sessions) owner slots }
+    requires lawful { (slots : SlotsInHand) × MayPutFastBy (account_at T.content place.old) owner slots }
     requires mark { M.mark ≡ (λ _. PutFast owner) }
     ensures seat { IsSameSeat place.old place.new }
     ensures side { place.new.me ≡ (noting place.old.me.0 (PutFast owner), place.old.me.1) }
@@ -270,7 +279,7 @@ pub(crate) fn put_fast<T: PartTable>(top: &Top<T>, place: &mut Place<T>, owner: 
     requires table { FitsTable place.old top.now.table_id }
     requires exists { owner < top.now.key }
     requires session { HasSession place.old.me.0 }
-    requires lawful { (slots : SlotsInHand) × MayPutFastBy (first_account T.content place.old.me.0.sessions) owner slots }
+    requires lawful { (slots : SlotsInHand) × MayPutFastBy (account_at T.content place.old) owner slots }
     ensures seat { IsSameSeat place.old place.new }
     ensures side { place.new.me ≡ (noting place.old.me.0 (PutFast owner), place.old.me.1) }
 {
@@ -287,7 +296,7 @@ fn pass_fast_as<T: PartTable, M: Marking<T>>(
     requires table { FitsTable place.old top.now.table_id }
     requires exists { owner < top.now.key }
     requires session { HasSession place.old.me.0 }
-    requires lawful { (slots : SlotsInHand) × MayPassBy (first_account T.content place.old.me.0.sessions) owner slots tag.now mode }
+    requires lawful { (slots : SlotsInHand) × MayPassBy (account_at T.content place.old) owner slots tag.now mode }
     requires mark { M.mark ≡ (λ _. Passed owner tag.now mode) }
     ensures seat { IsSameSeat place.old place.new }
     ensures side { place.new.me ≡ (noting place.old.me.0 (Passed owner tag.now mode), place.old.me.1) }
@@ -307,7 +316,7 @@ pub(crate) fn pass_fast<T: PartTable>(
     requires table { FitsTable place.old top.now.table_id }
     requires exists { owner < top.now.key }
     requires session { HasSession place.old.me.0 }
-    requires lawful { (slots : SlotsInHand) × MayPassBy (first_account T.content place.old.me.0.sessions) owner slots tag.now mode }
+    requires lawful { (slots : SlotsInHand) × MayPassBy (account_at T.content place.old) owner slots tag.now mode }
     ensures seat { IsSameSeat place.old place.new }
     ensures side { place.new.me ≡ (noting place.old.me.0 (Passed owner tag.now mode), place.old.me.1) }
 {
@@ -322,7 +331,7 @@ fn add_strong_as<T: PartTable, M: Marking<T>>(
 )
     requires table { FitsTable place.old top.now.table_id }
     requires session { HasSession place.old.me.0 }
-    requires lawful { MayCountBy (first_account T.content place.old.me.0.sessions) tag.now mode }
+    requires lawful { MayCountBy (account_at T.content place.old) tag.now mode }
     requires mark { M.mark ≡ (λ _. Counted tag.now mode) }
     ensures seat { IsSameSeat place.old place.new }
     ensures side { place.new.me ≡ (noting place.old.me.0 (Counted tag.now mode), place.old.me.1) }
@@ -334,7 +343,7 @@ fn add_strong_as<T: PartTable, M: Marking<T>>(
 pub(crate) fn add_strong<T: PartTable>(top: &Top<T>, place: &mut Place<T>, tag: &Tag, mode: Mode)
     requires table { FitsTable place.old top.now.table_id }
     requires session { HasSession place.old.me.0 }
-    requires lawful { MayCountBy (first_account T.content place.old.me.0.sessions) tag.now mode }
+    requires lawful { MayCountBy (account_at T.content place.old) tag.now mode }
     ensures seat { IsSameSeat place.old place.new }
     ensures side { place.new.me ≡ (noting place.old.me.0 (Counted tag.now mode), place.old.me.1) }
 {
@@ -349,7 +358,7 @@ fn sub_strong_as<T: PartTable, M: Marking<T>>(
 )
     requires table { FitsTable place.old top.now.table_id }
     requires session { HasSession place.old.me.0 }
-    requires lawful { MayUncountBy (first_account T.content place.old.me.0.sessions) tag.now mode }
+    requires lawful { MayUncountBy (account_at T.content place.old) tag.now mode }
     requires mark { M.mark ≡ (λ _. Uncounted tag.now mode) }
     ensures seat { IsSameSeat place.old place.new }
     ensures side { place.new.me ≡ (noting place.old.me.0 (Uncounted tag.now mode), place.old.me.1) }
@@ -361,7 +370,7 @@ fn sub_strong_as<T: PartTable, M: Marking<T>>(
 pub(crate) fn sub_strong<T: PartTable>(top: &Top<T>, place: &mut Place<T>, tag: &Tag, mode: Mode)
     requires table { FitsTable place.old top.now.table_id }
     requires session { HasSession place.old.me.0 }
-    requires lawful { MayUncountBy (first_account T.content place.old.me.0.sessions) tag.now mode }
+    requires lawful { MayUncountBy (account_at T.content place.old) tag.now mode }
     ensures seat { IsSameSeat place.old place.new }
     ensures side { place.new.me ≡ (noting place.old.me.0 (Uncounted tag.now mode), place.old.me.1) }
 {

@@ -12,10 +12,10 @@ ghost use Rattle.lock_table.specs.Waiter.{whose_and_mode};
 ghost use Rattle.lock_world.specs.Account.{InHand};
 ghost use Rattle.lock_world.specs.AccountLaw.{MayMoveBy, MayLeaveBy};
 ghost use Rattle.shared_rule.specs.declared.history.Mark.TheVariants.{SetWaiting, MarkedGranted, LoadedWait, Asked, ClearedWait, LeftQueue};
-ghost use Rattle.shared_rule.specs.History.{noting, first_account, first_number};
+ghost use Rattle.shared_rule.specs.History.{noting};
 ghost use Rattle.shared_rule.specs.Ruled.{Ruled};
 ghost use Rattle.shared_rule.specs.Lawful.{IsGrantingIn, MayMarkBy, MayClearBy};
-ghost use Rattle.shared_rule.specs.Plays.{FitsTable, HasSession, IsSameSeat, Marked};
+ghost use Rattle.shared_rule.specs.Plays.{account_at, number_at, FitsTable, HasSession, IsSameSeat, Marked};
 
 use crate::layout::wait_word;
 use crate::plays::{Marking, Marks};
@@ -27,7 +27,8 @@ use std::marker::Brand;
 
 fn store_as<T: PartTable, M: Marking<T>>(top: &Top<T>, place: &mut Place<T>, word: usize, new: u64)
     requires table { FitsTable place.old top.now.table_id × (word < top.now.table_id.words) }
-    requires allowed { Allows (Ruled T.content T.begun top.now.key) top.now.table_id.slots place.old.id place.old.me word
+    requires allowed { Allows (Ruled T.content T.begun top.now.key) top.now.table_id.slots
+        place.old.id place.old.me word
         (λ _. new) (λ _. Marked M.mark (step top.now.table_id.slots word new 0 none) place.old.me new) }
     ensures seat { IsSameSeat place.old place.new }
     ensures side { place.new.me ≡ (noting place.old.me.0 (M.mark new), place.old.me.1) }
@@ -42,7 +43,8 @@ fn fetch_or_as<T: PartTable, M: Marking<T>>(
     bits: u64,
 ) -> u64
     requires table { FitsTable place.old top.now.table_id × (word < top.now.table_id.words) }
-    requires allowed { Allows (Ruled T.content T.begun top.now.key) top.now.table_id.slots place.old.id place.old.me word
+    requires allowed { Allows (Ruled T.content T.begun top.now.key) top.now.table_id.slots
+        place.old.id place.old.me word
         (λ n. bit_or n bits) (Marked M.mark (step top.now.table_id.slots word bits 0 none) place.old.me) }
     ensures seat { IsSameSeat place.old place.new }
     ensures side { place.new.me ≡ (noting place.old.me.0 (M.mark result), place.old.me.1) }
@@ -60,9 +62,9 @@ fn set_waiting_as<T: PartTable, M: Marking<T>>(
 )
     requires table { FitsTable place.old top.now.table_id }
     requires session { HasSession place.old.me.0 }
-    requires own { number ≡ first_number place.old.me.0.sessions }
-    requires lawful { (mine : InHand) × MayMoveBy top.now.key (first_number place.old.me.0.sessions)
-        (first_account T.content place.old.me.0.sessions) (partition_of tag.now) mine (Join tag.now mode) [] (T.content content.now) }
+    requires own { number ≡ number_at place.old }
+    requires lawful { (mine : InHand) × MayMoveBy top.now.key (number_at place.old)
+        (account_at T.content place.old) (partition_of tag.now) mine (Join tag.now mode) [] (T.content content.now) }
     requires mark { M.mark ≡ (λ _. SetWaiting tag.now mode content.now) }
     ensures seat { IsSameSeat place.old place.new }
     ensures side { place.new.me ≡ (noting place.old.me.0 (SetWaiting tag.now mode content.now), place.old.me.1) }
@@ -82,9 +84,9 @@ pub(crate) fn set_waiting<T: PartTable>(
 )
     requires table { FitsTable place.old top.now.table_id }
     requires session { HasSession place.old.me.0 }
-    requires own { number ≡ first_number place.old.me.0.sessions }
-    requires lawful { (mine : InHand) × MayMoveBy top.now.key (first_number place.old.me.0.sessions)
-        (first_account T.content place.old.me.0.sessions) (partition_of tag.now) mine (Join tag.now mode) [] (T.content content.now) }
+    requires own { number ≡ number_at place.old }
+    requires lawful { (mine : InHand) × MayMoveBy top.now.key (number_at place.old)
+        (account_at T.content place.old) (partition_of tag.now) mine (Join tag.now mode) [] (T.content content.now) }
     ensures seat { IsSameSeat place.old place.new }
     ensures side { place.new.me ≡ (noting place.old.me.0 (SetWaiting tag.now mode content.now), place.old.me.1) }
 {
@@ -103,11 +105,15 @@ fn mark_granted_as<T: PartTable, M: Marking<T>>(
     requires table { FitsTable place.old top.now.table_id }
     requires session { HasSession place.old.me.0 }
     requires grants { IsGrantingIn part done.now }
-    requires lawful { (mine : InHand) × (granted : List contents.Wait) × (woken.now.items ≡ map whose_and_mode granted)
-        × MayMarkBy top.now.key (first_number place.old.me.0.sessions) (first_account T.content place.old.me.0.sessions) part mine done.now granted (T.content content.now) other }
-    requires mark { M.mark ≡ (λ _. MarkedGranted part other done.now (map (λ told. told.0) woken.now.items) content.now) }
+    requires lawful { (mine : InHand) × (granted : List contents.Wait)
+        × (woken.now.items ≡ map whose_and_mode granted)
+        × MayMarkBy top.now.key (number_at place.old) (account_at T.content place.old) part
+        mine done.now granted (T.content content.now) other }
+    requires mark { M.mark
+        ≡ (λ _. MarkedGranted part other done.now (map (λ told. told.0) woken.now.items) content.now) }
     ensures seat { IsSameSeat place.old place.new }
-    ensures side { place.new.me ≡ (noting place.old.me.0 (MarkedGranted part other done.now (map (λ told. told.0) woken.now.items) content.now), place.old.me.1) }
+    ensures side { place.new.me
+        ≡ (noting place.old.me.0 (MarkedGranted part other done.now (map (λ told. told.0) woken.now.items) content.now), place.old.me.1) }
 {
     fetch_add_as::<T, M>(top, place, wait_word(other), 1);
 }
@@ -126,10 +132,13 @@ pub(crate) fn mark_granted<T: PartTable>(
     requires table { FitsTable place.old top.now.table_id }
     requires session { HasSession place.old.me.0 }
     requires grants { IsGrantingIn part done.now }
-    requires lawful { (mine : InHand) × (granted : List contents.Wait) × (woken.now.items ≡ map whose_and_mode granted)
-        × MayMarkBy top.now.key (first_number place.old.me.0.sessions) (first_account T.content place.old.me.0.sessions) part mine done.now granted (T.content content.now) other }
+    requires lawful { (mine : InHand) × (granted : List contents.Wait)
+        × (woken.now.items ≡ map whose_and_mode granted)
+        × MayMarkBy top.now.key (number_at place.old) (account_at T.content place.old) part
+        mine done.now granted (T.content content.now) other }
     ensures seat { IsSameSeat place.old place.new }
-    ensures side { place.new.me ≡ (noting place.old.me.0 (MarkedGranted part other done.now (map (λ told. told.0) woken.now.items) content.now), place.old.me.1) }
+    ensures side { place.new.me
+        ≡ (noting place.old.me.0 (MarkedGranted part other done.now (map (λ told. told.0) woken.now.items) content.now), place.old.me.1) }
 {
     mark_granted_as::<T, Brand>(top, place, part, other, done, woken, content);
 }
@@ -141,7 +150,7 @@ fn load_wait_as<T: PartTable, M: Marking<T>>(
 ) -> u64
     requires table { FitsTable place.old top.now.table_id }
     requires session { HasSession place.old.me.0 }
-    requires own { number ≡ first_number place.old.me.0.sessions }
+    requires own { number ≡ number_at place.old }
     requires mark { M.mark ≡ LoadedWait }
     ensures seat { IsSameSeat place.old place.new }
     ensures side { place.new.me ≡ (noting place.old.me.0 (LoadedWait result), place.old.me.1) }
@@ -153,7 +162,7 @@ fn load_wait_as<T: PartTable, M: Marking<T>>(
 pub(crate) fn load_wait<T: PartTable>(top: &Top<T>, place: &mut Place<T>, number: SessionId) -> u64
     requires table { FitsTable place.old top.now.table_id }
     requires session { HasSession place.old.me.0 }
-    requires own { number ≡ first_number place.old.me.0.sessions }
+    requires own { number ≡ number_at place.old }
     ensures seat { IsSameSeat place.old place.new }
     ensures side { place.new.me ≡ (noting place.old.me.0 (LoadedWait result), place.old.me.1) }
 {
@@ -187,8 +196,8 @@ pub(crate) fn ask_cancel<T: PartTable>(top: &Top<T>, place: &mut Place<T>, other
 fn clear_wait_as<T: PartTable, M: Marking<T>>(top: &Top<T>, place: &mut Place<T>, number: SessionId)
     requires table { FitsTable place.old top.now.table_id }
     requires session { HasSession place.old.me.0 }
-    requires own { number ≡ first_number place.old.me.0.sessions }
-    requires lawful { (wait : OwnWait) × MayClearBy (first_number place.old.me.0.sessions) (first_account T.content place.old.me.0.sessions) wait }
+    requires own { number ≡ number_at place.old }
+    requires lawful { (wait : OwnWait) × MayClearBy (number_at place.old) (account_at T.content place.old) wait }
     requires mark { M.mark ≡ (λ _. ClearedWait) }
     ensures seat { IsSameSeat place.old place.new }
     ensures side { place.new.me ≡ (noting place.old.me.0 (ClearedWait), place.old.me.1) }
@@ -200,8 +209,8 @@ fn clear_wait_as<T: PartTable, M: Marking<T>>(top: &Top<T>, place: &mut Place<T>
 pub(crate) fn clear_wait<T: PartTable>(top: &Top<T>, place: &mut Place<T>, number: SessionId)
     requires table { FitsTable place.old top.now.table_id }
     requires session { HasSession place.old.me.0 }
-    requires own { number ≡ first_number place.old.me.0.sessions }
-    requires lawful { (wait : OwnWait) × MayClearBy (first_number place.old.me.0.sessions) (first_account T.content place.old.me.0.sessions) wait }
+    requires own { number ≡ number_at place.old }
+    requires lawful { (wait : OwnWait) × MayClearBy (number_at place.old) (account_at T.content place.old) wait }
     ensures seat { IsSameSeat place.old place.new }
     ensures side { place.new.me ≡ (noting place.old.me.0 (ClearedWait), place.old.me.1) }
 {
@@ -217,12 +226,15 @@ fn leave_queue_as<T: PartTable, M: Marking<T>>(
 )
     requires table { FitsTable place.old top.now.table_id }
     requires session { HasSession place.old.me.0 }
-    requires own { number ≡ first_number place.old.me.0.sessions }
-    requires lawful { (wait : OwnWait) × (mine : InHand) × (granted : List contents.Wait) × (woken.now.items ≡ map whose_and_mode granted)
-        × MayLeaveBy top.now.key (first_number place.old.me.0.sessions) (first_account T.content place.old.me.0.sessions) wait mine granted (T.content content.now) }
+    requires own { number ≡ number_at place.old }
+    requires lawful { (wait : OwnWait) × (mine : InHand) × (granted : List contents.Wait)
+        × (woken.now.items ≡ map whose_and_mode granted)
+        × MayLeaveBy top.now.key (number_at place.old) (account_at T.content place.old) wait
+        mine granted (T.content content.now) }
     requires mark { M.mark ≡ (λ _. LeftQueue (map (λ told. told.0) woken.now.items) content.now) }
     ensures seat { IsSameSeat place.old place.new }
-    ensures side { place.new.me ≡ (noting place.old.me.0 (LeftQueue (map (λ told. told.0) woken.now.items) content.now), place.old.me.1) }
+    ensures side { place.new.me
+        ≡ (noting place.old.me.0 (LeftQueue (map (λ told. told.0) woken.now.items) content.now), place.old.me.1) }
 {
     store_as::<T, M>(top, place, wait_word(number), 0);
 }
@@ -238,11 +250,14 @@ pub(crate) fn leave_queue<T: PartTable>(
 )
     requires table { FitsTable place.old top.now.table_id }
     requires session { HasSession place.old.me.0 }
-    requires own { number ≡ first_number place.old.me.0.sessions }
-    requires lawful { (wait : OwnWait) × (mine : InHand) × (granted : List contents.Wait) × (woken.now.items ≡ map whose_and_mode granted)
-        × MayLeaveBy top.now.key (first_number place.old.me.0.sessions) (first_account T.content place.old.me.0.sessions) wait mine granted (T.content content.now) }
+    requires own { number ≡ number_at place.old }
+    requires lawful { (wait : OwnWait) × (mine : InHand) × (granted : List contents.Wait)
+        × (woken.now.items ≡ map whose_and_mode granted)
+        × MayLeaveBy top.now.key (number_at place.old) (account_at T.content place.old) wait
+        mine granted (T.content content.now) }
     ensures seat { IsSameSeat place.old place.new }
-    ensures side { place.new.me ≡ (noting place.old.me.0 (LeftQueue (map (λ told. told.0) woken.now.items) content.now), place.old.me.1) }
+    ensures side { place.new.me
+        ≡ (noting place.old.me.0 (LeftQueue (map (λ told. told.0) woken.now.items) content.now), place.old.me.1) }
 {
     leave_queue_as::<T, Brand>(top, place, number, woken, content);
 }
