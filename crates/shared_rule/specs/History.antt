@@ -46,15 +46,18 @@ in_hand (Some mine) = mine
 abbrev pub is_among : List ℕ → ℕ → Bool
 is_among sessions session = list_any (λ other. other == session) sessions
 
--- what marking a session granted makes of the account: the move is made by the first such step, and stands recorded at each further one
+-- what marking a session granted makes of the account: the move is made by the first such step, and stands recorded at
+-- each further one
 abbrev pub account_granting_by : Option Move → Account → ℕ → InHand → ℕ → Move → List ℕ → Content → Account
-account_granting_by None a part mine other done woken now = account_marking a part mine now done done (unmarked_but (is_among woken) other)
-account_granting_by (Some made) a part mine other done woken now = account_marking a part mine mine.now Keep made (unmarked_but mine.unmarked other)
+account_granting_by None a part mine other done woken now =
+    account_marking a part mine now done done (unmarked_but (is_among woken) other)
+account_granting_by (Some made) a part mine other done woken now =
+    account_marking a part mine mine.now Keep made (unmarked_but mine.unmarked other)
 
 abbrev pub account_granting : Account → ℕ → InHand → ℕ → Move → List ℕ → Content → Account
 account_granting a part mine other done woken now = account_granting_by mine.recorded a part mine other done woken now
 
--- whether the own wait was granted, as far as the session can tell: it has seen that, or the content in hand has the hold
+-- whether the own wait was granted, as far as the session can tell: it has seen that, or the content in hand has it
 abbrev pub is_granted : ℕ → Account → OwnWait → Bool
 is_granted number a wait = a.seen || (in_hand (a.hand (partition_of wait.tag))).now.holds number wait.tag wait.mode
 
@@ -65,7 +68,8 @@ account_cleared number a (Some wait) = account_clearing a wait (is_granted numbe
 
 abbrev pub account_left : Account → Option OwnWait → Content → List ℕ → Account
 account_left a None now woken = a
-account_left a (Some wait) now woken = account_leaving a (in_hand (a.hand (partition_of wait.tag))) wait now (is_among woken)
+account_left a (Some wait) now woken =
+    account_leaving a (in_hand (a.hand (partition_of wait.tag))) wait now (is_among woken)
 
 -- the slots of a session that has no lock by the fast path
 abbrev pub no_slots : SlotsInHand
@@ -82,8 +86,10 @@ module _ {T : Type 0} (content : T → Content) where
   noted number a (Counted tag mode) = account_counting a tag mode
   noted number a (Uncounted tag mode) = account_uncounting a tag mode
   noted number a (SetWaiting tag mode now) =
-      account_waiting a (in_hand (a.hand (partition_of tag))) tag mode (content now) ((in_hand (a.hand (partition_of tag))).now.holds number tag)
-  noted number a (MarkedGranted part other done woken now) = account_granting a part (in_hand (a.hand part)) other done woken (content now)
+      account_waiting a (in_hand (a.hand (partition_of tag))) tag mode (content now)
+      ((in_hand (a.hand (partition_of tag))).now.holds number tag)
+  noted number a (MarkedGranted part other done woken now) =
+      account_granting a part (in_hand (a.hand part)) other done woken (content now)
   noted number a (LoadedWait shown) =
       record (account_tracing a (Loaded (Wait number) shown)) { seen = a.seen || (wait_state shown == 2) }
   noted number a (Asked other before) = account_tracing a (AskedToCancel other before)

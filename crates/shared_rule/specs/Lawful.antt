@@ -20,12 +20,14 @@ IsGrantingIn partition (Release tag mode) = partition_of tag ≡ partition
 IsGrantingIn partition (Leave tag) = partition_of tag ≡ partition
 IsGrantingIn partition (Adopt owner slot) = ⊥
 
--- The session is one of those whom the move grants: the move is made by the first mark, or stands recorded and the session is unmarked.
+-- The session is one of those whom the move grants: the move is made by the first mark, or stands recorded and the session
+-- is unmarked.
 abbrev pub MayMarkBy : ℕ → ℕ → Account → ℕ → InHand → Move → List Wait → Content → ℕ → Type 0
 MayMarkBy limit number a partition mine done granted content other =
     MayMarkFirstBy limit number a partition mine done granted content other ⊎ MayMarkNextBy a partition mine done other
 
--- Putting a partition: after a move that is made as it is put, or, with nothing changed since, after the one that stands recorded.
+-- Putting a partition: after a move that is made as it is put, or, with nothing changed since, after the one that stands
+-- recorded.
 pub record PutsRecorded (a : Account) (partition : ℕ) (mine : InHand) (done : Move) (content : Content) : Type 0 where
   pub made : Move
   pub may_put : MayPutRecordedBy a partition mine made

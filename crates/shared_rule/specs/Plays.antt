@@ -62,7 +62,8 @@ module _ {T : Type 0} where
   WentHome mark step before found after = after ≡ (noting before.0 (mark found), rest before.1)
 
 module _ {T : Type 0} (content : T → Content) (begun : T → Option Request) where
-  -- A partition came into hand with its content, of which the session knows what its account tells, and in which no request is begun.
+  -- A partition came into hand with its content, of which the session knows what its account tells, and in which no
+  -- request is begun.
   pub record TookContent (p : ℕ) (before after : Side T) : Type 0 where
     pub part : T
     pub side : after ≡ (noting before.0 (TookPart p part), (content_slot_of p, Some part) ∷ before.1)

@@ -44,7 +44,8 @@ module _ {T : Type 0} (content : T → Content) (begun : T → Option Request) w
 module _ {T : Type 0} (content : T → Content) where
   -- A history tells the account of its session, which is live, stands in no other view and not twice in this one, and makes steps of
   -- its own if it is the first there.
-  pub record HistoryIsShown (w : World) (seat_of place_in : ℕ → ℕ) (its_seat its_place : ℕ) (sessions : List (History T)) (history : History T) : Type 0 where
+  pub record HistoryIsShown (w : World) (seat_of place_in : ℕ → ℕ) (its_seat its_place : ℕ)
+      (sessions : List (History T)) (history : History T) : Type 0 where
     pub account : told content history.number history.marks ≡ account w history.number
     pub live : w.numbers.live history.number ≡ true
     pub kept_by : w.numbers.kept_by history.number ≡ keeper sessions its_place
@@ -69,7 +70,9 @@ module _ {T : Type 0} (content : T → Content) where
         (seat place : ℕ) (view : View T) (history : History T) → get_elem? views seat ≡ some view
         → slice_get view.sessions place ≡ Some history
         → HistoryIsShown w seat_of place_in seat place view.sessions history
-    pub behind : (session joiner : ℕ) → w.numbers.kept_by session ≡ Some joiner → IsBehind views seat_of place_in session joiner
+    pub behind :
+        (session joiner : ℕ) → w.numbers.kept_by session ≡ Some joiner
+        → IsBehind views seat_of place_in session joiner
     -- one seat is the opener's, and knows the next number
     pub opener : ℕ
     pub next :

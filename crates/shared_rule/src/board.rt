@@ -116,7 +116,8 @@ pub trait Board<T: PartTable> {
         requires lawful { (mine : InHand) × MayMoveBy (seat self.old).limit (seat self.old).number (view self.old)
             (partition_of tag.now) mine (Join tag.now mode) [] (T.content content.now) }
         ensures seat { seat self.new ≡ seat self.old }
-        ensures view { view self.new ≡ account_waiting (view self.old) (in_hand ((view self.old).hand (partition_of tag.now)))
+        ensures view { view self.new ≡ account_waiting (view self.old)
+            (in_hand ((view self.old).hand (partition_of tag.now)))
             tag.now mode (T.content content.now)
             ((in_hand ((view self.old).hand (partition_of tag.now))).now.holds (seat self.old).number tag.now) }
         ensures stack { stack self.new ≡ stack self.old };
@@ -126,11 +127,13 @@ pub trait Board<T: PartTable> {
     /// (`ProcWakeup` in proc.c sets `waitStatus`).
     fn mark_granted(&mut self, part: u8, other: SessionId, done: &Move, woken: &Woken, content: &T)
         requires grants { IsGrantingIn part done.now }
-        requires lawful { (mine : InHand) × (granted : List contents.Wait) × (woken.now.items ≡ map whose_and_mode granted)
+        requires lawful { (mine : InHand) × (granted : List contents.Wait)
+            × (woken.now.items ≡ map whose_and_mode granted)
             × MayMarkBy (seat self.old).limit (seat self.old).number (view self.old) part mine done.now granted
             (T.content content.now) other }
         ensures seat { seat self.new ≡ seat self.old }
-        ensures view { view self.new ≡ account_granting (view self.old) part (in_hand ((view self.old).hand part)) other done.now
+        ensures view { view self.new ≡ account_granting (view self.old) part
+            (in_hand ((view self.old).hand part)) other done.now
             (map (λ told. told.0) woken.now.items) (T.content content.now) }
         ensures stack { stack self.new ≡ stack self.old };
 
@@ -162,7 +165,8 @@ pub trait Board<T: PartTable> {
     fn leave_queue(&mut self, woken: &Woken, content: &T)
         requires lawful { (wait : OwnWait) × (mine : InHand) × (granted : List contents.Wait)
             × (woken.now.items ≡ map whose_and_mode granted)
-            × MayLeaveBy (seat self.old).limit (seat self.old).number (view self.old) wait mine granted (T.content content.now) }
+            × MayLeaveBy (seat self.old).limit (seat self.old).number (view self.old)
+            wait mine granted (T.content content.now) }
         ensures seat { seat self.new ≡ seat self.old }
         ensures view { view self.new ≡ account_left (view self.old) (view self.old).awaited (T.content content.now)
             (map (λ told. told.0) woken.now.items) }
