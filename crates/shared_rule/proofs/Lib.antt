@@ -5,3 +5,4 @@ pub mod Meetings
 pub mod Opening
 pub mod Events
 pub mod Sides
+pub mod Episodes

@@ -8,3 +8,4 @@ pub mod Lawful
 pub mod Opening
 pub mod Seats
 pub mod Openers
+pub mod Episodes

@@ -6,6 +6,7 @@ pub mod board;
 pub mod history;
 pub mod laws;
 pub mod layout;
+pub mod one_thread;
 pub mod opener;
 pub mod plays;
 pub mod rule;

@@ -1,8 +1,8 @@
 //! The opener, who gives out session numbers and takes closed sessions back.
 
-ghost use Rattle.std.specs.Prelude.{◌≡◌, ◌≤◌, ◌+◌, ◌↔◌, [], IfSome, IsNone, OnSome};
-ghost use Rattle.shared_rule.specs.History.{blank_account, opening_view};
-ghost use Rattle.shared_rule.specs.Plays.{IsSized};
+ghost use Rattle.std.specs.Prelude.{◌≡◌, ◌<◌, ◌≤◌, ◌+◌, ◌↔◌, [], IfSome, IsNone, OnSome};
+ghost use Rattle.shared_rule.specs.History.{blank_account, lone, opening_view};
+ghost use Rattle.shared_rule.specs.Plays.{FitsTable, IsSized};
 ghost use Rattle.shared_rule.specs.Seats.{MayCloseBy};
 
 use crate::board::Board;
@@ -48,6 +48,22 @@ impl<T: PartTable> Opener<T> {
             issued: 0,
             sessions,
         }
+    }
+
+    // The first session's seat, after which no other number is given out.
+    pub(crate) fn into_first(self, table: &Top<T>) -> Place<T>
+        requires table { (self.table ≡ table.now.table_id) × (self.limit ≡ table.now.key) }
+        requires first { self.issued ≡ 0 }
+        requires some { 0 < self.limit }
+        ensures table { FitsTable result table.now.table_id }
+        ensures side { result.me ≡ (lone 0 [], []) }
+    {
+        let Opener {
+            mut place,
+            issued: _,
+            sessions: _,
+        } = self;
+        seats::open(table, &mut place)
     }
 
     /// The next session's board, whose account has nothing in it, or `None` where all numbers are given out.

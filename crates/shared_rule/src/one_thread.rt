@@ -1,0 +1,177 @@
+//! A board for tests: one session, session 0, at a table of its own.
+
+ghost use Rattle.std.specs.Prelude.{◌≡◌, ◌<◌, ◌≤◌, ℕ, List, [], ◌∷◌, None, IfOk, IfErr};
+ghost use Rattle.shared_rule.specs.declared.layout.TheConstants.{TABLE_WORDS, CONTENT_SLOTS};
+ghost use Rattle.shared_rule.specs.History.{blank_account, first_account, lone};
+ghost use Rattle.shared_rule.specs.Opening.{AreNew};
+ghost use Rattle.shared_rule.specs.Boards.{Seated, parts_in_hand, slots_out, first_marks};
+
+use crate::board::Board;
+use crate::layout::wait_word;
+use crate::rule::Place;
+use crate::table::{SharedTable, open};
+use crate::{steps, waits};
+use atomic_table::Refused;
+use lock_table::{Move, PartTable, Woken};
+use modes_core::{Mode, SessionId, Tag};
+use std::alloc::Global;
+use std::sync::Wait;
+
+/// A table and the one seat at it. Every call is that of a `SeatBoard`, so code over any board does the same on it.
+pub struct OneThread<T: PartTable> {
+    table: SharedTable<T>,
+    place: Place<T>,
+    number: SessionId,
+    sessions: u8,
+    ghost at: { place.table_id ≡ table.shared.table_id },
+    ghost words: { table.shared.table_id.words ≡ TABLE_WORDS },
+    ghost slots: { table.shared.table_id.slots ≡ CONTENT_SLOTS },
+    ghost limit: { sessions ≡ table.shared.key },
+    ghost lone: { place.me.0 ≡ lone number (first_marks place.me.0.sessions) },
+    ghost out: { place.me.1 ≡ slots_out (parts_in_hand place.me.1) },
+}
+
+impl<T: PartTable> OneThread<T> {
+    /// Session 0 at a new table for so many sessions. Without memory the parts come back.
+    pub fn new(
+        alloc: Global,
+        sessions: u8,
+        parts: Vec<Option<T>>,
+    ) -> Result<OneThread<T>, Refused<Option<T>, Global>>
+        requires some { 0 < sessions }
+        requires few { sessions ≤ 64 }
+        requires parts { AreNew T.content T.begun parts.items }
+        ensures blank { IfOk result (λ board. ⟦<OneThread<T> as Board<T>>⟧.view board ≡ blank_account) }
+        ensures stack { IfOk result (λ board. ⟦<OneThread<T> as Board<T>>⟧.stack board ≡ []) }
+        ensures number { IfOk result (λ board. (⟦<OneThread<T> as Board<T>>⟧.seat board).number ≡ 0) }
+        ensures limit { IfOk result (λ board. (⟦<OneThread<T> as Board<T>>⟧.seat board).limit ≡ sessions) }
+        ensures refused { IfErr result (λ refused. refused.slots.items ≡ parts.items) }
+    {
+        let number = SessionId::new(0).unwrap();
+        let (table, opener) = open(alloc, sessions, parts)?;
+        let place = opener.into_first(&table.shared);
+        Ok(OneThread {
+            table,
+            place,
+            number,
+            sessions,
+        })
+    }
+}
+
+impl<T: PartTable> Board<T> for OneThread<T> {
+    ghost seat = { λ board. record { number = board.number; limit = board.sessions; table = board.table.shared.table_id } };
+
+    ghost view = { λ board. first_account T.content board.place.me.0.sessions };
+
+    ghost stack = { λ board. parts_in_hand board.place.me.1 };
+
+    fn number(&self) -> SessionId {
+        self.number
+    }
+
+    fn sessions(&self) -> u8 {
+        self.sessions
+    }
+
+    fn take_part<R: Wait>(&mut self, rt: &R, part: u8) -> T {
+        let table = &self.table;
+        steps::take_part(rt, &table.shared, &mut self.place, part)
+    }
+
+    fn put_part(&mut self, part: u8, done: &Move, content: T) {
+        let table = &self.table;
+        steps::put_part(&table.shared, &mut self.place, part, done, content);
+    }
+
+    fn take_fast<R: Wait>(&mut self, rt: &R, owner: SessionId) {
+        let table = &self.table;
+        steps::take_fast(rt, &table.shared, &mut self.place, owner);
+    }
+
+    fn put_fast(&mut self, owner: SessionId) {
+        let table = &self.table;
+        steps::put_fast(&table.shared, &mut self.place, owner);
+    }
+
+    fn pass_fast(&mut self, owner: SessionId, tag: &Tag, mode: Mode) {
+        let table = &self.table;
+        steps::pass_fast(&table.shared, &mut self.place, owner, tag, mode);
+    }
+
+    fn add_strong(&mut self, tag: &Tag, mode: Mode) {
+        let table = &self.table;
+        steps::add_strong(&table.shared, &mut self.place, tag, mode);
+    }
+
+    fn sub_strong(&mut self, tag: &Tag, mode: Mode) {
+        let table = &self.table;
+        steps::sub_strong(&table.shared, &mut self.place, tag, mode);
+    }
+
+    fn load_database(&mut self, owner: SessionId) -> u64 {
+        let table = &self.table;
+        steps::load_database(&table.shared, &mut self.place, owner)
+    }
+
+    fn set_waiting(&mut self, tag: &Tag, mode: Mode, content: &T) {
+        let table = &self.table;
+        waits::set_waiting(
+            &table.shared,
+            &mut self.place,
+            self.number,
+            tag,
+            mode,
+            content,
+        );
+    }
+
+    fn mark_granted(
+        &mut self,
+        part: u8,
+        other: SessionId,
+        done: &Move,
+        woken: &Woken,
+        content: &T,
+    ) {
+        let table = &self.table;
+        waits::mark_granted(
+            &table.shared,
+            &mut self.place,
+            part,
+            other,
+            done,
+            woken,
+            content,
+        );
+    }
+
+    fn load_wait(&mut self) -> u64 {
+        let table = &self.table;
+        waits::load_wait(&table.shared, &mut self.place, self.number)
+    }
+
+    fn ask_cancel(&mut self, other: SessionId) -> u64 {
+        let table = &self.table;
+        waits::ask_cancel(&table.shared, &mut self.place, other)
+    }
+
+    fn clear_wait(&mut self) {
+        let table = &self.table;
+        waits::clear_wait(&table.shared, &mut self.place, self.number);
+    }
+
+    fn leave_queue(&mut self, woken: &Woken, content: &T) {
+        let table = &self.table;
+        waits::leave_queue(&table.shared, &mut self.place, self.number, woken, content);
+    }
+
+    fn sleep<R: Wait>(&self, rt: &R, shown: u64) {
+        let low_bits = (shown & u64::from(u32::MAX)) as u32;
+        self.table.shared.park(rt, wait_word(self.number), low_bits);
+    }
+
+    fn wake(&self, other: SessionId) {
+        self.table.shared.wake_one(wait_word(other));
+    }
+}
