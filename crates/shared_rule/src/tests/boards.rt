@@ -4,15 +4,11 @@ ghost use Rattle.std.specs.Prelude.{◌≡◌, ◌<◌, []};
 ghost use Rattle.shared_rule.specs.Seats.{MayCloseBy};
 
 use crate::board::Board;
-use crate::one_thread::OneThread;
 use crate::seat_board::SeatBoard;
 use crate::table::{in_slots, open};
-use lock_table::{Move, PartTable, PlainPart, empty_parts};
-use std::alloc::Global;
-use std::process::Abort;
+use lock_table::{Move, PartTable, empty_parts};
 use std::sync::Wait;
 use std::test::Fail;
-use std::thread::{Threads, join};
 
 const ROUNDS: u32 = 10_000;
 
@@ -26,4 +22,39 @@ fn keep_once<T: PartTable, B: Board<T>, R: Wait>(rt: &R, board: &mut B, part: u8
 {
     let content = board.take_part(rt, part);
     board.put_part(part, &Move::Keep, content);
+}
+
+// Does so over and over, with a board of the shared table.
+fn keep_often<'a, T: PartTable, R: Wait>(rt: &R, mut board: SeatBoard<'a, T>) -> SeatBoard<'a, T>
+    requires idle { MayCloseBy (⟦<SeatBoard<'a, T> as Board<T>>⟧.view board) }
+    requires stack { ⟦<SeatBoard<'a, T> as Board<T>>⟧.stack board ≡ [] }
+    ensures idle { MayCloseBy (⟦<SeatBoard<'a, T> as Board<T>>⟧.view result) }
+    ensures stack { ⟦<SeatBoard<'a, T> as Board<T>>⟧.stack result ≡ [] }
+    ensures seat { ⟦<SeatBoard<'a, T> as Board<T>>⟧.seat result ≡ ⟦<SeatBoard<'a, T> as Board<T>>⟧.seat board.entry }
+{
+    for _ in 0..ROUNDS {
+        keep_once(rt, &mut board, 3);
+    }
+    board
+}
+
+#[test]
+fn a_partition_goes_from_hand_to_hand(rt: HostRuntime) -> Result<(), Fail> {
+    let alloc = rt.alloc();
+    let slots = in_slots(alloc, empty_parts(alloc)?)?;
+    let Ok((table, mut opener)) = open(alloc, 2, slots) else {
+        return Err("out of memory".into());
+    };
+    let first = opener.session(&table.shared).ok_or("no first session")?;
+    let Some(second) = opener.session(&table.shared) else {
+        opener.close(first);
+        return Err("no second session".into());
+    };
+    let first = keep_often(&rt, first);
+    let second = keep_often(&rt, second);
+    let mut first = keep_often(&rt, first);
+    let second = first.meet(second);
+    opener.close(first);
+    opener.close(second);
+    Ok(())
 }
