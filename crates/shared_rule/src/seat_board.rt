@@ -15,7 +15,8 @@ use lock_table::{Move, PartTable, Woken};
 use modes_core::{Mode, SessionId, Tag};
 use std::sync::Wait;
 
-/// A session's seat at the table that all sessions share.
+/// A session's seat at the table that all sessions share. One that is let go leaves its session open for ever.
+#[derive(Drop)]
 pub struct SeatBoard<'a, T: PartTable> {
     table: &'a Top<T>,
     place: Place<T>,

@@ -1,6 +1,8 @@
 //! Steps on the table, by one thread and by two.
 
 ghost use Rattle.std.specs.Prelude.{◌≡◌, ◌<◌, []};
+ghost use Rattle.shared_rule.specs.History.{first_account};
+ghost use Rattle.shared_rule.specs.Boards.{parts_in_hand};
 ghost use Rattle.shared_rule.specs.Seats.{MayCloseBy};
 
 use crate::board::Board;
@@ -9,6 +11,7 @@ use crate::table::{in_slots, open};
 use lock_table::{Move, PartTable, empty_parts};
 use std::sync::Wait;
 use std::test::Fail;
+use std::thread::{Threads, join};
 
 const ROUNDS: u32 = 10_000;
 
@@ -38,6 +41,44 @@ fn keep_often<'a, T: PartTable, R: Wait>(rt: &R, mut board: SeatBoard<'a, T>) ->
     board
 }
 
+// Each in a thread of its own.
+fn in_two_threads<'a, T: PartTable + Send, R: Threads + Wait + Sync>(
+    rt: &R,
+    first: SeatBoard<'a, T>,
+    second: SeatBoard<'a, T>,
+) -> (SeatBoard<'a, T>, SeatBoard<'a, T>)
+    requires idle { MayCloseBy (⟦<SeatBoard<'a, T> as Board<T>>⟧.view first) }
+    requires stack { ⟦<SeatBoard<'a, T> as Board<T>>⟧.stack first ≡ [] }
+    requires its_idle { MayCloseBy (⟦<SeatBoard<'a, T> as Board<T>>⟧.view second) }
+    requires its_stack { ⟦<SeatBoard<'a, T> as Board<T>>⟧.stack second ≡ [] }
+    ensures idle { MayCloseBy (⟦<SeatBoard<'a, T> as Board<T>>⟧.view result.0) }
+    ensures stack { ⟦<SeatBoard<'a, T> as Board<T>>⟧.stack result.0 ≡ [] }
+    ensures seat { ⟦<SeatBoard<'a, T> as Board<T>>⟧.seat result.0 ≡ ⟦<SeatBoard<'a, T> as Board<T>>⟧.seat first.entry }
+    ensures its_idle { MayCloseBy (⟦<SeatBoard<'a, T> as Board<T>>⟧.view result.1) }
+    ensures its_stack { ⟦<SeatBoard<'a, T> as Board<T>>⟧.stack result.1 ≡ [] }
+    ensures its_seat { ⟦<SeatBoard<'a, T> as Board<T>>⟧.seat result.1 ≡ ⟦<SeatBoard<'a, T> as Board<T>>⟧.seat second.entry }
+{
+    join(
+        rt,
+        move || -> SeatBoard<T>
+            requires idle { MayCloseBy (first_account T.content first.place.me.0.sessions) }
+            requires stack { parts_in_hand first.place.me.1 ≡ [] }
+            ensures idle { MayCloseBy (first_account T.content result.place.me.0.sessions) }
+            ensures stack { parts_in_hand result.place.me.1 ≡ [] }
+            ensures seat { (result.number ≡ first.entry.number) × (result.sessions ≡ first.entry.sessions)
+                × (result.table.now.table_id ≡ first.entry.table.now.table_id) }
+        { keep_often(rt, first) },
+        move || -> SeatBoard<T>
+            requires idle { MayCloseBy (first_account T.content second.place.me.0.sessions) }
+            requires stack { parts_in_hand second.place.me.1 ≡ [] }
+            ensures idle { MayCloseBy (first_account T.content result.place.me.0.sessions) }
+            ensures stack { parts_in_hand result.place.me.1 ≡ [] }
+            ensures seat { (result.number ≡ second.entry.number) × (result.sessions ≡ second.entry.sessions)
+                × (result.table.now.table_id ≡ second.entry.table.now.table_id) }
+        { keep_often(rt, second) },
+    )
+}
+
 #[test]
 fn a_partition_goes_from_hand_to_hand(rt: HostRuntime) -> Result<(), Fail> {
     let alloc = rt.alloc();
@@ -53,6 +94,25 @@ fn a_partition_goes_from_hand_to_hand(rt: HostRuntime) -> Result<(), Fail> {
     let first = keep_often(&rt, first);
     let second = keep_often(&rt, second);
     let mut first = keep_often(&rt, first);
+    let second = first.meet(second);
+    opener.close(first);
+    opener.close(second);
+    Ok(())
+}
+
+#[test]
+fn two_threads_take_one_partition(rt: HostRuntime) -> Result<(), Fail> {
+    let alloc = rt.alloc();
+    let slots = in_slots(alloc, empty_parts(alloc)?)?;
+    let Ok((table, mut opener)) = open(alloc, 2, slots) else {
+        return Err("out of memory".into());
+    };
+    let first = opener.session(&table.shared).ok_or("no first session")?;
+    let Some(second) = opener.session(&table.shared) else {
+        opener.close(first);
+        return Err("no second session".into());
+    };
+    let (mut first, second) = in_two_threads(&rt, first, second);
     let second = first.meet(second);
     opener.close(first);
     opener.close(second);

@@ -10,5 +10,5 @@ invariant-loop g l = record {
   stack : parts_in_hand l.board.place.me.1 ≡ [];
   number : l.board.number ≡ l.initial.board.number;
   sessions : l.board.sessions ≡ l.initial.board.sessions;
-  table : l.board.table.now.table_id ≡ l.initial.board.table.now.table_id
+  table : l.board.table.now.table_id ≡ l.initial.board.table.now.table_id;
 }
