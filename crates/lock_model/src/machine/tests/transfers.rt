@@ -219,3 +219,83 @@ fn the_own_slots_are_moved_too(rt: HostRuntime) -> Result<(), Fail> {
     assert_eq!(rt; plain.word(Word::Fast(a)), FREE);
     Ok(())
 }
+
+/// Runs the events with the one behind them and without it, and ends the test where that makes a difference: to the
+/// holds, to the slots of session 1, to the word of the table's partition.
+fn is_skipped<R: Abort + AllocGlobal>(
+    rt: &R,
+    before: &[Event],
+    unlawful: &[Event],
+) -> Result<(), Fail> {
+    let without = run_next(rt, before)?;
+    let mut events = Vec::new(rt.alloc());
+    events.extend_from_slice(before)?;
+    events.extend_from_slice(unlawful)?;
+    let with = run_next(rt, events.as_slice())?;
+    let b = session(rt, 1);
+    assert_eq!(rt; with.holds().len(), 3);
+    for (hold, same) in with.holds().iter().zip(without.holds()) {
+        assert_eq!(rt; hold.spot, same.spot);
+    }
+    for slot in 0..2u8 {
+        let shown = without.word(Word::Slot(b, slot));
+        assert_eq!(rt; with.word(Word::Slot(b, slot)), shown);
+    }
+    Ok(())
+}
+
+#[test]
+fn nothing_is_moved_without_both_locks(rt: HostRuntime) -> Result<(), Fail> {
+    let (a, b) = (session(&rt, 0), session(&rt, 1));
+    let p = table().partition();
+    let one = [transfers(a, b, 0, table(), Mode::AccessShare)];
+    // The lock of the slots is nobody's, or the owner has it.
+    is_skipped(&rt, &[takes(a, p)], &one)?;
+    is_skipped(&rt, &[takes_fast(b, b), takes(a, p)], &one)?;
+    // The partition is in nobody's hand, another one is in hand, or the owner has it.
+    is_skipped(&rt, &[takes_fast(a, b)], &one)?;
+    is_skipped(&rt, &[takes_fast(a, b), takes(a, (p + 1) % 16)], &one)?;
+    is_skipped(&rt, &[takes_fast(a, b), takes(b, p)], &one)?;
+    // The session is not open, or is kept apart.
+    let c = [transfers(session(&rt, 2), b, 0, table(), Mode::AccessShare)];
+    is_skipped(&rt, &[takes_fast(a, b), takes(a, p)], &c)?;
+    is_skipped(&rt, &[is_kept(a, b), takes_fast(a, b), takes(a, p)], &one)
+}
+
+#[test]
+fn only_what_the_slot_shows_is_moved(rt: HostRuntime) -> Result<(), Fail> {
+    let (a, b) = (session(&rt, 0), session(&rt, 1));
+    let p = table().partition();
+    let locks = [takes_fast(a, b), takes(a, p)];
+    // Another mode, a strong one, another slot, no slot, another table.
+    is_skipped(&rt, &locks, &[transfers(a, b, 0, table(), Mode::RowShare)])?;
+    is_skipped(&rt, &locks, &[transfers(a, b, 0, table(), Mode::Share)])?;
+    is_skipped(
+        &rt,
+        &locks,
+        &[transfers(a, b, 1, table(), Mode::AccessShare)],
+    )?;
+    is_skipped(
+        &rt,
+        &locks,
+        &[transfers(a, b, 16, table(), Mode::AccessShare)],
+    )?;
+    is_skipped(
+        &rt,
+        &locks,
+        &[transfers(a, b, 0, other_table(), Mode::AccessShare)],
+    )?;
+    // What was moved is there no more.
+    let one = [transfers(a, b, 0, table(), Mode::AccessShare)];
+    is_skipped(&rt, &[locks[0], locks[1], one[0]], &one)
+}
+
+#[test]
+fn nothing_is_moved_after_another_move(rt: HostRuntime) -> Result<(), Fail> {
+    let (a, b) = (session(&rt, 0), session(&rt, 1));
+    let p = table().partition();
+    let one = [transfers(a, b, 0, table(), Mode::AccessShare)];
+    let other = transfers(a, b, 1, other_table(), Mode::AccessShare);
+    // Another slot's modes were moved.
+    is_skipped(&rt, &[takes_fast(a, b), takes(a, p), other], &one)
+}
