@@ -1,7 +1,7 @@
 use Rattle.std.specs.Prelude.{◌≡◌, ◌⊎◌, ℕ, ◌≤◌, ◌==◌, true, false, count_by, Some, None}
 use Rattle.modes_core.specs.declared.modes.Mode.{Mode}
 use Rattle.modes_core.specs.declared.tags.Tag.{Tag}
-use Rattle.modes_core.specs.Tag.{partition_of}
+use Rattle.modes_core.specs.Tag.{partition_of, is_eligible_for}
 use Rattle.lock_table.specs.Content.{Content}
 use Rattle.lock_table.specs.OwnWait.{is_for}
 use Rattle.lock_table.specs.Queue.{waits_there}
@@ -19,6 +19,10 @@ pub record KnowsContent (number : ℕ) (a : Account) (p : ℕ) (content : Conten
   pub own_holds :
       (mine : SlotsInHand) (tag : Tag) (mode : Mode) → a.fast.slots number ≡ Some mine → partition_of tag ≡ p
       → a.own tag mode ≡ true → mine.holds tag mode ≡ false → content.holds number tag mode ≡ true
+  -- and there where no slot can have them
+  pub tabled_holds :
+      (tag : Tag) (mode : Mode) → is_eligible_for a.fast.database tag mode ≡ false → partition_of tag ≡ p
+      → a.own tag mode ≡ true → content.holds number tag mode ≡ true
   -- where it has no wait it stands in no queue, and nobody stands twice in one
   pub no_wait : (tag : Tag) → a.awaited ≡ None → waits_there (content.waits tag) number ≡ false
   pub once : (session : ℕ) (tag : Tag) → count_by (λ wait. wait.session == session) (content.waits tag) ≤ 1

@@ -1,12 +1,14 @@
 use Rattle.std.proofs.Common.{◌≡◌, ◌⊎◌, ℕ, true, false, Some, sym, ap, ◌∙◌, inl, inr}
-use Rattle.std.proofs.lemmas.Bool.{false_from_ne_true}
+use Rattle.std.proofs.lemmas.Bool.{false_from_ne_true, and_left}
 use Rattle.modes_core.specs.declared.modes.Mode.{Mode}
 use Rattle.modes_core.specs.declared.tags.Tag.{Tag}
-use Rattle.modes_core.specs.Tag.{partition_of}
+use Rattle.modes_core.specs.Tag.{partition_of, is_eligible_for}
 use Rattle.lock_table.specs.OwnWait.{is_for}
 use Rattle.lock_table.specs.Queue.{waits_there}
 use Rattle.lock_world.specs.Account.{SlotsInHand, account}
 use Rattle.lock_world.specs.AccountFacts.{KnowsContent}
+use Rattle.lw_word.specs.SlotWord.{shows}
+use Rattle.lock_world.specs.SlotHolds.{slot_count, any_below, relation_of, slot_holds}
 use Rattle.lock_world.specs.World.{World}
 use Rattle.lock_world.specs.SafeWorld.{SafeWorld, tabled}
 use Rattle.lock_world.proofs.FromSafe.{session-stands, stands-once}
@@ -27,12 +29,21 @@ module _ (w : World) (safe : SafeWorld w) (s p : ℕ) where
       let is = (slots-known (w.sessions.holds_fast s s) (w.words.database s) (w.words.slot s) mine known).1 in
       (held-in_table w safe p s t m).1 (home, inl (has, ap (λ slots. slots.holds t m) (sym is) ∙ not_shown))
 
+  tabled_own :
+      (t : Tag) (m : Mode) → is_eligible_for (w.words.database s) t m ≡ false → partition_of t ≡ p
+      → w.sessions.own s t m ≡ true → (w.contents.now p).holds s t m ≡ true
+  tabled_own t m not_eligible home has =
+      let no_slot : slot_holds (w.words.database s) (w.words.slot s) t m ≡ false =
+      and_left (is_eligible_for (w.words.database s) t m) (any_below slot_count (λ place. shows (w.words.slot s place) (relation_of t) m)) not_eligible in
+      (held-in_table w safe p s t m).1 (home, inl (has, no_slot))
+
   pub content-known : KnowsContent s (account w s) p (w.contents.now p)
   content-known = record {
     holds_of_it = λ k t m has. ((held-in_table w safe p k t m).0 has).0;
     waits_of_it = λ k t there. (session-stands (tabled w) safe.but_slots p k t there).0;
     its_holds = its;
     own_holds = own;
+    tabled_holds = tabled_own;
     no_wait = λ t none. false_from_ne_true (waits_there ((w.contents.now p).waits t) s) (λ there.
         let stands = session-stands (tabled w) safe.but_slots p s t there in
         let some : w.sessions.awaited s ≡ Some stands.1.1.wait = stands.1.1.is_wait in cc);
