@@ -1,0 +1,48 @@
+use Rattle.std.specs.Prelude.{◌≡◌, ℕ, ◌≤◌, false, List, [], map, filter, None}
+use Rattle.modes_core.specs.Tag.{is_strong_on}
+use Rattle.local_locks.specs.declared.records.Entry.{Entry}
+use Rattle.local_locks.specs.Owned.{has_entry}
+use Rattle.lock_world.specs.Account.{Account}
+use Rattle.lock_world.specs.Counted.{Counted}
+use Rattle.lock_world.specs.World.{TraceEntry}
+
+-- What a session has between two of its calls.
+
+-- the strong locks among these entries, each counted, and past every session that there can be
+abbrev pub counted_for : ℕ → List Entry → List Counted
+counted_for limit entries =
+    map (λ entry. record { tag = entry.tag; mode = entry.mode; position = limit })
+    (filter (λ entry. is_strong_on entry.tag entry.mode) entries)
+
+-- The account of a session that has these entries and is in no call: it holds what it has entries for, has counted the strong
+-- locks of these, waits for nothing, and has no word in hand.
+abbrev pub account_at_rest : ℕ → List Entry → List TraceEntry → Account
+account_at_rest limit entries trace = record {
+  own = has_entry entries;
+  awaited = None;
+  seen = false;
+  hand = λ _. None;
+  shares = λ _. false;
+  fast = record {
+    slots = λ _. None;
+    shared_slots = λ _. None;
+    database = 0;
+    zero = None;
+    counted = counted_for limit entries;
+  };
+  lists = record { in_hand = None; stands = None; off = λ _. false };
+  trace = trace;
+}
+
+pub record IsAtRest (limit : ℕ) (a : Account) (stack : List ℕ) (entries : List Entry) : Type 0 where
+  pub account : a ≡ account_at_rest limit entries a.trace
+  pub no_partition : stack ≡ []
+
+-- What of it a step in the middle of a call may count on: it has no word in hand and no wait, and its database isn't stored.
+pub record IsIdle (a : Account) (stack : List ℕ) : Type 0 where
+  pub no_wait : a.awaited ≡ None
+  pub no_content : a.hand ≡ (λ _. None)
+  pub no_slots : a.fast.slots ≡ (λ _. None)
+  pub no_zero : a.fast.zero ≡ None
+  pub no_database : a.fast.database ≡ 0
+  pub no_partition : stack ≡ []

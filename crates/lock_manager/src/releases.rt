@@ -1,0 +1,100 @@
+//! Releases, over any board.
+
+ghost use Rattle.std.specs.Prelude.{◌≡◌, ◌≢◌, ◌<◌, ℕ, true, List, [], ◌∷◌, None};
+ghost use Rattle.modes_core.specs.Tag.{is_strong_on};
+ghost use Rattle.local_locks.specs.Owned.{ended_by, left_by};
+ghost use Rattle.lock_world.specs.AccountSteps.{account_putting};
+ghost use Rattle.lock_world.specs.Counted.{is_counted};
+ghost use Rattle.shared_rule.specs.History.{taken_of};
+ghost use Rattle.shared_rule.specs.Lawful.{IsGrantingIn};
+ghost use Rattle.lock_manager.specs.Rest.{IsIdle, IsAtRest};
+ghost use Rattle.lock_manager.specs.Releases.{Wakens, ReleasesInPart, Releases, ReleasesAll, account_released};
+
+use local_locks::{End, LocalTable};
+use lock_table::{Move, PartTable, Woken};
+use modes_core::{Mode, Tag, is_strong};
+use shared_rule::board::Board;
+use std::sync::Wait;
+use wait_queue::release;
+
+/// Releases all that the end of a transaction or of the session takes away, in the order of making (`LockReleaseAll` in
+/// lock.c).
+pub fn end_all<T: PartTable, B: Board<T>, R: Wait>(rt: &R, board: &mut B, locals: &mut LocalTable, end: End)
+    requires rest { IsAtRest (B.seat board.old).limit (B.view board.old) (B.stack board.old) locals.old.entries }
+    ensures rest { IsAtRest (B.seat board.old).limit (B.view board.new) (B.stack board.new) locals.new.entries }
+    ensures seat { B.seat board.new ≡ B.seat board.old }
+    ensures steps { ReleasesAll (B.seat board.old).number (B.view board.old).trace (ended_by end locals.old.entries)
+        (B.view board.new).trace }
+    ensures entries { locals.new.entries ≡ left_by end locals.old.entries }
+    ensures max_local { locals.new.max_local ≡ locals.old.max_local }
+{
+    'entries: while let Some((tag, mode)) = locals.end_next(end) {
+        release_hold(rt, board, &tag, mode);
+    }
+}
+
+/// Releases a hold, tells those whom that lets go, and takes the count of a strong lock back (`LockRelease` in lock.c, past
+/// the local lock).
+pub fn release_hold<T: PartTable, B: Board<T>, R: Wait>(rt: &R, board: &mut B, tag: &Tag, mode: Mode)
+    requires idle { IsIdle (B.view board.old) (B.stack board.old) }
+    requires held { (B.view board.old).own tag.now mode ≡ true }
+    requires counted { is_strong_on tag.now mode ≡ true → is_counted (B.view board.old).fast.counted tag.now mode ≡ true }
+    ensures steps { Releases (B.seat board.old).number (B.view board.old).trace tag.now mode (B.view board.new).trace }
+    ensures account { B.view board.new ≡ account_released (B.view board.old) tag.now mode (B.view board.new).trace }
+    ensures stack { B.stack board.new ≡ B.stack board.old }
+    ensures seat { B.seat board.new ≡ B.seat board.old }
+{
+    release_in_part(rt, board, tag, mode);
+    if is_strong(*tag, mode) {
+        board.sub_strong(tag, mode);
+    }
+}
+
+/// Takes the hold out of the object's partition, and grants those who may go then (`UnGrantLock` and `CleanUpLock` in
+/// lock.c).
+fn release_in_part<T: PartTable, B: Board<T>, R: Wait>(rt: &R, board: &mut B, tag: &Tag, mode: Mode)
+    requires idle { IsIdle (B.view board.old) (B.stack board.old) }
+    requires held { (B.view board.old).own tag.now mode ≡ true }
+    ensures released { ReleasesInPart (B.seat board.old).number (B.view board.old) tag.now mode (B.view board.new) }
+    ensures stack { B.stack board.new ≡ B.stack board.old }
+    ensures seat { B.seat board.new ≡ B.seat board.old }
+{
+    let number = board.number();
+    let part = tag.partition();
+    let done = Move::Release { tag: *tag, mode };
+    let mut content = board.take_part(rt, part);
+    let woken = release(&mut content, number, tag, mode);
+    if woken.is_empty() {
+        board.put_part(part, &done, content);
+    } else {
+        put_with_woken(board, part, &done, &woken, content);
+    }
+}
+
+/// Marks the wait of each session that the move granted, puts the partition, and wakes them (`ProcLockWakeup` in proc.c).
+fn put_with_woken<T: PartTable, B: Board<T>>(
+    board: &mut B,
+    part: u8,
+    done: &Move,
+    woken: &Woken,
+    content: T,
+)
+    requires exists { part < 16 }
+    requires grants { IsGrantingIn part done.now }
+    requires none_begun { T.begun content ≡ None }
+    requires in_hand { (others : List ℕ) × (B.stack board.old ≡ part ∷ others) }
+    requires some { woken.now.items ≢ [] }
+    requires lawful { Wakens (B.seat board.old) (B.view board.old) part done.now woken.now.items (T.content content) }
+    ensures account { B.view board.new ≡
+        account_putting (B.view board.old) part (taken_of ((B.view board.old).hand part)) (T.content content) done.now }
+    ensures stack { B.stack board.old ≡ part ∷ B.stack board.new }
+    ensures seat { B.seat board.new ≡ B.seat board.old }
+{
+    for (other, _mode) in woken.as_slice() {
+        board.mark_granted(part, *other, done, woken, &content);
+    }
+    board.put_part(part, &Move::Keep, content);
+    for (other, _mode) in woken.as_slice() {
+        board.wake(*other);
+    }
+}

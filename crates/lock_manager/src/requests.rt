@@ -1,0 +1,146 @@
+//! Acquires without waiting, over any board.
+
+ghost use Rattle.std.specs.Prelude.{◌≡◌, ◌<◌, ◌≤◌, false, true, None, length, OnOk, OnErr, IfErr};
+ghost use Rattle.modes_core.specs.Tag.{is_strong_on};
+ghost use Rattle.local_locks.specs.Owned.{has_entry, with_one_more, acquired_as};
+ghost use Rattle.lock_world.specs.Counted.{is_counted, is_at, is_done};
+ghost use Rattle.lock_world.specs.Happens.Counters.{most_counted};
+ghost use Rattle.lock_manager.specs.Rest.{IsIdle, IsAtRest};
+ghost use Rattle.lock_manager.specs.Requests.{Passes, Scans, DecidesInPart, Decides, Acquires, account_granted};
+
+use local_locks::{Acquired, LocalTable};
+use lock_table::{Move, PartTable};
+use modes_core::{Mode, Owner, Refusal, SessionId, Tag, is_strong};
+use shared_rule::board::Board;
+use std::sync::Wait;
+use wait_queue::{Kind, decide};
+
+/// Acquires a mode on an object for an owner, or refuses at once (`LockAcquire` in lock.c with `dontWait`). What the
+/// session has already is counted once more, with no step on shared state; a new mode is decided in the object's
+/// partition.
+pub fn acquire<T: PartTable, B: Board<T>, R: Wait>(
+    rt: &R,
+    board: &mut B,
+    locals: &mut LocalTable,
+    tag: Tag,
+    mode: Mode,
+    owner: Owner,
+) -> Result<Acquired, Refusal>
+    requires few { (B.seat board.old).limit ≤ 64 }
+    requires few_entries { locals.old.max_local ≤ 65536 }
+    requires rest { IsAtRest (B.seat board.old).limit (B.view board.old) (B.stack board.old) locals.old.entries }
+    ensures rest { IsAtRest (B.seat board.old).limit (B.view board.new) (B.stack board.new) locals.new.entries }
+    ensures seat { B.seat board.new ≡ B.seat board.old }
+    ensures steps { Acquires (B.seat board.old) locals.old (B.view board.old).trace tag mode result (B.view board.new).trace }
+    ensures entries { OnOk result (locals.new.entries ≡ with_one_more locals.old.entries tag mode owner) }
+    ensures answer { OnOk result (result ≡ Ok (acquired_as locals.old.entries tag mode)) }
+    ensures same_entries { OnErr result (locals.new.entries ≡ locals.old.entries) }
+    ensures max_local { locals.new.max_local ≡ locals.old.max_local }
+{
+    locals.reserve(tag, mode, owner)?;
+    if locals.total(tag, mode) == 0 {
+        request(rt, board, &tag, mode)?;
+    }
+    Ok(locals.add(tag, mode, owner))
+}
+
+/// Decides a request for a mode that the session hasn't, in the object's partition (`LockAcquireExtended` in lock.c). A
+/// strong mode is counted before that, and its count goes back where it is refused.
+fn request<T: PartTable, B: Board<T>, R: Wait>(
+    rt: &R,
+    board: &mut B,
+    tag: &Tag,
+    mode: Mode,
+) -> Result<(), Refusal>
+    requires few { (B.seat board.old).limit ≤ 64 }
+    requires idle { IsIdle (B.view board.old) (B.stack board.old) }
+    requires new { (B.view board.old).own tag.now mode ≡ false }
+    requires not_counted { is_counted (B.view board.old).fast.counted tag.now mode ≡ false }
+    requires countable { length (B.view board.old).fast.counted < most_counted }
+    ensures steps { Decides (B.seat board.old) (B.view board.old).trace tag.now mode result (B.view board.new).trace }
+    ensures granted { OnOk result (B.view board.new ≡
+        account_granted (B.seat board.old).limit (B.view board.old) tag.now mode (B.view board.new).trace) }
+    ensures refused { OnErr result (B.view board.new ≡ record (B.view board.old) { trace = (B.view board.new).trace }) }
+    ensures stack { B.stack board.new ≡ B.stack board.old }
+    ensures seat { B.seat board.new ≡ B.seat board.old }
+{
+    let strong = is_strong(*tag, mode);
+    if strong {
+        count(rt, board, tag, mode);
+    }
+    let answer = decide_in_part(rt, board, tag, mode);
+    if strong && answer.is_err() {
+        board.sub_strong(tag, mode);
+    }
+    answer
+}
+
+/// Decides it there (`LockCheckConflicts` with `GrantLock` in lock.c).
+fn decide_in_part<T: PartTable, B: Board<T>, R: Wait>(
+    rt: &R,
+    board: &mut B,
+    tag: &Tag,
+    mode: Mode,
+) -> Result<(), Refusal>
+    requires idle { IsIdle (B.view board.old) (B.stack board.old) }
+    requires new { (B.view board.old).own tag.now mode ≡ false }
+    requires counted { is_strong_on tag.now mode ≡ true →
+        is_done (B.seat board.old).limit (B.view board.old).fast.counted tag.now mode ≡ true }
+    ensures decided { DecidesInPart (B.seat board.old).number (B.view board.old) tag.now mode result (B.view board.new) }
+    ensures stack { B.stack board.new ≡ B.stack board.old }
+    ensures seat { B.seat board.new ≡ B.seat board.old }
+{
+    let number = board.number();
+    let part = tag.partition();
+    let mut content = board.take_part(rt, part);
+    match decide(&mut content, number, tag, mode, Kind::Conditional) {
+        Ok(_) => {
+            board.put_part(part, &Move::Grant { tag: *tag, mode }, content);
+            Ok(())
+        }
+        Err(refusal) => {
+            board.put_part(part, &Move::Keep, content);
+            Err(refusal)
+        }
+    }
+}
+
+/// Counts a strong lock, and goes past every session, issued or not, once that has no fast-path lock on the object
+/// (`BeginStrongLockAcquire` and `FastPathTransferRelationLocks` in lock.c).
+fn count<T: PartTable, B: Board<T>, R: Wait>(rt: &R, board: &mut B, tag: &Tag, mode: Mode)
+    requires few { (B.seat board.old).limit ≤ 64 }
+    requires strong { is_strong_on tag.now mode ≡ true }
+    requires idle { IsIdle (B.view board.old) (B.stack board.old) }
+    requires not_counted { is_counted (B.view board.old).fast.counted tag.now mode ≡ false }
+    requires countable { length (B.view board.old).fast.counted < most_counted }
+    ensures scanned { Scans (B.seat board.old).limit (B.view board.old) tag.now mode (B.view board.new) }
+    ensures stack { B.stack board.new ≡ B.stack board.old }
+    ensures seat { B.seat board.new ≡ B.seat board.old }
+{
+    board.add_strong(tag, mode);
+    for number in 0..board.sessions() {
+        if let Some(owner) = SessionId::new(number) {
+            pass(rt, board, owner, tag, mode);
+        }
+    }
+}
+
+/// Goes past one session. No session has a fast-path lock yet, so there is none to be moved to the table.
+fn pass<T: PartTable, B: Board<T>, R: Wait>(
+    rt: &R,
+    board: &mut B,
+    owner: SessionId,
+    tag: &Tag,
+    mode: Mode,
+)
+    requires exists { owner < (B.seat board.old).limit }
+    requires idle { IsIdle (B.view board.old) (B.stack board.old) }
+    requires next { is_at owner (B.view board.old).fast.counted tag.now mode ≡ true }
+    ensures passed { Passes (B.view board.old) owner tag.now mode (B.view board.new) }
+    ensures stack { B.stack board.new ≡ B.stack board.old }
+    ensures seat { B.seat board.new ≡ B.seat board.old }
+{
+    board.take_fast(rt, owner);
+    board.load_database(owner);
+    board.pass_fast(owner, tag, mode);
+}
