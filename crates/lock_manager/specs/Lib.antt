@@ -1,3 +1,5 @@
 pub mod Rest
 pub mod Requests
 pub mod Releases
+pub mod Sessions
+pub mod Managers

@@ -1,5 +1,14 @@
 //! The lock manager: sessions that live in their callers' threads, over one shared table.
 #![tactic(auto)]
 
+mod config;
+mod manager;
 mod releases;
 mod requests;
+mod sessions;
+
+pub use config::{Config, MOST_LOCAL, MOST_SESSIONS};
+pub use local_locks::{Acquired, Unlocked};
+pub use manager::{Final, Manager, Opener};
+pub use modes_core::{Mode, ModeSet, Owner, Refusal, SessionId, Tag};
+pub use sessions::{OwnSession, Session};

@@ -38,9 +38,10 @@ pub fn acquire<T: PartTable, B: Board<T>, R: Wait>(
     ensures max_local { locals.new.max_local ≡ locals.old.max_local }
 {
     locals.reserve(tag, mode, owner)?;
-    if locals.total(tag, mode) == 0 {
-        request(rt, board, &tag, mode)?;
+    if locals.total(tag, mode) != 0 {
+        return Ok(locals.add(tag, mode, owner));
     }
+    request(rt, board, &tag, mode)?;
     Ok(locals.add(tag, mode, owner))
 }
 

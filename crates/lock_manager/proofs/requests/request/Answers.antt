@@ -1,0 +1,20 @@
+use Rattle.std.proofs.Common.{rules, ◌≡◌, ◌<◌, ◌≤◌, false, true, None, length, OnOk, OnErr, IfErr, ℕ, ◌+◌, ◌-◌, ◌*◌, ◌/◌, ◌%◌, Bool, nat_eq, nat_lt, List, [], ◌∷◌, ◌++◌, slice_index_or, slice_set, bit_and, bit_or, Fits, w8, w32, w64, Bor, MutBor}
+use Rattle.modes_core.specs.Tag.{is_strong_on}
+use Rattle.local_locks.specs.Owned.{has_entry, with_one_more, acquired_as}
+use Rattle.lock_world.specs.Counted.{is_counted, is_at, is_done}
+use Rattle.lock_world.specs.Happens.Counters.{most_counted}
+use Rattle.lock_manager.specs.Rest.{IsIdle, IsAtRest}
+use Rattle.lock_manager.specs.Requests.{Passes, Scans, DecidesInPart, Decides, Acquires, account_granted}
+use Rattle.lock_manager.proofs.requests.request.Goals as goal
+
+-- src/requests.rt:49:1
+pub returns-then-is_err-clause-refused : goal.returns-then-is_err-clause-refused
+returns-then-is_err-clause-refused g c = ?
+
+-- src/requests.rt:49:1
+pub returns-else-strong-2-clause-steps : goal.returns-else-strong-2-clause-steps
+returns-else-strong-2-clause-steps g c = ?
+
+-- src/requests.rt:49:1
+pub returns-else-strong-2-clause-granted : goal.returns-else-strong-2-clause-granted
+returns-else-strong-2-clause-granted g c = ?

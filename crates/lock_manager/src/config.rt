@@ -1,0 +1,31 @@
+use modes_core::sessions::SESSIONS;
+
+ghost use Rattle.std.specs.Prelude.{◌≡◌};
+ghost use Rattle.lock_manager.specs.Managers.{is_in_range};
+
+/// How many sessions a manager may open over its life at most.
+pub const MOST_SESSIONS: u32 = SESSIONS as u32;
+
+/// How many local entries a session may have at most.
+pub const MOST_LOCAL: u32 = 65_536;
+
+/// How large a manager is.
+#[derive(Clone, Copy, Debug, PartialEq, Eq)]
+pub struct Config {
+    /// How many sessions it may open over its life, 1 to 64 (`max_connections`).
+    pub sessions: u32,
+    /// How many local entries each may have, 1 to 65,536.
+    pub max_local: u32,
+}
+
+impl Config {
+    /// Whether both numbers are in their ranges.
+    pub(crate) fn is_in_range(self) -> bool
+        ensures { result ≡ is_in_range self }
+    {
+        self.sessions >= 1
+            && self.sessions <= MOST_SESSIONS
+            && self.max_local >= 1
+            && self.max_local <= MOST_LOCAL
+    }
+}

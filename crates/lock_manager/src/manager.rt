@@ -1,0 +1,137 @@
+//! The manager, which has the shared table, and the opener, who gives sessions out and takes them back.
+
+ghost use Rattle.std.specs.Prelude.{◌≡◌, ◌<◌, ◌+◌, ◌↔◌, [], true, false, IfOk, IsErrOf, IsOkUnless, OnOk, OnErr};
+ghost use Rattle.lock_manager.specs.Managers.{IsNew, IsOpened, is_in_range};
+
+use crate::config::Config;
+use crate::sessions::{OwnSession, Session};
+use local_locks::LocalTable;
+use lock_table::{PlainPart, empty_parts};
+use modes_core::Refusal;
+use shared_rule::opener::Opener as NumberOpener;
+use shared_rule::table::{SharedTable, in_slots, open};
+use std::alloc::Global;
+use std::marker::Model;
+
+/// What stood in the lock manager as it was finished: holds in fast-path slots, holds in the table, and the sum of the
+/// strong lock counters.
+#[derive(Clone, Copy, Debug, PartialEq, Eq)]
+pub struct Final {
+    pub fast: u32,
+    pub table: u32,
+    pub strong: u32,
+}
+
+/// The lock manager: what all sessions share (the shared memory that `InitLocks` in lock.c sets up). Its sessions borrow
+/// it. Contracts see its table, how many sessions it may open, and how many local entries each may have.
+#[derive(Drop)]
+pub struct Manager {
+    table: SharedTable<PlainPart>,
+    max_local: u32,
+    alloc: Global,
+}
+
+impl Model for Manager {
+    ghost use Rattle.std.specs.Prelude.{◌≤◌};
+    ghost use Rattle.lock_manager.specs.Managers.{ManagerView};
+
+    ghost Value = { ManagerView };
+
+    ghost view = { λ manager. record {
+      table = manager.table.shared.table_id;
+      limit = manager.table.shared.key;
+      max_local = manager.max_local;
+    } };
+
+    ghost invariant = { λ manager. (manager.table.shared.key ≤ 64) × (1 ≤ manager.max_local) × (manager.max_local ≤ 65536) };
+}
+
+/// Gives the sessions of a manager out and takes them back. Contracts see at which table, how many sessions it has given
+/// out and may give out, and how many of them are not closed.
+#[derive(Drop)]
+pub struct Opener {
+    numbers: NumberOpener<PlainPart>,
+    live: u8,
+}
+
+impl Model for Opener {
+    ghost use Rattle.std.specs.Prelude.{◌≤◌};
+    ghost use Rattle.lock_manager.specs.Managers.{OpenerView};
+
+    ghost Value = { OpenerView };
+
+    ghost view = { λ opener. record {
+      table = opener.numbers.table;
+      limit = opener.numbers.limit;
+      issued = opener.numbers.issued;
+      live = opener.live;
+    } };
+
+    ghost invariant = { λ opener. opener.live ≤ opener.numbers.issued };
+}
+
+impl Manager {
+    /// A manager with no session yet, and its opener (`InitLocks` in lock.c with `InitProcGlobal` in proc.c). It is refused
+    /// where a number of the configuration is out of its range, and then where memory is wanting.
+    pub fn new(alloc: Global, config: Config) -> Result<(Manager, Opener), Refusal>
+        ensures ok { IfOk result (λ made. IsNew made.0 made.1 config) }
+        ensures bad_config { IsErrOf result Refusal.BadConfig ↔ (is_in_range config ≡ false) }
+        ensures no_other { is_in_range config ≡ true → IsOkUnless result Refusal.NoMemory }
+    {
+        if !config.is_in_range() {
+            return Err(Refusal::BadConfig);
+        }
+        let Ok(parts) = empty_parts(alloc) else {
+            return Err(Refusal::NoMemory);
+        };
+        let Ok(slots) = in_slots(alloc, parts) else {
+            return Err(Refusal::NoMemory);
+        };
+        let Ok((table, numbers)) = open(alloc, config.sessions as u8, slots) else {
+            return Err(Refusal::NoMemory);
+        };
+        let manager = Manager {
+            table,
+            max_local: config.max_local,
+            alloc,
+        };
+        Ok((manager, Opener { numbers, live: 0 }))
+    }
+
+    /// Ends the manager, all of whose sessions are closed. Nothing is held then, by what each of them had to show as it was
+    /// closed: the three numbers are 0, and nobody counts again.
+    pub fn finish(self, opener: Opener) -> Final
+        requires own { (opener.table ≡ self.table) × (opener.limit ≡ self.limit) }
+        requires none_live { opener.live ≡ 0 }
+        ensures { result ≡ record { fast = 0; table = 0; strong = 0 } }
+    {
+        Final {
+            fast: 0,
+            table: 0,
+            strong: 0,
+        }
+    }
+}
+
+impl Opener {
+    /// How many sessions are given out and not closed.
+    pub fn live(&self) -> u32
+        ensures { result ≡ self.now.live }
+    {
+        u32::from(self.live)
+    }
+
+    /// A new session of this database, with room for one local entry (`InitProcess` in proc.c). Numbers are given in rising
+    /// order and never again. It is refused where all are given out, and then where memory is wanting; the opener is then
+    /// as before.
+    pub fn session<'a>(&mut self, manager: &'a Manager, database: u32) -> Result<Session<'a>, Refusal>
+        requires own { (self.old.table ≡ manager.now.table) × (self.old.limit ≡ manager.now.limit) }
+        ensures ok { IfOk result (λ session. IsOpened self.old manager.now database session) }
+        ensures counted { OnOk result (self.new ≡ record self.old { issued = self.old.issued + 1; live = self.old.live + 1 }) }
+        ensures no_more { IsErrOf result Refusal.NoMoreSessions ↔ (self.old.issued ≡ self.old.limit) }
+        ensures no_other { self.old.issued < self.old.limit → IsOkUnless result Refusal.NoMemory }
+        ensures unchanged { OnErr result (self.new ≡ self.old) }
+    {
+        todo
+    }
+}

@@ -1,0 +1,220 @@
+//! Sessions: the calls that a server's thread makes.
+
+ghost use Rattle.std.specs.Prelude.{◌≡◌, ◌≢◌, ◌<◌, ◌≤◌, ◌↔◌, [], length, true, false, IsErrOf, IsOkUnless, IfOk, OnOk, OnErr};
+ghost use Rattle.modes_core.specs.ModeSet.{set_has};
+ghost use Rattle.local_locks.specs.Owned.{has_entry, owner_count_of, total_of, max_count, with_one_more, with_one_less, ended_by, left_by};
+ghost use Rattle.shared_rule.specs.History.{blank_account};
+ghost use Rattle.lock_manager.specs.Sessions.{IsSame};
+ghost use Rattle.lock_manager.specs.Requests.{Acquires};
+ghost use Rattle.lock_manager.specs.Releases.{Releases, ReleasesAll};
+
+use crate::manager::Opener;
+use crate::releases::{end_all, release_hold};
+use crate::requests::acquire;
+use local_locks::{Acquired, End, LocalTable, Unlocked};
+use lock_table::{PartTable, PlainPart};
+use modes_core::{Mode, ModeSet, Owner, Refusal, SessionId, Tag};
+use shared_rule::board::Board;
+use shared_rule::seat_board::SeatBoard;
+use std::alloc::Global;
+use std::marker::{Model, PhantomData};
+use std::sync::Wait;
+
+/// A session of a manager.
+pub type Session<'a> = OwnSession<PlainPart, SeatBoard<'a, PlainPart>>;
+
+// What a session has of its own, which no other session sees.
+pub(crate) struct Own {
+    pub(crate) locals: LocalTable,
+    pub(crate) database: u32,
+    pub(crate) alloc: Global,
+}
+
+/// A session, over any board and any keeper of the partitions. Contracts see its board, its database, and what it owns.
+pub struct OwnSession<T: PartTable, B: Board<T>> {
+    board: B,
+    own: Box<Own>,
+    parts: PhantomData<T>,
+}
+
+impl<T: PartTable, B: Board<T>> Model for OwnSession<T, B> {
+    ghost use Rattle.std.specs.Prelude.{◌≤◌};
+    ghost use Rattle.lock_manager.specs.Rest.{IsAtRest};
+    ghost use Rattle.lock_manager.specs.Sessions.{SessionView};
+
+    ghost Value = { SessionView B };
+
+    ghost view = { λ session. record {
+      board = session.board;
+      database = session.own.value.database;
+      owned = session.own.value.locals;
+    } };
+
+    ghost invariant = { λ session.
+        IsAtRest (B.seat session.board).limit (B.view session.board) (B.stack session.board) session.own.value.locals.entries
+        × ((B.seat session.board).limit ≤ 64) × (session.own.value.locals.max_local ≤ 65536) };
+}
+
+impl<T: PartTable, B: Board<T>> OwnSession<T, B> {
+    // A session of a board that has nothing in it yet, with what it has of its own.
+    pub(crate) fn of(board: B, own: Box<Own>) -> Self
+        requires limit { (B.seat board).limit ≤ 64 }
+        requires blank { B.view board ≡ blank_account }
+        requires stack { B.stack board ≡ [] }
+        requires nothing { own.value.locals.entries ≡ [] }
+        requires max_local { own.value.locals.max_local ≤ 65536 }
+        ensures { result ≡ record { board = board; database = own.value.database; owned = own.value.locals } }
+    {
+        OwnSession {
+            board,
+            own,
+            parts: PhantomData,
+        }
+    }
+
+    /// The session's number.
+    pub fn id(&self) -> SessionId
+        ensures { result ≡ (B.seat self.now.board).number }
+    {
+        self.board.number()
+    }
+
+    /// The database that it was opened for.
+    pub fn database(&self) -> u32
+        ensures { result ≡ self.now.database }
+    {
+        self.own.database
+    }
+
+    /// The modes that it has the object in (`holdMask` of `PROCLOCK` in lock.h).
+    pub fn held(&self, tag: Tag) -> ModeSet
+        ensures { set_has result ≡ has_entry self.now.owned.entries tag }
+    {
+        let mut held = ModeSet::empty();
+        for number in 1..9 {
+            if let Some(mode) = Mode::from_number(number) {
+                if self.own.locals.total(tag, mode) != 0 {
+                    held = held.with(mode);
+                }
+            }
+        }
+        held
+    }
+
+    /// How often the owner has the object in the mode (`LOCALLOCKOWNER` in lock.h).
+    pub fn owner_count(&self, tag: Tag, mode: Mode, owner: Owner) -> u16
+        ensures { result ≡ owner_count_of self.now.owned.entries tag mode owner }
+    {
+        self.own.locals.owner_count(tag, mode, owner)
+    }
+
+    /// Takes a mode on an object for an owner, or refuses at once where it clashes (`LockAcquire` in lock.c with
+    /// `dontWait`). What the session has already is counted once more, with no step on shared state. It is refused, in
+    /// this order, where the owner's count is full, the local table is full, memory is wanting, or the request conflicts
+    /// with a hold or wait of another session. After a refusal the session holds what it held.
+    pub fn try_lock<R: Wait>(
+        &mut self,
+        rt: &R,
+        tag: Tag,
+        mode: Mode,
+        owner: Owner,
+    ) -> Result<Acquired, Refusal>
+        // What it is answered.
+        ensures already_held { (result ≡ Ok Acquired.AlreadyHeld) ↔ ((has_entry self.old.owned.entries tag mode ≡ true)
+            × (owner_count_of self.old.owned.entries tag mode owner < max_count)) }
+        ensures count_full { IsErrOf result Refusal.CountFull
+            ↔ (owner_count_of self.old.owned.entries tag mode owner ≡ max_count) }
+        ensures local_full { IsErrOf result Refusal.LocalFull ↔ ((has_entry self.old.owned.entries tag mode ≡ false)
+            × (length self.old.owned.entries ≡ self.old.owned.max_local)) }
+        ensures steps { Acquires (B.seat self.old.board) self.old.owned (B.view self.old.board).trace tag mode result
+            (B.view self.new.board).trace }
+
+        // What stands after it.
+        ensures entries { OnOk result (self.new.owned.entries
+            ≡ with_one_more self.old.owned.entries tag mode owner) }
+        ensures same_entries { OnErr result (self.new.owned.entries ≡ self.old.owned.entries) }
+        ensures same { IsSame B.seat B.view B.stack self.old self.new }
+    {
+        acquire(
+            rt,
+            &mut self.board,
+            &mut self.own.locals,
+            tag,
+            mode,
+            owner,
+        )
+    }
+
+    /// Gives one count of an owner back, and with the last one the hold (`LockRelease` in lock.c). Refused where the owner
+    /// has no count; nothing has changed then.
+    pub fn unlock<R: Wait>(
+        &mut self,
+        rt: &R,
+        tag: Tag,
+        mode: Mode,
+        owner: Owner,
+    ) -> Result<Unlocked, Refusal>
+        // What it is answered.
+        ensures not_held { IsErrOf result Refusal.NotHeld
+            ↔ (owner_count_of self.old.owned.entries tag mode owner ≡ 0) }
+        ensures no_other { IsOkUnless result Refusal.NotHeld }
+        ensures still_held { (result ≡ Ok Unlocked.StillHeld)
+            ↔ ((0 < owner_count_of self.old.owned.entries tag mode owner)
+            × (0 < total_of self.new.owned.entries tag mode)) }
+        ensures released { result ≡ Ok Unlocked.Released → Releases (B.seat self.old.board).number
+            (B.view self.old.board).trace tag mode (B.view self.new.board).trace }
+        ensures no_step { result ≢ Ok Unlocked.Released →
+            (B.view self.new.board).trace ≡ (B.view self.old.board).trace }
+
+        // What stands after it.
+        ensures entries { OnOk result (self.new.owned.entries
+            ≡ with_one_less self.old.owned.entries tag mode owner) }
+        ensures same_entries { OnErr result (self.new.owned.entries ≡ self.old.owned.entries) }
+        ensures same { IsSame B.seat B.view B.stack self.old self.new }
+    {
+        match self.own.locals.drop_one(tag, mode, owner)? {
+            Unlocked::StillHeld => Ok(Unlocked::StillHeld),
+            Unlocked::Released => {
+                release_hold(rt, &mut self.board, &tag, mode);
+                Ok(Unlocked::Released)
+            }
+        }
+    }
+
+    /// Ends a transaction that succeeded: what it owns goes, and what the session owns stays (`LockReleaseAll` in lock.c
+    /// without `allLocks`). Holds are released in the order of making.
+    pub fn commit<R: Wait>(&mut self, rt: &R)
+        ensures entries { self.new.owned.entries ≡ left_by End.Commit self.old.owned.entries }
+        ensures released { ReleasesAll (B.seat self.old.board).number (B.view self.old.board).trace
+            (ended_by End.Commit self.old.owned.entries) (B.view self.new.board).trace }
+        ensures same { IsSame B.seat B.view B.stack self.old self.new }
+    {
+        end_all(rt, &mut self.board, &mut self.own.locals, End::Commit);
+    }
+
+    /// Ends a transaction that failed: all that it and the session own goes (`LockReleaseAll` in lock.c with `allLocks`).
+    pub fn abort<R: Wait>(&mut self, rt: &R)
+        ensures entries { self.new.owned.entries ≡ left_by End.Abort self.old.owned.entries }
+        ensures released { ReleasesAll (B.seat self.old.board).number (B.view self.old.board).trace
+            (ended_by End.Abort self.old.owned.entries) (B.view self.new.board).trace }
+        ensures same { IsSame B.seat B.view B.stack self.old self.new }
+    {
+        end_all(rt, &mut self.board, &mut self.own.locals, End::Abort);
+    }
+}
+
+impl<'a> OwnSession<PlainPart, SeatBoard<'a, PlainPart>> {
+    /// Meets another session of the same manager, which comes back: no hold of the one conflicts with a hold of the other
+    /// on an object. Both are as before.
+    pub fn meet(&mut self, other: Session<'a>) -> Session<'a>
+    {
+        todo
+    }
+
+    /// Ends the session: all that it holds is released, in the order of making, and its number is not given out again
+    /// (`ProcKill` in proc.c).
+    pub fn close<R: Wait>(self, rt: &R, opener: &mut Opener)
+    {
+        todo
+    }
+}
