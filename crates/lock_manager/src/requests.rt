@@ -120,9 +120,8 @@ fn count<T: PartTable, B: Board<T>, R: Wait>(rt: &R, board: &mut B, tag: &Tag, m
 {
     board.add_strong(tag, mode);
     for number in 0..board.sessions() {
-        if let Some(owner) = SessionId::new(number) {
-            pass(rt, board, owner, tag, mode);
-        }
+        let owner = SessionId::new(number).unwrap();
+        pass(rt, board, owner, tag, mode);
     }
 }
 

@@ -1,12 +1,21 @@
-use Rattle.std.proofs.Common.{rules, ◌≡◌, ◌<◌, ◌≤◌, false, true, None, length, OnOk, OnErr, IfErr, ℕ, ◌+◌, ◌-◌, ◌*◌, ◌/◌, ◌%◌, Bool, nat_eq, nat_lt, List, [], ◌∷◌, ◌++◌, slice_index_or, slice_set, bit_and, bit_or, Fits, w8, w32, w64, Bor, MutBor}
-use Rattle.modes_core.specs.Tag.{is_strong_on}
-use Rattle.local_locks.specs.Owned.{has_entry, with_one_more, acquired_as}
-use Rattle.lock_world.specs.Counted.{is_counted, is_at, is_done}
-use Rattle.lock_world.specs.Happens.Counters.{most_counted}
-use Rattle.lock_manager.specs.Rest.{IsIdle, IsAtRest}
-use Rattle.lock_manager.specs.Requests.{Passes, Scans, DecidesInPart, Decides, Acquires, account_granted}
+use Rattle.std.proofs.Common.{sym, ap, ◌∙◌, subst}
+use Rattle.lock_world.specs.Account.{Account}
+use Rattle.lock_world.specs.AccountLaw.{MayPassBy}
+use Rattle.lock_world.specs.AccountSteps.{account_passing}
+use Rattle.shared_rule.specs.History.{no_slots}
+use Rattle.lock_manager.proofs.Scanning.{looked, may_pass, passes}
 use Rattle.lock_manager.proofs.requests.pass.Goals as goal
 
--- src/requests.rt:145:5
 pub pass_fast-requires-clause-lawful : goal.pass_fast-requires-clause-lawful
-pass_fast-requires-clause-lawful g c = ?
+pass_fast-requires-clause-lawful g c = (
+  no_slots,
+  subst (λ (a : Account). MayPassBy a c.args.owner no_slots c.args.tag.now c.args.mode)
+      (sym (looked (g.B.Board.view c.args.board.now) _ _ c.args.owner c.load_database.result c.take_fast.ensures.view c.load_database.ensures.view))
+      (may_pass (g.B.Board.view c.args.board.now) c.args.owner c.load_database.result c.args.tag.now c.args.mode c.requires.next),
+)
+
+pub returns-clause-passed : goal.returns-clause-passed
+returns-clause-passed g c =
+    passes (g.B.Board.seat c.load_database.new.self).number (g.B.Board.view c.args.board.now) (g.B.Board.view c.load_database.new.self) _
+    (g.B.Board.stack c.args.board.now) c.args.owner c.load_database.result c.args.tag.now c.args.mode c.requires.idle
+    (looked (g.B.Board.view c.args.board.now) _ _ c.args.owner c.load_database.result c.take_fast.ensures.view c.load_database.ensures.view) c.pass_fast.ensures.view

@@ -1,0 +1,4 @@
+pub mod Counting
+pub mod Scanning
+pub mod Deciding
+pub mod Resting
