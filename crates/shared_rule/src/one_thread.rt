@@ -19,6 +19,7 @@ use std::marker::Brand;
 use std::sync::Wait;
 
 /// A table and the one seat at it. Every call is that of a `SeatBoard`, so code over any board does the same on it.
+#[derive(Drop)]
 pub struct OneThread<T: PartTable> {
     table: SharedTable<T>,
     place: Place<T>,
@@ -61,7 +62,8 @@ impl<T: PartTable> OneThread<T> {
 }
 
 impl<T: PartTable> Board<T> for OneThread<T> {
-    ghost seat = { λ board. record { number = board.number; limit = board.sessions; table = board.table.shared.table_id } };
+    ghost seat = { λ board.
+        record { number = board.number; limit = board.sessions; table = board.table.shared.table_id } };
 
     ghost view = { λ board. first_account T.content board.place.me.0.sessions };
 

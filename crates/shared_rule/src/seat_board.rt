@@ -43,7 +43,8 @@ impl<'a, T: PartTable> SeatBoard<'a, T> {
         requires limit { sessions ≡ table.now.key }
         requires lone { place.me.0 ≡ lone number (first_marks place.me.0.sessions) }
         requires out { place.me.1 ≡ [] }
-        ensures { (result.table.now ≡ table.now) × (result.place ≡ place) × (result.number ≡ number) × (result.sessions ≡ sessions) }
+        ensures { (result.table.now ≡ table.now) × (result.place ≡ place) × (result.number ≡ number)
+            × (result.sessions ≡ sessions) }
     {
         SeatBoard {
             table,
@@ -56,16 +57,23 @@ impl<'a, T: PartTable> SeatBoard<'a, T> {
     /// Meets another session of the same table, whose board comes back: no hold of the one conflicts with a hold of the
     /// other on an object. Both accounts are as before.
     pub fn meet(&mut self, other: SeatBoard<'a, T>) -> SeatBoard<'a, T>
-        requires table { (⟦<SeatBoard<'a, T> as Board<T>>⟧.seat other).table ≡ (⟦<SeatBoard<'a, T> as Board<T>>⟧.seat self.old).table }
+        requires table { (⟦<SeatBoard<'a, T> as Board<T>>⟧.seat other).table
+            ≡ (⟦<SeatBoard<'a, T> as Board<T>>⟧.seat self.old).table }
         requires stack { ⟦<SeatBoard<'a, T> as Board<T>>⟧.stack other ≡ [] }
         requires no_word { MayBeKeptApartBy (⟦<SeatBoard<'a, T> as Board<T>>⟧.view other) }
-        ensures told { DoNotConflict (⟦<SeatBoard<'a, T> as Board<T>>⟧.view self.old) (⟦<SeatBoard<'a, T> as Board<T>>⟧.view other.entry) }
-        ensures view { ⟦<SeatBoard<'a, T> as Board<T>>⟧.view self.new ≡ ⟦<SeatBoard<'a, T> as Board<T>>⟧.view self.old }
-        ensures stack { ⟦<SeatBoard<'a, T> as Board<T>>⟧.stack self.new ≡ ⟦<SeatBoard<'a, T> as Board<T>>⟧.stack self.old }
-        ensures seat { ⟦<SeatBoard<'a, T> as Board<T>>⟧.seat self.new ≡ ⟦<SeatBoard<'a, T> as Board<T>>⟧.seat self.old }
-        ensures its_view { ⟦<SeatBoard<'a, T> as Board<T>>⟧.view result ≡ ⟦<SeatBoard<'a, T> as Board<T>>⟧.view other.entry }
+        ensures told { DoNotConflict (⟦<SeatBoard<'a, T> as Board<T>>⟧.view self.old)
+            (⟦<SeatBoard<'a, T> as Board<T>>⟧.view other.entry) }
+        ensures view { ⟦<SeatBoard<'a, T> as Board<T>>⟧.view self.new
+            ≡ ⟦<SeatBoard<'a, T> as Board<T>>⟧.view self.old }
+        ensures stack { ⟦<SeatBoard<'a, T> as Board<T>>⟧.stack self.new
+            ≡ ⟦<SeatBoard<'a, T> as Board<T>>⟧.stack self.old }
+        ensures seat { ⟦<SeatBoard<'a, T> as Board<T>>⟧.seat self.new
+            ≡ ⟦<SeatBoard<'a, T> as Board<T>>⟧.seat self.old }
+        ensures its_view { ⟦<SeatBoard<'a, T> as Board<T>>⟧.view result
+            ≡ ⟦<SeatBoard<'a, T> as Board<T>>⟧.view other.entry }
         ensures its_stack { ⟦<SeatBoard<'a, T> as Board<T>>⟧.stack result ≡ [] }
-        ensures its_seat { ⟦<SeatBoard<'a, T> as Board<T>>⟧.seat result ≡ ⟦<SeatBoard<'a, T> as Board<T>>⟧.seat other.entry }
+        ensures its_seat { ⟦<SeatBoard<'a, T> as Board<T>>⟧.seat result
+            ≡ ⟦<SeatBoard<'a, T> as Board<T>>⟧.seat other.entry }
     {
         let SeatBoard {
             table,
@@ -99,7 +107,8 @@ impl<'a, T: PartTable> SeatBoard<'a, T> {
 }
 
 impl<'a, T: PartTable> Board<T> for SeatBoard<'a, T> {
-    ghost seat = { λ board. record { number = board.number; limit = board.sessions; table = board.table.now.table_id } };
+    ghost seat = { λ board.
+        record { number = board.number; limit = board.sessions; table = board.table.now.table_id } };
 
     ghost view = { λ board. first_account T.content board.place.me.0.sessions };
 

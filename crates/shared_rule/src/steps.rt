@@ -11,12 +11,14 @@ ghost use Rattle.lw_word.specs.LightweightWord.{IsHeldByNobody, taken_word};
 ghost use Rattle.lock_world.specs.Account.{InHand, SlotsInHand};
 ghost use Rattle.lock_world.specs.AccountFacts.{KnowsContent};
 ghost use Rattle.lock_world.specs.AccountLaw.{MayPutFastBy, MayPassBy, MayCountBy, MayUncountBy};
-ghost use Rattle.shared_rule.specs.declared.history.Mark.TheVariants.{TookPart, PutPart, TookFast, PutFast, Passed, Counted, Uncounted, LoadedDatabase};
+ghost use Rattle.shared_rule.specs.declared.history.Mark.TheVariants.{TookPart, PutPart, TookFast, PutFast, Passed};
+ghost use Rattle.shared_rule.specs.declared.history.Mark.TheVariants.{Counted, Uncounted, LoadedDatabase};
 ghost use Rattle.shared_rule.specs.Layout.{content_slot_of};
 ghost use Rattle.shared_rule.specs.History.{noting};
 ghost use Rattle.shared_rule.specs.Ruled.{Ruled};
-ghost use Rattle.shared_rule.specs.Lawful.{MayPutSo};
-ghost use Rattle.shared_rule.specs.Plays.{account_at, number_at, FitsTable, HasSession, IsSameSeat, Marked, Won, WentHome};
+ghost use Rattle.shared_rule.specs.Lawful.{MayPutPart};
+ghost use Rattle.shared_rule.specs.Plays.{account_at, number_at, FitsTable, HasSession, IsSameSeat};
+ghost use Rattle.shared_rule.specs.Plays.{Marked, Won, WentHome};
 
 use crate::layout::{content_slot, database_word, fast_word, partition_word, strong_word};
 use crate::plays::{Marking, Marks, PutsHome, TakesPart, Wins};
@@ -26,9 +28,6 @@ use lock_table::{Move, PartTable};
 use lw_word::{LwMode, LwWord};
 use modes_core::{Mode, SessionId, Tag};
 use std::sync::Wait;
-
-/// What an exclusive holder adds to a lightweight lock's word.
-const EXCLUSIVE: u64 = 1 << 24;
 
 /// What one who takes the lock exclusively makes of its word, or `None` where it isn't free, or no word of a lock.
 pub(crate) fn taken(shown: u64) -> Option<u64>
@@ -95,7 +94,7 @@ fn put_home_as<T: PartTable, M: Marking<T>>(top: &Top<T>, place: &mut Place<T>, 
     ensures seat { IsSameSeat place.old place.new }
     ensures side { (n : ℕ) × (place.new.me ≡ (noting place.old.me.0 (M.mark n), rest place.old.me.1)) }
 {
-    top.fetch_sub::<PutsHome<M>>(place, word, EXCLUSIVE);
+    top.fetch_sub::<PutsHome<M>>(place, word, LwMode::Exclusive.amount());
 }
 
 fn exchange_as<T: PartTable, M: Marking<T>>(
@@ -185,7 +184,7 @@ pub(crate) fn put_part<T: PartTable, M: Marking<T>>(
     requires session { HasSession place.old.me.0 }
     requires in_hand { place.old.me.1 ≡ (content_slot_of part, None) ∷ rest place.old.me.1 }
     requires none_begun { T.begun content ≡ None }
-    requires lawful { (mine : InHand) × MayPutSo top.now.key (number_at place.old)
+    requires lawful { (mine : InHand) × MayPutPart top.now.key (number_at place.old)
         (account_at T.content place.old) part mine done.now (T.content content) }
     requires mark { M.mark ≡ (λ _. PutPart part done.now content) }
     ensures seat { IsSameSeat place.old place.new }
@@ -240,7 +239,7 @@ pub(crate) fn put_fast<T: PartTable, M: Marking<T>>(
     ensures seat { IsSameSeat place.old place.new }
     ensures side { place.new.me ≡ (noting place.old.me.0 (PutFast owner), place.old.me.1) }
 {
-    fetch_sub_as::<T, M>(top, place, fast_word(owner), EXCLUSIVE);
+    fetch_sub_as::<T, M>(top, place, fast_word(owner), LwMode::Exclusive.amount());
 }
 
 /// Puts that lock, and goes past its session with a strong lock that is counted (the end of a turn of the loop in
@@ -260,7 +259,7 @@ pub(crate) fn pass_fast<T: PartTable, M: Marking<T>>(
     ensures seat { IsSameSeat place.old place.new }
     ensures side { place.new.me ≡ (noting place.old.me.0 (Passed owner tag.now mode), place.old.me.1) }
 {
-    fetch_sub_as::<T, M>(top, place, fast_word(owner), EXCLUSIVE);
+    fetch_sub_as::<T, M>(top, place, fast_word(owner), LwMode::Exclusive.amount());
 }
 
 /// Counts a strong lock, past nobody yet (`BeginStrongLockAcquire` in lock.c).

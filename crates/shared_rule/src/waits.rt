@@ -1,5 +1,5 @@
-//! The steps of a session on wait words: its own, by which it learns that its wait was granted or is to be cancelled, and
-//! those of others whom it tells so.
+//! The steps of a session on wait words: its own, by which it learns that its wait was granted or is to be cancelled,
+//! and those of others whom it tells so.
 
 ghost use Rattle.std.specs.Prelude.{◌≡◌, ◌<◌, ◌+◌, ◌^◌, ◌%◌, [], bit_or, List, map};
 ghost use mathlib.Core.Option.{none};
@@ -11,8 +11,9 @@ ghost use Rattle.lock_table.specs.OwnWait.{OwnWait};
 ghost use Rattle.lock_table.specs.Waiter.{whose_and_mode};
 ghost use Rattle.lock_world.specs.Account.{InHand};
 ghost use Rattle.lock_world.specs.AccountLaw.{MayMoveBy, MayLeaveBy};
-ghost use Rattle.shared_rule.specs.declared.history.Mark.TheVariants.{SetWaiting, MarkedGranted, LoadedWait, Asked, ClearedWait, LeftQueue};
-ghost use Rattle.shared_rule.specs.History.{noting};
+ghost use Rattle.shared_rule.specs.declared.history.Mark.TheVariants.{SetWaiting, MarkedGranted, LoadedWait};
+ghost use Rattle.shared_rule.specs.declared.history.Mark.TheVariants.{Asked, ClearedWait, LeftQueue};
+ghost use Rattle.shared_rule.specs.History.{noting, sessions_told};
 ghost use Rattle.shared_rule.specs.Ruled.{Ruled};
 ghost use Rattle.shared_rule.specs.Lawful.{IsGrantingIn, MayMarkBy, MayClearBy};
 ghost use Rattle.shared_rule.specs.Plays.{account_at, number_at, FitsTable, HasSession, IsSameSeat, Marked};
@@ -73,8 +74,8 @@ pub(crate) fn set_waiting<T: PartTable, M: Marking<T>>(
     store_as::<T, M>(top, place, wait_word(number), 1);
 }
 
-/// Marks the wait of a session granted, one of those whom the move in the content in hand grants (`GrantLockLocal`'s
-/// other side: `ProcWakeup` in proc.c sets `waitStatus`).
+/// Marks the wait of a session granted, one of those whom the move in the content in hand grants (`ProcWakeup` in
+/// proc.c sets `waitStatus`; the waiter's own side is `GrantAwaitedLock` in lock.c).
 pub(crate) fn mark_granted<T: PartTable, M: Marking<T>>(
     top: &Top<T>,
     place: &mut Place<T>,
@@ -92,10 +93,13 @@ pub(crate) fn mark_granted<T: PartTable, M: Marking<T>>(
         × MayMarkBy top.now.key (number_at place.old) (account_at T.content place.old) part
         mine done.now granted (T.content content.now) other }
     requires mark { M.mark
-        ≡ (λ _. MarkedGranted part other done.now (map (λ told. told.0) woken.now.items) content.now) }
+        ≡ (λ _. MarkedGranted part other done.now (sessions_told woken.now.items) content.now) }
     ensures seat { IsSameSeat place.old place.new }
     ensures side { place.new.me
-        ≡ (noting place.old.me.0 (MarkedGranted part other done.now (map (λ told. told.0) woken.now.items) content.now), place.old.me.1) }
+        ≡ (
+          noting place.old.me.0 (MarkedGranted part other done.now (sessions_told woken.now.items) content.now),
+          place.old.me.1,
+        ) }
 {
     fetch_add_as::<T, M>(top, place, wait_word(other), 1);
 }
@@ -116,7 +120,8 @@ pub(crate) fn load_wait<T: PartTable, M: Marking<T>>(
     load_as::<T, M>(top, place, wait_word(number))
 }
 
-/// Asks a session to cancel its wait, and tells what its wait word showed before (`pg_cancel_backend` in signalfuncs.c).
+/// Asks a session to cancel its wait, and tells what its wait word showed before (`pg_cancel_backend` in
+/// signalfuncs.c).
 pub(crate) fn ask_cancel<T: PartTable, M: Marking<T>>(
     top: &Top<T>,
     place: &mut Place<T>,
@@ -164,10 +169,10 @@ pub(crate) fn leave_queue<T: PartTable, M: Marking<T>>(
         × (woken.now.items ≡ map whose_and_mode granted)
         × MayLeaveBy top.now.key (number_at place.old) (account_at T.content place.old) wait
         mine granted (T.content content.now) }
-    requires mark { M.mark ≡ (λ _. LeftQueue (map (λ told. told.0) woken.now.items) content.now) }
+    requires mark { M.mark ≡ (λ _. LeftQueue (sessions_told woken.now.items) content.now) }
     ensures seat { IsSameSeat place.old place.new }
     ensures side { place.new.me
-        ≡ (noting place.old.me.0 (LeftQueue (map (λ told. told.0) woken.now.items) content.now), place.old.me.1) }
+        ≡ (noting place.old.me.0 (LeftQueue (sessions_told woken.now.items) content.now), place.old.me.1) }
 {
     store_as::<T, M>(top, place, wait_word(number), 0);
 }
