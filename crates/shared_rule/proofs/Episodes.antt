@@ -1,10 +1,10 @@
-use Rattle.std.proofs.Common.{◌≡◌, ℕ, false, List, [], ◌∷◌, ◌++◌, Option, Some, None, refl, sym, ap, ◌∙◌, append_assoc}
+use Rattle.std.proofs.Common.{◌≡◌, ℕ, false, [], ◌∷◌, ◌++◌, Some, None, refl, sym, ap, ◌∙◌, append_assoc}
 use Rattle.lock_table.specs.declared.moves.Move.{Move}
 use Rattle.lock_table.specs.declared.moves.Move.TheVariants.{Keep}
 use Rattle.lock_table.specs.Content.{Content}
 use Rattle.lock_table.specs.Put.{set_at}
 use Rattle.lock_table.proofs.PutLemmas.{set_at-here, set_at-same, set_at-twice}
-use Rattle.lock_world.specs.World.{TraceEntry, Took, Episode}
+use Rattle.lock_world.specs.World.{Took, Episode}
 use Rattle.lock_world.specs.Account.{Account, InHand}
 use Rattle.lock_world.specs.AccountSteps.{account_taking, account_putting, own_moved}
 use Rattle.lock_world.specs.AccountLaw.{MayPutBy}

@@ -170,7 +170,7 @@ module _ {T : Type 0} (content : T → Content) (w v : World) (views : List (Vie
   }
 
 -- What the session that goes on by itself at a seat knows of the World, and what holds there.
-pub record Steps (limit : ℕ) (w : World) (number : ℕ) (a : Account) : Type 0 where
+pub record Stepper (limit : ℕ) (w : World) (number : ℕ) (a : Account) : Type 0 where
   pub safe : SafeWorld w
   pub is_limit : w.numbers.limit ≡ limit
   pub few : limit ≤ 64
@@ -195,7 +195,7 @@ module _ {T : Type 0} (content : T → Content) (begun : T → Option Request) (
   pub history_of : HistoryIsShown content r.world r.seats.seat_of r.seats.place_in id 0 view.sessions x
   history_of = r.seats.history id 0 view x at (ap (λ sessions. slice_get sessions 0) is)
 
-  pub ruled-steps : Steps limit r.world x.number (told content x.number x.marks)
+  pub ruled-steps : Stepper limit r.world x.number (told content x.number x.marks)
   ruled-steps = record {
     safe = r.safe;
     is_limit = r.is_limit;

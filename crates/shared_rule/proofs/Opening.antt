@@ -16,7 +16,7 @@ use Rattle.shared_rule.specs.declared.history.View.{View}
 use Rattle.shared_rule.specs.Layout.{content_slot_of}
 use Rattle.shared_rule.specs.Shown.{WordsAreShown}
 use Rattle.shared_rule.specs.History.{opening_view}
-use Rattle.shared_rule.specs.Opening.{IsBlank, IsNew, AreNew, AreEmptyParts}
+use Rattle.shared_rule.specs.Opening.{IsNew, AreNew, AreEmptyParts}
 use Rattle.shared_rule.specs.Ruled.{SeatsAreShown, Ruled}
 
 -- The table before the first step meets the rule.

@@ -1,5 +1,6 @@
-use Rattle.std.specs.Prelude.{ℕ, zero, suc, Bool, false, ◌||◌, ◌==◌, List, [], ◌∷◌, Option, Some, None}
+use Rattle.std.specs.Prelude.{ℕ, zero, suc, Bool, false, ◌||◌, ◌==◌, List, [], ◌∷◌, map, Option, Some, None}
 use Rattle.std.specs.List.{list_any}
+use Rattle.modes_core.specs.declared.modes.Mode.{Mode}
 use Rattle.modes_core.specs.Tag.{partition_of}
 use Rattle.lock_table.specs.declared.moves.Move.{Move}
 use Rattle.lock_table.specs.declared.moves.Move.TheVariants.{Keep}
@@ -11,9 +12,14 @@ use Rattle.lock_world.specs.WaitWord.{wait_state}
 use Rattle.lock_world.specs.World.{Loaded, AskedToCancel}
 use Rattle.lock_world.specs.Happens.Waits.{unmarked_but}
 use Rattle.lock_world.specs.Account.{Account, InHand, SlotsInHand}
-use Rattle.lock_world.specs.AccountSteps.{account_taking, account_putting, account_taking_fast, account_putting_fast, account_passing, account_counting, account_uncounting, account_tracing, account_waiting, account_marking, account_clearing, account_leaving}
+use Rattle.lock_world.specs.AccountSteps.{account_taking, account_putting, account_taking_fast, account_putting_fast}
+use Rattle.lock_world.specs.AccountSteps.{account_passing, account_counting, account_uncounting, account_tracing}
+use Rattle.lock_world.specs.AccountSteps.{account_waiting, account_marking, account_clearing, account_leaving}
 use Rattle.shared_rule.specs.declared.history.Mark.{Mark}
-use Rattle.shared_rule.specs.declared.history.Mark.TheVariants.{TookPart, PutPart, TookFast, PutFast, Passed, Counted, Uncounted, SetWaiting, MarkedGranted, LoadedWait, Asked, ClearedWait, LeftQueue, LoadedDatabase}
+use Rattle.shared_rule.specs.declared.history.Mark.TheVariants.{TookPart, PutPart, TookFast, PutFast, Passed}
+use Rattle.shared_rule.specs.declared.history.Mark.TheVariants.{Counted, Uncounted, LoadedDatabase}
+use Rattle.shared_rule.specs.declared.history.Mark.TheVariants.{SetWaiting, MarkedGranted, LoadedWait, Asked}
+use Rattle.shared_rule.specs.declared.history.Mark.TheVariants.{ClearedWait, LeftQueue}
 use Rattle.shared_rule.specs.declared.history.History.{History}
 use Rattle.shared_rule.specs.declared.history.View.{View}
 
@@ -45,6 +51,10 @@ in_hand (Some mine) = mine
 -- whether the session is among these
 abbrev pub is_among : List ℕ → ℕ → Bool
 is_among sessions session = list_any (λ other. other == session) sessions
+
+-- the sessions of those whom a wakeup tells of
+abbrev pub sessions_told : List (ℕ × Mode) → List ℕ
+sessions_told woken = map (λ told. told.0) woken
 
 -- what marking a session granted makes of the account: the move is made by the first such step, and stands recorded at
 -- each further one

@@ -5,7 +5,8 @@ use Rattle.lock_table.specs.declared.moves.Move.TheVariants.{Keep, Grant, Join, 
 use Rattle.lock_table.specs.Content.{Wait, Content}
 use Rattle.lock_world.specs.Account.{Account, InHand}
 use Rattle.lock_table.specs.OwnWait.{OwnWait}
-use Rattle.lock_world.specs.AccountLaw.{MayPutBy, MayPutRecordedBy, MayMarkFirstBy, MayMarkNextBy, MayClearSeenBy, MayClearInHandBy}
+use Rattle.lock_world.specs.AccountLaw.{MayPutBy, MayPutRecordedBy, MayMarkFirstBy, MayMarkNextBy}
+use Rattle.lock_world.specs.AccountLaw.{MayClearSeenBy, MayClearInHandBy}
 
 -- Where a step is lawful by the account of the session that makes it, whichever way it is.
 
@@ -20,22 +21,22 @@ IsGrantingIn partition (Release tag mode) = partition_of tag ≡ partition
 IsGrantingIn partition (Leave tag) = partition_of tag ≡ partition
 IsGrantingIn partition (Adopt owner slot) = ⊥
 
--- The session is one of those whom the move grants: the move is made by the first mark, or stands recorded and the session
--- is unmarked.
+-- The session is one of those whom the move grants: the move is made by the first mark, or stands recorded and the
+-- session is unmarked.
 abbrev pub MayMarkBy : ℕ → ℕ → Account → ℕ → InHand → Move → List Wait → Content → ℕ → Type 0
 MayMarkBy limit number a partition mine done granted content other =
     MayMarkFirstBy limit number a partition mine done granted content other ⊎ MayMarkNextBy a partition mine done other
 
--- Putting a partition: after a move that is made as it is put, or, with nothing changed since, after the one that stands
--- recorded.
+-- Putting a partition: after a move that is made as it is put, or, with nothing changed since, after the one that
+-- stands recorded.
 pub record PutsRecorded (a : Account) (partition : ℕ) (mine : InHand) (done : Move) (content : Content) : Type 0 where
   pub made : Move
   pub may_put : MayPutRecordedBy a partition mine made
   pub keeps : done ≡ Keep
   pub same : content ≡ mine.now
 
-abbrev pub MayPutSo : ℕ → ℕ → Account → ℕ → InHand → Move → Content → Type 0
-MayPutSo limit number a partition mine done content =
+abbrev pub MayPutPart : ℕ → ℕ → Account → ℕ → InHand → Move → Content → Type 0
+MayPutPart limit number a partition mine done content =
     MayPutBy limit number a partition mine done content ⊎ PutsRecorded a partition mine done content
 
 -- Clearing the own wait word: the grant was seen, or the wait is gone from the content in hand.

@@ -15,8 +15,8 @@ use Rattle.shared_rule.specs.Layout.{content_slot_of}
 use Rattle.shared_rule.specs.Shown.{WordsAreShown}
 use Rattle.shared_rule.specs.History.{blank_account, told, keeper}
 
--- The rule of the table: there is a World which its words, its contents at home and the histories of all sessions show, and which is
--- safe.
+-- The rule of the table: there is a World which its words, its contents at home and the histories of all sessions show,
+-- and which is safe.
 
 -- No session has a database or a fast-path slot: no step stores one yet.
 pub record SlotsAreUnused (words : Words) : Type 0 where
@@ -42,8 +42,8 @@ module _ {T : Type 0} (content : T → Content) (begun : T → Option Request) w
 
 -- What the views of the seats show.
 module _ {T : Type 0} (content : T → Content) where
-  -- A history tells the account of its session, which is live, stands in no other view and not twice in this one, and makes steps of
-  -- its own if it is the first there.
+  -- A history tells the account of its session, which is live, stands in no other view and not twice in this one, and
+  -- makes steps of its own if it is the first there.
   pub record HistoryIsShown (w : World) (seat_of place_in : ℕ → ℕ) (its_seat its_place : ℕ)
       (sessions : List (History T)) (history : History T) : Type 0 where
     pub account : told content history.number history.marks ≡ account w history.number

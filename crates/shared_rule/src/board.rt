@@ -12,12 +12,15 @@ ghost use Rattle.lock_world.specs.declared.events.Word.TheVariants.{Database, Wa
 ghost use Rattle.lock_world.specs.WaitWord.{wait_state};
 ghost use Rattle.lock_world.specs.World.{Loaded, AskedToCancel};
 ghost use Rattle.lock_world.specs.Account.{Account, InHand, SlotsInHand};
-ghost use Rattle.lock_world.specs.AccountSteps.{account_taking, account_putting, account_taking_fast, account_putting_fast, account_passing, account_counting, account_uncounting, account_tracing, account_waiting};
+ghost use Rattle.lock_world.specs.AccountSteps.{account_taking, account_putting, account_taking_fast};
+ghost use Rattle.lock_world.specs.AccountSteps.{account_putting_fast, account_passing, account_counting};
+ghost use Rattle.lock_world.specs.AccountSteps.{account_uncounting, account_tracing, account_waiting};
 ghost use Rattle.lock_world.specs.AccountFacts.{KnowsContent};
 ghost use Rattle.lock_world.specs.AccountLaw.{MayMoveBy, MayLeaveBy, MayPutFastBy, MayPassBy, MayCountBy, MayUncountBy};
-ghost use Rattle.shared_rule.specs.History.{taken_of, no_slots, in_hand, account_granting, account_cleared, account_left};
+ghost use Rattle.shared_rule.specs.History.{taken_of, no_slots, in_hand, sessions_told};
+ghost use Rattle.shared_rule.specs.History.{account_granting, account_cleared, account_left};
 ghost use Rattle.shared_rule.specs.Boards.{Seated};
-ghost use Rattle.shared_rule.specs.Lawful.{MayPutSo, IsGrantingIn, MayMarkBy, MayClearBy};
+ghost use Rattle.shared_rule.specs.Lawful.{MayPutPart, IsGrantingIn, MayMarkBy, MayClearBy};
 
 use lock_table::{Move, PartTable, Woken};
 use modes_core::{Mode, SessionId, Tag};
@@ -58,8 +61,8 @@ pub trait Board<T: PartTable> {
         requires exists { part < 16 }
         requires in_hand { (others : List ℕ) × (stack self.old ≡ part ∷ others) }
         requires none_begun { T.begun content ≡ None }
-        requires lawful { (mine : InHand) ×
-            MayPutSo (seat self.old).limit (seat self.old).number (view self.old) part mine done.now (T.content content) }
+        requires lawful { (mine : InHand) × MayPutPart (seat self.old).limit (seat self.old).number (view self.old)
+            part mine done.now (T.content content) }
         ensures seat { seat self.new ≡ seat self.old }
         ensures view { view self.new ≡
             account_putting (view self.old) part (taken_of ((view self.old).hand part)) (T.content content) done.now }
@@ -134,7 +137,7 @@ pub trait Board<T: PartTable> {
         ensures seat { seat self.new ≡ seat self.old }
         ensures view { view self.new ≡ account_granting (view self.old) part
             (in_hand ((view self.old).hand part)) other done.now
-            (map (λ told. told.0) woken.now.items) (T.content content.now) }
+            (sessions_told woken.now.items) (T.content content.now) }
         ensures stack { stack self.new ≡ stack self.old };
 
     /// Loads the own wait word: 2 in bits 0 to 1 where the wait was granted, bit 2 set where it was asked to cancel
@@ -153,15 +156,16 @@ pub trait Board<T: PartTable> {
         ensures view { view self.new ≡ account_tracing (view self.old) (AskedToCancel other result) }
         ensures stack { stack self.new ≡ stack self.old };
 
-    /// Clears the own wait word: the wait is over, since the grant was seen or the wait is gone from the content in hand.
+    /// Clears the own wait word: the wait is over, since the grant was seen or the wait is gone from the content in
+    /// hand.
     fn clear_wait(&mut self)
         requires lawful { (wait : OwnWait) × MayClearBy (seat self.old).number (view self.old) wait }
         ensures seat { seat self.new ≡ seat self.old }
         ensures view { view self.new ≡ account_cleared (seat self.old).number (view self.old) (view self.old).awaited }
         ensures stack { stack self.new ≡ stack self.old };
 
-    /// Clears the own wait word and records that the wait was taken out of the queue of the content in hand, which granted
-    /// the waits of those told (`RemoveFromWaitQueue` in lock.c).
+    /// Clears the own wait word and records that the wait was taken out of the queue of the content in hand, which
+    /// granted the waits of those told (`RemoveFromWaitQueue` in lock.c).
     fn leave_queue(&mut self, woken: &Woken, content: &T)
         requires lawful { (wait : OwnWait) × (mine : InHand) × (granted : List contents.Wait)
             × (woken.now.items ≡ map whose_and_mode granted)
@@ -169,7 +173,7 @@ pub trait Board<T: PartTable> {
             wait mine granted (T.content content.now) }
         ensures seat { seat self.new ≡ seat self.old }
         ensures view { view self.new ≡ account_left (view self.old) (view self.old).awaited (T.content content.now)
-            (map (λ told. told.0) woken.now.items) }
+            (sessions_told woken.now.items) }
         ensures stack { stack self.new ≡ stack self.old };
 
     /// Sleeps while the own wait word shows this, until somebody wakes the session; it may also return for no reason

@@ -7,7 +7,8 @@
 //! pg_config_manual.h), and then share no line wherever the table begins. Only the counters are packed.
 
 ghost use Rattle.std.specs.Prelude.{◌≡◌, ◌<◌, ◌≤◌, ◌+◌};
-ghost use Rattle.lock_world.specs.declared.events.Word.TheVariants.{Partition, Fast, Database, Slot, Wait, Strong, Sleep};
+ghost use Rattle.lock_world.specs.declared.events.Word.TheVariants.{Partition, Fast, Database, Slot};
+ghost use Rattle.lock_world.specs.declared.events.Word.TheVariants.{Wait, Strong, Sleep};
 ghost use Rattle.shared_rule.specs.Layout.{index_of_word, block_start, content_slot_of};
 
 use modes_core::SessionId;

@@ -8,7 +8,7 @@ pub mod laws;
 pub mod layout;
 pub mod one_thread;
 pub mod opener;
-pub mod plays;
+mod plays;
 pub mod rule;
 pub mod seat_board;
 mod seats;

@@ -15,9 +15,11 @@ use atomic_table::Refused;
 use lock_table::{Move, PartTable, Woken};
 use modes_core::{Mode, SessionId, Tag};
 use std::alloc::Global;
+use std::marker::Brand;
 use std::sync::Wait;
 
 /// A table and the one seat at it. Every call is that of a `SeatBoard`, so code over any board does the same on it.
+#[derive(Drop)]
 pub struct OneThread<T: PartTable> {
     table: SharedTable<T>,
     place: Place<T>,
@@ -60,7 +62,8 @@ impl<T: PartTable> OneThread<T> {
 }
 
 impl<T: PartTable> Board<T> for OneThread<T> {
-    ghost seat = { λ board. record { number = board.number; limit = board.sessions; table = board.table.shared.table_id } };
+    ghost seat = { λ board.
+        record { number = board.number; limit = board.sessions; table = board.table.shared.table_id } };
 
     ghost view = { λ board. first_account T.content board.place.me.0.sessions };
 
@@ -81,42 +84,42 @@ impl<T: PartTable> Board<T> for OneThread<T> {
 
     fn put_part(&mut self, part: u8, done: &Move, content: T) {
         let table = &self.table;
-        steps::put_part(&table.shared, &mut self.place, part, done, content);
+        steps::put_part::<T, Brand>(&table.shared, &mut self.place, part, done, content);
     }
 
     fn take_fast<R: Wait>(&mut self, rt: &R, owner: SessionId) {
         let table = &self.table;
-        steps::take_fast(rt, &table.shared, &mut self.place, owner);
+        steps::take_fast::<T, Brand, R>(rt, &table.shared, &mut self.place, owner);
     }
 
     fn put_fast(&mut self, owner: SessionId) {
         let table = &self.table;
-        steps::put_fast(&table.shared, &mut self.place, owner);
+        steps::put_fast::<T, Brand>(&table.shared, &mut self.place, owner);
     }
 
     fn pass_fast(&mut self, owner: SessionId, tag: &Tag, mode: Mode) {
         let table = &self.table;
-        steps::pass_fast(&table.shared, &mut self.place, owner, tag, mode);
+        steps::pass_fast::<T, Brand>(&table.shared, &mut self.place, owner, tag, mode);
     }
 
     fn add_strong(&mut self, tag: &Tag, mode: Mode) {
         let table = &self.table;
-        steps::add_strong(&table.shared, &mut self.place, tag, mode);
+        steps::add_strong::<T, Brand>(&table.shared, &mut self.place, tag, mode);
     }
 
     fn sub_strong(&mut self, tag: &Tag, mode: Mode) {
         let table = &self.table;
-        steps::sub_strong(&table.shared, &mut self.place, tag, mode);
+        steps::sub_strong::<T, Brand>(&table.shared, &mut self.place, tag, mode);
     }
 
     fn load_database(&mut self, owner: SessionId) -> u64 {
         let table = &self.table;
-        steps::load_database(&table.shared, &mut self.place, owner)
+        steps::load_database::<T, Brand>(&table.shared, &mut self.place, owner)
     }
 
     fn set_waiting(&mut self, tag: &Tag, mode: Mode, content: &T) {
         let table = &self.table;
-        waits::set_waiting(
+        waits::set_waiting::<T, Brand>(
             &table.shared,
             &mut self.place,
             self.number,
@@ -135,7 +138,7 @@ impl<T: PartTable> Board<T> for OneThread<T> {
         content: &T,
     ) {
         let table = &self.table;
-        waits::mark_granted(
+        waits::mark_granted::<T, Brand>(
             &table.shared,
             &mut self.place,
             part,
@@ -148,22 +151,22 @@ impl<T: PartTable> Board<T> for OneThread<T> {
 
     fn load_wait(&mut self) -> u64 {
         let table = &self.table;
-        waits::load_wait(&table.shared, &mut self.place, self.number)
+        waits::load_wait::<T, Brand>(&table.shared, &mut self.place, self.number)
     }
 
     fn ask_cancel(&mut self, other: SessionId) -> u64 {
         let table = &self.table;
-        waits::ask_cancel(&table.shared, &mut self.place, other)
+        waits::ask_cancel::<T, Brand>(&table.shared, &mut self.place, other)
     }
 
     fn clear_wait(&mut self) {
         let table = &self.table;
-        waits::clear_wait(&table.shared, &mut self.place, self.number);
+        waits::clear_wait::<T, Brand>(&table.shared, &mut self.place, self.number);
     }
 
     fn leave_queue(&mut self, woken: &Woken, content: &T) {
         let table = &self.table;
-        waits::leave_queue(&table.shared, &mut self.place, self.number, woken, content);
+        waits::leave_queue::<T, Brand>(&table.shared, &mut self.place, self.number, woken, content);
     }
 
     fn sleep<R: Wait>(&self, rt: &R, shown: u64) {

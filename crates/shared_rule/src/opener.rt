@@ -1,6 +1,6 @@
 //! The opener, who gives out session numbers and takes closed sessions back.
 
-ghost use Rattle.std.specs.Prelude.{◌≡◌, ◌<◌, ◌≤◌, ◌+◌, ◌↔◌, [], IfSome, IsNone, OnSome};
+ghost use Rattle.std.specs.Prelude.{◌≡◌, ◌<◌, ◌≤◌, ◌+◌, ◌↔◌, [], IfSome, IfNone, IsNone, OnSome};
 ghost use Rattle.shared_rule.specs.History.{blank_account, lone, opening_view};
 ghost use Rattle.shared_rule.specs.Plays.{FitsTable, IsSized};
 ghost use Rattle.shared_rule.specs.Seats.{MayCloseBy};
@@ -29,7 +29,8 @@ impl<T: PartTable> Model for Opener<T> {
 
     ghost Value = { OpenerState };
 
-    ghost view = { λ opener. record { table = opener.place.table_id; issued = opener.issued; limit = opener.sessions } };
+    ghost view = { λ opener.
+        record { table = opener.place.table_id; issued = opener.issued; limit = opener.sessions } };
 
     ghost invariant = { λ opener. (opener.place.me.0.next ≡ Some opener.issued) × (opener.issued ≤ opener.sessions)
         × (opener.sessions ≤ 64) × IsSized opener.place.table_id };
@@ -70,6 +71,7 @@ impl<T: PartTable> Opener<T> {
     pub fn session<'a>(&mut self, table: &'a Top<T>) -> Option<SeatBoard<'a, T>>
         requires table { (self.old.table ≡ table.now.table_id) × (self.old.limit ≡ table.now.key) }
         ensures none { IsNone result ↔ (self.old.issued ≡ self.old.limit) }
+        ensures unchanged { IfNone result (self.new ≡ self.old) }
         ensures opener { (self.new.table ≡ self.old.table) × (self.new.limit ≡ self.old.limit) }
         ensures issued { OnSome result (self.new.issued ≡ self.old.issued + 1) }
         ensures blank { IfSome result (λ board. ⟦<SeatBoard<'a, T> as Board<T>>⟧.view board ≡ blank_account) }

@@ -13,6 +13,7 @@ use crate::rule::{Place, Top};
 use crate::{seats, steps, waits};
 use lock_table::{Move, PartTable, Woken};
 use modes_core::{Mode, SessionId, Tag};
+use std::marker::Brand;
 use std::sync::Wait;
 
 /// A session's seat at the table that all sessions share. One that is let go leaves its session open for ever.
@@ -42,7 +43,8 @@ impl<'a, T: PartTable> SeatBoard<'a, T> {
         requires limit { sessions ≡ table.now.key }
         requires lone { place.me.0 ≡ lone number (first_marks place.me.0.sessions) }
         requires out { place.me.1 ≡ [] }
-        ensures { (result.table.now ≡ table.now) × (result.place ≡ place) × (result.number ≡ number) × (result.sessions ≡ sessions) }
+        ensures { (result.table.now ≡ table.now) × (result.place ≡ place) × (result.number ≡ number)
+            × (result.sessions ≡ sessions) }
     {
         SeatBoard {
             table,
@@ -55,16 +57,23 @@ impl<'a, T: PartTable> SeatBoard<'a, T> {
     /// Meets another session of the same table, whose board comes back: no hold of the one conflicts with a hold of the
     /// other on an object. Both accounts are as before.
     pub fn meet(&mut self, other: SeatBoard<'a, T>) -> SeatBoard<'a, T>
-        requires table { (⟦<SeatBoard<'a, T> as Board<T>>⟧.seat other).table ≡ (⟦<SeatBoard<'a, T> as Board<T>>⟧.seat self.old).table }
+        requires table { (⟦<SeatBoard<'a, T> as Board<T>>⟧.seat other).table
+            ≡ (⟦<SeatBoard<'a, T> as Board<T>>⟧.seat self.old).table }
         requires stack { ⟦<SeatBoard<'a, T> as Board<T>>⟧.stack other ≡ [] }
         requires no_word { MayBeKeptApartBy (⟦<SeatBoard<'a, T> as Board<T>>⟧.view other) }
-        ensures told { DoNotConflict (⟦<SeatBoard<'a, T> as Board<T>>⟧.view self.old) (⟦<SeatBoard<'a, T> as Board<T>>⟧.view other.entry) }
-        ensures view { ⟦<SeatBoard<'a, T> as Board<T>>⟧.view self.new ≡ ⟦<SeatBoard<'a, T> as Board<T>>⟧.view self.old }
-        ensures stack { ⟦<SeatBoard<'a, T> as Board<T>>⟧.stack self.new ≡ ⟦<SeatBoard<'a, T> as Board<T>>⟧.stack self.old }
-        ensures seat { ⟦<SeatBoard<'a, T> as Board<T>>⟧.seat self.new ≡ ⟦<SeatBoard<'a, T> as Board<T>>⟧.seat self.old }
-        ensures its_view { ⟦<SeatBoard<'a, T> as Board<T>>⟧.view result ≡ ⟦<SeatBoard<'a, T> as Board<T>>⟧.view other.entry }
+        ensures told { DoNotConflict (⟦<SeatBoard<'a, T> as Board<T>>⟧.view self.old)
+            (⟦<SeatBoard<'a, T> as Board<T>>⟧.view other.entry) }
+        ensures view { ⟦<SeatBoard<'a, T> as Board<T>>⟧.view self.new
+            ≡ ⟦<SeatBoard<'a, T> as Board<T>>⟧.view self.old }
+        ensures stack { ⟦<SeatBoard<'a, T> as Board<T>>⟧.stack self.new
+            ≡ ⟦<SeatBoard<'a, T> as Board<T>>⟧.stack self.old }
+        ensures seat { ⟦<SeatBoard<'a, T> as Board<T>>⟧.seat self.new
+            ≡ ⟦<SeatBoard<'a, T> as Board<T>>⟧.seat self.old }
+        ensures its_view { ⟦<SeatBoard<'a, T> as Board<T>>⟧.view result
+            ≡ ⟦<SeatBoard<'a, T> as Board<T>>⟧.view other.entry }
         ensures its_stack { ⟦<SeatBoard<'a, T> as Board<T>>⟧.stack result ≡ [] }
-        ensures its_seat { ⟦<SeatBoard<'a, T> as Board<T>>⟧.seat result ≡ ⟦<SeatBoard<'a, T> as Board<T>>⟧.seat other.entry }
+        ensures its_seat { ⟦<SeatBoard<'a, T> as Board<T>>⟧.seat result
+            ≡ ⟦<SeatBoard<'a, T> as Board<T>>⟧.seat other.entry }
     {
         let SeatBoard {
             table,
@@ -98,7 +107,8 @@ impl<'a, T: PartTable> SeatBoard<'a, T> {
 }
 
 impl<'a, T: PartTable> Board<T> for SeatBoard<'a, T> {
-    ghost seat = { λ board. record { number = board.number; limit = board.sessions; table = board.table.now.table_id } };
+    ghost seat = { λ board.
+        record { number = board.number; limit = board.sessions; table = board.table.now.table_id } };
 
     ghost view = { λ board. first_account T.content board.place.me.0.sessions };
 
@@ -117,35 +127,42 @@ impl<'a, T: PartTable> Board<T> for SeatBoard<'a, T> {
     }
 
     fn put_part(&mut self, part: u8, done: &Move, content: T) {
-        steps::put_part(self.table, &mut self.place, part, done, content);
+        steps::put_part::<T, Brand>(self.table, &mut self.place, part, done, content);
     }
 
     fn take_fast<R: Wait>(&mut self, rt: &R, owner: SessionId) {
-        steps::take_fast(rt, self.table, &mut self.place, owner);
+        steps::take_fast::<T, Brand, R>(rt, self.table, &mut self.place, owner);
     }
 
     fn put_fast(&mut self, owner: SessionId) {
-        steps::put_fast(self.table, &mut self.place, owner);
+        steps::put_fast::<T, Brand>(self.table, &mut self.place, owner);
     }
 
     fn pass_fast(&mut self, owner: SessionId, tag: &Tag, mode: Mode) {
-        steps::pass_fast(self.table, &mut self.place, owner, tag, mode);
+        steps::pass_fast::<T, Brand>(self.table, &mut self.place, owner, tag, mode);
     }
 
     fn add_strong(&mut self, tag: &Tag, mode: Mode) {
-        steps::add_strong(self.table, &mut self.place, tag, mode);
+        steps::add_strong::<T, Brand>(self.table, &mut self.place, tag, mode);
     }
 
     fn sub_strong(&mut self, tag: &Tag, mode: Mode) {
-        steps::sub_strong(self.table, &mut self.place, tag, mode);
+        steps::sub_strong::<T, Brand>(self.table, &mut self.place, tag, mode);
     }
 
     fn load_database(&mut self, owner: SessionId) -> u64 {
-        steps::load_database(self.table, &mut self.place, owner)
+        steps::load_database::<T, Brand>(self.table, &mut self.place, owner)
     }
 
     fn set_waiting(&mut self, tag: &Tag, mode: Mode, content: &T) {
-        waits::set_waiting(self.table, &mut self.place, self.number, tag, mode, content);
+        waits::set_waiting::<T, Brand>(
+            self.table,
+            &mut self.place,
+            self.number,
+            tag,
+            mode,
+            content,
+        );
     }
 
     fn mark_granted(
@@ -156,7 +173,7 @@ impl<'a, T: PartTable> Board<T> for SeatBoard<'a, T> {
         woken: &Woken,
         content: &T,
     ) {
-        waits::mark_granted(
+        waits::mark_granted::<T, Brand>(
             self.table,
             &mut self.place,
             part,
@@ -168,19 +185,19 @@ impl<'a, T: PartTable> Board<T> for SeatBoard<'a, T> {
     }
 
     fn load_wait(&mut self) -> u64 {
-        waits::load_wait(self.table, &mut self.place, self.number)
+        waits::load_wait::<T, Brand>(self.table, &mut self.place, self.number)
     }
 
     fn ask_cancel(&mut self, other: SessionId) -> u64 {
-        waits::ask_cancel(self.table, &mut self.place, other)
+        waits::ask_cancel::<T, Brand>(self.table, &mut self.place, other)
     }
 
     fn clear_wait(&mut self) {
-        waits::clear_wait(self.table, &mut self.place, self.number);
+        waits::clear_wait::<T, Brand>(self.table, &mut self.place, self.number);
     }
 
     fn leave_queue(&mut self, woken: &Woken, content: &T) {
-        waits::leave_queue(self.table, &mut self.place, self.number, woken, content);
+        waits::leave_queue::<T, Brand>(self.table, &mut self.place, self.number, woken, content);
     }
 
     fn sleep<R: Wait>(&self, rt: &R, shown: u64) {

@@ -11,12 +11,14 @@ ghost use Rattle.lw_word.specs.LightweightWord.{IsHeldByNobody, taken_word};
 ghost use Rattle.lock_world.specs.Account.{InHand, SlotsInHand};
 ghost use Rattle.lock_world.specs.AccountFacts.{KnowsContent};
 ghost use Rattle.lock_world.specs.AccountLaw.{MayPutFastBy, MayPassBy, MayCountBy, MayUncountBy};
-ghost use Rattle.shared_rule.specs.declared.history.Mark.TheVariants.{TookPart, PutPart, TookFast, PutFast, Passed, Counted, Uncounted, LoadedDatabase};
+ghost use Rattle.shared_rule.specs.declared.history.Mark.TheVariants.{TookPart, PutPart, TookFast, PutFast, Passed};
+ghost use Rattle.shared_rule.specs.declared.history.Mark.TheVariants.{Counted, Uncounted, LoadedDatabase};
 ghost use Rattle.shared_rule.specs.Layout.{content_slot_of};
 ghost use Rattle.shared_rule.specs.History.{noting};
 ghost use Rattle.shared_rule.specs.Ruled.{Ruled};
-ghost use Rattle.shared_rule.specs.Lawful.{MayPutSo};
-ghost use Rattle.shared_rule.specs.Plays.{account_at, number_at, FitsTable, HasSession, IsSameSeat, Marked, Won, WentHome};
+ghost use Rattle.shared_rule.specs.Lawful.{MayPutPart};
+ghost use Rattle.shared_rule.specs.Plays.{account_at, number_at, FitsTable, HasSession, IsSameSeat};
+ghost use Rattle.shared_rule.specs.Plays.{Marked, Won, WentHome};
 
 use crate::layout::{content_slot, database_word, fast_word, partition_word, strong_word};
 use crate::plays::{Marking, Marks, PutsHome, TakesPart, Wins};
@@ -25,11 +27,7 @@ use crossbeam_utils::Backoff;
 use lock_table::{Move, PartTable};
 use lw_word::{LwMode, LwWord};
 use modes_core::{Mode, SessionId, Tag};
-use std::marker::Brand;
 use std::sync::Wait;
-
-/// What an exclusive holder adds to a lightweight lock's word.
-const EXCLUSIVE: u64 = 1 << 24;
 
 /// What one who takes the lock exclusively makes of its word, or `None` where it isn't free, or no word of a lock.
 pub(crate) fn taken(shown: u64) -> Option<u64>
@@ -96,7 +94,7 @@ fn put_home_as<T: PartTable, M: Marking<T>>(top: &Top<T>, place: &mut Place<T>, 
     ensures seat { IsSameSeat place.old place.new }
     ensures side { (n : ℕ) × (place.new.me ≡ (noting place.old.me.0 (M.mark n), rest place.old.me.1)) }
 {
-    top.fetch_sub::<PutsHome<M>>(place, word, EXCLUSIVE);
+    top.fetch_sub::<PutsHome<M>>(place, word, LwMode::Exclusive.amount());
 }
 
 fn exchange_as<T: PartTable, M: Marking<T>>(
@@ -173,7 +171,8 @@ pub(crate) fn take_part<T: PartTable, R: Wait>(
     unreachable!()
 }
 
-fn put_part_as<T: PartTable, M: Marking<T>>(
+/// Puts a partition's content home, after this move, and its lightweight lock (`LWLockRelease` in lwlock.c).
+pub(crate) fn put_part<T: PartTable, M: Marking<T>>(
     top: &Top<T>,
     place: &mut Place<T>,
     part: u8,
@@ -185,7 +184,7 @@ fn put_part_as<T: PartTable, M: Marking<T>>(
     requires session { HasSession place.old.me.0 }
     requires in_hand { place.old.me.1 ≡ (content_slot_of part, None) ∷ rest place.old.me.1 }
     requires none_begun { T.begun content ≡ None }
-    requires lawful { (mine : InHand) × MayPutSo top.now.key (number_at place.old)
+    requires lawful { (mine : InHand) × MayPutPart top.now.key (number_at place.old)
         (account_at T.content place.old) part mine done.now (T.content content) }
     requires mark { M.mark ≡ (λ _. PutPart part done.now content) }
     ensures seat { IsSameSeat place.old place.new }
@@ -197,28 +196,9 @@ fn put_part_as<T: PartTable, M: Marking<T>>(
     }
 }
 
-/// Puts a partition's content home, after this move, and its lightweight lock (`LWLockRelease` in lwlock.c).
-pub(crate) fn put_part<T: PartTable>(
-    top: &Top<T>,
-    place: &mut Place<T>,
-    part: u8,
-    done: &Move,
-    content: T,
-)
-    requires table { FitsTable place.old top.now.table_id }
-    requires exists { part < 16 }
-    requires session { HasSession place.old.me.0 }
-    requires in_hand { place.old.me.1 ≡ (content_slot_of part, None) ∷ rest place.old.me.1 }
-    requires none_begun { T.begun content ≡ None }
-    requires lawful { (mine : InHand) × MayPutSo top.now.key (number_at place.old)
-        (account_at T.content place.old) part mine done.now (T.content content) }
-    ensures seat { IsSameSeat place.old place.new }
-    ensures side { place.new.me ≡ (noting place.old.me.0 (PutPart part done.now content), rest place.old.me.1) }
-{
-    put_part_as::<T, Brand>(top, place, part, done, content);
-}
-
-fn take_fast_as<T: PartTable, M: Marking<T>, R: Wait>(
+/// Takes the lock of a session's fast-path slots exclusively, issued or not (`LWLockAcquire` of `fpInfoLock`). It
+/// waits until the lock is free.
+pub(crate) fn take_fast<T: PartTable, M: Marking<T>, R: Wait>(
     rt: &R,
     top: &Top<T>,
     place: &mut Place<T>,
@@ -245,24 +225,12 @@ fn take_fast_as<T: PartTable, M: Marking<T>, R: Wait>(
     unreachable!()
 }
 
-/// Takes the lock of a session's fast-path slots exclusively, issued or not (`LWLockAcquire` of `fpInfoLock`). It
-/// waits until the lock is free.
-pub(crate) fn take_fast<T: PartTable, R: Wait>(
-    rt: &R,
+/// Puts that lock.
+pub(crate) fn put_fast<T: PartTable, M: Marking<T>>(
     top: &Top<T>,
     place: &mut Place<T>,
     owner: SessionId,
 )
-    requires table { FitsTable place.old top.now.table_id }
-    requires exists { owner < top.now.key }
-    requires session { HasSession place.old.me.0 }
-    ensures seat { IsSameSeat place.old place.new }
-    ensures side { place.new.me ≡ (noting place.old.me.0 (TookFast owner), place.old.me.1) }
-{
-    take_fast_as::<T, Brand, R>(rt, top, place, owner);
-}
-
-fn put_fast_as<T: PartTable, M: Marking<T>>(top: &Top<T>, place: &mut Place<T>, owner: SessionId)
     requires table { FitsTable place.old top.now.table_id }
     requires exists { owner < top.now.key }
     requires session { HasSession place.old.me.0 }
@@ -271,22 +239,12 @@ fn put_fast_as<T: PartTable, M: Marking<T>>(top: &Top<T>, place: &mut Place<T>, 
     ensures seat { IsSameSeat place.old place.new }
     ensures side { place.new.me ≡ (noting place.old.me.0 (PutFast owner), place.old.me.1) }
 {
-    fetch_sub_as::<T, M>(top, place, fast_word(owner), EXCLUSIVE);
+    fetch_sub_as::<T, M>(top, place, fast_word(owner), LwMode::Exclusive.amount());
 }
 
-/// Puts that lock.
-pub(crate) fn put_fast<T: PartTable>(top: &Top<T>, place: &mut Place<T>, owner: SessionId)
-    requires table { FitsTable place.old top.now.table_id }
-    requires exists { owner < top.now.key }
-    requires session { HasSession place.old.me.0 }
-    requires lawful { (slots : SlotsInHand) × MayPutFastBy (account_at T.content place.old) owner slots }
-    ensures seat { IsSameSeat place.old place.new }
-    ensures side { place.new.me ≡ (noting place.old.me.0 (PutFast owner), place.old.me.1) }
-{
-    put_fast_as::<T, Brand>(top, place, owner);
-}
-
-fn pass_fast_as<T: PartTable, M: Marking<T>>(
+/// Puts that lock, and goes past its session with a strong lock that is counted (the end of a turn of the loop in
+/// `FastPathTransferRelationLocks` in lock.c): the session has no slot on the object.
+pub(crate) fn pass_fast<T: PartTable, M: Marking<T>>(
     top: &Top<T>,
     place: &mut Place<T>,
     owner: SessionId,
@@ -301,29 +259,11 @@ fn pass_fast_as<T: PartTable, M: Marking<T>>(
     ensures seat { IsSameSeat place.old place.new }
     ensures side { place.new.me ≡ (noting place.old.me.0 (Passed owner tag.now mode), place.old.me.1) }
 {
-    fetch_sub_as::<T, M>(top, place, fast_word(owner), EXCLUSIVE);
+    fetch_sub_as::<T, M>(top, place, fast_word(owner), LwMode::Exclusive.amount());
 }
 
-/// Puts that lock, and goes past its session with a strong lock that is counted (the end of a turn of the loop in
-/// `FastPathTransferRelationLocks` in lock.c): the session has no slot on the object.
-pub(crate) fn pass_fast<T: PartTable>(
-    top: &Top<T>,
-    place: &mut Place<T>,
-    owner: SessionId,
-    tag: &Tag,
-    mode: Mode,
-)
-    requires table { FitsTable place.old top.now.table_id }
-    requires exists { owner < top.now.key }
-    requires session { HasSession place.old.me.0 }
-    requires lawful { (slots : SlotsInHand) × MayPassBy (account_at T.content place.old) owner slots tag.now mode }
-    ensures seat { IsSameSeat place.old place.new }
-    ensures side { place.new.me ≡ (noting place.old.me.0 (Passed owner tag.now mode), place.old.me.1) }
-{
-    pass_fast_as::<T, Brand>(top, place, owner, tag, mode);
-}
-
-fn add_strong_as<T: PartTable, M: Marking<T>>(
+/// Counts a strong lock, past nobody yet (`BeginStrongLockAcquire` in lock.c).
+pub(crate) fn add_strong<T: PartTable, M: Marking<T>>(
     top: &Top<T>,
     place: &mut Place<T>,
     tag: &Tag,
@@ -339,18 +279,8 @@ fn add_strong_as<T: PartTable, M: Marking<T>>(
     fetch_add_as::<T, M>(top, place, strong_word(tag.strong_index()), 1);
 }
 
-/// Counts a strong lock, past nobody yet (`BeginStrongLockAcquire` in lock.c).
-pub(crate) fn add_strong<T: PartTable>(top: &Top<T>, place: &mut Place<T>, tag: &Tag, mode: Mode)
-    requires table { FitsTable place.old top.now.table_id }
-    requires session { HasSession place.old.me.0 }
-    requires lawful { MayCountBy (account_at T.content place.old) tag.now mode }
-    ensures seat { IsSameSeat place.old place.new }
-    ensures side { place.new.me ≡ (noting place.old.me.0 (Counted tag.now mode), place.old.me.1) }
-{
-    add_strong_as::<T, Brand>(top, place, tag, mode);
-}
-
-fn sub_strong_as<T: PartTable, M: Marking<T>>(
+/// Counts it no more (`AbortStrongLockAcquire`, and `RemoveLocalLock` in lock.c).
+pub(crate) fn sub_strong<T: PartTable, M: Marking<T>>(
     top: &Top<T>,
     place: &mut Place<T>,
     tag: &Tag,
@@ -366,18 +296,8 @@ fn sub_strong_as<T: PartTable, M: Marking<T>>(
     fetch_sub_as::<T, M>(top, place, strong_word(tag.strong_index()), 1);
 }
 
-/// Counts it no more (`AbortStrongLockAcquire`, and `RemoveLocalLock` in lock.c).
-pub(crate) fn sub_strong<T: PartTable>(top: &Top<T>, place: &mut Place<T>, tag: &Tag, mode: Mode)
-    requires table { FitsTable place.old top.now.table_id }
-    requires session { HasSession place.old.me.0 }
-    requires lawful { MayUncountBy (account_at T.content place.old) tag.now mode }
-    ensures seat { IsSameSeat place.old place.new }
-    ensures side { place.new.me ≡ (noting place.old.me.0 (Uncounted tag.now mode), place.old.me.1) }
-{
-    sub_strong_as::<T, Brand>(top, place, tag, mode);
-}
-
-fn load_database_as<T: PartTable, M: Marking<T>>(
+/// Loads a session's database, 0 where it has none (`databaseId` in proc.h).
+pub(crate) fn load_database<T: PartTable, M: Marking<T>>(
     top: &Top<T>,
     place: &mut Place<T>,
     owner: SessionId,
@@ -389,18 +309,4 @@ fn load_database_as<T: PartTable, M: Marking<T>>(
     ensures side { place.new.me ≡ (noting place.old.me.0 (LoadedDatabase owner result), place.old.me.1) }
 {
     load_as::<T, M>(top, place, database_word(owner))
-}
-
-/// Loads a session's database, 0 where it has none (`databaseId` in proc.h).
-pub(crate) fn load_database<T: PartTable>(
-    top: &Top<T>,
-    place: &mut Place<T>,
-    owner: SessionId,
-) -> u64
-    requires table { FitsTable place.old top.now.table_id }
-    requires session { HasSession place.old.me.0 }
-    ensures seat { IsSameSeat place.old place.new }
-    ensures side { place.new.me ≡ (noting place.old.me.0 (LoadedDatabase owner result), place.old.me.1) }
-{
-    load_database_as::<T, Brand>(top, place, owner)
 }

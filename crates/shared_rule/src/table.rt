@@ -13,26 +13,25 @@ use crate::opener::Opener;
 use crate::rule::Law;
 use atomic_table::{Refused, Table};
 use lock_table::{NoMemory, PartTable};
+use lw_word::LwWord;
 use std::alloc::Global;
 
 /// The table and its memory. Threads share its field `shared`.
 pub type SharedTable<T> = Table<Option<T>, View<T>, u8, Law, Global>;
 
-/// A lightweight lock's word that nobody holds (`LWLockInitialize` in lwlock.c).
-const FREE: u64 = 1 << 29;
-
 // The word at an index, before the first step: a free one where it is a lightweight lock's, and else 0.
 fn first_word(index: usize) -> u64
     ensures first { IsFirst index result }
 {
+    let free = LwWord::opening().number();
     if index < COUNTERS_START {
         if index % GAP == 0 {
-            return FREE;
+            return free;
         }
     }
     if index >= SESSIONS_START {
         if (index - SESSIONS_START) % BLOCK == 0 {
-            return FREE;
+            return free;
         }
     }
     0
@@ -64,7 +63,8 @@ fn next_part<T: PartTable>(parts: &mut Vec<T>, index: usize) -> Option<T>
     }
 }
 
-/// The slots of the table with these parts of the sixteen partitions, each in its place (`content_slot`).
+/// The slots of the table with these parts of the sixteen partitions, each in its place (`content_slot`). Where memory
+/// is wanting the parts are let go.
 pub fn in_slots<T: PartTable + Drop>(
     alloc: Global,
     mut parts: Vec<T>,

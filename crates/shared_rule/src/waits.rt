@@ -1,5 +1,5 @@
-//! The steps of a session on wait words: its own, by which it learns that its wait was granted or is to be cancelled, and
-//! those of others whom it tells so.
+//! The steps of a session on wait words: its own, by which it learns that its wait was granted or is to be cancelled,
+//! and those of others whom it tells so.
 
 ghost use Rattle.std.specs.Prelude.{◌≡◌, ◌<◌, ◌+◌, ◌^◌, ◌%◌, [], bit_or, List, map};
 ghost use mathlib.Core.Option.{none};
@@ -11,8 +11,9 @@ ghost use Rattle.lock_table.specs.OwnWait.{OwnWait};
 ghost use Rattle.lock_table.specs.Waiter.{whose_and_mode};
 ghost use Rattle.lock_world.specs.Account.{InHand};
 ghost use Rattle.lock_world.specs.AccountLaw.{MayMoveBy, MayLeaveBy};
-ghost use Rattle.shared_rule.specs.declared.history.Mark.TheVariants.{SetWaiting, MarkedGranted, LoadedWait, Asked, ClearedWait, LeftQueue};
-ghost use Rattle.shared_rule.specs.History.{noting};
+ghost use Rattle.shared_rule.specs.declared.history.Mark.TheVariants.{SetWaiting, MarkedGranted, LoadedWait};
+ghost use Rattle.shared_rule.specs.declared.history.Mark.TheVariants.{Asked, ClearedWait, LeftQueue};
+ghost use Rattle.shared_rule.specs.History.{noting, sessions_told};
 ghost use Rattle.shared_rule.specs.Ruled.{Ruled};
 ghost use Rattle.shared_rule.specs.Lawful.{IsGrantingIn, MayMarkBy, MayClearBy};
 ghost use Rattle.shared_rule.specs.Plays.{account_at, number_at, FitsTable, HasSession, IsSameSeat, Marked};
@@ -23,7 +24,6 @@ use crate::rule::{Place, Top};
 use crate::steps::{fetch_add_as, load_as};
 use lock_table::{Move, PartTable, Woken};
 use modes_core::{Mode, SessionId, Tag};
-use std::marker::Brand;
 
 fn store_as<T: PartTable, M: Marking<T>>(top: &Top<T>, place: &mut Place<T>, word: usize, new: u64)
     requires table { FitsTable place.old top.now.table_id × (word < top.now.table_id.words) }
@@ -52,7 +52,9 @@ fn fetch_or_as<T: PartTable, M: Marking<T>>(
     top.fetch_or::<Marks<M>>(place, word, bits)
 }
 
-fn set_waiting_as<T: PartTable, M: Marking<T>>(
+/// Stores in the own wait word that the session waits, with its join made in the content in hand (`ProcSleep` in
+/// proc.c sets `waitStatus` so).
+pub(crate) fn set_waiting<T: PartTable, M: Marking<T>>(
     top: &Top<T>,
     place: &mut Place<T>,
     number: SessionId,
@@ -72,28 +74,9 @@ fn set_waiting_as<T: PartTable, M: Marking<T>>(
     store_as::<T, M>(top, place, wait_word(number), 1);
 }
 
-/// Stores in the own wait word that the session waits, with its join made in the content in hand (`ProcSleep` in
-/// proc.c sets `waitStatus` so).
-pub(crate) fn set_waiting<T: PartTable>(
-    top: &Top<T>,
-    place: &mut Place<T>,
-    number: SessionId,
-    tag: &Tag,
-    mode: Mode,
-    content: &T,
-)
-    requires table { FitsTable place.old top.now.table_id }
-    requires session { HasSession place.old.me.0 }
-    requires own { number ≡ number_at place.old }
-    requires lawful { (mine : InHand) × MayMoveBy top.now.key (number_at place.old)
-        (account_at T.content place.old) (partition_of tag.now) mine (Join tag.now mode) [] (T.content content.now) }
-    ensures seat { IsSameSeat place.old place.new }
-    ensures side { place.new.me ≡ (noting place.old.me.0 (SetWaiting tag.now mode content.now), place.old.me.1) }
-{
-    set_waiting_as::<T, Brand>(top, place, number, tag, mode, content);
-}
-
-fn mark_granted_as<T: PartTable, M: Marking<T>>(
+/// Marks the wait of a session granted, one of those whom the move in the content in hand grants (`ProcWakeup` in
+/// proc.c sets `waitStatus`; the waiter's own side is `GrantAwaitedLock` in lock.c).
+pub(crate) fn mark_granted<T: PartTable, M: Marking<T>>(
     top: &Top<T>,
     place: &mut Place<T>,
     part: u8,
@@ -110,40 +93,19 @@ fn mark_granted_as<T: PartTable, M: Marking<T>>(
         × MayMarkBy top.now.key (number_at place.old) (account_at T.content place.old) part
         mine done.now granted (T.content content.now) other }
     requires mark { M.mark
-        ≡ (λ _. MarkedGranted part other done.now (map (λ told. told.0) woken.now.items) content.now) }
+        ≡ (λ _. MarkedGranted part other done.now (sessions_told woken.now.items) content.now) }
     ensures seat { IsSameSeat place.old place.new }
     ensures side { place.new.me
-        ≡ (noting place.old.me.0 (MarkedGranted part other done.now (map (λ told. told.0) woken.now.items) content.now), place.old.me.1) }
+        ≡ (
+          noting place.old.me.0 (MarkedGranted part other done.now (sessions_told woken.now.items) content.now),
+          place.old.me.1,
+        ) }
 {
     fetch_add_as::<T, M>(top, place, wait_word(other), 1);
 }
 
-/// Marks the wait of a session granted, one of those whom the move in the content in hand grants (`GrantLockLocal`'s
-/// other side: `ProcWakeup` in proc.c sets `waitStatus`).
-pub(crate) fn mark_granted<T: PartTable>(
-    top: &Top<T>,
-    place: &mut Place<T>,
-    part: u8,
-    other: SessionId,
-    done: &Move,
-    woken: &Woken,
-    content: &T,
-)
-    requires table { FitsTable place.old top.now.table_id }
-    requires session { HasSession place.old.me.0 }
-    requires grants { IsGrantingIn part done.now }
-    requires lawful { (mine : InHand) × (granted : List contents.Wait)
-        × (woken.now.items ≡ map whose_and_mode granted)
-        × MayMarkBy top.now.key (number_at place.old) (account_at T.content place.old) part
-        mine done.now granted (T.content content.now) other }
-    ensures seat { IsSameSeat place.old place.new }
-    ensures side { place.new.me
-        ≡ (noting place.old.me.0 (MarkedGranted part other done.now (map (λ told. told.0) woken.now.items) content.now), place.old.me.1) }
-{
-    mark_granted_as::<T, Brand>(top, place, part, other, done, woken, content);
-}
-
-fn load_wait_as<T: PartTable, M: Marking<T>>(
+/// Loads the own wait word (`waitStatus` in proc.h, as `ProcSleep` in proc.c reads it).
+pub(crate) fn load_wait<T: PartTable, M: Marking<T>>(
     top: &Top<T>,
     place: &mut Place<T>,
     number: SessionId,
@@ -158,18 +120,9 @@ fn load_wait_as<T: PartTable, M: Marking<T>>(
     load_as::<T, M>(top, place, wait_word(number))
 }
 
-/// Loads the own wait word (`waitStatus` in proc.h, as `ProcSleep` in proc.c reads it).
-pub(crate) fn load_wait<T: PartTable>(top: &Top<T>, place: &mut Place<T>, number: SessionId) -> u64
-    requires table { FitsTable place.old top.now.table_id }
-    requires session { HasSession place.old.me.0 }
-    requires own { number ≡ number_at place.old }
-    ensures seat { IsSameSeat place.old place.new }
-    ensures side { place.new.me ≡ (noting place.old.me.0 (LoadedWait result), place.old.me.1) }
-{
-    load_wait_as::<T, Brand>(top, place, number)
-}
-
-fn ask_cancel_as<T: PartTable, M: Marking<T>>(
+/// Asks a session to cancel its wait, and tells what its wait word showed before (`pg_cancel_backend` in
+/// signalfuncs.c).
+pub(crate) fn ask_cancel<T: PartTable, M: Marking<T>>(
     top: &Top<T>,
     place: &mut Place<T>,
     other: SessionId,
@@ -183,17 +136,12 @@ fn ask_cancel_as<T: PartTable, M: Marking<T>>(
     fetch_or_as::<T, M>(top, place, wait_word(other), 4)
 }
 
-/// Asks a session to cancel its wait, and tells what its wait word showed before (`pg_cancel_backend` in signalfuncs.c).
-pub(crate) fn ask_cancel<T: PartTable>(top: &Top<T>, place: &mut Place<T>, other: SessionId) -> u64
-    requires table { FitsTable place.old top.now.table_id }
-    requires session { HasSession place.old.me.0 }
-    ensures seat { IsSameSeat place.old place.new }
-    ensures side { place.new.me ≡ (noting place.old.me.0 (Asked other result), place.old.me.1) }
-{
-    ask_cancel_as::<T, Brand>(top, place, other)
-}
-
-fn clear_wait_as<T: PartTable, M: Marking<T>>(top: &Top<T>, place: &mut Place<T>, number: SessionId)
+/// Clears the own wait word: the wait is over, since the grant was seen or the wait is gone from the content in hand.
+pub(crate) fn clear_wait<T: PartTable, M: Marking<T>>(
+    top: &Top<T>,
+    place: &mut Place<T>,
+    number: SessionId,
+)
     requires table { FitsTable place.old top.now.table_id }
     requires session { HasSession place.old.me.0 }
     requires own { number ≡ number_at place.old }
@@ -205,43 +153,9 @@ fn clear_wait_as<T: PartTable, M: Marking<T>>(top: &Top<T>, place: &mut Place<T>
     store_as::<T, M>(top, place, wait_word(number), 0);
 }
 
-/// Clears the own wait word: the wait is over, since the grant was seen or the wait is gone from the content in hand.
-pub(crate) fn clear_wait<T: PartTable>(top: &Top<T>, place: &mut Place<T>, number: SessionId)
-    requires table { FitsTable place.old top.now.table_id }
-    requires session { HasSession place.old.me.0 }
-    requires own { number ≡ number_at place.old }
-    requires lawful { (wait : OwnWait) × MayClearBy (number_at place.old) (account_at T.content place.old) wait }
-    ensures seat { IsSameSeat place.old place.new }
-    ensures side { place.new.me ≡ (noting place.old.me.0 (ClearedWait), place.old.me.1) }
-{
-    clear_wait_as::<T, Brand>(top, place, number);
-}
-
-fn leave_queue_as<T: PartTable, M: Marking<T>>(
-    top: &Top<T>,
-    place: &mut Place<T>,
-    number: SessionId,
-    woken: &Woken,
-    content: &T,
-)
-    requires table { FitsTable place.old top.now.table_id }
-    requires session { HasSession place.old.me.0 }
-    requires own { number ≡ number_at place.old }
-    requires lawful { (wait : OwnWait) × (mine : InHand) × (granted : List contents.Wait)
-        × (woken.now.items ≡ map whose_and_mode granted)
-        × MayLeaveBy top.now.key (number_at place.old) (account_at T.content place.old) wait
-        mine granted (T.content content.now) }
-    requires mark { M.mark ≡ (λ _. LeftQueue (map (λ told. told.0) woken.now.items) content.now) }
-    ensures seat { IsSameSeat place.old place.new }
-    ensures side { place.new.me
-        ≡ (noting place.old.me.0 (LeftQueue (map (λ told. told.0) woken.now.items) content.now), place.old.me.1) }
-{
-    store_as::<T, M>(top, place, wait_word(number), 0);
-}
-
 /// Clears the own wait word and records that the wait was taken out of the queue of the content in hand
 /// (`RemoveFromWaitQueue` in lock.c).
-pub(crate) fn leave_queue<T: PartTable>(
+pub(crate) fn leave_queue<T: PartTable, M: Marking<T>>(
     top: &Top<T>,
     place: &mut Place<T>,
     number: SessionId,
@@ -255,9 +169,10 @@ pub(crate) fn leave_queue<T: PartTable>(
         × (woken.now.items ≡ map whose_and_mode granted)
         × MayLeaveBy top.now.key (number_at place.old) (account_at T.content place.old) wait
         mine granted (T.content content.now) }
+    requires mark { M.mark ≡ (λ _. LeftQueue (sessions_told woken.now.items) content.now) }
     ensures seat { IsSameSeat place.old place.new }
     ensures side { place.new.me
-        ≡ (noting place.old.me.0 (LeftQueue (map (λ told. told.0) woken.now.items) content.now), place.old.me.1) }
+        ≡ (noting place.old.me.0 (LeftQueue (sessions_told woken.now.items) content.now), place.old.me.1) }
 {
-    leave_queue_as::<T, Brand>(top, place, number, woken, content);
+    store_as::<T, M>(top, place, wait_word(number), 0);
 }

@@ -22,7 +22,7 @@ use Rattle.shared_rule.specs.declared.history.Mark.TheVariants as mark
 use Rattle.shared_rule.specs.declared.history.History.{History}
 use Rattle.shared_rule.specs.Shown.{set_word}
 use Rattle.shared_rule.specs.History.{told}
-use Rattle.shared_rule.proofs.Frame.{Steps}
+use Rattle.shared_rule.proofs.Frame.{Stepper}
 use Rattle.shared_rule.proofs.Events.Marks.{IsAlwaysLawful}
 
 -- Counting a strong lock, and counting it no more.
@@ -51,7 +51,7 @@ module _ {T : Type 0} (content : T → Content) (limit : ℕ) (x : History T) (t
   index = index_of tag
 
   -- the counter shows no more than that
-  shown-most : (w : World) → Steps limit w x.number (told content x.number x.marks) → w.words.strong index ≤ 4194304
+  shown-most : (w : World) → Stepper limit w x.number (told content x.number x.marks) → w.words.strong index ≤ 4194304
   shown-most w steps =
       let few : w.numbers.limit ≤ 64 = subst (λ n. n ≤ 64) (sym steps.is_limit) steps.few in
       let shown : w.words.strong index ≡ counter w.numbers.limit w.sessions.counted index = steps.safe.counters.shown index in

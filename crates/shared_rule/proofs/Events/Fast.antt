@@ -21,7 +21,7 @@ use Rattle.shared_rule.specs.declared.history.Mark.TheVariants as mark
 use Rattle.shared_rule.specs.declared.history.History.{History}
 use Rattle.shared_rule.specs.Shown.{set_word}
 use Rattle.shared_rule.specs.History.{told, no_slots}
-use Rattle.shared_rule.proofs.Frame.{Steps}
+use Rattle.shared_rule.proofs.Frame.{Stepper}
 use Rattle.shared_rule.proofs.Events.Marks.{IsAlwaysLawful}
 
 -- Taking the lock of a session's fast-path slots, and putting it, with that session passed or not.
@@ -36,7 +36,7 @@ slots-unused : (database : ℕ → ℕ) (slot : ℕ → ℕ → ℕ) (owner : �
 slots-unused database slot owner no_database no_slot = λ i. record { word = no_slot i owner; holds = slot_holds (no_database i owner) (no_slot i owner) }
 
 module _ {T : Type 0} (content : T → Content) (limit : ℕ) (x : History T) (owner : ℕ) (exists : owner < limit) where
-  there : (w : World) → Steps limit w x.number (told content x.number x.marks) → owner < w.numbers.limit
+  there : (w : World) → Stepper limit w x.number (told content x.number x.marks) → owner < w.numbers.limit
   there w steps = subst (λ n. owner < n) (sym steps.is_limit) exists
 
   pub taking_fast-lawful : (old : ℕ) → IsHeldByNobody old
@@ -60,7 +60,7 @@ module _ {T : Type 0} (content : T → Content) (limit : ℕ) (x : History T) (o
       }
 
   -- whoever knows the slots holds the word
-  shows-held : (w : World) → Steps limit w x.number (told content x.number x.marks) → (slots : SlotsInHand) → (account w x.number).fast.slots owner ≡ Rattle.std.proofs.Common.Some slots
+  shows-held : (w : World) → Stepper limit w x.number (told content x.number x.marks) → (slots : SlotsInHand) → (account w x.number).fast.slots owner ≡ Rattle.std.proofs.Common.Some slots
       → IsHeldExclusively (w.words.fast owner)
   shows-held w steps slots known =
       (steps.safe.but_slots.locks.fast_words owner).held_is_shown x.number

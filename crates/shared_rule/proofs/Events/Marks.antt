@@ -20,7 +20,7 @@ use Rattle.shared_rule.specs.History.{told, noting}
 use Rattle.shared_rule.specs.Ruled.{IsHomeUnlessInHand, ContentsAreHome, Ruled}
 use Rattle.shared_rule.specs.Plays.{Side, Marked, Won}
 use Rattle.shared_rule.proofs.Shown.{words-set}
-use Rattle.shared_rule.proofs.Frame.{Steps, IsNoted, ruled-steps, ruled-noted}
+use Rattle.shared_rule.proofs.Frame.{Stepper, IsNoted, ruled-steps, ruled-noted}
 
 -- A step that only leaves a mark is allowed where in each World it is lawful and makes that of the account, and no content comes or goes.
 
@@ -47,7 +47,7 @@ module _ {T : Type 0} (content : T → Content) where
 
   abbrev pub IsAlwaysLawful : ℕ → History T → Word → (ℕ → Type 0) → (ℕ → ℕ) → (ℕ → Mark T) → Type 0
   IsAlwaysLawful limit x word expected next mark =
-      (w : World) → Steps limit w x.number (told content x.number x.marks)
+      (w : World) → Stepper limit w x.number (told content x.number x.marks)
       → (n : ℕ) → n < 2 ^ 64 → n ≡ word_in w.words word → expected n
       → IsLawful limit x word n (next n) (mark n) w
 

@@ -24,7 +24,7 @@ use Rattle.lock_world.specs.Account.{Account, InHand, account}
 use Rattle.lock_world.specs.AccountSteps.{account_taking, account_putting}
 use Rattle.lock_world.specs.AccountLaw.{MayPutBy}
 use Rattle.lock_world.specs.Happens.{HappensStep}
-use Rattle.shared_rule.specs.Lawful.{MayPutSo}
+use Rattle.shared_rule.specs.Lawful.{MayPutPart}
 use Rattle.lock_world.specs.AccountFacts.{KnowsContent}
 use Rattle.lock_world.proofs.Words.Holders.{free-not_held}
 use Rattle.lock_world.proofs.Accounts.Lawful.{put-lawful, put_recorded-lawful, hand-known}
@@ -41,7 +41,7 @@ use Rattle.shared_rule.specs.History.{told, noting, taken_of, first_account, fir
 use Rattle.shared_rule.specs.Ruled.{IsAtHome, IsHomeUnlessInHand, ContentsAreHome, Ruled}
 use Rattle.shared_rule.specs.Plays.{Side, WentHome, TookContent, TookPartition}
 use Rattle.shared_rule.proofs.Shown.{words-set}
-use Rattle.shared_rule.proofs.Frame.{Steps, IsNoted, ruled-steps, ruled-noted}
+use Rattle.shared_rule.proofs.Frame.{Stepper, IsNoted, ruled-steps, ruled-noted}
 use Rattle.shared_rule.proofs.Events.Marks.{nothing-changes}
 use Rattle.shared_rule.proofs.Events.Fast.{put_word-wraps}
 
@@ -107,7 +107,7 @@ module _ {T : Type 0} (content : T → Content) (begun : T → Option Request) (
   at_home s r free = subst (λ h. IsHomeUnlessInHand content begun h (r.world.contents.now p) (get_elem? s.homes (content_slot_of p))) (free-in_no_hand r.world r.safe p free) (r.contents p exists)
 
   -- Taking it is noted so.
-  abbrev taking-noted : (w : World) → Steps limit w x.number (told content x.number x.marks) → IsHeldByNobody (w.words.partition p) → (part : T) → content part ≡ w.contents.now p
+  abbrev taking-noted : (w : World) → Stepper limit w x.number (told content x.number x.marks) → IsHeldByNobody (w.words.partition p) → (part : T) → content part ≡ w.contents.now p
       → IsNoted content w x.number (told content x.number x.marks) (TookPart p part) (set_word w.words (Partition p) (taken_word (w.words.partition p)))
   taking-noted w steps free part is_content = record {
     step = TakeExclusive (Partition p);
@@ -164,13 +164,13 @@ module _ {T : Type 0} (content : T → Content) (begun : T → Option Request) (
       n = slice_index s.words (index_of_word (Partition p))
 
   -- Whoever may put it has it in hand.
-  may_put-in_hand : (a : Account) (its : InHand) (done : Move) (now : Content) → MayPutSo limit x.number a p its done now → a.hand p ≡ Some its
+  may_put-in_hand : (a : Account) (its : InHand) (done : Move) (now : Content) → MayPutPart limit x.number a p its done now → a.hand p ≡ Some its
   may_put-in_hand a its done now (inl may) = may.may_move.in_hand
   may_put-in_hand a its done now (inr may) = may.may_put.in_hand
 
   -- Putting it is an event.
   put-happens : (w : World) → SafeWorld w → MakesSteps w.numbers x.number → w.numbers.limit ≡ limit → (its : InHand) (done : Move) (part : T)
-      → MayPutSo limit x.number (account w x.number) p its done (content part) → (step : event.Step) × HappensStep w x.number step (after_putting_partition w x.number p done (content part))
+      → MayPutPart limit x.number (account w x.number) p its done (content part) → (step : event.Step) × HappensStep w x.number step (after_putting_partition w x.number p done (content part))
   put-happens w safe makes is_limit its done part (inl may) =
       let may' : MayPutBy w.numbers.limit x.number (account w x.number) p its done (content part) =
       subst (λ k. MayPutBy k x.number (account w x.number) p its done (content part)) (sym is_limit) may in
@@ -183,11 +183,11 @@ module _ {T : Type 0} (content : T → Content) (begun : T → Option Request) (
       )
 
   -- Putting it is noted so.
-  abbrev putting-noted : (w : World) → Steps limit w x.number (told content x.number x.marks) → (its : InHand) (done : Move) (part : T)
-      → MayPutSo limit x.number (told content x.number x.marks) p its done (content part)
+  abbrev putting-noted : (w : World) → Stepper limit w x.number (told content x.number x.marks) → (its : InHand) (done : Move) (part : T)
+      → MayPutPart limit x.number (told content x.number x.marks) p its done (content part)
       → IsNoted content w x.number (told content x.number x.marks) (PutPart p done part) (set_word w.words (Partition p) (put_word (w.words.partition p)))
   putting-noted w steps its done part may =
-      let may' : MayPutSo limit x.number (account w x.number) p its done (content part) = subst (λ a. MayPutSo limit x.number a p its done (content part)) steps.account may in
+      let may' : MayPutPart limit x.number (account w x.number) p its done (content part) = subst (λ a. MayPutPart limit x.number a p its done (content part)) steps.account may in
       let had = may_put-in_hand (told content x.number x.marks) its done (content part) may in
       let made = put-happens w steps.safe steps.makes steps.is_limit its done part may' in
       let own = hand-known (w.contents.hand p) (w.contents.now p) x.number its (may_put-in_hand (account w x.number) its done (content part) may') in
@@ -204,7 +204,7 @@ module _ {T : Type 0} (content : T → Content) (begun : T → Option Request) (
         few_counted = steps.few_counted x.number;
       }
 
-  pub puts_part : (step : Step (Option T)) (its : InHand) (done : Move) (part : T) → MayPutSo limit x.number (told content x.number x.marks) p its done (content part)
+  pub puts_part : (step : Step (Option T)) (its : InHand) (done : Move) (part : T) → MayPutPart limit x.number (told content x.number x.marks) p its done (content part)
       → begun part ≡ None → me.1 ≡ (content_slot_of p, Some part) ∷ rest me.1
       → Allows (Ruled content begun limit) CONTENT_SLOTS id me (index_of_word (Partition p)) (λ n. (n + (2 ^ 64 - 2 ^ 24)) % 2 ^ 64) (WentHome (λ _. PutPart p done part) step me)
   puts_part step its done part may none_begun carried s r many at below =
@@ -241,7 +241,7 @@ module _ {T : Type 0} (content : T → Content) (begun : T → Option Request) (
       (subst (λ k. Allows (Ruled content begun limit) CONTENT_SLOTS id me k (λ n. either (n == old) new n) (TookPartition content begun (step CONTENT_SLOTS k old new none) me)) (sym at)
       (takes_part content begun limit id me x others is p exists old new (step CONTENT_SLOTS (index_of_word (Partition p)) old new none) refl refl free is_new))
 
-  pub puts_part_at : (its : InHand) (done : Move) (part : T) → MayPutSo limit x.number (told content x.number x.marks) p its done (content part)
+  pub puts_part_at : (its : InHand) (done : Move) (part : T) → MayPutPart limit x.number (told content x.number x.marks) p its done (content part)
       → begun part ≡ None → me.1 ≡ (content_slot_of p, Some part) ∷ rest me.1 → (mark : ℕ → Mark T) → mark ≡ (λ _. PutPart p done part)
       → Allows (Ruled content begun limit) slots id me i (λ n. (n + (2 ^ 64 - 16777216)) % 2 ^ 64) (WentHome mark (step slots i 16777216 0 none) me)
   puts_part_at its done part may none_begun carried mark marked =

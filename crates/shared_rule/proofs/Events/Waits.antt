@@ -30,7 +30,7 @@ use Rattle.lock_world.proofs.Counters.Lists.{any-map}
 use Rattle.shared_rule.specs.declared.history.Mark.TheVariants as mark
 use Rattle.shared_rule.specs.declared.history.History.{History}
 use Rattle.shared_rule.specs.Shown.{set_word}
-use Rattle.shared_rule.specs.History.{told, in_hand, is_among, account_granting, account_granting_by, is_granted, account_cleared, account_left}
+use Rattle.shared_rule.specs.History.{told, in_hand, is_among, sessions_told, account_granting, account_granting_by, is_granted, account_cleared, account_left}
 use Rattle.shared_rule.specs.Lawful.{IsGrantingIn, MayMarkBy, MayClearBy}
 use Rattle.shared_rule.proofs.Events.Marks.{IsAlwaysLawful, KeepsHome}
 
@@ -116,9 +116,9 @@ among-granted : (granted : List Wait) → is_among (map (λ (wait : Wait). wait.
 among-granted granted = λ i session. any-map (λ (wait : Wait). wait.session) (λ other. other == session) granted i
 
 -- What a wakeup tells of the waits that it grants has these numbers.
-pub told-granted : (told : List (ℕ × Mode)) (granted : List Wait) → told ≡ map whose_and_mode granted → map (λ (z : ℕ × Mode). z.0) told ≡ map (λ (wait : Wait). wait.session) granted
-told-granted told granted is = ap (map (λ (z : ℕ × Mode). z.0)) is ∙ again granted where
-  again : (waits : List Wait) → map (λ (z : ℕ × Mode). z.0) (map whose_and_mode waits) ≡ map (λ (wait : Wait). wait.session) waits
+pub told-granted : (told : List (ℕ × Mode)) (granted : List Wait) → told ≡ map whose_and_mode granted → sessions_told told ≡ map (λ (wait : Wait). wait.session) granted
+told-granted told granted is = ap sessions_told is ∙ again granted where
+  again : (waits : List Wait) → sessions_told (map whose_and_mode waits) ≡ map (λ (wait : Wait). wait.session) waits
   again [] = refl
   again (wait ∷ waits) = ap (λ rest. wait.session ∷ rest) (again waits)
 

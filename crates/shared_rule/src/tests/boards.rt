@@ -1,4 +1,4 @@
-//! Steps on the table, by one thread and by two.
+//! Steps on boards, by one thread and by two.
 
 ghost use Rattle.std.specs.Prelude.{◌≡◌, ◌<◌, []};
 ghost use Rattle.shared_rule.specs.History.{first_account};
@@ -6,9 +6,11 @@ ghost use Rattle.shared_rule.specs.Boards.{parts_in_hand};
 ghost use Rattle.shared_rule.specs.Seats.{MayCloseBy};
 
 use crate::board::Board;
+use crate::one_thread::OneThread;
 use crate::seat_board::SeatBoard;
 use crate::table::{in_slots, open};
 use lock_table::{Move, PartTable, empty_parts};
+use std::process::Abort;
 use std::sync::Wait;
 use std::test::Fail;
 use std::thread::{Threads, join};
@@ -56,7 +58,8 @@ fn in_two_threads<'a, T: PartTable + Send, R: Threads + Wait + Sync>(
     ensures seat { ⟦<SeatBoard<'a, T> as Board<T>>⟧.seat result.0 ≡ ⟦<SeatBoard<'a, T> as Board<T>>⟧.seat first.entry }
     ensures its_idle { MayCloseBy (⟦<SeatBoard<'a, T> as Board<T>>⟧.view result.1) }
     ensures its_stack { ⟦<SeatBoard<'a, T> as Board<T>>⟧.stack result.1 ≡ [] }
-    ensures its_seat { ⟦<SeatBoard<'a, T> as Board<T>>⟧.seat result.1 ≡ ⟦<SeatBoard<'a, T> as Board<T>>⟧.seat second.entry }
+    ensures its_seat { ⟦<SeatBoard<'a, T> as Board<T>>⟧.seat result.1
+        ≡ ⟦<SeatBoard<'a, T> as Board<T>>⟧.seat second.entry }
 {
     join(
         rt,
@@ -80,27 +83,6 @@ fn in_two_threads<'a, T: PartTable + Send, R: Threads + Wait + Sync>(
 }
 
 #[test]
-fn a_partition_goes_from_hand_to_hand(rt: HostRuntime) -> Result<(), Fail> {
-    let alloc = rt.alloc();
-    let slots = in_slots(alloc, empty_parts(alloc)?)?;
-    let Ok((table, mut opener)) = open(alloc, 2, slots) else {
-        return Err("out of memory".into());
-    };
-    let first = opener.session(&table.shared).ok_or("no first session")?;
-    let Some(second) = opener.session(&table.shared) else {
-        opener.close(first);
-        return Err("no second session".into());
-    };
-    let first = keep_often(&rt, first);
-    let second = keep_often(&rt, second);
-    let mut first = keep_often(&rt, first);
-    let second = first.meet(second);
-    opener.close(first);
-    opener.close(second);
-    Ok(())
-}
-
-#[test]
 fn two_threads_take_one_partition(rt: HostRuntime) -> Result<(), Fail> {
     let alloc = rt.alloc();
     let slots = in_slots(alloc, empty_parts(alloc)?)?;
@@ -116,5 +98,27 @@ fn two_threads_take_one_partition(rt: HostRuntime) -> Result<(), Fail> {
     let second = first.meet(second);
     opener.close(first);
     opener.close(second);
+    Ok(())
+}
+
+// Lets a board go that has nothing any more.
+fn let_go<T: PartTable + Drop>(board: OneThread<T>)
+    requires idle { MayCloseBy (⟦<OneThread<T> as Board<T>>⟧.view board) }
+    requires stack { ⟦<OneThread<T> as Board<T>>⟧.stack board ≡ [] }
+{
+    drop(board);
+}
+
+#[test]
+fn a_partition_is_taken_and_put_on_a_board_for_tests(rt: HostRuntime) -> Result<(), Fail> {
+    let alloc = rt.alloc();
+    let slots = in_slots(alloc, empty_parts(alloc)?)?;
+    let Ok(mut board) = OneThread::new(alloc, 2, slots) else {
+        return Err("out of memory".into());
+    };
+    keep_once(&rt, &mut board, 3);
+    keep_once(&rt, &mut board, 3);
+    assert_eq!(rt; board.load_wait(), 0);
+    let_go(board);
     Ok(())
 }

@@ -1,5 +1,6 @@
-use Rattle.shared_rule.specs.declared.history.Mark.TheVariants.{TookFast}
+use Rattle.std.proofs.Common.{◌≡◌}
+use Rattle.shared_rule.specs.Plays.{IsSameSeat}
 use Rattle.shared_rule.proofs.steps.take_fast.Given as goal
 
-abbrev pub ghosts-take_fast_as : goal.ghosts-take_fast_as
-ghosts-take_fast_as g a = record { mark = λ _. TookFast a.owner }
+abbrev pub invariant-loop : goal.invariant-loop
+invariant-loop g l = IsSameSeat l.fn.place l.place × (l.place.me ≡ l.fn.place.me)

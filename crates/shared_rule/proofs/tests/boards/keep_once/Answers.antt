@@ -1,9 +1,9 @@
-use Rattle.std.proofs.Common.{◌≡◌, sym, ap, ◌∙◌, subst, inl}
+use Rattle.std.proofs.Common.{sym, ap, ◌∙◌, subst, inl}
 use Rattle.lock_table.specs.declared.moves.Move.TheVariants.{Keep}
-use Rattle.lock_world.specs.Account.{Account, InHand}
+use Rattle.lock_world.specs.Account.{Account}
 use Rattle.lock_world.specs.AccountSteps.{account_putting}
 use Rattle.shared_rule.specs.History.{taken_of}
-use Rattle.shared_rule.specs.Lawful.{MayPutSo}
+use Rattle.shared_rule.specs.Lawful.{MayPutPart}
 use Rattle.shared_rule.specs.Seats.{MayCloseBy}
 use Rattle.shared_rule.proofs.Episodes.{fresh_hand, taken-put, may_keep, kept-idle}
 use Rattle.shared_rule.proofs.tests.boards.keep_once.Goals as goal
@@ -14,7 +14,7 @@ put_part-requires-clause-lawful g c =
     let seat = g.B.Board.seat c.take_part-content.new.self in
     let view = c.take_part-content.ensures.view in (
       fresh_hand content,
-      subst (λ (a : Account). MayPutSo seat.limit seat.number a c.args.part (fresh_hand content) Keep content) (sym view)
+      subst (λ (a : Account). MayPutPart seat.limit seat.number a c.args.part (fresh_hand content) Keep content) (sym view)
           (inl (may_keep seat.limit seat.number (g.B.Board.view c.args.board.now) c.args.part content)),
     )
 

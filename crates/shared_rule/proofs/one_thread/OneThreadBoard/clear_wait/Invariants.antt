@@ -1,0 +1,5 @@
+use Rattle.shared_rule.specs.declared.history.Mark.TheVariants.{ClearedWait}
+use Rattle.shared_rule.proofs.one_thread.OneThreadBoard.clear_wait.Given as goal
+
+abbrev pub ghosts-clear_wait : goal.ghosts-clear_wait
+ghosts-clear_wait g a = record { mark = λ _. ClearedWait }

@@ -1,0 +1,5 @@
+use Rattle.shared_rule.specs.declared.history.Mark.TheVariants.{LoadedWait}
+use Rattle.shared_rule.proofs.one_thread.OneThreadBoard.load_wait.Given as goal
+
+abbrev pub ghosts-load_wait : goal.ghosts-load_wait
+ghosts-load_wait g a = record { mark = LoadedWait }

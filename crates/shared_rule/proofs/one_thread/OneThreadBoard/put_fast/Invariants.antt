@@ -1,0 +1,5 @@
+use Rattle.shared_rule.specs.declared.history.Mark.TheVariants.{PutFast}
+use Rattle.shared_rule.proofs.one_thread.OneThreadBoard.put_fast.Given as goal
+
+abbrev pub ghosts-put_fast : goal.ghosts-put_fast
+ghosts-put_fast g a = record { mark = λ _. PutFast a.owner }

@@ -1,0 +1,5 @@
+use Rattle.shared_rule.specs.declared.history.Mark.TheVariants.{Counted}
+use Rattle.shared_rule.proofs.seat_board.SeatBoardBoard.add_strong.Given as goal
+
+abbrev pub ghosts-add_strong : goal.ghosts-add_strong
+ghosts-add_strong g a = record { mark = λ _. Counted a.tag.now a.mode }

@@ -1,0 +1,5 @@
+use Rattle.shared_rule.specs.declared.history.Mark.TheVariants.{Uncounted}
+use Rattle.shared_rule.proofs.seat_board.SeatBoardBoard.sub_strong.Given as goal
+
+abbrev pub ghosts-sub_strong : goal.ghosts-sub_strong
+ghosts-sub_strong g a = record { mark = λ _. Uncounted a.tag.now a.mode }

@@ -1,0 +1,23 @@
+use Rattle.std.proofs.Common.{rules, ◌≡◌, ◌<◌, List, ap, ◌∙◌, subst}
+use Rattle.lock_world.specs.declared.events.Word.TheVariants.{Wait}
+use Rattle.shared_rule.specs.declared.history.History.{History}
+use Rattle.shared_rule.specs.Layout.{index_of_word}
+use Rattle.shared_rule.specs.History.{first_account, first_number}
+use Rattle.shared_rule.proofs.Events.Marks.{stores_at}
+use Rattle.lock_table.specs.OwnWait.{OwnWait}
+use Rattle.shared_rule.specs.Lawful.{MayClearBy}
+use Rattle.shared_rule.proofs.Events.Waits.{clearing-lawful}
+use Rattle.shared_rule.proofs.waits.clear_wait.Goals as goal
+
+pub store_as-requires-clause-allowed : goal.store_as-requires-clause-allowed
+store_as-requires-clause-allowed g c =
+    let content = g.T.PartTable.content in
+    let place = c.args.place.now in
+    let session = c.requires.session in
+    let own : c.args.number ≡ session.history.number = c.requires.own ∙ ap (λ (sessions : List (History g.row.T.Denot)). first_number sessions) session.sessions in
+    let exists : session.history.number < 64 = subst (λ n. n < 64) own (search rules) in
+    let at = c.wait_word.ensures.index ∙ ap (λ n. index_of_word (Wait n)) own in
+    let may = subst (λ (sessions : List (History g.row.T.Denot)). (wait : OwnWait) × MayClearBy (first_number sessions) (first_account content sessions) wait) session.sessions c.requires.lawful in
+    stores_at content g.T.PartTable.begun c.args.top.now.key c.args.top.now.table_id.slots place.id place.me session.history session.others session.sessions
+    (Wait session.history.number) (tt, exists) c.wait_word.result at 0 g.M.Marking.mark _ c.requires.mark
+    (clearing-lawful content c.args.top.now.key session.history may.0 may.1)

@@ -1,0 +1,29 @@
+use Rattle.std.proofs.Common.{rules, ◌≡◌, ◌<◌, List, map, ap, ◌∙◌, subst}
+use Rattle.lock_world.specs.declared.events.Word.TheVariants.{Wait}
+use Rattle.shared_rule.specs.declared.history.History.{History}
+use Rattle.shared_rule.specs.Layout.{index_of_word}
+use Rattle.shared_rule.specs.History.{first_account, first_number}
+use Rattle.shared_rule.proofs.Events.Marks.{stores_at}
+use Rattle.lock_world.specs.Account.{InHand}
+use Rattle.lock_table.specs.Content as contents
+use Rattle.lock_table.specs.Waiter.{whose_and_mode}
+use Rattle.lock_table.specs.OwnWait.{OwnWait}
+use Rattle.lock_world.specs.AccountLaw.{MayLeaveBy}
+use Rattle.shared_rule.specs.declared.history.Mark.TheVariants.{LeftQueue}
+use Rattle.shared_rule.proofs.Events.Waits.{leaving-lawful, told-granted}
+use Rattle.shared_rule.proofs.waits.leave_queue.Goals as goal
+
+pub store_as-requires-clause-allowed : goal.store_as-requires-clause-allowed
+store_as-requires-clause-allowed g c =
+    let content = g.T.PartTable.content in
+    let place = c.args.place.now in
+    let session = c.requires.session in
+    let own : c.args.number ≡ session.history.number = c.requires.own ∙ ap (λ (sessions : List (History g.row.T.Denot)). first_number sessions) session.sessions in
+    let exists : session.history.number < 64 = subst (λ n. n < 64) own (search rules) in
+    let at = c.wait_word.ensures.index ∙ ap (λ n. index_of_word (Wait n)) own in
+    let may = subst (λ (sessions : List (History g.row.T.Denot)). (wait : OwnWait) × (mine : InHand) × (granted : List contents.Wait) × (c.args.woken.now.items ≡ map whose_and_mode granted) × MayLeaveBy c.args.top.now.key (first_number sessions) (first_account content sessions) wait mine granted (content c.args.content.now)) session.sessions c.requires.lawful in
+    let marked : g.M.Marking.mark ≡ (λ _. LeftQueue (map (λ (wait : contents.Wait). wait.session) may.2) c.args.content.now) =
+    c.requires.mark ∙ ap (λ woken. λ _. LeftQueue woken c.args.content.now) (told-granted c.args.woken.now.items may.2 may.3) in
+    stores_at content g.T.PartTable.begun c.args.top.now.key c.args.top.now.table_id.slots place.id place.me session.history session.others session.sessions
+    (Wait session.history.number) (tt, exists) c.wait_word.result at 0 g.M.Marking.mark _ marked
+    (leaving-lawful content c.args.top.now.key session.history may.0 may.1 may.2 c.args.content.now may.4)

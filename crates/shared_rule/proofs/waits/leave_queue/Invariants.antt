@@ -1,6 +1,0 @@
-use Rattle.std.specs.Prelude.{map}
-use Rattle.shared_rule.specs.declared.history.Mark.TheVariants.{LeftQueue}
-use Rattle.shared_rule.proofs.waits.leave_queue.Given as goal
-
-abbrev pub ghosts-leave_queue_as : goal.ghosts-leave_queue_as
-ghosts-leave_queue_as g a = record { mark = λ _. LeftQueue (map (λ told. told.0) a.woken.now.items) a.content.now }
