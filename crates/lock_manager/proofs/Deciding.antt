@@ -1,4 +1,4 @@
-use Rattle.std.proofs.Common.{◌≡◌, ℕ, true, false, List, [], ◌∷◌, Result, Ok, Err, None, refl, sym, ap, ◌∙◌}
+use Rattle.std.proofs.Common.{◌≡◌, ℕ, true, false, List, [], ◌∷◌, Result, Ok, Err, None, refl, sym, ap, ◌∙◌, subst, inl}
 use Rattle.modes_core.specs.declared.modes.Mode.{Mode}
 use Rattle.modes_core.specs.declared.tags.Tag.{Tag}
 use Rattle.modes_core.specs.declared.refusals.Refusal.{Refusal}
@@ -11,13 +11,14 @@ use Rattle.wait_queue.specs.declared.requests.Decision.{Decision}
 use Rattle.wait_queue.specs.declared.requests.Decision.TheVariants.{Granted, Queued}
 use Rattle.wait_queue.specs.declared.requests.Kind.TheVariants.{Conditional}
 use Rattle.wait_queue.specs.Decide.{IsDecided, RefusedFor}
-use Rattle.lock_world.specs.Account.{Account}
+use Rattle.lock_world.specs.Account.{Account, InHand}
 use Rattle.lock_world.specs.AccountSteps.{account_taking, account_putting}
 use Rattle.lock_world.specs.AccountLaw.{MayPutBy}
 use Rattle.lock_world.specs.Counted.{is_done}
 use Rattle.shared_rule.specs.History.{taken_of}
+use Rattle.shared_rule.specs.Lawful.{MayPutPart}
 use Rattle.shared_rule.specs.Episodes.{account_episode}
-use Rattle.shared_rule.proofs.Episodes.{fresh_hand, taken-in_hand, taken-put}
+use Rattle.shared_rule.proofs.Episodes.{fresh_hand, taken-in_hand, taken-put, may_keep}
 use Rattle.lock_manager.specs.Rest.{IsIdle}
 use Rattle.lock_manager.specs.Requests.{DecidesInPart}
 
@@ -48,32 +49,56 @@ may_grant limit number a tag mode taken put no_wait new counted free = record {
   by_putting = tt;
 }
 
--- Whoever takes a partition and puts it has made an episode.
-pub is_episode :
-    (a b c : Account) (stack : List ℕ) (p : ℕ) (taken put : Content) (done : Move) → IsIdle a stack → b ≡ account_taking a p taken
-    → c ≡ account_putting b p (taken_of (b.hand p)) put done → c ≡ account_episode a p taken put done
-is_episode a b c stack p taken put done idle took was_put =
-    was_put ∙ ap (λ (x : Account). account_putting x p (taken_of (x.hand p)) put done) took ∙ taken-put a p taken put done (λ i. idle.no_content i p)
+-- and after a refusal as it was.
+pub may_put-granted :
+    (limit number : ℕ) (a b : Account) (p : ℕ) (tag : Tag) (mode : Mode) (taken put : Content) → p ≡ partition_of tag → b ≡ account_taking a p taken
+    → a.awaited ≡ None → a.own tag mode ≡ false → (is_strong_on tag mode ≡ true → is_done limit a.fast.counted tag mode ≡ true)
+    → ClashIs taken number tag mode None × (put ≡ add_hold taken number tag mode) → (mine : InHand) × MayPutPart limit number b p mine (Grant tag mode) put
+may_put-granted limit number a b p tag mode taken put home took no_wait new counted free = (
+  fresh_hand taken,
+  subst (λ (x : Account). MayPutPart limit number x p (fresh_hand taken) (Grant tag mode) put) (sym took)
+      (subst (λ (q : ℕ). MayPutPart limit number (account_taking a q taken) q (fresh_hand taken) (Grant tag mode) put) (sym home)
+      (inl (may_grant limit number a tag mode taken put no_wait new counted free))),
+)
 
+pub may_put-kept :
+    (limit number : ℕ) (a b : Account) (p : ℕ) (taken put : Content) → b ≡ account_taking a p taken → put ≡ taken → (mine : InHand) × MayPutPart limit number b p mine Keep put
+may_put-kept limit number a b p taken put took same = (
+  fresh_hand taken,
+  subst (λ (x : Account). MayPutPart limit number x p (fresh_hand taken) Keep put) (sym took)
+      (subst (λ (c : Content). MayPutPart limit number (account_taking a p taken) p (fresh_hand taken) Keep c) (sym same) (inl (may_keep limit number a p taken))),
+)
+
+-- Whoever takes a partition and puts it has made an episode,
+is_episode :
+    (a b c : Account) (stack : List ℕ) (p q : ℕ) (taken put : Content) (done : Move) → IsIdle a stack → p ≡ q → b ≡ account_taking a p taken
+    → c ≡ account_putting b p (taken_of (b.hand p)) put done → c ≡ account_episode a q taken put done
+is_episode a b c stack p q taken put done idle home took was_put =
+    was_put ∙ ap (λ (x : Account). account_putting x p (taken_of (x.hand p)) put done) took ∙ taken-put a p taken put done (λ i. idle.no_content i p)
+    ∙ ap (λ (k : ℕ). account_episode a k taken put done) home
+
+-- which grants the request,
 pub grants-in_part :
-    (number : ℕ) (a b : Account) (tag : Tag) (mode : Mode) (taken put : Content)
-    → ClashIs taken number tag mode None × (put ≡ add_hold taken number tag mode) → b ≡ account_episode a (partition_of tag) taken put (Grant tag mode)
-    → DecidesInPart number a tag mode (Ok tt) b
-grants-in_part number a b tag mode taken put free is = record {
+    (number : ℕ) (a b c : Account) (stack : List ℕ) (p : ℕ) (tag : Tag) (mode : Mode) (taken put : Content) → IsIdle a stack → p ≡ partition_of tag
+    → b ≡ account_taking a p taken → c ≡ account_putting b p (taken_of (b.hand p)) put (Grant tag mode)
+    → ClashIs taken number tag mode None × (put ≡ add_hold taken number tag mode) → DecidesInPart number a tag mode (Ok tt) c
+grants-in_part number a b c stack p tag mode taken put idle home took was_put free = record {
   taken = taken;
   put = put;
   free = free.0;
   granted = free.1;
   refused = tt;
   kept = tt;
-  when_granted = is;
+  when_granted = is_episode a b c stack p (partition_of tag) taken put (Grant tag mode) idle home took was_put;
   when_refused = tt;
 }
 
+-- or refuses it.
 pub refuses-in_part :
-    (number : ℕ) (a b : Account) (tag : Tag) (mode : Mode) (taken put : Content) (refusal : Refusal) → RefusedFor Conditional taken number tag mode refusal → put ≡ taken
-    → b ≡ account_episode a (partition_of tag) taken put Keep → DecidesInPart number a tag mode (Err refusal) b
-refuses-in_part number a b tag mode taken put refusal why same is = record {
+    (number : ℕ) (a b c : Account) (stack : List ℕ) (p : ℕ) (tag : Tag) (mode : Mode) (taken put : Content) → IsIdle a stack → p ≡ partition_of tag
+    → b ≡ account_taking a p taken → c ≡ account_putting b p (taken_of (b.hand p)) put Keep
+    → (refusal : Refusal) → RefusedFor Conditional taken number tag mode refusal → put ≡ taken → DecidesInPart number a tag mode (Err refusal) c
+refuses-in_part number a b c stack p tag mode taken put idle home took was_put refusal why same = record {
   taken = taken;
   put = put;
   free = tt;
@@ -81,5 +106,5 @@ refuses-in_part number a b tag mode taken put refusal why same is = record {
   refused = why;
   kept = same;
   when_granted = tt;
-  when_refused = is;
+  when_refused = is_episode a b c stack p (partition_of tag) taken put Keep idle home took was_put;
 }
