@@ -5,6 +5,7 @@ ghost use Rattle.modes_core.specs.Tag.{is_strong_on};
 ghost use Rattle.local_locks.specs.Owned.{ended_by, left_by};
 ghost use Rattle.lock_world.specs.AccountSteps.{account_putting};
 ghost use Rattle.lock_world.specs.Counted.{is_counted};
+ghost use Rattle.lock_world.specs.Happens.Partitions.{WaitIsOver};
 ghost use Rattle.shared_rule.specs.History.{taken_of};
 ghost use Rattle.shared_rule.specs.Lawful.{IsGrantingIn};
 ghost use Rattle.lock_manager.specs.Rest.{IsIdle, IsAtRest};
@@ -84,6 +85,7 @@ fn put_with_woken<T: PartTable, B: Board<T>>(
     requires none_begun { T.begun content ≡ None }
     requires in_hand { (others : List ℕ) × (B.stack board.old ≡ part ∷ others) }
     requires some { woken.now.items ≢ [] }
+    requires wait_is_over { WaitIsOver (B.view board.old).awaited part done.now }
     requires lawful { Wakens (B.seat board.old) (B.view board.old) part done.now woken.now.items (T.content content) }
     ensures account { B.view board.new ≡
         account_putting (B.view board.old) part (taken_of ((B.view board.old).hand part)) (T.content content) done.now }
