@@ -1,1 +1,2 @@
 pub mod Waking
+pub mod Releasing
