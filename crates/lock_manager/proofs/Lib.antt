@@ -1,2 +1,3 @@
 pub mod Waking
 pub mod Releasing
+pub mod Resting

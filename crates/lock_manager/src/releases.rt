@@ -2,7 +2,7 @@
 
 ghost use Rattle.std.specs.Prelude.{◌≡◌, ◌≢◌, ◌<◌, ℕ, true, List, [], ◌∷◌, None};
 ghost use Rattle.modes_core.specs.Tag.{is_strong_on};
-ghost use Rattle.local_locks.specs.Owned.{ended_by, left_by};
+ghost use Rattle.local_locks.specs.Owned.{ended_by, left_by, IsWellOwned};
 ghost use Rattle.lock_world.specs.AccountSteps.{account_putting};
 ghost use Rattle.lock_world.specs.Counted.{is_counted};
 ghost use Rattle.lock_world.specs.Happens.Partitions.{WaitIsOver};
@@ -22,12 +22,14 @@ use wait_queue::release;
 /// lock.c).
 pub fn end_all<T: PartTable, B: Board<T>, R: Wait>(rt: &R, board: &mut B, locals: &mut LocalTable, end: End)
     requires rest { IsAtRest (B.seat board.old).limit (B.view board.old) (B.stack board.old) locals.old.entries }
+    requires well_owned { IsWellOwned locals.old }
     ensures rest { IsAtRest (B.seat board.old).limit (B.view board.new) (B.stack board.new) locals.new.entries }
     ensures seat { B.seat board.new ≡ B.seat board.old }
     ensures steps { ReleasesAll (B.seat board.old).number (B.view board.old).trace (ended_by end locals.old.entries)
         (B.view board.new).trace }
     ensures entries { locals.new.entries ≡ left_by end locals.old.entries }
     ensures max_local { locals.new.max_local ≡ locals.old.max_local }
+    ensures well_owned { IsWellOwned locals.new }
 {
     'entries: while let Some((tag, mode)) = locals.end_next(end) {
         release_hold(rt, board, &tag, mode);
