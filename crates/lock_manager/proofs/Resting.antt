@@ -1,7 +1,7 @@
-use Rattle.std.proofs.Common.{◌≡◌, ℕ, Bool, true, false, ◌&&◌, ◌||◌, not, cond, List, [], ◌∷◌, Some, None, refl, sym, ap, ◌∙◌, subst, inl, inr}
-use Rattle.std.specs.Prelude.{map, filter, if◌then◌else◌}
-use Rattle.std.specs.List.{list_any, IsDistinct}
-use Rattle.std.proofs.lemmas.Bool.{cases_Bool, false≢true, or_left, or_right}
+use Rattle.std.proofs.Common.{◌≡◌, ℕ, Bool, true, false, ◌&&◌, cond, List, [], ◌∷◌, refl, sym, ap, ◌∙◌, subst, inl, inr}
+use Rattle.std.specs.Prelude.{if◌then◌else◌}
+use Rattle.std.specs.List.{IsDistinct}
+use Rattle.std.proofs.lemmas.Bool.{cases_Bool, false≢true, or_right}
 use Rattle.modes_core.specs.declared.modes.Mode.{Mode}
 use Rattle.modes_core.specs.declared.tags.Tag.{Tag}
 use Rattle.modes_core.specs.Mode.{mode_eq}
@@ -11,15 +11,16 @@ use Rattle.local_locks.specs.declared.records.Entry.{Entry}
 use Rattle.local_locks.specs.declared.ends.End.{End}
 use Rattle.local_locks.specs.declared.ends.End.TheVariants.{Commit, Abort, Close}
 use Rattle.local_locks.specs.Owned.{is_of, has_entry, are_of_same, is_ended, after_end, ended_by, with_next_ended}
-use Rattle.local_locks.proofs.EntryLaws.{same_key, same_key-from, same_key-refl, has_entry-next, has_entry-after, has_entry-last}
+use Rattle.local_locks.proofs.EntryLaws.{same_key, same_key-from, same_key-refl, has_entry-ended, has_entry-next, has_entry-last}
 use Rattle.lock_table.proofs.PutLemmas.{put_here, put_else}
 use Rattle.lock_table.specs.Put.{put}
 use Rattle.lock_world.specs.Account.{Account}
 use Rattle.lock_world.specs.AccountSteps.{own_with}
 use Rattle.lock_world.specs.Counted.{Counted, is_counted, uncounting}
 use Rattle.lock_world.specs.World.{TraceEntry}
+use Rattle.shared_rule.specs.Boards.{Seated}
 use Rattle.lock_manager.specs.Rest.{counted_for, account_at_rest, IsAtRest, IsIdle}
-use Rattle.lock_manager.specs.Releases.{counted_released, account_released}
+use Rattle.lock_manager.specs.Releases.{Releases, ReleasesAll, counted_released, account_released}
 
 -- What a session at rest holds and has counted, as it goes on with the end of a transaction.
 
@@ -41,7 +42,7 @@ own_with-key own tag mode there t m =
     ]
 
 -- With the hold gone that the end takes away next, they are what the entries left say.
-pub own-next :
+own-next :
     (end : End) (old : List Entry) (key : Tag × Mode) (rest : List (Tag × Mode)) → IsDistinct are_of_same old → ended_by end old ≡ key ∷ rest
     → own_with (has_entry old) key.0 key.1 false ≡ has_entry (with_next_ended end old)
 own-next end old key rest once next = λ i t m. at t m i where
@@ -49,7 +50,7 @@ own-next end old key rest once next = λ i t m. at t m i where
   at t m = own_with-key (has_entry old) key.0 key.1 false t m ∙ sym (has_entry-next end old key rest once next t m)
 
 -- A step that takes nothing away leaves them.
-pub own-last : (end : End) (entries : List Entry) → ended_by end entries ≡ [] → has_entry entries ≡ has_entry (with_next_ended end entries)
+own-last : (end : End) (entries : List Entry) → ended_by end entries ≡ [] → has_entry entries ≡ has_entry (with_next_ended end entries)
 own-last end entries none = λ i t m. sym (has_entry-last end entries none t m) i
 
 -- ---- what is counted
@@ -167,7 +168,7 @@ uncounting-next limit end (entry ∷ entries) key rest once next =
           ∙ sym (ap (λ b. counted_for limit (cond b entries (after_end end entry ∷ with_next_ended end entries))) stays)
     ]
 
-pub counted-next :
+counted-next :
     (limit : ℕ) (end : End) (old : List Entry) (key : Tag × Mode) (rest : List (Tag × Mode)) → IsDistinct are_of_same old → ended_by end old ≡ key ∷ rest
     → counted_released (counted_for limit old) key.0 key.1 ≡ counted_for limit (with_next_ended end old)
 counted-next limit end old key rest once next =
@@ -180,7 +181,7 @@ counted-next limit end old key rest once next =
     ]
 
 -- A step that takes nothing away leaves it.
-pub counted-last : (limit : ℕ) (end : End) (entries : List Entry) → ended_by end entries ≡ [] → counted_for limit entries ≡ counted_for limit (with_next_ended end entries)
+counted-last : (limit : ℕ) (end : End) (entries : List Entry) → ended_by end entries ≡ [] → counted_for limit entries ≡ counted_for limit (with_next_ended end entries)
 counted-last limit end [] none = refl
 counted-last limit end (entry ∷ entries) none =
     elim (cases_Bool (is_ended end entry)) [
@@ -194,7 +195,7 @@ counted-last limit end (entry ∷ entries) none =
     ]
 
 -- A strong lock that there is an entry of is counted.
-pub entry-counted :
+entry-counted :
     (limit : ℕ) (entries : List Entry) (tag : Tag) (mode : Mode) → has_entry entries tag mode ≡ true → is_strong_on tag mode ≡ true
     → is_counted (counted_for limit entries) tag mode ≡ true
 entry-counted limit [] tag mode has strong = has
@@ -228,30 +229,54 @@ rest-idle limit a stack entries rest = record {
 
 -- With the hold released that the end takes away next it is at rest with the entries left,
 pub rest-next :
-    (limit : ℕ) (end : End) (a b : Account) (stack : List ℕ) (old : List Entry) (key : Tag × Mode) (rest : List (Tag × Mode))
-    → IsDistinct are_of_same old → ended_by end old ≡ key ∷ rest → IsAtRest limit a stack old → b ≡ account_released a key.0 key.1 b.trace
-    → IsAtRest limit b stack (with_next_ended end old)
-rest-next limit end a b stack old key rest once next at released = record {
+    (limit : ℕ) (end : End) (a b : Account) (stack its : List ℕ) (old new : List Entry) (key : Tag × Mode)
+    → IsDistinct are_of_same old → ended_by end old ≡ key ∷ ended_by end new → new ≡ with_next_ended end old
+    → b ≡ account_released a key.0 key.1 b.trace → its ≡ stack → IsAtRest limit a stack old → IsAtRest limit b its new
+rest-next limit end a b stack its old new key once next left released same at = record {
   account =
       released
       ∙ ap (λ (v : Account). account_released v key.0 key.1 b.trace) at.account
       ∙ (λ i. record (account_at_rest limit old b.trace) {
-        own = own-next end old key rest once next i;
-        fast = record ((account_at_rest limit old b.trace).fast) { counted = counted-next limit end old key rest once next i };
-      });
-  no_partition = at.no_partition;
+        own = own-next end old key (ended_by end new) once next i;
+        fast = record ((account_at_rest limit old b.trace).fast) { counted = counted-next limit end old key (ended_by end new) once next i };
+      })
+      ∙ ap (λ entries. account_at_rest limit entries b.trace) (sym left);
+  no_partition = same ∙ at.no_partition;
 }
 
 -- and so after a step that takes nothing away.
 pub rest-last :
-    (limit : ℕ) (end : End) (a : Account) (stack : List ℕ) (entries : List Entry) → ended_by end entries ≡ []
-    → IsAtRest limit a stack entries → IsAtRest limit a stack (with_next_ended end entries)
-rest-last limit end a stack entries none at = record {
+    (limit : ℕ) (end : End) (a : Account) (stack : List ℕ) (old new : List Entry) → ended_by end old ≡ [] → new ≡ with_next_ended end old
+    → IsAtRest limit a stack old → IsAtRest limit a stack new
+rest-last limit end a stack old new none left at = record {
   account =
       at.account
-      ∙ (λ i. record (account_at_rest limit entries a.trace) {
-        own = own-last end entries none i;
-        fast = record ((account_at_rest limit entries a.trace).fast) { counted = counted-last limit end entries none i };
-      });
+      ∙ (λ i. record (account_at_rest limit old a.trace) {
+        own = own-last end old none i;
+        fast = record ((account_at_rest limit old a.trace).fast) { counted = counted-last limit end old none i };
+      })
+      ∙ ap (λ entries. account_at_rest limit entries a.trace) (sym left);
   no_partition = at.no_partition;
 }
+
+-- It holds what the end takes away next, and has counted it where it is a strong lock.
+pub rest-held :
+    (limit : ℕ) (end : End) (a : Account) (stack : List ℕ) (entries : List Entry) (key : Tag × Mode) (rest : List (Tag × Mode))
+    → ended_by end entries ≡ key ∷ rest → IsAtRest limit a stack entries → a.own key.0 key.1 ≡ true
+rest-held limit end a stack entries key rest next at = ap (λ (v : Account). v.own key.0 key.1) at.account ∙ has_entry-ended end entries key rest next
+
+pub rest-counted :
+    (limit : ℕ) (end : End) (a : Account) (stack : List ℕ) (entries : List Entry) (key : Tag × Mode) (rest : List (Tag × Mode))
+    → ended_by end entries ≡ key ∷ rest → IsAtRest limit a stack entries → is_strong_on key.0 key.1 ≡ true → is_counted a.fast.counted key.0 key.1 ≡ true
+rest-counted limit end a stack entries key rest next at strong =
+    ap (λ (v : Account). is_counted v.fast.counted key.0 key.1) at.account
+    ∙ entry-counted limit entries key.0 key.1 (has_entry-ended end entries key rest next) strong
+
+-- The release of the next hold leads on to the releases of those left.
+pub releases-next :
+    (seat its : Seated) (end : End) (before after last : List TraceEntry) (old new : List Entry) (key : Tag × Mode) → its ≡ seat
+    → ended_by end old ≡ key ∷ ended_by end new → Releases its.number before key.0 key.1 after
+    → ReleasesAll seat.number after (ended_by end new) last → ReleasesAll seat.number before (ended_by end old) last
+releases-next seat its end before after last old new key same next first others =
+    subst (λ keys. ReleasesAll seat.number before keys last) {x = key ∷ ended_by end new} {y = ended_by end old} (sym next)
+    (after, subst (λ (v : Seated). Releases v.number before key.0 key.1 after) same first, others)

@@ -1,16 +1,16 @@
-use Rattle.std.proofs.Common.{◌≡◌, ◌≢◌, ℕ, ◌≤◌, ◌<◌, ◌+◌, Bool, true, false, ◌==◌, ◌&&◌, ◌||◌, not, cond, List, [], ◌∷◌, ◌++◌, take, drop, length, get_or, Some, None, arith, refl, sym, ap, ◌∙◌, subst, inl, inr}
+use Rattle.std.proofs.Common.{◌≡◌, ◌≢◌, ℕ, ◌≤◌, ◌<◌, ◌+◌, Bool, true, false, ◌==◌, ◌&&◌, ◌||◌, not, List, [], ◌∷◌, take, drop, length, get_or, Some, None, arith, refl, sym, ap, ◌∙◌, subst, inl, inr}
 use Rattle.std.specs.Prelude.{◌⊎◌, map, count_by, if◌then◌else◌}
 use Rattle.std.specs.Bool.{MatchBool}
 use Rattle.std.specs.List.{list_any}
 use Rattle.std.proofs.lemmas.Bool.{cases_eq, eq-eqb, ne_eqb, false_from_ne_true}
-use Rattle.std.proofs.lemmas.List.{take-append-drop, drop_more}
+use Rattle.std.proofs.lemmas.List.{take-append-drop, drop_more, drop_all}
 use Rattle.modes_core.specs.declared.modes.Mode.{Mode}
 use Rattle.modes_core.specs.declared.tags.Tag.{Tag}
 use Rattle.lock_table.specs.declared.moves.Move.{Move}
 use Rattle.lock_table.specs.declared.moves.Move.TheVariants.{Keep, Release}
 use Rattle.lock_table.specs.Content.{Wait, Content, remove_hold}
 use Rattle.lock_table.specs.Queue.{IsSplitOf, Wakes, waits_there}
-use Rattle.lock_table.specs.Moves.{WakesFor, Moves}
+use Rattle.lock_table.specs.Moves.{Moves}
 use Rattle.lock_table.specs.Put.{set_at}
 use Rattle.lock_table.specs.Waiter.{whose_and_mode}
 use Rattle.lock_table.proofs.HoldLists.{count_by-cons, count_by-append}
@@ -26,7 +26,7 @@ use Rattle.lock_world.specs.Happens.Waits.{unmarked_but}
 use Rattle.lock_world.proofs.Counters.Lists.{any-map}
 use Rattle.shared_rule.specs.Boards.{Seated}
 use Rattle.shared_rule.specs.History.{taken_of, is_among, in_hand, account_granting, account_granting_by}
-use Rattle.shared_rule.specs.Lawful.{MayMarkBy, MayPutSo, PutsRecorded}
+use Rattle.shared_rule.specs.Lawful.{MayMarkBy, MayPutSo}
 use Rattle.lock_manager.specs.Releases.{Wakens}
 
 -- Telling those whom a move lets go: the first mark makes the move, and once all are marked the partition is put.
@@ -61,10 +61,12 @@ pub release-once :
     → Moves before number (Release tag mode) granted after → woken ≡ map whose_and_mode granted
     → count_by (λ wait. wait.session == session) (before.waits tag) ≤ 1 → count_by (λ (told : ℕ × Mode). told.0 == session) woken ≤ 1
 release-once before after number tag mode granted woken session moved whose once =
-    omega (arith,
-    ap (count_by (λ (told : ℕ × Mode). told.0 == session)) whose,
-    count_by-map (λ (told : ℕ × Mode). told.0 == session) whose_and_mode granted,
-    release-count (λ wait. wait.session == session) before after number tag mode granted moved)
+    omega (
+      arith,
+      ap (count_by (λ (told : ℕ × Mode). told.0 == session)) whose,
+      count_by-map (λ (told : ℕ × Mode). told.0 == session) whose_and_mode granted,
+      release-count (λ wait. wait.session == session) before after number tag mode granted moved,
+    )
 
 -- ---- who is still unmarked
 
@@ -108,14 +110,17 @@ unmarked-next told rest once = λ i session. at session i where
         and_yes true = refl
         and_yes false = refl
 
--- The first of those left, at a turn of a loop over the list.
-pub next-left :
+-- The first of those left, at a turn of a loop over the list,
+next-left :
     (woken : List (ℕ × Mode)) (i : ℕ) (told : ℕ × Mode) → i < length woken → told ≡ get_or woken i told → drop i woken ≡ told ∷ drop (i + 1) woken
 next-left woken i told within is = drop_more woken i told within ∙ ap (λ its. its ∷ drop (i + 1) woken) (sym is)
 
--- What is once in a list is once at most in what is left of it.
-pub left-once : (p : ℕ × Mode → Bool) (i : ℕ) (woken : List (ℕ × Mode)) → count_by p woken ≤ 1 → count_by p (drop i woken) ≤ 1
-left-once p i woken once = omega (arith, ap (count_by p) (take-append-drop i woken), count_by-append p (take i woken) (drop i woken))
+-- and it is there once if it is once in the whole list.
+next-once :
+    (p : ℕ × Mode → Bool) (woken : List (ℕ × Mode)) (i : ℕ) (told : ℕ × Mode) → drop i woken ≡ told ∷ drop (i + 1) woken
+    → count_by p woken ≤ 1 → count_by p (told ∷ drop (i + 1) woken) ≤ 1
+next-once p woken i told next once =
+    omega (arith, once, ap (count_by p) next, ap (count_by p) (take-append-drop i woken), count_by-append p (take i woken) (drop i woken))
 
 -- ---- the account in between
 
@@ -137,7 +142,7 @@ module _ (seat : Seated) (a : Account) (p : ℕ) (done : Move) (woken : List (�
   marked-in_hand rest = set_at-here a.hand p _ p refl
 
   -- The next of those left may be marked,
-  pub may_mark :
+  may_mark :
       (told : ℕ × Mode) (rest : List (ℕ × Mode)) (b : Account) → IsMarking a p done now woken (told ∷ rest) b
       → (mine : InHand) × (granted : List Wait) × (woken ≡ map whose_and_mode granted) × MayMarkBy seat.limit seat.number b p mine done granted now told.0
   may_mark told rest b (inl none) =
@@ -162,42 +167,71 @@ module _ (seat : Seated) (a : Account) (p : ℕ) (done : Move) (woken : List (�
   )
 
   -- and then the others are left.
-  pub marking-next :
+  marking-next :
       (told : ℕ × Mode) (rest : List (ℕ × Mode)) (b : Account)
       → count_by (λ (its : ℕ × Mode). its.0 == told.0) (told ∷ rest) ≤ 1 → IsMarking a p done now woken (told ∷ rest) b
       → IsMarking a p done now woken rest (account_granting b p (in_hand (b.hand p)) told.0 done (sessions_of woken) now)
   marking-next told rest b once (inl none) =
       let unrecorded : (in_hand (a.hand p)).recorded ≡ None = ap (λ (mine : InHand). mine.recorded) hand-known ∙ wakens.may_move.unrecorded in
       inr (
-        ap (λ (v : Account). account_granting v p (in_hand (v.hand p)) told.0 done (sessions_of woken) now) none.1
-        ∙ ap (λ made. account_granting_by made a p (in_hand (a.hand p)) told.0 done (sessions_of woken) now) unrecorded
-        ∙ ap (λ its. account_marking a p (in_hand (a.hand p)) now done done (unmarked_but (is_among (sessions_of its)) told.0)) (sym none.0)
-        ∙ ap (account_marking a p (in_hand (a.hand p)) now done done) (unmarked-next told rest once)
+      ap (λ (v : Account). account_granting v p (in_hand (v.hand p)) told.0 done (sessions_of woken) now) none.1
+      ∙ ap (λ made. account_granting_by made a p (in_hand (a.hand p)) told.0 done (sessions_of woken) now) unrecorded
+      ∙ ap (λ its. account_marking a p (in_hand (a.hand p)) now done done (unmarked_but (is_among (sessions_of its)) told.0)) (sym none.0)
+      ∙ ap (account_marking a p (in_hand (a.hand p)) now done done) (unmarked-next told rest once)
       )
   marking-next told rest b once (inr some) =
       let marked : Account = account_marked a p done now (told ∷ rest) in
       let mine : InHand = hand_recording (in_hand (a.hand p)) now done (is_among (sessions_of (told ∷ rest))) in
       let hand : set_at (set_at a.hand p (Some mine)) p (Some (hand_recording mine now done (unmarked_but mine.unmarked told.0)))
-          ≡ set_at a.hand p (Some (hand_recording (in_hand (a.hand p)) now done (is_among (sessions_of rest)))) =
+      ≡ set_at a.hand p (Some (hand_recording (in_hand (a.hand p)) now done (is_among (sessions_of rest)))) =
       set_at-twice a.hand p _ _ ∙ ap (λ unmarked. set_at a.hand p (Some (hand_recording (in_hand (a.hand p)) now done unmarked))) (unmarked-next told rest once) in
       inr (
-        ap (λ (v : Account). account_granting v p (in_hand (v.hand p)) told.0 done (sessions_of woken) now) some
-        ∙ ap (λ its. account_granting marked p (in_hand its) told.0 done (sessions_of woken) now) (marked-in_hand (told ∷ rest))
-        ∙ (λ i. record a { own = own_moved a.own done; hand = hand i })
+      ap (λ (v : Account). account_granting v p (in_hand (v.hand p)) told.0 done (sessions_of woken) now) some
+      ∙ ap (λ its. account_granting marked p (in_hand its) told.0 done (sessions_of woken) now) (marked-in_hand (told ∷ rest))
+      ∙ (λ i. record a { own = own_moved a.own done; hand = hand i })
       )
 
+  -- Both at a turn of a loop over the list, on a board of this seat.
+  pub may_mark-at :
+      (its : Seated) (b : Account) (items : List (ℕ × Mode)) (i : ℕ) (told : ℕ × Mode) → its ≡ seat → items ≡ woken → i < length items → told ≡ get_or items i told
+      → IsMarking a p done now woken (drop i items) b
+      → (mine : InHand) × (granted : List Wait) × (woken ≡ map whose_and_mode granted) × MayMarkBy its.limit its.number b p mine done granted now told.0
+  may_mark-at its b items i told same_seat same within is marking =
+      subst (λ (v : Seated). (mine : InHand) × (granted : List Wait) × (woken ≡ map whose_and_mode granted) × MayMarkBy v.limit v.number b p mine done granted now told.0)
+      {x = seat} {y = its} (sym same_seat)
+      (may_mark told (drop (i + 1) items) b
+      (subst (λ left. IsMarking a p done now woken left b) {x = drop i items} {y = told ∷ drop (i + 1) items} (next-left items i told within is) marking))
+
+  pub marking-next_at :
+      (b after : Account) (items : List (ℕ × Mode)) (i : ℕ) (told : ℕ × Mode) → items ≡ woken → i < length items → told ≡ get_or items i told
+      → IsMarking a p done now woken (drop i items) b → after ≡ account_granting b p (in_hand (b.hand p)) told.0 done (sessions_of woken) now
+      → IsMarking a p done now woken (drop (i + 1) items) after
+  marking-next_at b after items i told same within is marking marked =
+      let next : drop i items ≡ told ∷ drop (i + 1) items = next-left items i told within is in
+      let all_once : count_by (λ (its : ℕ × Mode). its.0 == told.0) items ≤ 1 =
+      omega (arith, wakens.once told.0, ap (count_by (λ (its : ℕ × Mode). its.0 == told.0)) same) in
+      subst (IsMarking a p done now woken (drop (i + 1) items)) {x = account_granting b p (in_hand (b.hand p)) told.0 done (sessions_of woken) now} {y = after} (sym marked)
+      (marking-next told (drop (i + 1) items) b (next-once (λ (its : ℕ × Mode). its.0 == told.0) items i told next all_once)
+      (subst (λ left. IsMarking a p done now woken left b) {x = drop i items} {y = told ∷ drop (i + 1) items} next marking))
+
   -- Once nobody is left,
-  pub all_marked : (b : Account) → woken ≢ [] → IsMarking a p done now woken [] b → b ≡ account_marked a p done now []
-  all_marked b some (inl none) = absurd (some (sym none.0))
-  all_marked b some (inr marked) = marked
+  pub all_marked :
+      (b : Account) (items : List (ℕ × Mode)) (i : ℕ) → woken ≢ [] → length items ≤ i → IsMarking a p done now woken (drop i items) b
+      → b ≡ account_marked a p done now []
+  all_marked b items i some past (inl none) = absurd (some (sym none.0 ∙ drop_all i items past))
+  all_marked b items i some past (inr marked) = marked ∙ ap (account_marked a p done now) (drop_all i items past)
 
   -- the partition may be put,
-  pub may_put_marked : WaitIsOver a.awaited p done → (mine : InHand) × MayPutSo seat.limit seat.number (account_marked a p done now []) p mine Keep now
-  may_put_marked over = (
+  pub may_put_marked :
+      (its : Seated) (b : Account) → its ≡ seat → b ≡ account_marked a p done now [] → WaitIsOver a.awaited p done
+      → (mine : InHand) × MayPutSo its.limit its.number b p mine Keep now
+  may_put_marked its b same_seat marked over = (
     hand_recording (in_hand (a.hand p)) now done (is_among []),
     inr (record {
       made = done;
-      may_put = record { in_hand = marked-in_hand []; recorded = refl; all_marked = λ _. refl; wait_is_over = over };
+      may_put = subst (λ (v : Account). MayPutRecordedBy v p (hand_recording (in_hand (a.hand p)) now done (is_among [])) done)
+          {x = account_marked a p done now []} {y = b} (sym marked)
+          (record { in_hand = marked-in_hand []; recorded = refl; all_marked = λ _. refl; wait_is_over = over });
       keeps = refl;
       same = refl;
     }),
@@ -205,11 +239,13 @@ module _ (seat : Seated) (a : Account) (p : ℕ) (done : Move) (woken : List (�
 
   -- and that is as if it were put by the move.
   pub marked-put :
-      account_putting (account_marked a p done now []) p (taken_of ((account_marked a p done now []).hand p)) now Keep
-      ≡ account_putting a p (taken_of (a.hand p)) now done
-  marked-put =
+      (b after : Account) → b ≡ account_marked a p done now [] → after ≡ account_putting b p (taken_of (b.hand p)) now Keep
+      → after ≡ account_putting a p (taken_of (a.hand p)) now done
+  marked-put b after marked put =
       let hand : set_at (account_marked a p done now []).hand p None ≡ set_at a.hand p None = set_at-twice a.hand p _ None in
       let taken : taken_of ((account_marked a p done now []).hand p) ≡ taken_of (a.hand p) =
       ap taken_of (marked-in_hand []) ∙ ap (λ (mine : InHand). mine.taken) hand-known ∙ ap taken_of (sym wakens.may_move.in_hand) in
-      ap (λ content. account_putting (account_marked a p done now []) p content now Keep) taken
+      put
+      ∙ ap (λ (v : Account). account_putting v p (taken_of (v.hand p)) now Keep) marked
+      ∙ ap (λ content. account_putting (account_marked a p done now []) p content now Keep) taken
       ∙ (λ i. record (account_putting a p (taken_of (a.hand p)) now done) { hand = hand i })
