@@ -52,7 +52,8 @@ module _ (seat : Seated) (a : Account) (p : ℕ) (tag : Tag) (mode : Mode) (take
       } in (
         fresh_hand taken,
         inl (subst (λ (v : Seated). MayPutBy v.limit v.number b p (fresh_hand taken) (Release tag mode) put) {x = seat} {y = its} (sym same_seat)
-            (subst (λ v. MayPutBy seat.limit seat.number v p (fresh_hand taken) (Release tag mode) put) {x = account_taking a p taken} {y = b} (sym same) alone)),
+            (subst (λ v. MayPutBy seat.limit seat.number v p (fresh_hand taken) (Release tag mode) put) {x = account_taking a p taken} {y = b}
+            (sym same) alone)),
       )
 
   -- and else tell those whom it lets go.

@@ -19,7 +19,7 @@ use Rattle.lock_world.specs.AccountSteps.{own_with}
 use Rattle.lock_world.specs.Counted.{Counted, is_counted, uncounting}
 use Rattle.lock_world.specs.World.{TraceEntry}
 use Rattle.shared_rule.specs.Boards.{Seated}
-use Rattle.lock_manager.specs.Rest.{counted_for, account_at_rest, IsAtRest, IsIdle}
+use Rattle.lock_manager.specs.Rest.{counted_for, account_at_rest, IsAtRest}
 use Rattle.lock_manager.specs.Releases.{Releases, ReleasesAll, counted_released, account_released}
 
 -- What a session at rest holds and has counted, as it goes on with the end of a transaction.
@@ -61,7 +61,9 @@ with_strong limit entry list =
     if is_strong_on entry.tag entry.mode then record { tag = entry.tag; mode = entry.mode; position = limit } ∷ list else list
 
 -- Counting goes entry by entry,
-counted_for-cons : (limit : ℕ) (entry : Entry) (entries : List Entry) → counted_for limit (entry ∷ entries) ≡ with_strong limit entry (counted_for limit entries)
+counted_for-cons :
+    (limit : ℕ) (entry : Entry) (entries : List Entry)
+    → counted_for limit (entry ∷ entries) ≡ with_strong limit entry (counted_for limit entries)
 counted_for-cons limit entry entries =
     elim (cases_Bool (is_strong_on entry.tag entry.mode)) [
       | inl strong ↦ rw strong refl
@@ -125,7 +127,9 @@ uncounting-weak limit (entry ∷ entries) tag mode weak =
     ]
 
 -- An end changes no entry's object and mode.
-counted_for-after_end : (limit : ℕ) (end : End) (entry : Entry) (entries : List Entry) → counted_for limit (after_end end entry ∷ entries) ≡ counted_for limit (entry ∷ entries)
+counted_for-after_end :
+    (limit : ℕ) (end : End) (entry : Entry) (entries : List Entry)
+    → counted_for limit (after_end end entry ∷ entries) ≡ counted_for limit (entry ∷ entries)
 counted_for-after_end limit end entry entries =
     counted_for-cons limit (after_end end entry) entries ∙ same end ∙ sym (counted_for-cons limit entry entries) where
       same : (its : End) → with_strong limit (after_end its entry) (counted_for limit entries) ≡ with_strong limit entry (counted_for limit entries)
@@ -140,18 +144,21 @@ is_of-after_end Close entry tag mode = refl
 
 -- With the count taken back of what the end takes away next, it is what is counted for the entries left.
 uncounting-next :
-    (limit : ℕ) (end : End) (old : List Entry) (key : Tag × Mode) (rest : List (Tag × Mode)) → IsDistinct are_of_same old → ended_by end old ≡ key ∷ rest
+    (limit : ℕ) (end : End) (old : List Entry) (key : Tag × Mode) (rest : List (Tag × Mode))
+    → IsDistinct are_of_same old → ended_by end old ≡ key ∷ rest
     → uncounting (counted_for limit old) key.0 key.1 ≡ counted_for limit (with_next_ended end old)
 unfolding IsDistinct
 uncounting-next limit end [] key rest once next = absurd (let bad : [] ≡ key ∷ rest = next in cc)
 uncounting-next limit end (entry ∷ entries) key rest once next =
     let gone : has_entry (with_next_ended end (entry ∷ entries)) key.0 key.1 ≡ false =
-    has_entry-next end (entry ∷ entries) key rest once next key.0 key.1 ∙ ap (λ b. if b then false else has_entry (entry ∷ entries) key.0 key.1) (same_key-refl key.0 key.1) in
+    has_entry-next end (entry ∷ entries) key rest once next key.0 key.1
+    ∙ ap (λ b. if b then false else has_entry (entry ∷ entries) key.0 key.1) (same_key-refl key.0 key.1) in
     elim (cases_Bool (is_ended end entry)) [
       | inl ends ↦
           let both : (entry.tag, entry.mode) ∷ ended_by end entries ≡ key ∷ rest = rw ends at next in
           let same : (entry.tag, entry.mode) ≡ key = cc in
-          let it : is_of key.0 key.1 entry ≡ true = (λ i. same_key entry.tag entry.mode (sym same i).0 (sym same i).1) ∙ same_key-refl entry.tag entry.mode in
+          let it : is_of key.0 key.1 entry ≡ true =
+          (λ i. same_key entry.tag entry.mode (sym same i).0 (sym same i).1) ∙ same_key-refl entry.tag entry.mode in
           ap (λ list. uncounting list key.0 key.1) (counted_for-cons limit entry entries)
           ∙ uncounting-here limit entry (counted_for limit entries) key.0 key.1 it
           ∙ uncounting-none limit entries key.0 key.1 (rw ends at gone)
@@ -163,17 +170,21 @@ uncounting-next limit end (entry ∷ entries) key rest once next =
             | inl it ↦ absurd (false≢true (sym (rw stays at gone) ∙ rw (is_of-after_end end entry key.0 key.1, it) refl))
             | inr other ↦ other
           ] in
-          uncounting-past limit entry entries (with_next_ended end entries) key.0 key.1 apart (uncounting-next limit end entries key rest once.1 later)
+          uncounting-past limit entry entries (with_next_ended end entries) key.0 key.1 apart
+          (uncounting-next limit end entries key rest once.1 later)
           ∙ sym (counted_for-after_end limit end entry (with_next_ended end entries))
           ∙ sym (ap (λ b. counted_for limit (cond b entries (after_end end entry ∷ with_next_ended end entries))) stays)
     ]
 
 counted-next :
-    (limit : ℕ) (end : End) (old : List Entry) (key : Tag × Mode) (rest : List (Tag × Mode)) → IsDistinct are_of_same old → ended_by end old ≡ key ∷ rest
+    (limit : ℕ) (end : End) (old : List Entry) (key : Tag × Mode) (rest : List (Tag × Mode))
+    → IsDistinct are_of_same old → ended_by end old ≡ key ∷ rest
     → counted_released (counted_for limit old) key.0 key.1 ≡ counted_for limit (with_next_ended end old)
 counted-next limit end old key rest once next =
     elim (cases_Bool (is_strong_on key.0 key.1)) [
-      | inl strong ↦ ap (λ b. if b then uncounting (counted_for limit old) key.0 key.1 else counted_for limit old) strong ∙ uncounting-next limit end old key rest once next
+      | inl strong ↦
+          ap (λ b. if b then uncounting (counted_for limit old) key.0 key.1 else counted_for limit old) strong
+          ∙ uncounting-next limit end old key rest once next
       | inr weak ↦
           ap (λ b. if b then uncounting (counted_for limit old) key.0 key.1 else counted_for limit old) weak
           ∙ sym (uncounting-weak limit old key.0 key.1 weak)
@@ -181,7 +192,9 @@ counted-next limit end old key rest once next =
     ]
 
 -- A step that takes nothing away leaves it.
-counted-last : (limit : ℕ) (end : End) (entries : List Entry) → ended_by end entries ≡ [] → counted_for limit entries ≡ counted_for limit (with_next_ended end entries)
+counted-last :
+    (limit : ℕ) (end : End) (entries : List Entry)
+    → ended_by end entries ≡ [] → counted_for limit entries ≡ counted_for limit (with_next_ended end entries)
 counted-last limit end [] none = refl
 counted-last limit end (entry ∷ entries) none =
     elim (cases_Bool (is_ended end entry)) [
@@ -215,17 +228,6 @@ entry-counted limit (entry ∷ entries) tag mode has strong =
     ]
 
 -- ---- the account
-
--- A session at rest is idle.
-pub rest-idle : (limit : ℕ) (a : Account) (stack : List ℕ) (entries : List Entry) → IsAtRest limit a stack entries → IsIdle a stack
-rest-idle limit a stack entries rest = record {
-  no_wait = ap (λ (v : Account). v.awaited) rest.account;
-  no_content = ap (λ (v : Account). v.hand) rest.account;
-  no_slots = ap (λ (v : Account). v.fast.slots) rest.account;
-  no_zero = ap (λ (v : Account). v.fast.zero) rest.account;
-  no_database = ap (λ (v : Account). v.fast.database) rest.account;
-  no_partition = rest.no_partition;
-}
 
 -- With the hold released that the end takes away next it is at rest with the entries left,
 pub rest-next :
@@ -263,11 +265,13 @@ rest-last limit end a stack old new none left at = record {
 pub rest-held :
     (limit : ℕ) (end : End) (a : Account) (stack : List ℕ) (entries : List Entry) (key : Tag × Mode) (rest : List (Tag × Mode))
     → ended_by end entries ≡ key ∷ rest → IsAtRest limit a stack entries → a.own key.0 key.1 ≡ true
-rest-held limit end a stack entries key rest next at = ap (λ (v : Account). v.own key.0 key.1) at.account ∙ has_entry-ended end entries key rest next
+rest-held limit end a stack entries key rest next at =
+    ap (λ (v : Account). v.own key.0 key.1) at.account ∙ has_entry-ended end entries key rest next
 
 pub rest-counted :
     (limit : ℕ) (end : End) (a : Account) (stack : List ℕ) (entries : List Entry) (key : Tag × Mode) (rest : List (Tag × Mode))
-    → ended_by end entries ≡ key ∷ rest → IsAtRest limit a stack entries → is_strong_on key.0 key.1 ≡ true → is_counted a.fast.counted key.0 key.1 ≡ true
+    → ended_by end entries ≡ key ∷ rest → IsAtRest limit a stack entries
+    → is_strong_on key.0 key.1 ≡ true → is_counted a.fast.counted key.0 key.1 ≡ true
 rest-counted limit end a stack entries key rest next at strong =
     ap (λ (v : Account). is_counted v.fast.counted key.0 key.1) at.account
     ∙ entry-counted limit entries key.0 key.1 (has_entry-ended end entries key rest next) strong

@@ -31,6 +31,10 @@ use Rattle.lock_manager.specs.Releases.{Wakens}
 
 -- Telling those whom a move lets go: the first mark makes the move, and once all are marked the partition is put.
 
+-- whether this is the session that was told
+abbrev is_told : ℕ → ℕ × Mode → Bool
+is_told session told = told.0 == session
+
 -- the sessions of those told
 abbrev pub sessions_of : List (ℕ × Mode) → List ℕ
 sessions_of woken = map (λ told. told.0) woken
@@ -50,7 +54,9 @@ pub release-count :
     (p : Wait → Bool) (before after : Content) (number : ℕ) (tag : Tag) (mode : Mode) (granted : List Wait)
     → Moves before number (Release tag mode) granted after → count_by p granted ≤ count_by p (before.waits tag)
 release-count p before after number tag mode granted moved = at _ moved.1 where
-  at : (b : Bool) → MatchBool b (Wakes (remove_hold before number tag mode) tag granted after) ((granted ≡ []) × (after ≡ remove_hold before number tag mode))
+  at :
+      (b : Bool)
+      → MatchBool b (Wakes (remove_hold before number tag mode) tag granted after) ((granted ≡ []) × (after ≡ remove_hold before number tag mode))
       → count_by p granted ≤ count_by p (before.waits tag)
   at true wakes = split-count p (before.waits tag) granted wakes.left (wakes-split [] _ tag (before.waits tag) granted wakes.left wakes.split)
   at false none = omega (arith, ap (count_by p) none.0)
@@ -59,12 +65,12 @@ release-count p before after number tag mode granted moved = at _ moved.1 where
 pub release-once :
     (before after : Content) (number : ℕ) (tag : Tag) (mode : Mode) (granted : List Wait) (woken : List (ℕ × Mode)) (session : ℕ)
     → Moves before number (Release tag mode) granted after → woken ≡ map whose_and_mode granted
-    → count_by (λ wait. wait.session == session) (before.waits tag) ≤ 1 → count_by (λ (told : ℕ × Mode). told.0 == session) woken ≤ 1
+    → count_by (λ wait. wait.session == session) (before.waits tag) ≤ 1 → count_by (is_told session) woken ≤ 1
 release-once before after number tag mode granted woken session moved whose once =
     omega (
       arith,
-      ap (count_by (λ (told : ℕ × Mode). told.0 == session)) whose,
-      count_by-map (λ (told : ℕ × Mode). told.0 == session) whose_and_mode granted,
+      ap (count_by (is_told session)) whose,
+      count_by-map (is_told session) whose_and_mode granted,
       release-count (λ wait. wait.session == session) before after number tag mode granted moved,
     )
 
@@ -76,18 +82,18 @@ first-among told rest = ap (λ b. b || is_among (sessions_of rest) told.0) (eq-e
 
 -- and, being there once, is not among the others,
 first-apart :
-    (told : ℕ × Mode) (rest : List (ℕ × Mode)) → count_by (λ (its : ℕ × Mode). its.0 == told.0) (told ∷ rest) ≤ 1
+    (told : ℕ × Mode) (rest : List (ℕ × Mode)) → count_by (is_told told.0) (told ∷ rest) ≤ 1
     → is_among (sessions_of rest) told.0 ≡ false
 first-apart told rest once =
     any-map (λ (its : ℕ × Mode). its.0) (λ other. other == told.0) rest
     ∙ false_from_ne_true _ (λ any.
     let one : ℕ = 1 in
     let here : (if told.0 == told.0 then one else 0) ≡ one = ap (λ b. if b then one else 0) (eq-eqb told.0 told.0 refl) in
-    omega (arith, once, here, count_by-cons (λ (its : ℕ × Mode). its.0 == told.0) told rest, any-counted (λ (its : ℕ × Mode). its.0 == told.0) rest any))
+    omega (arith, once, here, count_by-cons (is_told told.0) told rest, any-counted (is_told told.0) rest any))
 
 -- so that these are left once it is marked.
 unmarked-next :
-    (told : ℕ × Mode) (rest : List (ℕ × Mode)) → count_by (λ (its : ℕ × Mode). its.0 == told.0) (told ∷ rest) ≤ 1
+    (told : ℕ × Mode) (rest : List (ℕ × Mode)) → count_by (is_told told.0) (told ∷ rest) ≤ 1
     → unmarked_but (is_among (sessions_of (told ∷ rest))) told.0 ≡ is_among (sessions_of rest)
 unmarked-next told rest once = λ i session. at session i where
   at : (session : ℕ) → unmarked_but (is_among (sessions_of (told ∷ rest))) told.0 session ≡ is_among (sessions_of rest) session
@@ -124,7 +130,11 @@ next-once p woken i told next once =
 
 -- ---- the account in between
 
--- the account once some are marked and these are left: the move stands recorded
+-- a partition in hand once some are marked and these are left: the move stands recorded
+abbrev hand_marked : Account → ℕ → Move → Content → List (ℕ × Mode) → InHand
+hand_marked a p done now rest = hand_recording (in_hand (a.hand p)) now done (is_among (sessions_of rest))
+
+-- and the account
 abbrev pub account_marked : Account → ℕ → Move → Content → List (ℕ × Mode) → Account
 account_marked a p done now rest = account_marking a p (in_hand (a.hand p)) now done done (is_among (sessions_of rest))
 
@@ -132,24 +142,31 @@ account_marked a p done now rest = account_marking a p (in_hand (a.hand p)) now 
 abbrev pub IsMarking : Account → ℕ → Move → Content → List (ℕ × Mode) → List (ℕ × Mode) → Account → Type 0
 IsMarking a p done now woken rest b = ((rest ≡ woken) × (b ≡ a)) ⊎ (b ≡ account_marked a p done now rest)
 
-module _ (seat : Seated) (a : Account) (p : ℕ) (done : Move) (woken : List (ℕ × Mode)) (now : Content) (wakens : Wakens seat a p done woken now) where
+-- The session may be marked, as one of those told.
+abbrev MayTell : Seated → Account → ℕ → Move → List (ℕ × Mode) → Content → ℕ → Type 0
+MayTell seat b p done woken now other =
+    (mine : InHand) × (granted : List Wait) × (woken ≡ map whose_and_mode granted)
+    × MayMarkBy seat.limit seat.number b p mine done granted now other
+
+module _ (seat : Seated) (a : Account) (p : ℕ) (done : Move) (woken : List (ℕ × Mode)) (now : Content)
+    (wakens : Wakens seat a p done woken now) where
   -- The partition is in hand, as taken,
   hand-known : in_hand (a.hand p) ≡ wakens.mine
   hand-known = ap in_hand wakens.may_move.in_hand
 
   -- and with the move once somebody is marked.
-  marked-in_hand : (rest : List (ℕ × Mode)) → (account_marked a p done now rest).hand p ≡ Some (hand_recording (in_hand (a.hand p)) now done (is_among (sessions_of rest)))
+  marked-in_hand : (rest : List (ℕ × Mode)) → (account_marked a p done now rest).hand p ≡ Some (hand_marked a p done now rest)
   marked-in_hand rest = set_at-here a.hand p _ p refl
 
   -- The next of those left may be marked,
   may_mark :
       (told : ℕ × Mode) (rest : List (ℕ × Mode)) (b : Account) → IsMarking a p done now woken (told ∷ rest) b
-      → (mine : InHand) × (granted : List Wait) × (woken ≡ map whose_and_mode granted) × MayMarkBy seat.limit seat.number b p mine done granted now told.0
+      → MayTell seat b p done woken now told.0
   may_mark told rest b (inl none) =
       let there : waits_there wakens.granted told.0 ≡ true =
-      sym (any-map whose_and_mode (λ (its : ℕ × Mode). its.0 == told.0) wakens.granted)
-      ∙ ap (list_any (λ (its : ℕ × Mode). its.0 == told.0)) (sym (none.0 ∙ wakens.whose))
-      ∙ ap (λ c. c || list_any (λ (its : ℕ × Mode). its.0 == told.0) rest) (eq-eqb told.0 told.0 refl) in (
+      sym (any-map whose_and_mode (is_told told.0) wakens.granted)
+      ∙ ap (list_any (is_told told.0)) (sym (none.0 ∙ wakens.whose))
+      ∙ ap (λ c. c || list_any (is_told told.0) rest) (eq-eqb told.0 told.0 refl) in (
         wakens.mine,
         wakens.granted,
         wakens.whose,
@@ -159,17 +176,17 @@ module _ (seat : Seated) (a : Account) (p : ℕ) (done : Move) (woken : List (�
         }),
       )
   may_mark told rest b (inr some) = (
-    hand_recording (in_hand (a.hand p)) now done (is_among (sessions_of (told ∷ rest))),
+    hand_marked a p done now (told ∷ rest),
     wakens.granted,
     wakens.whose,
-    inr (subst (λ v. MayMarkNextBy v p (hand_recording (in_hand (a.hand p)) now done (is_among (sessions_of (told ∷ rest)))) done told.0) (sym some)
+    inr (subst (λ v. MayMarkNextBy v p (hand_marked a p done now (told ∷ rest)) done told.0) (sym some)
         (record { in_hand = marked-in_hand (told ∷ rest); recorded = refl; still_unmarked = first-among told rest })),
   )
 
   -- and then the others are left.
   marking-next :
       (told : ℕ × Mode) (rest : List (ℕ × Mode)) (b : Account)
-      → count_by (λ (its : ℕ × Mode). its.0 == told.0) (told ∷ rest) ≤ 1 → IsMarking a p done now woken (told ∷ rest) b
+      → count_by (is_told told.0) (told ∷ rest) ≤ 1 → IsMarking a p done now woken (told ∷ rest) b
       → IsMarking a p done now woken rest (account_granting b p (in_hand (b.hand p)) told.0 done (sessions_of woken) now)
   marking-next told rest b once (inl none) =
       let unrecorded : (in_hand (a.hand p)).recorded ≡ None = ap (λ (mine : InHand). mine.recorded) hand-known ∙ wakens.may_move.unrecorded in
@@ -181,10 +198,11 @@ module _ (seat : Seated) (a : Account) (p : ℕ) (done : Move) (woken : List (�
       )
   marking-next told rest b once (inr some) =
       let marked : Account = account_marked a p done now (told ∷ rest) in
-      let mine : InHand = hand_recording (in_hand (a.hand p)) now done (is_among (sessions_of (told ∷ rest))) in
+      let mine : InHand = hand_marked a p done now (told ∷ rest) in
       let hand : set_at (set_at a.hand p (Some mine)) p (Some (hand_recording mine now done (unmarked_but mine.unmarked told.0)))
-      ≡ set_at a.hand p (Some (hand_recording (in_hand (a.hand p)) now done (is_among (sessions_of rest)))) =
-      set_at-twice a.hand p _ _ ∙ ap (λ unmarked. set_at a.hand p (Some (hand_recording (in_hand (a.hand p)) now done unmarked))) (unmarked-next told rest once) in
+      ≡ set_at a.hand p (Some (hand_marked a p done now rest)) =
+      set_at-twice a.hand p _ _ ∙ ap (λ unmarked. set_at a.hand p (Some (hand_recording (in_hand (a.hand p)) now done unmarked)))
+      (unmarked-next told rest once) in
       inr (
       ap (λ (v : Account). account_granting v p (in_hand (v.hand p)) told.0 done (sessions_of woken) now) some
       ∙ ap (λ its. account_granting marked p (in_hand its) told.0 done (sessions_of woken) now) (marked-in_hand (told ∷ rest))
@@ -193,14 +211,16 @@ module _ (seat : Seated) (a : Account) (p : ℕ) (done : Move) (woken : List (�
 
   -- Both at a turn of a loop over the list, on a board of this seat.
   pub may_mark-at :
-      (its : Seated) (b : Account) (items : List (ℕ × Mode)) (i : ℕ) (told : ℕ × Mode) → its ≡ seat → items ≡ woken → i < length items → told ≡ get_or items i told
+      (its : Seated) (b : Account) (items : List (ℕ × Mode)) (i : ℕ) (told : ℕ × Mode)
+      → its ≡ seat → items ≡ woken → i < length items → told ≡ get_or items i told
       → IsMarking a p done now woken (drop i items) b
-      → (mine : InHand) × (granted : List Wait) × (woken ≡ map whose_and_mode granted) × MayMarkBy its.limit its.number b p mine done granted now told.0
+      → MayTell its b p done woken now told.0
   may_mark-at its b items i told same_seat same within is marking =
-      subst (λ (v : Seated). (mine : InHand) × (granted : List Wait) × (woken ≡ map whose_and_mode granted) × MayMarkBy v.limit v.number b p mine done granted now told.0)
+      subst (λ (v : Seated). MayTell v b p done woken now told.0)
       {x = seat} {y = its} (sym same_seat)
       (may_mark told (drop (i + 1) items) b
-      (subst (λ left. IsMarking a p done now woken left b) {x = drop i items} {y = told ∷ drop (i + 1) items} (next-left items i told within is) marking))
+      (subst (λ left. IsMarking a p done now woken left b) {x = drop i items} {y = told ∷ drop (i + 1) items}
+      (next-left items i told within is) marking))
 
   pub marking-next_at :
       (b after : Account) (items : List (ℕ × Mode)) (i : ℕ) (told : ℕ × Mode) → items ≡ woken → i < length items → told ≡ get_or items i told
@@ -208,10 +228,11 @@ module _ (seat : Seated) (a : Account) (p : ℕ) (done : Move) (woken : List (�
       → IsMarking a p done now woken (drop (i + 1) items) after
   marking-next_at b after items i told same within is marking marked =
       let next : drop i items ≡ told ∷ drop (i + 1) items = next-left items i told within is in
-      let all_once : count_by (λ (its : ℕ × Mode). its.0 == told.0) items ≤ 1 =
-      omega (arith, wakens.once told.0, ap (count_by (λ (its : ℕ × Mode). its.0 == told.0)) same) in
-      subst (IsMarking a p done now woken (drop (i + 1) items)) {x = account_granting b p (in_hand (b.hand p)) told.0 done (sessions_of woken) now} {y = after} (sym marked)
-      (marking-next told (drop (i + 1) items) b (next-once (λ (its : ℕ × Mode). its.0 == told.0) items i told next all_once)
+      let all_once : count_by (is_told told.0) items ≤ 1 =
+      omega (arith, wakens.once told.0, ap (count_by (is_told told.0)) same) in
+      subst (IsMarking a p done now woken (drop (i + 1) items))
+      {x = account_granting b p (in_hand (b.hand p)) told.0 done (sessions_of woken) now} {y = after} (sym marked)
+      (marking-next told (drop (i + 1) items) b (next-once (is_told told.0) items i told next all_once)
       (subst (λ left. IsMarking a p done now woken left b) {x = drop i items} {y = told ∷ drop (i + 1) items} next marking))
 
   -- Once nobody is left,
@@ -226,10 +247,10 @@ module _ (seat : Seated) (a : Account) (p : ℕ) (done : Move) (woken : List (�
       (its : Seated) (b : Account) → its ≡ seat → b ≡ account_marked a p done now [] → WaitIsOver a.awaited p done
       → (mine : InHand) × MayPutSo its.limit its.number b p mine Keep now
   may_put_marked its b same_seat marked over = (
-    hand_recording (in_hand (a.hand p)) now done (is_among []),
+    hand_marked a p done now [],
     inr (record {
       made = done;
-      may_put = subst (λ (v : Account). MayPutRecordedBy v p (hand_recording (in_hand (a.hand p)) now done (is_among [])) done)
+      may_put = subst (λ (v : Account). MayPutRecordedBy v p (hand_marked a p done now []) done)
           {x = account_marked a p done now []} {y = b} (sym marked)
           (record { in_hand = marked-in_hand []; recorded = refl; all_marked = λ _. refl; wait_is_over = over });
       keeps = refl;

@@ -6,12 +6,14 @@ use Rattle.lock_manager.proofs.releases.end_all.Goals as goal
 pub release_hold-requires-clause-held : goal.release_hold-requires-clause-held
 release_hold-requires-clause-held g c =
     rest-held (g.B.Board.seat c.args.board.now).limit c.args.end (g.B.Board.view c.entries.board) (g.B.Board.stack c.entries.board)
-    c.entries.locals.entries (c.in-Some.tag, c.in-Some.mode) (ended_by c.args.end c.end_next.new.self.entries) c.in-Some.ensures.next c.entries.invariant.rest
+    c.entries.locals.entries (c.in-Some.tag, c.in-Some.mode) (ended_by c.args.end c.end_next.new.self.entries)
+    c.in-Some.ensures.next c.entries.invariant.rest
 
 pub release_hold-requires-clause-counted : goal.release_hold-requires-clause-counted
 release_hold-requires-clause-counted g c =
     rest-counted (g.B.Board.seat c.args.board.now).limit c.args.end (g.B.Board.view c.entries.board) (g.B.Board.stack c.entries.board)
-    c.entries.locals.entries (c.in-Some.tag, c.in-Some.mode) (ended_by c.args.end c.end_next.new.self.entries) c.in-Some.ensures.next c.entries.invariant.rest
+    c.entries.locals.entries (c.in-Some.tag, c.in-Some.mode) (ended_by c.args.end c.end_next.new.self.entries)
+    c.in-Some.ensures.next c.entries.invariant.rest
 
 -- With the next hold released the session is at rest with the entries left, and what is left to release leads on from there.
 pub entries-preserved : goal.entries-preserved

@@ -9,7 +9,8 @@ abbrev pub invariant-entries : goal.invariant-entries
 invariant-entries g l = record {
   rest : IsAtRest (g.B.Board.seat l.fn.board).limit (g.B.Board.view l.board) (g.B.Board.stack l.board) l.locals.entries;
   seat : g.B.Board.seat l.board ≡ g.B.Board.seat l.fn.board;
-  steps : (last : List TraceEntry) → ReleasesAll (g.B.Board.seat l.fn.board).number (g.B.Board.view l.board).trace (ended_by l.end l.locals.entries) last
+  steps : (last : List TraceEntry) → ReleasesAll (g.B.Board.seat l.fn.board).number (g.B.Board.view l.board).trace
+      (ended_by l.end l.locals.entries) last
       → ReleasesAll (g.B.Board.seat l.fn.board).number (g.B.Board.view l.fn.board).trace (ended_by l.end l.fn.locals.entries) last;
   entries : left_by l.end l.locals.entries ≡ left_by l.end l.fn.locals.entries;
   max_local : l.locals.max_local ≡ l.fn.locals.max_local;
