@@ -1,4 +1,6 @@
 pub mod Counting
 pub mod Scanning
 pub mod Deciding
+pub mod Waking
+pub mod Releasing
 pub mod Resting

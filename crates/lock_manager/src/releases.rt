@@ -2,9 +2,10 @@
 
 ghost use Rattle.std.specs.Prelude.{◌≡◌, ◌≢◌, ◌<◌, ℕ, true, List, [], ◌∷◌, None};
 ghost use Rattle.modes_core.specs.Tag.{is_strong_on};
-ghost use Rattle.local_locks.specs.Owned.{ended_by, left_by};
+ghost use Rattle.local_locks.specs.Owned.{ended_by, left_by, IsWellOwned};
 ghost use Rattle.lock_world.specs.AccountSteps.{account_putting};
 ghost use Rattle.lock_world.specs.Counted.{is_counted};
+ghost use Rattle.lock_world.specs.Happens.Partitions.{WaitIsOver};
 ghost use Rattle.shared_rule.specs.History.{taken_of};
 ghost use Rattle.shared_rule.specs.Lawful.{IsGrantingIn};
 ghost use Rattle.lock_manager.specs.Rest.{IsIdle, IsAtRest};
@@ -19,14 +20,21 @@ use wait_queue::release;
 
 /// Releases all that the end of a transaction or of the session takes away, in the order of making (`LockReleaseAll` in
 /// lock.c).
-pub fn end_all<T: PartTable, B: Board<T>, R: Wait>(rt: &R, board: &mut B, locals: &mut LocalTable, end: End)
+pub fn end_all<T: PartTable, B: Board<T>, R: Wait>(
+    rt: &R,
+    board: &mut B,
+    locals: &mut LocalTable,
+    end: End,
+)
     requires rest { IsAtRest (B.seat board.old).limit (B.view board.old) (B.stack board.old) locals.old.entries }
+    requires well_owned { IsWellOwned locals.old }
     ensures rest { IsAtRest (B.seat board.old).limit (B.view board.new) (B.stack board.new) locals.new.entries }
     ensures seat { B.seat board.new ≡ B.seat board.old }
     ensures steps { ReleasesAll (B.seat board.old).number (B.view board.old).trace (ended_by end locals.old.entries)
         (B.view board.new).trace }
     ensures entries { locals.new.entries ≡ left_by end locals.old.entries }
     ensures max_local { locals.new.max_local ≡ locals.old.max_local }
+    ensures well_owned { IsWellOwned locals.new }
 {
     'entries: while let Some((tag, mode)) = locals.end_next(end) {
         release_hold(rt, board, &tag, mode);
@@ -35,7 +43,12 @@ pub fn end_all<T: PartTable, B: Board<T>, R: Wait>(rt: &R, board: &mut B, locals
 
 /// Releases a hold, tells those whom that lets go, and takes the count of a strong lock back (`LockRelease` in lock.c, past
 /// the local lock).
-pub fn release_hold<T: PartTable, B: Board<T>, R: Wait>(rt: &R, board: &mut B, tag: &Tag, mode: Mode)
+pub fn release_hold<T: PartTable, B: Board<T>, R: Wait>(
+    rt: &R,
+    board: &mut B,
+    tag: &Tag,
+    mode: Mode,
+)
     requires idle { IsIdle (B.view board.old) (B.stack board.old) }
     requires held { (B.view board.old).own tag.now mode ≡ true }
     requires counted { is_strong_on tag.now mode ≡ true → is_counted (B.view board.old).fast.counted tag.now mode ≡ true }
@@ -84,6 +97,7 @@ fn put_with_woken<T: PartTable, B: Board<T>>(
     requires none_begun { T.begun content ≡ None }
     requires in_hand { (others : List ℕ) × (B.stack board.old ≡ part ∷ others) }
     requires some { woken.now.items ≢ [] }
+    requires wait_is_over { WaitIsOver (B.view board.old).awaited part done.now }
     requires lawful { Wakens (B.seat board.old) (B.view board.old) part done.now woken.now.items (T.content content) }
     ensures account { B.view board.new ≡
         account_putting (B.view board.old) part (taken_of ((B.view board.old).hand part)) (T.content content) done.now }
