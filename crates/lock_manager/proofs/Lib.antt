@@ -1,6 +1,8 @@
 pub mod Counting
 pub mod Scanning
 pub mod Deciding
+pub mod Requesting
 pub mod Waking
 pub mod Releasing
 pub mod Resting
+pub mod Holding

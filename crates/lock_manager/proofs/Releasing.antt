@@ -13,7 +13,7 @@ use Rattle.lock_world.specs.AccountFacts.{KnowsContent}
 use Rattle.lock_world.specs.AccountLaw.{MayMoveBy, MayPutBy}
 use Rattle.lock_world.specs.AccountSteps.{account_taking}
 use Rattle.shared_rule.specs.Boards.{Seated}
-use Rattle.shared_rule.specs.Lawful.{MayPutSo}
+use Rattle.shared_rule.specs.Lawful.{MayPutPart}
 use Rattle.shared_rule.proofs.Episodes.{fresh_hand, taken-in_hand}
 use Rattle.lock_manager.specs.Releases.{Wakens}
 use Rattle.lock_manager.proofs.Waking.{release-once}
@@ -42,7 +42,7 @@ module _ (seat : Seated) (a : Account) (p : ℕ) (tag : Tag) (mode : Mode) (take
   -- and put the partition by it where it lets nobody go,
   pub may_put_released :
       (its : Seated) (b : Account) → its ≡ seat → b ≡ account_taking a p taken → length woken ≡ 0
-      → (mine : InHand) × MayPutSo its.limit its.number b p mine (Release tag mode) put
+      → (mine : InHand) × MayPutPart its.limit its.number b p mine (Release tag mode) put
   may_put_released its b same_seat same none =
       let alone : MayPutBy seat.limit seat.number (account_taking a p taken) p (fresh_hand taken) (Release tag mode) put =
       record {

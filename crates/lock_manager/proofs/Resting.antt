@@ -56,12 +56,12 @@ own-last end entries none = λ i t m. sym (has_entry-last end entries none t m) 
 -- ---- what is counted
 
 -- the list with an entry's strong lock before it, if it is one
-abbrev with_strong : ℕ → Entry → List Counted → List Counted
+abbrev pub with_strong : ℕ → Entry → List Counted → List Counted
 with_strong limit entry list =
     if is_strong_on entry.tag entry.mode then record { tag = entry.tag; mode = entry.mode; position = limit } ∷ list else list
 
 -- Counting goes entry by entry,
-counted_for-cons :
+pub counted_for-cons :
     (limit : ℕ) (entry : Entry) (entries : List Entry)
     → counted_for limit (entry ∷ entries) ≡ with_strong limit entry (counted_for limit entries)
 counted_for-cons limit entry entries =
@@ -71,7 +71,7 @@ counted_for-cons limit entry entries =
     ]
 
 -- and taking a count back goes past what is of another object or mode, and leaves out what is of that.
-uncounting-here :
+pub uncounting-here :
     (limit : ℕ) (entry : Entry) (list : List Counted) (tag : Tag) (mode : Mode) → is_of tag mode entry ≡ true
     → uncounting (with_strong limit entry list) tag mode ≡ uncounting list tag mode
 uncounting-here limit entry list tag mode it =
@@ -90,7 +90,7 @@ uncounting-else limit entry list tag mode other =
     ]
 
 -- What is counted for one more entry of another object or mode.
-uncounting-past :
+pub uncounting-past :
     (limit : ℕ) (entry : Entry) (entries left : List Entry) (tag : Tag) (mode : Mode) → is_of tag mode entry ≡ false
     → uncounting (counted_for limit entries) tag mode ≡ counted_for limit left
     → uncounting (counted_for limit (entry ∷ entries)) tag mode ≡ counted_for limit (entry ∷ left)
@@ -101,7 +101,7 @@ uncounting-past limit entry entries left tag mode other same =
     ∙ sym (counted_for-cons limit entry left)
 
 -- Where there is no entry of the object and mode nothing is counted for it,
-uncounting-none :
+pub uncounting-none :
     (limit : ℕ) (entries : List Entry) (tag : Tag) (mode : Mode) → has_entry entries tag mode ≡ false
     → uncounting (counted_for limit entries) tag mode ≡ counted_for limit entries
 uncounting-none limit [] tag mode none = refl
@@ -112,7 +112,7 @@ uncounting-none limit (entry ∷ entries) tag mode none =
     ]
 
 -- nor where the mode isn't strong.
-uncounting-weak :
+pub uncounting-weak :
     (limit : ℕ) (entries : List Entry) (tag : Tag) (mode : Mode) → is_strong_on tag mode ≡ false
     → uncounting (counted_for limit entries) tag mode ≡ counted_for limit entries
 uncounting-weak limit [] tag mode weak = refl
@@ -208,7 +208,7 @@ counted-last limit end (entry ∷ entries) none =
     ]
 
 -- A strong lock that there is an entry of is counted.
-entry-counted :
+pub entry-counted :
     (limit : ℕ) (entries : List Entry) (tag : Tag) (mode : Mode) → has_entry entries tag mode ≡ true → is_strong_on tag mode ≡ true
     → is_counted (counted_for limit entries) tag mode ≡ true
 entry-counted limit [] tag mode has strong = has

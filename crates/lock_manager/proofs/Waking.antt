@@ -26,7 +26,7 @@ use Rattle.lock_world.specs.Happens.Waits.{unmarked_but}
 use Rattle.lock_world.proofs.Counters.Lists.{any-map}
 use Rattle.shared_rule.specs.Boards.{Seated}
 use Rattle.shared_rule.specs.History.{taken_of, is_among, in_hand, account_granting, account_granting_by}
-use Rattle.shared_rule.specs.Lawful.{MayMarkBy, MayPutSo}
+use Rattle.shared_rule.specs.Lawful.{MayMarkBy, MayPutPart}
 use Rattle.lock_manager.specs.Releases.{Wakens}
 
 -- Telling those whom a move lets go: the first mark makes the move, and once all are marked the partition is put.
@@ -245,7 +245,7 @@ module _ (seat : Seated) (a : Account) (p : ℕ) (done : Move) (woken : List (�
   -- the partition may be put,
   pub may_put_marked :
       (its : Seated) (b : Account) → its ≡ seat → b ≡ account_marked a p done now [] → WaitIsOver a.awaited p done
-      → (mine : InHand) × MayPutSo its.limit its.number b p mine Keep now
+      → (mine : InHand) × MayPutPart its.limit its.number b p mine Keep now
   may_put_marked its b same_seat marked over = (
     hand_marked a p done now [],
     inr (record {

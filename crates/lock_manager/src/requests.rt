@@ -1,8 +1,8 @@
 //! Acquires without waiting, over any board.
 
-ghost use Rattle.std.specs.Prelude.{◌≡◌, ◌<◌, ◌≤◌, false, true, None, length, OnOk, OnErr, IfErr};
+ghost use Rattle.std.specs.Prelude.{◌≡◌, ◌<◌, ◌≤◌, ◌↔◌, false, true, length, IsErrOf, OnOk, OnErr};
 ghost use Rattle.modes_core.specs.Tag.{is_strong_on};
-ghost use Rattle.local_locks.specs.Owned.{has_entry, with_one_more, acquired_as};
+ghost use Rattle.local_locks.specs.Owned.{has_entry, owner_count_of, max_count, with_one_more, IsWellOwned};
 ghost use Rattle.lock_world.specs.Counted.{is_counted, is_at, is_done};
 ghost use Rattle.lock_world.specs.Happens.Counters.{most_counted};
 ghost use Rattle.lock_manager.specs.Rest.{IsIdle, IsAtRest};
@@ -29,20 +29,28 @@ pub fn acquire<T: PartTable, B: Board<T>, R: Wait>(
     requires few { (B.seat board.old).limit ≤ 64 }
     requires few_entries { locals.old.max_local ≤ 65536 }
     requires rest { IsAtRest (B.seat board.old).limit (B.view board.old) (B.stack board.old) locals.old.entries }
+    ensures already_held { (result ≡ Ok Acquired.AlreadyHeld) ↔ ((has_entry locals.old.entries tag mode ≡ true)
+        × (owner_count_of locals.old.entries tag mode owner < max_count)) }
+    ensures count_full { IsErrOf result Refusal.CountFull ↔ (owner_count_of locals.old.entries tag mode owner ≡ max_count) }
+    ensures local_full { IsErrOf result Refusal.LocalFull
+        ↔ ((has_entry locals.old.entries tag mode ≡ false) × (length locals.old.entries ≡ locals.old.max_local)) }
+    ensures steps { Acquires (B.seat board.old) locals.old (B.view board.old).trace tag mode result
+        (B.view board.new).trace }
+    ensures entries { OnOk result (locals.new.entries ≡ with_one_more locals.old.entries tag mode owner) }
+    ensures same_entries { OnErr result (locals.new.entries ≡ locals.old.entries) }
     ensures rest { IsAtRest (B.seat board.old).limit (B.view board.new) (B.stack board.new) locals.new.entries }
     ensures seat { B.seat board.new ≡ B.seat board.old }
-    ensures steps { Acquires (B.seat board.old) locals.old (B.view board.old).trace tag mode result (B.view board.new).trace }
-    ensures entries { OnOk result (locals.new.entries ≡ with_one_more locals.old.entries tag mode owner) }
-    ensures answer { OnOk result (result ≡ Ok (acquired_as locals.old.entries tag mode)) }
-    ensures same_entries { OnErr result (locals.new.entries ≡ locals.old.entries) }
     ensures max_local { locals.new.max_local ≡ locals.old.max_local }
+    ensures well_owned { IsWellOwned locals.new }
 {
     locals.reserve(tag, mode, owner)?;
     if locals.total(tag, mode) != 0 {
         return Ok(locals.add(tag, mode, owner));
     }
-    request(rt, board, &tag, mode)?;
-    Ok(locals.add(tag, mode, owner))
+    match request(rt, board, &tag, mode) {
+        Ok(()) => Ok(locals.add(tag, mode, owner)),
+        Err(refusal) => Err(refusal),
+    }
 }
 
 /// Decides a request for a mode that the session hasn't, in the object's partition (`LockAcquireExtended` in lock.c). A
@@ -65,15 +73,17 @@ fn request<T: PartTable, B: Board<T>, R: Wait>(
     ensures stack { B.stack board.new ≡ B.stack board.old }
     ensures seat { B.seat board.new ≡ B.seat board.old }
 {
-    let strong = is_strong(*tag, mode);
-    if strong {
-        count(rt, board, tag, mode);
+    if !is_strong(*tag, mode) {
+        return decide_in_part(rt, board, tag, mode);
     }
-    let answer = decide_in_part(rt, board, tag, mode);
-    if strong && answer.is_err() {
-        board.sub_strong(tag, mode);
+    count(rt, board, tag, mode);
+    match decide_in_part(rt, board, tag, mode) {
+        Ok(()) => Ok(()),
+        Err(refusal) => {
+            board.sub_strong(tag, mode);
+            Err(refusal)
+        }
     }
-    answer
 }
 
 /// Decides it there (`LockCheckConflicts` with `GrantLock` in lock.c).
