@@ -1,10 +1,10 @@
 //! Sessions: the calls that a server's thread makes.
 
-ghost use Rattle.std.specs.Prelude.{◌≡◌, ◌≢◌, ◌<◌, ◌≤◌, ◌↔◌, [], length, true, false, IsErrOf, IsOkUnless, IfOk, OnOk, OnErr};
+ghost use Rattle.std.specs.Prelude.{◌≡◌, ◌≢◌, ◌<◌, ◌≤◌, ◌-◌, ◌↔◌, [], length, true, false, IsErrOf, IsOkUnless, IfOk, OnOk, OnErr};
 ghost use Rattle.modes_core.specs.ModeSet.{set_has};
 ghost use Rattle.local_locks.specs.Owned.{has_entry, owner_count_of, total_of, max_count, with_one_more, with_one_less, ended_by, left_by};
 ghost use Rattle.shared_rule.specs.History.{blank_account};
-ghost use Rattle.lock_manager.specs.Sessions.{IsSame};
+ghost use Rattle.lock_manager.specs.Sessions.{IsSame, IsUnchanged, DontConflict};
 ghost use Rattle.lock_manager.specs.Requests.{Acquires};
 ghost use Rattle.lock_manager.specs.Releases.{Releases, ReleasesAll};
 
@@ -24,6 +24,7 @@ use std::sync::Wait;
 pub type Session<'a> = OwnSession<PlainPart, SeatBoard<'a, PlainPart>>;
 
 // What a session has of its own, which no other session sees.
+#[derive(Drop)]
 pub(crate) struct Own {
     pub(crate) locals: LocalTable,
     pub(crate) database: u32,
@@ -207,14 +208,28 @@ impl<'a> OwnSession<PlainPart, SeatBoard<'a, PlainPart>> {
     /// Meets another session of the same manager, which comes back: no hold of the one conflicts with a hold of the other
     /// on an object. Both are as before.
     pub fn meet(&mut self, other: Session<'a>) -> Session<'a>
+        requires same_manager { (⟦<SeatBoard<'a, PlainPart> as Board<PlainPart>>⟧.seat other.board).table ≡ (⟦<SeatBoard<'a, PlainPart> as Board<PlainPart>>⟧.seat self.old.board).table }
+        ensures told { DontConflict self.old.owned.entries other.entry.owned.entries }
+        ensures unchanged { IsUnchanged ⟦<SeatBoard<'a, PlainPart> as Board<PlainPart>>⟧.seat ⟦<SeatBoard<'a, PlainPart> as Board<PlainPart>>⟧.view ⟦<SeatBoard<'a, PlainPart> as Board<PlainPart>>⟧.stack self.old self.new }
+        ensures its_unchanged { IsUnchanged ⟦<SeatBoard<'a, PlainPart> as Board<PlainPart>>⟧.seat ⟦<SeatBoard<'a, PlainPart> as Board<PlainPart>>⟧.view ⟦<SeatBoard<'a, PlainPart> as Board<PlainPart>>⟧.stack other.entry result }
     {
-        todo
+        let OwnSession { board, own, parts } = other;
+        let board = self.board.meet(board);
+        OwnSession { board, own, parts }
     }
 
     /// Ends the session: all that it holds is released, in the order of making, and its number is not given out again
     /// (`ProcKill` in proc.c).
     pub fn close<R: Wait>(self, rt: &R, opener: &mut Opener)
+        requires own_opener { (⟦<SeatBoard<'a, PlainPart> as Board<PlainPart>>⟧.seat self.board).table ≡ opener.old.table }
+        ensures closed { opener.new ≡ record (opener.old) { live = opener.old.live - 1 } }
     {
-        todo
+        let OwnSession {
+            mut board,
+            mut own,
+            parts: _,
+        } = self;
+        end_all(rt, &mut board, &mut own.locals, End::Close);
+        opener.take_back(board);
     }
 }
