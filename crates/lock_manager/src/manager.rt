@@ -137,7 +137,11 @@ impl Opener {
     /// A new session of this database, with room for one local entry (`InitProcess` in proc.c). Numbers are given in rising
     /// order and never again. It is refused where all are given out, and then where memory is wanting; the opener is then
     /// as before.
-    pub fn session<'a>(&mut self, manager: &'a Manager, database: u32) -> Result<Session<'a>, Refusal>
+    pub fn session<'a>(
+        &mut self,
+        manager: &'a Manager,
+        database: u32,
+    ) -> Result<Session<'a>, Refusal>
         requires own { IsOpenerOf self.old manager.now }
         ensures ok { IfOk result (λ session. IsOpened ⟦<SeatBoard<'a, PlainPart> as Board<PlainPart>>⟧.seat
             ⟦<SeatBoard<'a, PlainPart> as Board<PlainPart>>⟧.view ⟦<SeatBoard<'a, PlainPart> as Board<PlainPart>>⟧.stack

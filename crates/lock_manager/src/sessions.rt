@@ -5,9 +5,11 @@ ghost use Rattle.modes_core.specs.ModeSet.{set_has};
 ghost use Rattle.local_locks.specs.Owned.{has_entry, owner_count_of, total_of, max_count, with_one_more, with_one_less, ended_by, left_by};
 ghost use Rattle.shared_rule.specs.History.{blank_account};
 ghost use Rattle.lock_manager.specs.Sessions.{IsSame, IsUnchanged, DontConflict};
+ghost use Rattle.lock_manager.specs.Listings.{Lists};
 ghost use Rattle.lock_manager.specs.Requests.{Acquires};
 ghost use Rattle.lock_manager.specs.Releases.{Releases, ReleasesAll};
 
+use crate::listing::{Listing, list};
 use crate::manager::Opener;
 use crate::releases::{end_all, release_hold};
 use crate::requests::acquire;
@@ -136,14 +138,7 @@ impl<T: PartTable, B: Board<T>> OwnSession<T, B> {
         ensures same_entries { OnErr result (self.new.owned.entries ≡ self.old.owned.entries) }
         ensures same { IsSame B.seat B.view B.stack self.old self.new }
     {
-        acquire(
-            rt,
-            &mut self.board,
-            &mut self.own.locals,
-            tag,
-            mode,
-            owner,
-        )
+        acquire(rt, &mut self.board, &mut self.own.locals, tag, mode, owner)
     }
 
     /// Gives one count of an owner back, and with the last one the hold (`LockRelease` in lock.c). Refused where the owner
@@ -201,6 +196,18 @@ impl<T: PartTable, B: Board<T>> OwnSession<T, B> {
         ensures same { IsSame B.seat B.view B.stack self.old self.new }
     {
         end_all(rt, &mut self.board, &mut self.own.locals, End::Abort);
+    }
+
+    /// All that is held and awaited at one moment, at which the session has all partitions in hand (`GetLockStatusData` in
+    /// lock.c). Only the lists of the answer take memory; where that is wanting it is refused.
+    pub fn list<R: Wait>(&mut self, rt: &R) -> Result<Listing, Refusal>
+        ensures listed { Lists (B.view self.old.board).trace result (B.view self.new.board).trace }
+        ensures no_slots { IfOk result (λ listing. listing.fast.items ≡ []) }
+        ensures no_memory { IsOkUnless result Refusal.NoMemory }
+        ensures entries { self.new.owned.entries ≡ self.old.owned.entries }
+        ensures same { IsSame B.seat B.view B.stack self.old self.new }
+    {
+        list(rt, &mut self.board, self.own.alloc)
     }
 }
 
