@@ -143,9 +143,8 @@ impl Opener {
         database: u32,
     ) -> Result<Session<'a>, Refusal>
         requires own { IsOpenerOf self.old manager.now }
-        ensures ok { IfOk result (λ session. IsOpened ⟦<SeatBoard<'a, PlainPart> as Board<PlainPart>>⟧.seat
-            ⟦<SeatBoard<'a, PlainPart> as Board<PlainPart>>⟧.view ⟦<SeatBoard<'a, PlainPart> as Board<PlainPart>>⟧.stack
-            self.old manager.now database session) }
+        ensures ok { let B = ⟦<SeatBoard<'a, PlainPart> as Board<PlainPart>>⟧ in
+            IfOk result (λ session. IsOpened B.seat B.view B.stack self.old manager.now database session) }
         ensures counted { OnOk result (self.new ≡
             record (self.old) { issued = self.old.issued + 1; live = self.old.live + 1 }) }
         ensures no_more { IsErrOf result Refusal.NoMoreSessions ↔ (self.old.issued ≡ self.old.limit) }

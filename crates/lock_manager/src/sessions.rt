@@ -215,10 +215,13 @@ impl<'a> OwnSession<PlainPart, SeatBoard<'a, PlainPart>> {
     /// Meets another session of the same manager, which comes back: no hold of the one conflicts with a hold of the other
     /// on an object. Both are as before.
     pub fn meet(&mut self, other: Session<'a>) -> Session<'a>
-        requires same_manager { (⟦<SeatBoard<'a, PlainPart> as Board<PlainPart>>⟧.seat other.board).table ≡ (⟦<SeatBoard<'a, PlainPart> as Board<PlainPart>>⟧.seat self.old.board).table }
+        requires same_manager { let B = ⟦<SeatBoard<'a, PlainPart> as Board<PlainPart>>⟧ in
+            (B.seat other.board).table ≡ (B.seat self.old.board).table }
         ensures told { DontConflict self.old.owned.entries other.entry.owned.entries }
-        ensures unchanged { IsUnchanged ⟦<SeatBoard<'a, PlainPart> as Board<PlainPart>>⟧.seat ⟦<SeatBoard<'a, PlainPart> as Board<PlainPart>>⟧.view ⟦<SeatBoard<'a, PlainPart> as Board<PlainPart>>⟧.stack self.old self.new }
-        ensures its_unchanged { IsUnchanged ⟦<SeatBoard<'a, PlainPart> as Board<PlainPart>>⟧.seat ⟦<SeatBoard<'a, PlainPart> as Board<PlainPart>>⟧.view ⟦<SeatBoard<'a, PlainPart> as Board<PlainPart>>⟧.stack other.entry result }
+        ensures unchanged { let B = ⟦<SeatBoard<'a, PlainPart> as Board<PlainPart>>⟧ in
+            IsUnchanged B.seat B.view B.stack self.old self.new }
+        ensures its_unchanged { let B = ⟦<SeatBoard<'a, PlainPart> as Board<PlainPart>>⟧ in
+            IsUnchanged B.seat B.view B.stack other.entry result }
     {
         let OwnSession { board, own, parts } = other;
         let board = self.board.meet(board);
