@@ -19,12 +19,7 @@ use wait_queue::release;
 
 /// Releases all that the end of a transaction or of the session takes away, in the order of making (`LockReleaseAll` in
 /// lock.c).
-pub fn end_all<T: PartTable, B: Board<T>, R: Wait>(
-    rt: &R,
-    board: &mut B,
-    locals: &mut LocalTable,
-    end: End,
-)
+pub fn end_all<T: PartTable, B: Board<T>, R: Wait>(rt: &R, board: &mut B, locals: &mut LocalTable, end: End)
     requires rest { IsAtRest (B.seat board.old).limit (B.view board.old) (B.stack board.old) locals.old.entries }
     ensures rest { IsAtRest (B.seat board.old).limit (B.view board.new) (B.stack board.new) locals.new.entries }
     ensures seat { B.seat board.new ≡ B.seat board.old }
@@ -40,12 +35,7 @@ pub fn end_all<T: PartTable, B: Board<T>, R: Wait>(
 
 /// Releases a hold, tells those whom that lets go, and takes the count of a strong lock back (`LockRelease` in lock.c, past
 /// the local lock).
-pub fn release_hold<T: PartTable, B: Board<T>, R: Wait>(
-    rt: &R,
-    board: &mut B,
-    tag: &Tag,
-    mode: Mode,
-)
+pub fn release_hold<T: PartTable, B: Board<T>, R: Wait>(rt: &R, board: &mut B, tag: &Tag, mode: Mode)
     requires idle { IsIdle (B.view board.old) (B.stack board.old) }
     requires held { (B.view board.old).own tag.now mode ≡ true }
     requires counted { is_strong_on tag.now mode ≡ true → is_counted (B.view board.old).fast.counted tag.now mode ≡ true }
