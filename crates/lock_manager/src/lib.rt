@@ -15,3 +15,6 @@ pub use lock_table::{SlotRow, TableRow};
 pub use manager::{Final, Manager, Opener};
 pub use modes_core::{Mode, ModeSet, Owner, Refusal, SessionId, Tag};
 pub use sessions::{OwnSession, Session};
+
+#[cfg(test)]
+mod tests;
