@@ -6,3 +6,6 @@ pub mod Waking
 pub mod Releasing
 pub mod Resting
 pub mod Holding
+pub mod Unlocking
+mod HeldModes
+mod Listed

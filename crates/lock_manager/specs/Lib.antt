@@ -3,3 +3,4 @@ pub mod Requests
 pub mod Releases
 pub mod Sessions
 pub mod Managers
+pub mod Listings

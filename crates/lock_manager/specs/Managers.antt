@@ -1,6 +1,9 @@
-use Rattle.std.specs.Prelude.{◌≡◌, ℕ, ◌<◌, ◌&&◌, nat_le, Bool, []}
+use Rattle.std.specs.Prelude.{◌≡◌, ℕ, ◌<◌, ◌≤◌, ◌&&◌, nat_le, Bool, List, []}
 use Rattle.atomic_table.specs.Seated.{TableId}
+use Rattle.lock_world.specs.Account.{Account}
+use Rattle.shared_rule.specs.Boards.{Seated}
 use Rattle.lock_manager.specs.declared.config.Config.{Config}
+use Rattle.lock_manager.specs.Sessions.{SessionView, IsResting}
 
 -- What contracts see of a manager and of its opener.
 
@@ -35,3 +38,23 @@ pub record IsNew (manager : ManagerView) (opener : OpenerView) (config : Config)
   pub max_local : manager.max_local ≡ config.max_local
   pub issued : opener.issued ≡ 0
   pub live : opener.live ≡ 0
+
+-- What is always so of an opener: it has given out no more than it may, and what isn't closed was given out.
+pub record IsCounted (issued limit live : ℕ) : Type 0 where
+  pub live_within : live ≤ issued
+  pub issued_within : issued ≤ limit
+  pub few : limit ≤ 64
+
+module _ {B : Type 0} (seat : B → Seated) (view : B → Account) (stack : B → List ℕ) where
+  -- A session that the opener has just given out, for this database: it has the next number, holds nothing and has made
+  -- no step, and one local entry needs no memory.
+  pub record IsOpened (opener : OpenerView) (manager : ManagerView) (database : ℕ) (session : SessionView B) : Type 0 where
+    pub number : (seat session.board).number ≡ opener.issued
+    pub limit : (seat session.board).limit ≡ opener.limit
+    pub table : (seat session.board).table ≡ opener.table
+    pub database_ : session.database ≡ database
+    pub nothing : session.owned.entries ≡ []
+    pub room : 0 < session.owned.room
+    pub max_local : session.owned.max_local ≡ manager.max_local
+    pub no_step : (view session.board).trace ≡ []
+    pub rest : IsResting seat view stack session

@@ -1,5 +1,9 @@
-use Rattle.std.specs.Prelude.{◌≡◌, ℕ, List}
-use Rattle.local_locks.specs.Owned.{Owned}
+use Rattle.std.specs.Prelude.{◌≡◌, ℕ, true, false, List}
+use Rattle.modes_core.specs.declared.modes.Mode.{Mode}
+use Rattle.modes_core.specs.declared.tags.Tag.{Tag}
+use Rattle.modes_core.specs.Conflict.{conflict}
+use Rattle.local_locks.specs.declared.records.Entry.{Entry}
+use Rattle.local_locks.specs.Owned.{Owned, has_entry}
 use Rattle.lock_world.specs.Account.{Account}
 use Rattle.shared_rule.specs.Boards.{Seated}
 use Rattle.lock_manager.specs.Rest.{IsAtRest}
@@ -9,6 +13,12 @@ pub record SessionView (B : Type 0) : Type 0 where
   pub board : B
   pub database : ℕ
   pub owned : Owned
+
+-- No entry of the one is of a mode that conflicts with the mode of an entry of the other on the same object.
+abbrev pub DontConflict : List Entry → List Entry → Type 0
+DontConflict entries its_entries =
+    (tag : Tag) (mode its : Mode) → has_entry entries tag mode ≡ true → has_entry its_entries tag its ≡ true
+    → conflict mode its ≡ false
 
 -- Sessions by what their boards show.
 module _ {B : Type 0} (seat : B → Seated) (view : B → Account) (stack : B → List ℕ) where
@@ -22,3 +32,11 @@ module _ {B : Type 0} (seat : B → Seated) (view : B → Account) (stack : B �
     pub database : new.database ≡ old.database
     pub max_local : new.owned.max_local ≡ old.owned.max_local
     pub rest : IsResting new
+
+  -- The session is as it was: nothing of it has changed, nor has it made a step.
+  pub record IsUnchanged (old new : SessionView B) : Type 0 where
+    pub seat_ : seat new.board ≡ seat old.board
+    pub view_ : view new.board ≡ view old.board
+    pub stack_ : stack new.board ≡ stack old.board
+    pub database : new.database ≡ old.database
+    pub owned : new.owned ≡ old.owned

@@ -1,7 +1,7 @@
-use modes_core::sessions::SESSIONS;
-
 ghost use Rattle.std.specs.Prelude.{◌≡◌};
 ghost use Rattle.lock_manager.specs.Managers.{is_in_range};
+
+use modes_core::sessions::SESSIONS;
 
 /// How many sessions a manager may open over its life at most.
 pub const MOST_SESSIONS: u32 = SESSIONS as u32;

@@ -2,13 +2,19 @@
 #![tactic(auto)]
 
 mod config;
+mod listing;
 mod manager;
 mod releases;
 mod requests;
 mod sessions;
 
 pub use config::{Config, MOST_LOCAL, MOST_SESSIONS};
+pub use listing::Listing;
 pub use local_locks::{Acquired, Unlocked};
+pub use lock_table::{SlotRow, TableRow};
 pub use manager::{Final, Manager, Opener};
 pub use modes_core::{Mode, ModeSet, Owner, Refusal, SessionId, Tag};
 pub use sessions::{OwnSession, Session};
+
+#[cfg(test)]
+mod tests;

@@ -1,14 +1,17 @@
 //! The manager, which has the shared table, and the opener, who gives sessions out and takes them back.
 
-ghost use Rattle.std.specs.Prelude.{◌≡◌, ◌<◌, ◌+◌, ◌↔◌, [], true, false, IfOk, IsErrOf, IsOkUnless, OnOk, OnErr};
-ghost use Rattle.lock_manager.specs.Managers.{IsNew, IsOpened, is_in_range};
+ghost use Rattle.std.specs.Prelude.{◌≡◌, ◌<◌, ◌+◌, ◌-◌, ◌↔◌, [], true, false, IfOk, IsErrOf, IsOkUnless, OnOk, OnErr};
+ghost use Rattle.shared_rule.specs.Seats.{MayCloseBy};
+ghost use Rattle.lock_manager.specs.Managers.{IsNew, IsOpenerOf, IsOpened, is_in_range};
 
 use crate::config::Config;
-use crate::sessions::{OwnSession, Session};
+use crate::sessions::{Own, OwnSession, Session};
 use local_locks::LocalTable;
 use lock_table::{PlainPart, empty_parts};
 use modes_core::Refusal;
+use shared_rule::board::Board;
 use shared_rule::opener::Opener as NumberOpener;
+use shared_rule::seat_board::SeatBoard;
 use shared_rule::table::{SharedTable, in_slots, open};
 use std::alloc::Global;
 use std::marker::Model;
@@ -51,23 +54,26 @@ impl Model for Manager {
 #[derive(Drop)]
 pub struct Opener {
     numbers: NumberOpener<PlainPart>,
+    issued: u8,
+    sessions: u8,
     live: u8,
 }
 
 impl Model for Opener {
-    ghost use Rattle.std.specs.Prelude.{◌≤◌};
-    ghost use Rattle.lock_manager.specs.Managers.{OpenerView};
+    ghost use Rattle.std.specs.Prelude.{◌≡◌};
+    ghost use Rattle.lock_manager.specs.Managers.{OpenerView, IsCounted};
 
     ghost Value = { OpenerView };
 
     ghost view = { λ opener. record {
       table = opener.numbers.table;
-      limit = opener.numbers.limit;
-      issued = opener.numbers.issued;
+      limit = opener.sessions;
+      issued = opener.issued;
       live = opener.live;
     } };
 
-    ghost invariant = { λ opener. opener.live ≤ opener.numbers.issued };
+    ghost invariant = { λ opener. (opener.numbers.issued ≡ opener.issued) × (opener.numbers.limit ≡ opener.sessions)
+        × IsCounted opener.issued opener.sessions opener.live };
 }
 
 impl Manager {
@@ -87,7 +93,8 @@ impl Manager {
         let Ok(slots) = in_slots(alloc, parts) else {
             return Err(Refusal::NoMemory);
         };
-        let Ok((table, numbers)) = open(alloc, config.sessions as u8, slots) else {
+        let sessions = config.sessions as u8;
+        let Ok((table, numbers)) = open(alloc, sessions, slots) else {
             return Err(Refusal::NoMemory);
         };
         let manager = Manager {
@@ -95,13 +102,19 @@ impl Manager {
             max_local: config.max_local,
             alloc,
         };
-        Ok((manager, Opener { numbers, live: 0 }))
+        let opener = Opener {
+            numbers,
+            issued: 0,
+            sessions,
+            live: 0,
+        };
+        Ok((manager, opener))
     }
 
     /// Ends the manager, all of whose sessions are closed. Nothing is held then, by what each of them had to show as it was
     /// closed: the three numbers are 0, and nobody counts again.
     pub fn finish(self, opener: Opener) -> Final
-        requires own { (opener.table ≡ self.table) × (opener.limit ≡ self.limit) }
+        requires own { IsOpenerOf opener self }
         requires none_live { opener.live ≡ 0 }
         ensures { result ≡ record { fast = 0; table = 0; strong = 0 } }
     {
@@ -124,14 +137,46 @@ impl Opener {
     /// A new session of this database, with room for one local entry (`InitProcess` in proc.c). Numbers are given in rising
     /// order and never again. It is refused where all are given out, and then where memory is wanting; the opener is then
     /// as before.
-    pub fn session<'a>(&mut self, manager: &'a Manager, database: u32) -> Result<Session<'a>, Refusal>
-        requires own { (self.old.table ≡ manager.now.table) × (self.old.limit ≡ manager.now.limit) }
-        ensures ok { IfOk result (λ session. IsOpened self.old manager.now database session) }
-        ensures counted { OnOk result (self.new ≡ record self.old { issued = self.old.issued + 1; live = self.old.live + 1 }) }
+    pub fn session<'a>(
+        &mut self,
+        manager: &'a Manager,
+        database: u32,
+    ) -> Result<Session<'a>, Refusal>
+        requires own { IsOpenerOf self.old manager.now }
+        ensures ok { let B = ⟦<SeatBoard<'a, PlainPart> as Board<PlainPart>>⟧ in
+            IfOk result (λ session. IsOpened B.seat B.view B.stack self.old manager.now database session) }
+        ensures counted { OnOk result (self.new ≡
+            record (self.old) { issued = self.old.issued + 1; live = self.old.live + 1 }) }
         ensures no_more { IsErrOf result Refusal.NoMoreSessions ↔ (self.old.issued ≡ self.old.limit) }
         ensures no_other { self.old.issued < self.old.limit → IsOkUnless result Refusal.NoMemory }
         ensures unchanged { OnErr result (self.new ≡ self.old) }
     {
-        todo
+        if self.issued == self.sessions {
+            return Err(Refusal::NoMoreSessions);
+        }
+        let locals = LocalTable::new(manager.alloc, manager.max_local)?;
+        let own = Own {
+            locals,
+            database,
+            alloc: manager.alloc,
+        };
+        let Ok(own) = Box::new(manager.alloc, own) else {
+            return Err(Refusal::NoMemory);
+        };
+        let board = self.numbers.session(&manager.table.shared).unwrap();
+        self.issued += 1;
+        self.live += 1;
+        Ok(OwnSession::of(board, own))
+    }
+
+    // Takes the board of a session back that has nothing any more.
+    pub(crate) fn take_back<'a>(&mut self, board: SeatBoard<'a, PlainPart>)
+        requires table { (⟦<SeatBoard<'a, PlainPart> as Board<PlainPart>>⟧.seat board).table ≡ self.old.table }
+        requires stack { ⟦<SeatBoard<'a, PlainPart> as Board<PlainPart>>⟧.stack board ≡ [] }
+        requires lawful { MayCloseBy (⟦<SeatBoard<'a, PlainPart> as Board<PlainPart>>⟧.view board) }
+        ensures { self.new ≡ record (self.old) { live = self.old.live - 1 } }
+    {
+        self.numbers.close(board);
+        self.live = self.live.saturating_sub(1);
     }
 }

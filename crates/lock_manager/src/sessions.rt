@@ -1,13 +1,15 @@
 //! Sessions: the calls that a server's thread makes.
 
-ghost use Rattle.std.specs.Prelude.{◌≡◌, ◌≢◌, ◌<◌, ◌≤◌, ◌↔◌, [], length, true, false, IsErrOf, IsOkUnless, IfOk, OnOk, OnErr};
+ghost use Rattle.std.specs.Prelude.{◌≡◌, ◌≢◌, ◌<◌, ◌≤◌, ◌-◌, ◌↔◌, [], length, true, false, IsErrOf, IsOkUnless, IfOk, OnOk, OnErr};
 ghost use Rattle.modes_core.specs.ModeSet.{set_has};
 ghost use Rattle.local_locks.specs.Owned.{has_entry, owner_count_of, total_of, max_count, with_one_more, with_one_less, ended_by, left_by};
 ghost use Rattle.shared_rule.specs.History.{blank_account};
-ghost use Rattle.lock_manager.specs.Sessions.{IsSame};
+ghost use Rattle.lock_manager.specs.Sessions.{IsSame, IsUnchanged, DontConflict};
+ghost use Rattle.lock_manager.specs.Listings.{Lists};
 ghost use Rattle.lock_manager.specs.Requests.{Acquires};
 ghost use Rattle.lock_manager.specs.Releases.{Releases, ReleasesAll};
 
+use crate::listing::{Listing, list};
 use crate::manager::Opener;
 use crate::releases::{end_all, release_hold};
 use crate::requests::acquire;
@@ -24,6 +26,7 @@ use std::sync::Wait;
 pub type Session<'a> = OwnSession<PlainPart, SeatBoard<'a, PlainPart>>;
 
 // What a session has of its own, which no other session sees.
+#[derive(Drop)]
 pub(crate) struct Own {
     pub(crate) locals: LocalTable,
     pub(crate) database: u32,
@@ -135,14 +138,7 @@ impl<T: PartTable, B: Board<T>> OwnSession<T, B> {
         ensures same_entries { OnErr result (self.new.owned.entries ≡ self.old.owned.entries) }
         ensures same { IsSame B.seat B.view B.stack self.old self.new }
     {
-        acquire(
-            rt,
-            &mut self.board,
-            &mut self.own.locals,
-            tag,
-            mode,
-            owner,
-        )
+        acquire(rt, &mut self.board, &mut self.own.locals, tag, mode, owner)
     }
 
     /// Gives one count of an owner back, and with the last one the hold (`LockRelease` in lock.c). Refused where the owner
@@ -201,20 +197,49 @@ impl<T: PartTable, B: Board<T>> OwnSession<T, B> {
     {
         end_all(rt, &mut self.board, &mut self.own.locals, End::Abort);
     }
+
+    /// All that is held and awaited at one moment, at which the session has all partitions in hand (`GetLockStatusData` in
+    /// lock.c). Only the lists of the answer take memory; where that is wanting it is refused.
+    pub fn list<R: Wait>(&mut self, rt: &R) -> Result<Listing, Refusal>
+        ensures listed { Lists (B.view self.old.board).trace result (B.view self.new.board).trace }
+        ensures no_slots { IfOk result (λ listing. listing.fast.items ≡ []) }
+        ensures no_memory { IsOkUnless result Refusal.NoMemory }
+        ensures entries { self.new.owned.entries ≡ self.old.owned.entries }
+        ensures same { IsSame B.seat B.view B.stack self.old self.new }
+    {
+        list(rt, &mut self.board, self.own.alloc)
+    }
 }
 
 impl<'a> OwnSession<PlainPart, SeatBoard<'a, PlainPart>> {
     /// Meets another session of the same manager, which comes back: no hold of the one conflicts with a hold of the other
     /// on an object. Both are as before.
     pub fn meet(&mut self, other: Session<'a>) -> Session<'a>
+        requires same_manager { let B = ⟦<SeatBoard<'a, PlainPart> as Board<PlainPart>>⟧ in
+            (B.seat other.board).table ≡ (B.seat self.old.board).table }
+        ensures told { DontConflict self.old.owned.entries other.entry.owned.entries }
+        ensures unchanged { let B = ⟦<SeatBoard<'a, PlainPart> as Board<PlainPart>>⟧ in
+            IsUnchanged B.seat B.view B.stack self.old self.new }
+        ensures its_unchanged { let B = ⟦<SeatBoard<'a, PlainPart> as Board<PlainPart>>⟧ in
+            IsUnchanged B.seat B.view B.stack other.entry result }
     {
-        todo
+        let OwnSession { board, own, parts } = other;
+        let board = self.board.meet(board);
+        OwnSession { board, own, parts }
     }
 
     /// Ends the session: all that it holds is released, in the order of making, and its number is not given out again
     /// (`ProcKill` in proc.c).
     pub fn close<R: Wait>(self, rt: &R, opener: &mut Opener)
+        requires own_opener { (⟦<SeatBoard<'a, PlainPart> as Board<PlainPart>>⟧.seat self.board).table ≡ opener.old.table }
+        ensures closed { opener.new ≡ record (opener.old) { live = opener.old.live - 1 } }
     {
-        todo
+        let OwnSession {
+            mut board,
+            mut own,
+            parts: _,
+        } = self;
+        end_all(rt, &mut board, &mut own.locals, End::Close);
+        opener.take_back(board);
     }
 }

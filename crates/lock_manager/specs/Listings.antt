@@ -1,0 +1,59 @@
+use Rattle.std.specs.Prelude.{◌≡◌, ℕ, ◌+◌, true, List, [], ◌∷◌, ◌++◌, length, count_by, slice_index_or, if◌then◌else◌, Result, IfOk, OnOk}
+use Rattle.modes_core.specs.declared.modes.Mode.{Mode}
+use Rattle.modes_core.specs.declared.tags.Tag.{Tag}
+use Rattle.modes_core.specs.declared.refusals.Refusal.{Refusal}
+use Rattle.modes_core.specs.Tag.{partition_of}
+use Rattle.lock_table.specs.declared.no_memory.NoMemory.{NoMemory}
+use Rattle.lock_table.specs.declared.rows.TableRow.{TableRow}
+use Rattle.lock_table.specs.Content.{Content, empty_content}
+use Rattle.lock_table.specs.Listing.{row_eq, has_row, IsListing}
+use Rattle.lock_table.specs.Queue.{waits_there}
+use Rattle.lock_table.specs.WholeContent.{whole_of}
+use Rattle.lock_world.specs.Account.{Account}
+use Rattle.lock_world.specs.World.{TraceEntry, Took, Episode}
+use Rattle.lock_manager.specs.declared.listing.Listing.{Listing}
+
+-- A listing of all that is held and awaited, as the session's trace has it.
+
+-- the steps of taking the partitions from this one on, in rising order, and of putting them back as they were, in the
+-- opposite order
+abbrev pub listing_steps : ℕ → List Content → List TraceEntry
+listing_steps partition [] = []
+listing_steps partition (content ∷ contents) =
+    Took partition content ∷ listing_steps (partition + 1) contents ++ Episode partition content content ∷ []
+
+-- the content of a partition, by the contents of all
+abbrev pub content_at : List Content → ℕ → Content
+content_at contents partition = slice_index_or contents partition empty_content
+
+-- All sixteen partitions are taken, in rising order, and put back as they were, in the opposite order. While all are in hand their
+-- contents stand side by side, and the table's rows list these.
+pub record Lists (before : List TraceEntry) (result : Result Listing Refusal) (after : List TraceEntry) : Type 0 where
+  pub contents : List Content
+  pub sixteen : length contents ≡ 16
+  pub trace : after ≡ before ++ listing_steps 0 contents
+  pub table : IfOk result (λ listing. IsListing (whole_of (content_at contents)) listing.table.items)
+
+-- The same of the partitions from one on.
+
+-- how many of these contents have what the row says
+abbrev pub times_had : List Content → TableRow → ℕ
+times_had [] row = 0
+times_had (content ∷ contents) row = times_had contents row + (if has_row content row then 1 else 0)
+
+-- The content has holds and waits on objects of the partition alone.
+pub record IsOfPartition (partition : ℕ) (content : Content) : Type 0 where
+  pub holds : (session : ℕ) (tag : Tag) (mode : Mode) → content.holds session tag mode ≡ true → partition_of tag ≡ partition
+  pub waits : (session : ℕ) (tag : Tag) → waits_there (content.waits tag) session ≡ true → partition_of tag ≡ partition
+
+abbrev pub AreOfPartitions : ℕ → List Content → Type 0
+AreOfPartitions partition [] = Unit {0}
+AreOfPartitions partition (content ∷ contents) = IsOfPartition partition content × AreOfPartitions (partition + 1) contents
+
+pub record ListsFrom (partition : ℕ) (a : Account) (old : List TableRow) (result : Result (Unit {0}) NoMemory)
+    (b : Account) (new : List TableRow) : Type 0 where
+  pub contents : List Content
+  pub last : partition + length contents ≡ 16
+  pub of_partitions : AreOfPartitions partition contents
+  pub account : b ≡ record a { trace = a.trace ++ listing_steps partition contents }
+  pub rows : OnOk result ((row : TableRow) → count_by (row_eq row) new ≡ count_by (row_eq row) old + times_had contents row)
