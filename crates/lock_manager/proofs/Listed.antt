@@ -22,7 +22,7 @@ use Rattle.lock_world.specs.Account.{Account, InHand}
 use Rattle.lock_world.specs.AccountSteps.{account_taking, account_putting}
 use Rattle.lock_world.specs.World.{TraceEntry, Took, Episode}
 use Rattle.shared_rule.specs.History.{taken_of}
-use Rattle.shared_rule.specs.Lawful.{MayPutSo}
+use Rattle.shared_rule.specs.Lawful.{MayPutPart}
 use Rattle.shared_rule.proofs.Episodes.{fresh_hand, taken-in_hand}
 use Rattle.lock_manager.specs.Listings.{content_at, times_had, IsOfPartition, AreOfPartitions}
 
@@ -40,10 +40,10 @@ since-taking a taking later p content steps took made = made ∙ ap (λ (b : Acc
 -- The partition may then be put as it was,
 pub may_keep-since :
     (limit number : ℕ) (a taking later : Account) (p : ℕ) (content : Content) (steps : List TraceEntry) → taking ≡ account_taking a p content →
-    later ≡ record taking { trace = taking.trace ++ steps } → (mine : InHand) × MayPutSo limit number later p mine Keep content
+    later ≡ record taking { trace = taking.trace ++ steps } → (mine : InHand) × MayPutPart limit number later p mine Keep content
 may_keep-since limit number a taking later p content steps took made = (
   fresh_hand content,
-  subst (λ (b : Account). MayPutSo limit number b p (fresh_hand content) Keep content) (sym (since-taking a taking later p content steps took made))
+  subst (λ (b : Account). MayPutPart limit number b p (fresh_hand content) Keep content) (sym (since-taking a taking later p content steps took made))
       (inl (record {
         may_move = record {
           in_hand = taken-in_hand a p content;

@@ -2,7 +2,7 @@
 
 ghost use Rattle.std.specs.Prelude.{◌≡◌, ◌≢◌, ◌<◌, ◌≤◌, ◌-◌, ◌↔◌, [], length, true, false, IsErrOf, IsOkUnless, IfOk, OnOk, OnErr};
 ghost use Rattle.modes_core.specs.ModeSet.{set_has};
-ghost use Rattle.local_locks.specs.Owned.{has_entry, owner_count_of, total_of, max_count, with_one_more, with_one_less, ended_by, left_by};
+ghost use Rattle.local_locks.specs.Owned.{has_entry, owner_count_of, total_of, max_count, with_one_more, with_one_less, ended_by, left_by, IsWellOwned};
 ghost use Rattle.shared_rule.specs.History.{blank_account};
 ghost use Rattle.lock_manager.specs.Sessions.{IsSame, IsUnchanged, DontConflict};
 ghost use Rattle.lock_manager.specs.Listings.{Lists};
@@ -42,6 +42,7 @@ pub struct OwnSession<T: PartTable, B: Board<T>> {
 
 impl<T: PartTable, B: Board<T>> Model for OwnSession<T, B> {
     ghost use Rattle.std.specs.Prelude.{◌≤◌};
+    ghost use Rattle.local_locks.specs.Owned.{IsWellOwned};
     ghost use Rattle.lock_manager.specs.Rest.{IsAtRest};
     ghost use Rattle.lock_manager.specs.Sessions.{SessionView};
 
@@ -55,7 +56,8 @@ impl<T: PartTable, B: Board<T>> Model for OwnSession<T, B> {
 
     ghost invariant = { λ session.
         IsAtRest (B.seat session.board).limit (B.view session.board) (B.stack session.board) session.own.value.locals.entries
-        × ((B.seat session.board).limit ≤ 64) × (session.own.value.locals.max_local ≤ 65536) };
+        × ((B.seat session.board).limit ≤ 64) × (session.own.value.locals.max_local ≤ 65536)
+        × IsWellOwned session.own.value.locals };
 }
 
 impl<T: PartTable, B: Board<T>> OwnSession<T, B> {
@@ -66,6 +68,7 @@ impl<T: PartTable, B: Board<T>> OwnSession<T, B> {
         requires stack { B.stack board ≡ [] }
         requires nothing { own.value.locals.entries ≡ [] }
         requires max_local { own.value.locals.max_local ≤ 65536 }
+        requires well_owned { IsWellOwned own.value.locals }
         ensures { result ≡ record { board = board; database = own.value.database; owned = own.value.locals } }
     {
         OwnSession {

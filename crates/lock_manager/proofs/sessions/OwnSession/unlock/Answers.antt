@@ -22,6 +22,7 @@ invariant_of-self-in-StillHeld g c =
       IsAtRest-still_held _ _ _ _ _ c.args.tag c.args.mode c.args.owner c.self.invariant.0 less (c.in_ok-drop_one.ensures.answer.0 c.in-StillHeld.is),
       c.self.invariant.1,
       omega (arith, c.self.invariant.2, max_local),
+      c.in_ok-drop_one.ensures.well_owned,
     )
 
 pub release_hold-requires-clause-counted : goal.release_hold-requires-clause-counted
@@ -56,6 +57,7 @@ invariant_of-self-in-Released g c =
       rest-released g c,
       rw c.release_hold.ensures.seat c.self.invariant.1,
       omega (arith, c.self.invariant.2, max_local),
+      c.in_ok-drop_one.ensures.well_owned,
     )
 
 pub returns-in-StillHeld-clause-same : goal.returns-in-StillHeld-clause-same
