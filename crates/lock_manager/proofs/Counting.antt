@@ -1,6 +1,5 @@
 use Rattle.std.proofs.Common.{◌≡◌, ℕ, ◌+◌, ◌==◌, Bool, true, false, List, [], ◌∷◌, ◌++◌, refl, sym, ap, ◌∙◌}
-use Rattle.std.specs.Prelude.{not, ◌&&◌, ◌||◌, filter, map, if◌then◌else◌}
-use Rattle.std.specs.List.{list_any}
+use Rattle.std.specs.Prelude.{not, ◌&&◌, if◌then◌else◌}
 use Rattle.std.proofs.lemmas.Bool.{or_parts, and_from, or_left}
 use Rattle.std.proofs.Common.{eq-eqb}
 use Rattle.modes_core.specs.declared.modes.Mode.{Mode}
@@ -8,7 +7,7 @@ use Rattle.modes_core.specs.declared.tags.Tag.{Tag}
 use Rattle.modes_core.specs.Mode.{mode_eq}
 use Rattle.modes_core.specs.Tag.{tag_eq}
 use Rattle.modes_core.proofs.Laws.{tag_eq-refl, mode_eq-refl}
-use Rattle.lock_world.specs.Counted.{Counted, is_of, is_counted, is_at, passed, passing, uncounting}
+use Rattle.lock_world.specs.Counted.{Counted, is_of, is_counted, is_at, passing, uncounting}
 
 -- What counting a strong lock behind others makes of the list.
 
@@ -58,6 +57,7 @@ uncounting-last (x ∷ list) tag mode position none =
     at (is_of tag mode x) parts.0 ∙ ap (λ (cs : List Counted). x ∷ cs) (uncounting-last list tag mode position parts.1) where
       rest : List Counted
       rest = uncounting (list ++ counted_at tag mode position ∷ []) tag mode
+
       at : (b : Bool) → b ≡ false → (if not b then x ∷ rest else rest) ≡ x ∷ rest
       at false is = refl
       at true is = absurd (Rattle.std.proofs.lemmas.Bool.false≢true (sym is))

@@ -1,22 +1,20 @@
 use Rattle.std.proofs.Common.{◌≡◌, ◌≢◌, ℕ, ◌+◌, ◌<◌, ◌≤◌, ◌==◌, Bool, true, false, ◌||◌, cond, List, [], ◌∷◌, ◌++◌, length, arith, refl, sym, ap, ◌∙◌, subst, inl, inr}
-use Rattle.std.specs.Prelude.{◌↔◌, All, not, map, filter, if◌then◌else◌}
-use Rattle.std.proofs.lemmas.Bool.{cases_Bool, false≢true, false_from_ne_true}
+use Rattle.std.specs.Prelude.{All, if◌then◌else◌}
+use Rattle.std.proofs.lemmas.Bool.{cases_Bool, false≢true}
 use Rattle.modes_core.specs.declared.modes.Mode.{Mode}
 use Rattle.modes_core.specs.declared.tags.Tag.{Tag}
 use Rattle.modes_core.specs.declared.sessions.Owner.{Owner}
 use Rattle.modes_core.specs.declared.sessions.Owner.TheVariants.{Session, Transaction}
 use Rattle.modes_core.specs.Tag.{is_strong_on}
 use Rattle.local_locks.specs.declared.records.Entry.{Entry}
-use Rattle.local_locks.specs.Owned.{IsCounted, is_of, has_entry, total_of, raised, lowered, change, entries_but, new_entry, with_one_more, with_one_less}
-use Rattle.local_locks.proofs.EntryLaws.{has_entry-none, has_entry-some, same_key, same_key-from, same_key-refl, has_entry-with_one_more, has_entry-with_one_less, others-give_up, keys-still_held}
+use Rattle.local_locks.specs.Owned.{IsCounted, is_of, has_entry, total_of, raised, lowered, change, new_entry, with_one_more}
+use Rattle.local_locks.proofs.EntryLaws.{has_entry-none, has_entry-some, same_key, same_key-from, has_entry-with_one_more}
 use Rattle.lock_world.specs.Account.{Account}
 use Rattle.lock_world.specs.AccountSteps.{own_with}
-use Rattle.lock_world.specs.Counted.{Counted, is_counted, uncounting}
-use Rattle.lock_world.specs.World.{TraceEntry}
+use Rattle.lock_world.specs.Counted.{Counted, is_counted}
 use Rattle.lock_manager.specs.Rest.{counted_for, account_at_rest, IsAtRest, IsIdle}
 use Rattle.lock_manager.specs.Requests.{counted_granted, account_granted}
-use Rattle.lock_manager.specs.Releases.{counted_released, account_released}
-use Rattle.lock_manager.proofs.Resting.{own_with-key, with_strong, counted_for-cons, uncounting-here, uncounting-past, uncounting-none, uncounting-weak}
+use Rattle.lock_manager.proofs.Resting.{own_with-key, with_strong, counted_for-cons}
 
 -- What a session at rest holds and has counted, after one acquire or one release.
 
@@ -116,6 +114,7 @@ counted-granted limit entries tag mode owner none =
           ≡ counted_for limit entries ++ (if b then record { tag = tag; mode = mode; position = limit } ∷ [] else [])
       at true = refl
       at false = sym (Rattle.std.proofs.Common.append-nil (counted_for limit entries))
+
       same : (its : Owner) → with_strong limit (new_entry tag mode its) [] ≡ (if is_strong_on tag mode then record { tag = tag; mode = mode; position = limit } ∷ [] else [])
       same Session = refl
       same Transaction = refl

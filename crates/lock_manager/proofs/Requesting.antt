@@ -11,16 +11,14 @@ use Rattle.local_locks.specs.declared.answers.Acquired.TheVariants.{Granted, Alr
 use Rattle.local_locks.specs.Owned.{Owned, has_entry, acquired_as}
 use Rattle.wait_queue.specs.declared.requests.Kind.TheVariants.{Conditional}
 use Rattle.wait_queue.specs.Decide.{RefusedFor}
-use Rattle.lock_table.specs.declared.moves.Move.{Move}
 use Rattle.lock_table.specs.declared.moves.Move.TheVariants.{Keep, Grant}
-use Rattle.lock_table.specs.Content.{Content}
 use Rattle.lock_world.specs.Account.{Account}
 use Rattle.lock_world.specs.AccountSteps.{account_uncounting, own_with}
-use Rattle.lock_world.specs.Counted.{is_counted, uncounting}
+use Rattle.lock_world.specs.Counted.{is_counted}
 use Rattle.lock_world.specs.World.{TraceEntry, Took, Episode}
 use Rattle.shared_rule.specs.Boards.{Seated}
 use Rattle.shared_rule.specs.Episodes.{account_episode}
-use Rattle.lock_manager.specs.Requests.{IsScan, Scans, DecidesInPart, Decides, Acquires, counted_granted, account_granted}
+use Rattle.lock_manager.specs.Requests.{IsScan, Scans, DecidesInPart, Decides, Acquires, account_granted}
 use Rattle.lock_manager.proofs.Counting.{counted_at, uncounting-last}
 
 -- A whole request: a weak mode is decided at once, a strong one once it is counted and every session is scanned.

@@ -1,4 +1,4 @@
-use Rattle.std.proofs.Common.{◌≡◌, ℕ, ◌+◌, ◌==◌, Bool, true, false, List, [], ◌∷◌, ◌++◌, Option, Some, None, refl, sym, ap, ◌∙◌, subst, arith, append_assoc, append-nil}
+use Rattle.std.proofs.Common.{◌≡◌, ℕ, ◌+◌, ◌==◌, Bool, true, false, List, [], ◌∷◌, ◌++◌, Some, None, refl, sym, ap, ◌∙◌, subst, arith, append_assoc, append-nil}
 use Rattle.std.specs.Prelude.{zero, suc, not, ◌&&◌, if◌then◌else◌}
 use Rattle.std.proofs.lemmas.Bool.{and_left}
 use Rattle.modes_core.specs.declared.modes.Mode.{Mode}
@@ -9,10 +9,9 @@ use Rattle.modes_core.specs.Tag.{is_eligible_for}
 use Rattle.lock_table.specs.Put.{set_at}
 use Rattle.lock_table.proofs.PutLemmas.{set_at-here, set_at-same, set_at-twice}
 use Rattle.lock_world.specs.declared.events.Word.TheVariants.{Database}
-use Rattle.lock_world.specs.SlotHolds.{slot_holds}
-use Rattle.lock_world.specs.Counted.{Counted, is_at, is_counted, counting, passing}
+use Rattle.lock_world.specs.Counted.{is_at, is_counted, passing}
 use Rattle.lock_world.specs.World.{TraceEntry, Loaded}
-use Rattle.lock_world.specs.Account.{Account, SlotsInHand}
+use Rattle.lock_world.specs.Account.{Account}
 use Rattle.lock_world.specs.AccountSteps.{account_tracing, account_taking_fast, account_passing, account_counting}
 use Rattle.lock_world.specs.AccountLaw.{MayPassBy}
 use Rattle.shared_rule.specs.History.{no_slots}
@@ -64,6 +63,7 @@ passes number a looking b stack owner shown tag mode idle looked is = record {
 } where
   slots : set_at (set_at a.fast.slots owner (Some no_slots)) owner None ≡ a.fast.slots
   slots = set_at-twice a.fast.slots owner (Some no_slots) None ∙ set_at-same a.fast.slots owner None (sym (λ i. idle.no_slots i owner))
+
   unread : (b : Bool) → (if b then None else a.fast.zero) ≡ a.fast.zero
   unread true = sym idle.no_zero
   unread false = refl

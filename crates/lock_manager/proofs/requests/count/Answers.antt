@@ -1,7 +1,7 @@
-use Rattle.std.proofs.Common.{◌≡◌, ◌∙◌, subst, Some}
+use Rattle.std.proofs.Common.{◌≡◌, ◌∙◌, subst}
 use Rattle.std.specs.Prelude.{IfSome}
 use Rattle.lock_manager.specs.Requests.{Passes}
-use Rattle.lock_manager.proofs.Scanning.{scan-begun, scan-next, scanning-idle, scanning-at}
+use Rattle.lock_manager.proofs.Scanning.{scan-next}
 use Rattle.lock_manager.proofs.requests.count.Goals as goal
 
 pub loop-number-preserved : goal.loop-number-preserved

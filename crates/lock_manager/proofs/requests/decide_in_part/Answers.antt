@@ -1,4 +1,4 @@
-use Rattle.std.proofs.Common.{◌≡◌, ◌∙◌, sym, ap, subst, None}
+use Rattle.std.proofs.Common.{◌≡◌, sym, subst, None}
 use Rattle.lock_table.specs.declared.moves.Move.TheVariants.{Grant}
 use Rattle.lock_table.specs.Clash.{ClashIs}
 use Rattle.lock_table.specs.Content.{add_hold}

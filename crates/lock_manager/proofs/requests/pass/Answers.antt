@@ -1,7 +1,6 @@
-use Rattle.std.proofs.Common.{sym, ap, ◌∙◌, subst}
+use Rattle.std.proofs.Common.{sym, subst}
 use Rattle.lock_world.specs.Account.{Account}
 use Rattle.lock_world.specs.AccountLaw.{MayPassBy}
-use Rattle.lock_world.specs.AccountSteps.{account_passing}
 use Rattle.shared_rule.specs.History.{no_slots}
 use Rattle.lock_manager.proofs.Scanning.{looked, may_pass, passes}
 use Rattle.lock_manager.proofs.requests.pass.Goals as goal

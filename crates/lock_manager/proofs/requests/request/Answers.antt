@@ -1,7 +1,7 @@
-use Rattle.std.proofs.Common.{◌≡◌, Ok, Err, sym, subst}
+use Rattle.std.proofs.Common.{Ok, Err, sym, subst}
 use Rattle.shared_rule.specs.Boards.{Seated}
 use Rattle.lock_manager.specs.Requests.{DecidesInPart}
-use Rattle.lock_manager.proofs.Requesting.{weak-decides, weak-granted, weak-refused, strong-granted-steps, strong-granted, strong-refused-steps, strong-refused}
+use Rattle.lock_manager.proofs.Requesting.{weak-decides, strong-granted-steps, strong-granted, strong-refused-steps, strong-refused}
 use Rattle.lock_manager.proofs.requests.request.Goals as goal
 
 pub returns-then-not-is_strong-clause-steps : goal.returns-then-not-is_strong-clause-steps
