@@ -1,5 +1,5 @@
 use super::{FREE, HELD, opens, puts, puts_word, session, takes, takes_word};
-use crate::machine::{Plain, Spot, run_events};
+use lock_model::{Plain, Spot, run_events};
 use lock_table::Move;
 use lock_world::{Event, Step, Word};
 use lw_word::LwMode;

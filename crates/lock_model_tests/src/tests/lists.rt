@@ -1,6 +1,5 @@
 use super::{FREE, HELD, closes, is_kept, opens, run_open, session, takes};
-use crate::machine::Plain;
-use crate::machine::state::Sleeper;
+use lock_model::{Plain, Sleeper};
 use lock_world::{Event, Step, Word};
 use lw_word::{LwMode, LwWaiter};
 use modes_core::SessionId;

@@ -1,5 +1,5 @@
 use super::{FREE, HELD, closes, grant, leads_to, object, opens, puts, release, session, takes};
-use crate::machine::{Spot, run_events};
+use lock_model::{Spot, run_events};
 use lock_table::Move;
 use lock_world::{Event, Word};
 use modes_core::{Mode, Tag};

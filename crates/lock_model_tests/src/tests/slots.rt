@@ -2,7 +2,7 @@ use super::{
     FREE, HELD, closes, grant, is_kept, object, opens, puts, puts_word, run_open, session, shares,
     shows, takes, takes_word,
 };
-use crate::machine::{Hold, Plain, Spot, run_events};
+use lock_model::{Hold, Plain, Spot, run_events};
 use lock_table::Move;
 use lock_world::{Event, Step, Word};
 use modes_core::{Mode, SessionId, Tag};

@@ -1,10 +1,11 @@
-use super::{Plain, Spot, run_events};
+use lock_model::{Plain, Spot, run_events};
 use lock_table::Move;
 use lock_world::{Event, Step, Word};
 use modes_core::{Mode, SessionId, Tag};
 use std::process::Abort;
 use std::test::Fail;
 
+mod answers;
 mod counters;
 mod list_words;
 mod lists;

@@ -1,5 +1,5 @@
 use super::{FREE, HELD, is_kept, puts, puts_word, run_open, session, takes, takes_word};
-use crate::machine::{Hold, Plain, Spot};
+use lock_model::{Hold, Plain, Spot};
 use lock_table::Move;
 use lock_world::{Event, Step, Word};
 use modes_core::{Mode, SessionId, Tag};

@@ -1,7 +1,7 @@
 use super::{
     FREE, HELD, asks, closes, grant, is_kept, loads, object, opens, puts, release, session, takes,
 };
-use crate::machine::{Plain, run_events};
+use lock_model::{Plain, run_events};
 use lock_table::Move;
 use lock_world::{Event, Step, Word};
 use modes_core::{Mode, ModeSet, SessionId, Tag};
