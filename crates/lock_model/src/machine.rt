@@ -23,8 +23,6 @@ mod slot_looks;
 mod slot_rows;
 mod slots;
 mod state;
-#[cfg(test)]
-mod tests;
 mod transfers;
 mod waits;
 
@@ -32,6 +30,7 @@ use lock_table::NoMemory;
 use lock_world::Event;
 pub use plain::{Hold, Plain, QueuedWait, Spot};
 use state::Machine;
+pub use state::Sleeper;
 use std::alloc::Global;
 
 /// Runs the events of up to 64 sessions from the opening World, one after another. An event that is not

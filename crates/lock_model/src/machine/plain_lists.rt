@@ -19,9 +19,6 @@ use super::state::FastPath;
 use lock_table::{NoMemory, PlainPart};
 use std::alloc::Global;
 
-#[cfg(test)]
-mod tests;
-
 /// The holds of all parts and those that sessions' fast-path slots show, in the order of holds. Each request is
 /// held once at most in a part.
 pub fn gather_holds(

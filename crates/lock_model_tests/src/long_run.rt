@@ -1,0 +1,118 @@
+//! A run of more than 8,000 events, made by a loop.
+
+use anyhow::Result;
+use lock_model::{Plain, run_events};
+use lock_table::Move;
+use lock_world::{Event, Step, Word};
+use modes_core::{Mode, SessionId, Tag};
+use std::alloc::Global;
+
+/// Runs 2,000 rounds of 64 sessions, and looks at what they lead to.
+pub fn is_right(alloc: Global) -> Result<bool> {
+    let mut events = Vec::new(alloc);
+    for number in 0..64u8 {
+        let Some(session) = SessionId::new(number) else {
+            return Ok(false);
+        };
+        add(&mut events, session, Step::SplitSeat)?;
+    }
+    for round in 0..2000u32 {
+        if !add_round(&mut events, round)? {
+            return Ok(false);
+        }
+    }
+    let plain = run_events(alloc, events.as_slice())?;
+    Ok(holds_are_right(&plain) && words_are_right(&plain))
+}
+
+/// Adds the events of a round. The answer is whether there are such sessions.
+fn add_round(events: &mut Vec<Event>, round: u32) -> Result<bool> {
+    let number = (round % 64) as u8;
+    let Some(session) = SessionId::new(number) else {
+        return Ok(false);
+    };
+    // Sessions 1, 6, 11 and so on ask the one before them.
+    if number % 5 == 1 {
+        let Some(other) = SessionId::new(number - 1) else {
+            return Ok(false);
+        };
+        add(events, session, Step::AskCancel { other })?;
+    }
+    // Of no database, so that no mode has to be counted.
+    let tag = Tag::relation(0, 16384 + round % 4);
+    let partition = tag.partition();
+    let shown = (round % 6) as u8;
+    add(events, session, Step::LoadWait { shown })?;
+    add(events, session, take(partition))?;
+    add(events, session, put(partition, done_in(round % 3, tag)))?;
+    add(events, session, put(partition, Move::Keep))?;
+    Ok(true)
+}
+
+fn add(events: &mut Vec<Event>, session: SessionId, step: Step) -> Result<()> {
+    events.push(Event { session, step })?;
+    Ok(())
+}
+
+fn take(partition: u8) -> Step {
+    Step::TakeExclusive {
+        word: Word::Partition(partition),
+    }
+}
+
+fn put(partition: u8, done: Move) -> Step {
+    Step::PutExclusive {
+        word: Word::Partition(partition),
+        done,
+    }
+}
+
+/// What is done in a round of this kind.
+fn done_in(kind: u32, tag: Tag) -> Move {
+    match kind {
+        0 => Move::Grant {
+            tag,
+            mode: Mode::RowShare,
+        },
+        1 => Move::Grant {
+            tag,
+            mode: Mode::Share,
+        },
+        _ => Move::Release {
+            tag,
+            mode: Mode::RowShare,
+        },
+    }
+}
+
+/// Whether there are 64 holds at least, in order. Session k meets relation k modulo 4 alone, in all three kinds of
+/// rounds, over and over; the last round of each decides whether its `RowShareLock` is there, and no one else's holds
+/// are in the way.
+fn holds_are_right(plain: &Plain) -> bool {
+    let holds = plain.holds();
+    for place in 1..holds.len() {
+        if holds[place - 1] >= holds[place] {
+            return false;
+        }
+    }
+    holds.len() >= 64
+}
+
+/// Whether all partitions are free, and those show that they were asked to cancel who were.
+fn words_are_right(plain: &Plain) -> bool {
+    for partition in 0..16u8 {
+        if plain.word(Word::Partition(partition)) != 0x2000_0000 {
+            return false;
+        }
+    }
+    for number in 0..64u8 {
+        let Some(session) = SessionId::new(number) else {
+            return false;
+        };
+        let word = if number % 5 == 0 && number < 61 { 4 } else { 0 };
+        if plain.word(Word::Wait(session)) != word {
+            return false;
+        }
+    }
+    true
+}

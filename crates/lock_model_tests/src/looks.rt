@@ -1,0 +1,133 @@
+//! The looks of a script: what the machine is to show.
+
+use crate::steps::list_mode;
+use crate::words::{Words, index, mode, number, session, shown, small_number, tag, word};
+use lock_model::{Hold, Plain, Spot};
+use lock_world::Word;
+use lw_word::LwWaiter;
+use modes_core::SessionId;
+
+/// Whether what the words say is so, or `None` where they say nothing.
+pub fn look(plain: &Plain, words: &mut Words) -> Option<bool> {
+    match words.next()? {
+        "word" => {
+            let word = word(words)?;
+            Some(plain.word(word) == shown(words)?)
+        }
+        "words" => words_show(plain, words),
+        "count" => {
+            let index = index(words)?;
+            Some(plain.counter(index) == number(words)?)
+        }
+        "counts" => counters_show(plain, words),
+        "holds" => Some(plain.holds().len() as u64 == number(words)?),
+        "table_holds" => Some(holds_in_table(plain) == number(words)?),
+        "hold" => hold_is(plain, words),
+        "waits" => Some(plain.waits().len() as u64 == number(words)?),
+        "wait" => wait_is(plain, words),
+        "wait_held" => wait_held_is(plain, words),
+        "sleepers" => Some(plain.sleepers().len() as u64 == number(words)?),
+        "sleeper" => sleeper_is(plain, words),
+        _ => None,
+    }
+}
+
+/// Whether the words of one kind from the first number to the last one all show this.
+fn words_show(plain: &Plain, words: &mut Words) -> Option<bool> {
+    let kind = words.next()?;
+    let first = small_number(words)?;
+    let last = small_number(words)?;
+    let shown = shown(words)?;
+    for number in first..=last {
+        if plain.word(numbered_word(kind, number)?) != shown {
+            return Some(false);
+        }
+    }
+    Some(true)
+}
+
+fn numbered_word(kind: &str, number: u8) -> Option<Word> {
+    match kind {
+        "partition" => Some(Word::Partition(number)),
+        "fast" => Some(Word::Fast(SessionId::new(number)?)),
+        "wait" => Some(Word::Wait(SessionId::new(number)?)),
+        "sleep" => Some(Word::Sleep(SessionId::new(number)?)),
+        _ => None,
+    }
+}
+
+/// Whether the strong lock counters from the first index to the last one all show this.
+fn counters_show(plain: &Plain, words: &mut Words) -> Option<bool> {
+    let first = index(words)?;
+    let last = index(words)?;
+    let shown = number(words)?;
+    for index in first..=last {
+        if plain.counter(index) != shown {
+            return Some(false);
+        }
+    }
+    Some(true)
+}
+
+/// How many of the holds are in the lock table.
+fn holds_in_table(plain: &Plain) -> u64 {
+    plain
+        .holds()
+        .iter()
+        .filter(|hold| hold.spot == Spot::Table)
+        .count() as u64
+}
+
+fn hold_is(plain: &Plain, words: &mut Words) -> Option<bool> {
+    let place = usize::from(small_number(words)?);
+    let expected = Hold {
+        session: session(words)?,
+        tag: tag(words)?,
+        mode: mode(words)?,
+        spot: spot(words)?,
+    };
+    Some(plain.holds().get(place) == Some(&expected))
+}
+
+fn spot(words: &mut Words) -> Option<Spot> {
+    match words.next()? {
+        "table" => Some(Spot::Table),
+        "slot" => Some(Spot::Slot(small_number(words)?)),
+        _ => None,
+    }
+}
+
+fn wait_is(plain: &Plain, words: &mut Words) -> Option<bool> {
+    let place = usize::from(small_number(words)?);
+    let session = session(words)?;
+    let tag = tag(words)?;
+    let mode = mode(words)?;
+    match plain.waits().get(place) {
+        Some(wait) => Some(wait.session == session && wait.tag == tag && wait.mode == mode),
+        None => Some(false),
+    }
+}
+
+/// Whether this is the mask of the modes that the session held when it joined.
+fn wait_held_is(plain: &Plain, words: &mut Words) -> Option<bool> {
+    let place = usize::from(small_number(words)?);
+    let mask = index(words)?;
+    match plain.waits().get(place) {
+        Some(wait) => Some(wait.held.mask() == mask),
+        None => Some(false),
+    }
+}
+
+fn sleeper_is(plain: &Plain, words: &mut Words) -> Option<bool> {
+    let place = usize::from(small_number(words)?);
+    let lock = small_number(words)?;
+    let session = session(words)?;
+    let mode = list_mode(words)?;
+    match plain.sleepers().get(place) {
+        Some(sleeper) => {
+            let waiter = LwWaiter { session, mode };
+            Some(sleeper.lock == lock && sleeper.waiter == waiter)
+        }
+        None => Some(false),
+    }
+}

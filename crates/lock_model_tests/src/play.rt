@@ -1,0 +1,152 @@
+//! The play of a script, line by line.
+//!
+//! `test NAME` begins a test. `given EVENTS` adds events that all of its cases begin with, `case EVENTS` begins a case,
+//! `then EVENTS` adds events to it, and `see LOOKS` runs its events and looks at what the machine shows. Events and
+//! looks are parted by semicolons, their words by blanks; a line that begins with `#` is a comment.
+
+use crate::looks::look;
+use crate::steps::parse_step;
+use crate::words::{Words, mode, session, small_number, tag};
+use anyhow::Result;
+use lock_model::run_events;
+use lock_world::{Event, Step, Word};
+use modes_core::SessionId;
+use std::alloc::Global;
+
+/// The events of a test.
+#[derive(Drop)]
+struct Test {
+    /// Those that all cases begin with.
+    given: Vec<Event>,
+    /// Those of the case, with the given ones.
+    events: Vec<Event>,
+}
+
+/// What a line was.
+enum Played {
+    Well,
+    /// The machine shows something else.
+    Wrong,
+    /// There is no such line.
+    Unread,
+}
+
+/// Plays the script, and prints the names of its tests, and the lines that are wrong or cannot be read. The answer is
+/// whether there are none.
+pub fn play_script(rt: &(impl AllocGlobal + Print), script: &str) -> Result<bool> {
+    let alloc = rt.alloc();
+    let mut test = Test {
+        given: Vec::new(alloc),
+        events: Vec::new(alloc),
+    };
+    let mut is_right = true;
+    for line in script.lines() {
+        if let Some(name) = line.strip_prefix("test ") {
+            println!(rt; "  {name}")?;
+        }
+        match play_line(alloc, &mut test, line)? {
+            Played::Well => {}
+            Played::Wrong => {
+                println!(rt; "WRONG: {line}")?;
+                is_right = false;
+            }
+            Played::Unread => {
+                println!(rt; "UNREAD: {line}")?;
+                is_right = false;
+            }
+        }
+    }
+    Ok(is_right)
+}
+
+fn play_line(alloc: Global, test: &mut Test, line: &str) -> Result<Played> {
+    let (verb, rest) = line.split_once(' ').unwrap_or((line, ""));
+    match verb {
+        "" | "#" => Ok(Played::Well),
+        "test" => {
+            test.given.clear();
+            test.events.clear();
+            Ok(Played::Well)
+        }
+        "given" => add_events(&mut test.given, rest),
+        "case" => {
+            test.events.clear();
+            test.events.extend_from_slice(test.given.as_slice())?;
+            add_events(&mut test.events, rest)
+        }
+        "then" => add_events(&mut test.events, rest),
+        "see" => see(alloc, test.events.as_slice(), rest),
+        _ => Ok(Played::Unread),
+    }
+}
+
+/// Adds the events that the text names.
+fn add_events(events: &mut Vec<Event>, text: &str) -> Result<Played> {
+    for part in text.split(';') {
+        if part.trim().is_empty() {
+            continue;
+        }
+        let mut words = part.split_whitespace();
+        if !add_event(events, &mut words)? || words.next().is_some() {
+            return Ok(Played::Unread);
+        }
+    }
+    Ok(Played::Well)
+}
+
+/// Adds the event that the words name, or the events of a walk. The answer is whether there are such.
+fn add_event(events: &mut Vec<Event>, words: &mut Words) -> Result<bool> {
+    let (Some(session), Some(verb)) = (session(words), words.next()) else {
+        return Ok(false);
+    };
+    if verb == "walks" {
+        return add_walk(events, session, words);
+    }
+    let Some(step) = parse_step(verb, words) else {
+        return Ok(false);
+    };
+    events.push(Event { session, step })?;
+    Ok(true)
+}
+
+/// Adds the events by which a session goes past others: it takes the lock of each one's slots, and puts it passing.
+fn add_walk(events: &mut Vec<Event>, whose: SessionId, words: &mut Words) -> Result<bool> {
+    let (Some(first), Some(last)) = (small_number(words), small_number(words)) else {
+        return Ok(false);
+    };
+    let (Some(tag), Some(mode)) = (tag(words), mode(words)) else {
+        return Ok(false);
+    };
+    for number in first..=last {
+        let Some(owner) = SessionId::new(number) else {
+            return Ok(false);
+        };
+        let word = Word::Fast(owner);
+        events.push(Event {
+            session: whose,
+            step: Step::TakeExclusive { word },
+        })?;
+        events.push(Event {
+            session: whose,
+            step: Step::PutPassing { owner, tag, mode },
+        })?;
+    }
+    Ok(true)
+}
+
+/// Runs the events, and looks at what the text names.
+fn see(alloc: Global, events: &[Event], text: &str) -> Result<Played> {
+    let plain = run_events(alloc, events)?;
+    for part in text.split(';') {
+        let mut words = part.split_whitespace();
+        match look(&plain, &mut words) {
+            Some(true) => {}
+            Some(false) => return Ok(Played::Wrong),
+            None => return Ok(Played::Unread),
+        }
+        if words.next().is_some() {
+            return Ok(Played::Unread);
+        }
+    }
+    Ok(Played::Well)
+}
