@@ -6,3 +6,4 @@ pub mod Waking
 pub mod Releasing
 pub mod Resting
 pub mod Holding
+pub mod Starting

@@ -11,7 +11,7 @@ use Rattle.local_locks.specs.declared.answers.Acquired.TheVariants.{AlreadyHeld}
 use Rattle.local_locks.specs.declared.answers.Acquired.TheVariants as acquired
 use Rattle.local_locks.specs.Owned.{Owned, has_entry, acquired_as}
 use Rattle.wait_queue.specs.declared.requests.Kind.{Kind}
-use Rattle.wait_queue.specs.declared.requests.Kind.TheVariants.{Conditional}
+use Rattle.wait_queue.specs.declared.requests.Kind.TheVariants.{Conditional, Waiting}
 use Rattle.wait_queue.specs.declared.requests.Decision.{Decision}
 use Rattle.wait_queue.specs.declared.requests.Decision.TheVariants.{Granted, Queued}
 use Rattle.wait_queue.specs.Decide.{RefusedFor}
@@ -172,9 +172,13 @@ conditional-granted seat before after tag mode decision decides = decided-grante
 
 -- Its own refusals are others than those of its limits.
 pub not_of_limits :
-    (seat : Seated) (before after : List TraceEntry) (tag : Tag) (mode : Mode) (refusal : Refusal) → Decides Conditional seat before tag mode (Err refusal) after
+    (kind : Kind) (seat : Seated) (before after : List TraceEntry) (tag : Tag) (mode : Mode) (refusal : Refusal) → Decides kind seat before tag mode (Err refusal) after
     → (refusal ≡ CountFull → ⊥) × (refusal ≡ LocalFull → ⊥)
-not_of_limits seat before after tag mode refusal decides = (
+not_of_limits Conditional seat before after tag mode refusal decides = (
   λ is. subst (λ (x : Refusal). RefusedFor Conditional decides.taken seat.number tag mode x) is decides.refused,
   λ is. subst (λ (x : Refusal). RefusedFor Conditional decides.taken seat.number tag mode x) is decides.refused,
+)
+not_of_limits Waiting seat before after tag mode refusal decides = (
+  λ is. subst (λ (x : Refusal). RefusedFor Waiting decides.taken seat.number tag mode x) is decides.refused,
+  λ is. subst (λ (x : Refusal). RefusedFor Waiting decides.taken seat.number tag mode x) is decides.refused,
 )
