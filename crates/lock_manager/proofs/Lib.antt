@@ -7,3 +7,4 @@ pub mod Releasing
 pub mod Resting
 pub mod Holding
 pub mod Starting
+pub mod Polling
