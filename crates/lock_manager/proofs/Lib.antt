@@ -6,6 +6,8 @@ pub mod Waking
 pub mod Releasing
 pub mod Resting
 pub mod Holding
+pub mod Starting
+pub mod Polling
 pub mod Unlocking
 mod HeldModes
 mod Listed

@@ -7,6 +7,7 @@ mod manager;
 mod releases;
 mod requests;
 mod sessions;
+mod waiting;
 
 pub use config::{Config, MOST_LOCAL, MOST_SESSIONS};
 pub use listing::Listing;
@@ -15,6 +16,7 @@ pub use lock_table::{SlotRow, TableRow};
 pub use manager::{Final, Manager, Opener};
 pub use modes_core::{Mode, ModeSet, Owner, Refusal, SessionId, Tag};
 pub use sessions::{OwnSession, Session};
+pub use waiting::Asked;
 
 #[cfg(test)]
 mod tests;
