@@ -8,3 +8,5 @@ pub mod Resting
 pub mod Holding
 pub mod Starting
 pub mod Polling
+pub mod Leaving
+pub mod Cancelling
