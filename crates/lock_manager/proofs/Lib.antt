@@ -11,3 +11,5 @@ pub mod Polling
 pub mod Unlocking
 mod HeldModes
 mod Listed
+pub mod Leaving
+pub mod Cancelling

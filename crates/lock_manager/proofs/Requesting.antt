@@ -30,11 +30,11 @@ use Rattle.lock_manager.proofs.Deciding.{decided-granted}
 
 -- A whole request: a weak mode is decided at once, a strong one once it is counted and every session is scanned.
 
-if-true : {A : Type 0} (b : Bool) (x y : A) → b ≡ true → (if b then x else y) ≡ x
+pub if-true : {A : Type 0} (b : Bool) (x y : A) → b ≡ true → (if b then x else y) ≡ x
 if-true true x y is = refl
 if-true false x y is = absurd (Rattle.std.proofs.lemmas.Bool.false≢true is)
 
-if-false : {A : Type 0} (b : Bool) (x y : A) → b ≡ false → (if b then x else y) ≡ y
+pub if-false : {A : Type 0} (b : Bool) (x y : A) → b ≡ false → (if b then x else y) ≡ y
 if-false false x y is = refl
 if-false true x y is = absurd (Rattle.std.proofs.lemmas.Bool.false≢true (sym is))
 

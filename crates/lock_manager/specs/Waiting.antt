@@ -1,21 +1,25 @@
-use Rattle.std.specs.Prelude.{◌≡◌, ◌⊎◌, ◌↔◌, ℕ, ◌==◌, Bool, true, false, List, [], ◌∷◌, ◌++◌, Result, Ok, Err, Some, if◌then◌else◌}
+use Rattle.std.specs.Prelude.{◌≡◌, ◌⊎◌, ◌↔◌, ℕ, ◌==◌, Bool, true, false, List, [], ◌∷◌, ◌++◌, Result, Ok, Err, Some, None, if◌then◌else◌}
 use Rattle.modes_core.specs.declared.modes.Mode.{Mode}
 use Rattle.modes_core.specs.declared.tags.Tag.{Tag}
 use Rattle.modes_core.specs.declared.sessions.Owner.{Owner}
 use Rattle.modes_core.specs.declared.refusals.Refusal.{Refusal}
 use Rattle.modes_core.specs.declared.refusals.Refusal.TheVariants.{NoMemory, LocalFull, CountFull}
+use Rattle.modes_core.specs.declared.refusals.Refusal.TheVariants as refusal_
 use Rattle.modes_core.specs.Tag.{partition_of}
 use Rattle.local_locks.specs.declared.records.Entry.{Entry}
 use Rattle.local_locks.specs.Owned.{Owned, has_entry, with_one_more}
 use Rattle.lock_table.specs.Content.{Content}
-use Rattle.lock_table.specs.Queue.{some_awaits_conflict}
+use Rattle.lock_table.specs.Content as content
+use Rattle.lock_table.specs.declared.moves.Move.TheVariants.{Leave}
+use Rattle.lock_table.specs.Moves.{Moves}
+use Rattle.lock_table.specs.Queue.{waits_there, some_awaits_conflict}
 use Rattle.wait_queue.specs.declared.requests.Kind.TheVariants as kind
 use Rattle.wait_queue.specs.declared.requests.Decision.TheVariants as decision
 use Rattle.lock_world.specs.declared.events.Word.TheVariants.{Wait}
 use Rattle.lock_world.specs.WaitWord.{wait_state, is_asked}
 use Rattle.lock_world.specs.World.{TraceEntry, Took, Episode, AskedToCancel, Loaded}
 use Rattle.lock_world.specs.Account.{Account}
-use Rattle.lock_world.specs.AccountSteps.{account_tracing}
+use Rattle.lock_world.specs.AccountSteps.{account_tracing, own_with}
 use Rattle.shared_rule.specs.Boards.{Seated}
 use Rattle.lock_manager.specs.declared.waiting.Started.{Started}
 use Rattle.lock_manager.specs.declared.waiting.Started.TheVariants.{Granted, AlreadyHeld, Queued}
@@ -23,6 +27,8 @@ use Rattle.lock_manager.specs.declared.waiting.Asked.{Asked}
 use Rattle.lock_manager.specs.declared.waiting.Asked.TheVariants as asked
 use Rattle.lock_manager.specs.declared.waiting.Polled.{Polled}
 use Rattle.lock_manager.specs.declared.waiting.Polled.TheVariants as polled
+use Rattle.lock_manager.specs.declared.waiting.Cancelled.{Cancelled}
+use Rattle.lock_manager.specs.declared.waiting.Cancelled.TheVariants as cancelled
 use Rattle.lock_manager.specs.Rest.{counted_for, account_at_rest}
 use Rattle.lock_manager.specs.Requests.{Decides, counted_granted}
 
@@ -50,6 +56,13 @@ pub record HasLooked (limit : ℕ) (a : Account) (stack : List ℕ) (entries : L
     Type 0 where
   pub account : a ≡ record (account_in_wait limit entries tag mode a.trace) { seen = wait_state shown == 2 }
   pub no_entry : has_entry entries tag mode ≡ false
+  pub no_partition : stack ≡ []
+
+-- What of it a step in the middle of a call may count on: it has this wait, has not seen it granted, and has no word in hand.
+pub record IsInWait (a : Account) (stack : List ℕ) (tag : Tag) (mode : Mode) : Type 0 where
+  pub waits : a.awaited ≡ Some (record { tag = tag; mode = mode; held = a.own tag })
+  pub unseen : a.seen ≡ false
+  pub no_content : a.hand ≡ (λ _. None)
   pub no_partition : stack ≡ []
 
 -- ---- an acquire that may wait
@@ -97,3 +110,61 @@ pub record Polls (number : ℕ) (before : List TraceEntry) (answer : Polled) (af
   pub shown : ℕ
   pub answered : answer ≡ polled_as shown
   pub trace : after ≡ before ++ Loaded (Wait number) shown ∷ []
+
+-- ---- taking a wait out
+
+-- One episode in the object's partition takes the session's wait out of the queue, and grants who may go then.
+pub record Leaves (number : ℕ) (before : List TraceEntry) (tag : Tag) (after : List TraceEntry) : Type 0 where
+  pub taken : Content
+  pub put : Content
+  pub granted : List content.Wait
+  pub moved : Moves taken number (Leave tag) granted put
+  pub trace : after ≡ before ++ Took (partition_of tag) taken ∷ Episode (partition_of tag) taken put ∷ []
+
+-- One episode finds that it was granted: the content, which is left as it was taken, has the hold, and no wait of the session.
+pub record FindsGrant (number : ℕ) (before : List TraceEntry) (tag : Tag) (mode : Mode) (after : List TraceEntry) : Type 0 where
+  pub taken : Content
+  pub gone : waits_there (taken.waits tag) number ≡ false
+  pub held : taken.holds number tag mode ≡ true
+  pub trace : after ≡ before ++ Took (partition_of tag) taken ∷ Episode (partition_of tag) taken taken ∷ []
+
+-- What joins the trace of a cancel, by its answer.
+abbrev pub Cancels : ℕ → List TraceEntry → Tag → Mode → Cancelled → List TraceEntry → Type 0
+Cancels number before tag mode cancelled.Removed after = Leaves number before tag after
+Cancels number before tag mode cancelled.WasGranted after = FindsGrant number before tag mode after
+
+-- the account once the wait is over, by how it ended
+abbrev pub account_cancelled : Account → Tag → Mode → Cancelled → List TraceEntry → Account
+account_cancelled a tag mode cancelled.Removed trace = record a { awaited = None; seen = false; trace = trace }
+account_cancelled a tag mode cancelled.WasGranted trace = record a {
+  own = own_with a.own tag mode true;
+  awaited = None;
+  seen = false;
+  trace = trace;
+}
+
+-- ---- waiting
+
+-- These are loads of the own wait word that show neither a grant nor that the session was asked to cancel.
+abbrev pub IsWatch : ℕ → List TraceEntry → Type 0
+IsWatch number [] = Unit {0}
+IsWatch number (entry ∷ entries) =
+    (shown : ℕ) × (entry ≡ Loaded (Wait number) shown) × (polled_as shown ≡ polled.Still) × IsWatch number entries
+
+-- How a wait ends, after the load that showed this: granted, or asked to cancel, which the session does itself; then it may
+-- find that the grant was first.
+abbrev pub EndsWait : ℕ → List TraceEntry → Tag → Mode → ℕ → Result (Unit {0}) Refusal → List TraceEntry → Type 0
+EndsWait number before tag mode shown (Ok done) after =
+    ((polled_as shown ≡ polled.Granted) × (after ≡ before))
+    ⊎ ((polled_as shown ≡ polled.CancelAsked) × Cancels number before tag mode cancelled.WasGranted after)
+EndsWait number before tag mode shown (Err refusal_.Cancelled) after =
+    (polled_as shown ≡ polled.CancelAsked) × Cancels number before tag mode cancelled.Removed after
+EndsWait number before tag mode shown (Err refusal) after = ⊥
+
+-- A whole wait: it looks before each sleep, and ends by what the last look showed.
+pub record Waits (number : ℕ) (before : List TraceEntry) (tag : Tag) (mode : Mode) (result : Result (Unit {0}) Refusal)
+    (after : List TraceEntry) : Type 0 where
+  pub looks : List TraceEntry
+  pub watch : IsWatch number looks
+  pub shown : ℕ
+  pub ends : EndsWait number (before ++ looks ++ Loaded (Wait number) shown ∷ []) tag mode shown result after

@@ -5,15 +5,16 @@ ghost use Rattle.local_locks.specs.Owned.{has_entry, owner_count_of, max_count, 
 ghost use Rattle.lock_world.specs.WaitWord as words;
 ghost use Rattle.lock_manager.specs.Rest.{IsAtRest};
 ghost use Rattle.lock_manager.specs.Waiting.{IsWaiting, HasLooked, entries_started, Starts, Asks, LooksForWaiters};
-ghost use Rattle.lock_manager.specs.Waiting.{polled_as, Polls};
+ghost use Rattle.lock_manager.specs.Waiting.{IsInWait, polled_as, Polls, Cancels, account_cancelled};
 
+use crate::releases::put_with_woken;
 use crate::requests::request;
 use local_locks::LocalTable;
 use lock_table::{Move, PartTable};
-use modes_core::{Mode, Owner, Refusal, SessionId, Tag};
+use modes_core::{Mode, Owner, Refusal, SessionId, Tag, is_strong};
 use shared_rule::board::Board;
 use std::sync::Wait;
-use wait_queue::{Decision, Kind, awaited_in_conflict};
+use wait_queue::{Decision, Kind, awaited_in_conflict, remove_waiter};
 
 /// How an acquire that may wait began.
 #[derive(Clone, Copy, Debug, PartialEq, Eq)]
@@ -44,6 +45,15 @@ pub enum Polled {
     Still,
     /// It waits still, and was asked to cancel.
     CancelAsked,
+}
+
+/// What became of a wait that was to be cancelled.
+#[derive(Clone, Copy, Debug, PartialEq, Eq)]
+pub enum Cancelled {
+    /// It is out of the queue.
+    Removed,
+    /// It had been granted, and the session has the mode.
+    WasGranted,
 }
 
 /// Acquires a mode on an object for an owner, or begins to wait for it (`LockAcquire` in lock.c, up to `WaitOnLock`). What
@@ -195,6 +205,79 @@ fn take_up<T: PartTable, B: Board<T>>(
         return Polled::CancelAsked;
     }
     Polled::Still
+}
+
+/// Ends the session's wait: it is taken out of the queue, where it still stands there, and those are granted who may go then;
+/// where it had been granted the session has the mode (`LockErrorCleanup` in proc.c). The count of a strong mode goes back
+/// with the wait (`AbortStrongLockAcquire` in lock.c).
+pub fn cancel<T: PartTable, B: Board<T>, R: Wait>(
+    rt: &R,
+    board: &mut B,
+    locals: &mut LocalTable,
+    tag: Tag,
+    mode: Mode,
+    owner: Owner,
+) -> Cancelled
+    requires waiting { IsWaiting (B.seat board.old).limit (B.view board.old) (B.stack board.old) locals.old.entries tag mode }
+    requires reserved { IsReserved locals.old tag mode owner }
+    ensures steps { Cancels (B.seat board.old).number (B.view board.old).trace tag mode result (B.view board.new).trace }
+    ensures rest { IsAtRest (B.seat board.old).limit (B.view board.new) (B.stack board.new) locals.new.entries }
+    ensures entries { result ≡ Cancelled.WasGranted →
+        locals.new.entries ≡ with_one_more locals.old.entries tag mode owner }
+    ensures max_local { result ≡ Cancelled.WasGranted → locals.new.max_local ≡ locals.old.max_local }
+    ensures well_owned { result ≡ Cancelled.WasGranted → IsWellOwned locals.new }
+    ensures same_locals { result ≡ Cancelled.Removed → locals.new ≡ locals.old }
+    ensures seat { B.seat board.new ≡ B.seat board.old }
+{
+    match leave_in_part(rt, board, &tag, mode) {
+        Cancelled::WasGranted => {
+            locals.add(tag, mode, owner);
+            Cancelled::WasGranted
+        }
+        Cancelled::Removed => {
+            if !is_strong(tag, mode) {
+                return Cancelled::Removed;
+            }
+            board.sub_strong(&tag, mode);
+            Cancelled::Removed
+        }
+    }
+}
+
+/// Takes the wait out of the queue in the object's partition, or finds there that it was granted (`RemoveFromWaitQueue` in
+/// lock.c).
+fn leave_in_part<T: PartTable, B: Board<T>, R: Wait>(
+    rt: &R,
+    board: &mut B,
+    tag: &Tag,
+    mode: Mode,
+) -> Cancelled
+    requires waiting { IsInWait (B.view board.old) (B.stack board.old) tag.now mode }
+    ensures steps { Cancels (B.seat board.old).number (B.view board.old).trace tag.now mode result
+        (B.view board.new).trace }
+    ensures account { B.view board.new ≡
+        account_cancelled (B.view board.old) tag.now mode result (B.view board.new).trace }
+    ensures stack { B.stack board.new ≡ B.stack board.old }
+    ensures seat { B.seat board.new ≡ B.seat board.old }
+{
+    let number = board.number();
+    let part = tag.partition();
+    let mut content = board.take_part(rt, part);
+    let removed = remove_waiter(&mut content, number, tag);
+    if removed.was_granted {
+        board.clear_wait();
+        board.put_part(part, &Move::Keep, content);
+        return Cancelled::WasGranted;
+    }
+    board.leave_queue(&removed.woken, &content);
+    put_with_woken(
+        board,
+        part,
+        &Move::Leave { tag: *tag },
+        &removed.woken,
+        content,
+    );
+    Cancelled::Removed
 }
 
 /// Bits 0 to 1 of a wait word (`waitStatus` in proc.h).
