@@ -5,3 +5,4 @@ pub mod Sessions
 pub mod Managers
 pub mod Listings
 pub mod Waiting
+pub mod Waits

@@ -8,6 +8,7 @@ mod releases;
 mod requests;
 mod sessions;
 mod waiting;
+mod waits;
 
 pub use config::{Config, MOST_LOCAL, MOST_SESSIONS};
 pub use listing::Listing;
@@ -17,6 +18,7 @@ pub use manager::{Final, Manager, Opener};
 pub use modes_core::{Mode, ModeSet, Owner, Refusal, SessionId, Tag};
 pub use sessions::{OwnSession, Session};
 pub use waiting::Asked;
+pub use waits::{Cancelled, Locked, OwnWaiting, Polled, Started, Waited, Waiting};
 
 #[cfg(test)]
 mod tests;
