@@ -10,3 +10,4 @@ pub mod Starting
 pub mod Polling
 pub mod Leaving
 pub mod Cancelling
+pub mod Watching
