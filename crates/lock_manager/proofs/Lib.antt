@@ -13,3 +13,4 @@ mod HeldModes
 mod Listed
 pub mod Leaving
 pub mod Cancelling
+pub mod Watching

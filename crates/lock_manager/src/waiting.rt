@@ -1,11 +1,11 @@
 //! Acquires that may wait, and their waits, over any board.
 
-ghost use Rattle.std.specs.Prelude.{◌≡◌, ◌≢◌, ◌<◌, ◌≤◌, ◌↔◌, ◌==◌, false, true, length, IsErrOf, IsOkUnless, IfOk, OnErr};
+ghost use Rattle.std.specs.Prelude.{◌≡◌, ◌≢◌, ◌<◌, ◌≤◌, ◌↔◌, ◌==◌, false, true, length, IsErrOf, IsOkUnless, IfOk, OnOk, OnErr};
 ghost use Rattle.local_locks.specs.Owned.{has_entry, owner_count_of, max_count, with_one_more, IsReserved, IsWellOwned};
 ghost use Rattle.lock_world.specs.WaitWord as words;
 ghost use Rattle.lock_manager.specs.Rest.{IsAtRest};
 ghost use Rattle.lock_manager.specs.Waiting.{IsWaiting, HasLooked, entries_started, Starts, Asks, LooksForWaiters};
-ghost use Rattle.lock_manager.specs.Waiting.{IsInWait, polled_as, Polls, Cancels, account_cancelled};
+ghost use Rattle.lock_manager.specs.Waiting.{IsInWait, polled_as, Polls, Cancels, Waits, account_cancelled};
 
 use crate::releases::put_with_woken;
 use crate::requests::request;
@@ -242,6 +242,42 @@ pub fn cancel<T: PartTable, B: Board<T>, R: Wait>(
             Cancelled::Removed
         }
     }
+}
+
+/// Waits until the wait is granted, or another session asks to cancel it (`ProcSleep` in proc.c, with `LockErrorCleanup`
+/// where it is interrupted). It looks at the own wait word before each sleep. Where it was asked to cancel, and the grant
+/// was first, the session has the mode.
+pub fn wait<T: PartTable, B: Board<T>, R: Wait>(
+    rt: &R,
+    board: &mut B,
+    locals: &mut LocalTable,
+    tag: Tag,
+    mode: Mode,
+    owner: Owner,
+) -> Result<(), Refusal>
+    requires waiting { IsWaiting (B.seat board.old).limit (B.view board.old) (B.stack board.old) locals.old.entries tag mode }
+    requires reserved { IsReserved locals.old tag mode owner }
+    ensures cancelled { IsOkUnless result Refusal.Cancelled }
+    ensures steps { Waits (B.seat board.old).number (B.view board.old).trace tag mode result (B.view board.new).trace }
+    ensures rest { IsAtRest (B.seat board.old).limit (B.view board.new) (B.stack board.new) locals.new.entries }
+    ensures entries { OnOk result (locals.new.entries ≡ with_one_more locals.old.entries tag mode owner) }
+    ensures max_local { OnOk result (locals.new.max_local ≡ locals.old.max_local) }
+    ensures well_owned { OnOk result (IsWellOwned locals.new) }
+    ensures same_locals { OnErr result (locals.new ≡ locals.old) }
+    ensures seat { B.seat board.new ≡ B.seat board.old }
+{
+    for _ in rt.forever() {
+        let shown = board.load_wait();
+        match take_up(board, locals, tag, mode, owner, shown) {
+            Polled::Granted => return Ok(()),
+            Polled::CancelAsked => match cancel(rt, board, locals, tag, mode, owner) {
+                Cancelled::WasGranted => return Ok(()),
+                Cancelled::Removed => return Err(Refusal::Cancelled),
+            },
+            Polled::Still => board.sleep(rt, shown),
+        }
+    }
+    unreachable!()
 }
 
 /// Takes the wait out of the queue in the object's partition, or finds there that it was granted (`RemoveFromWaitQueue` in
