@@ -3,14 +3,17 @@
 ghost use Rattle.std.specs.Prelude.{◌≡◌, ◌<◌, ◌↔◌, false, true, length, IsErrOf, IsOkUnless, IfOk, OnOk, OnErr};
 ghost use Rattle.local_locks.specs.Owned.{has_entry, owner_count_of, max_count, with_one_more};
 ghost use Rattle.lock_manager.specs.declared.waiting.Started.TheVariants as began;
+ghost use Rattle.lock_manager.specs.declared.waiting.Cancelled.TheVariants as ended;
 ghost use Rattle.lock_manager.specs.Sessions.{IsSame};
-ghost use Rattle.lock_manager.specs.Waiting.{entries_started, Starts, Asks, LooksForWaiters, Polls};
+ghost use Rattle.lock_manager.specs.Waiting.{entries_started, Starts, Asks, LooksForWaiters, Polls, Cancels, Waits};
 ghost use Rattle.lock_manager.specs.Waits.{answer_started, board_started, owned_started, UnlessQueued, IfQueued};
 ghost use Rattle.lock_manager.specs.Waits.{answer_polled, board_polled, IfGranted, UnlessGranted};
-ghost use Rattle.lock_manager.specs.Waits.{HasBegun, WaitsOn, HasEnded};
+ghost use Rattle.lock_manager.specs.Waits.{answer_cancelled, session_cancelled, answer_waited, session_waited};
+ghost use Rattle.lock_manager.specs.Waits.{answer_locked, session_locked, Locks, HasBegun, WaitsOn, HasEnded};
 
 use crate::sessions::{Own, OwnSession};
 use crate::waiting::{self, Asked};
+use local_locks::Acquired;
 use lock_table::{PartTable, PlainPart};
 use modes_core::{Mode, Owner, Refusal, SessionId, Tag};
 use shared_rule::board::Board;
@@ -168,6 +171,40 @@ impl<T: PartTable, B: Board<T>> OwnSession<T, B> {
         }
     }
 
+    /// Takes a mode on an object for an owner, and waits for it where it must (`LockAcquire` in lock.c without `dontWait`):
+    /// `start`, and `wait` where that queued the request. It is refused where these are: the wait is over then, and the
+    /// session holds what it held.
+    pub fn lock<R: Wait>(self, rt: &R, tag: Tag, mode: Mode, owner: Owner) -> Locked<Self>
+        // What it is answered.
+        ensures already_held { (answer_locked result ≡ Ok Acquired.AlreadyHeld)
+            ↔ ((has_entry self.owned.entries tag mode ≡ true)
+            × (owner_count_of self.owned.entries tag mode owner < max_count)) }
+        ensures count_full { IsErrOf (answer_locked result) Refusal.CountFull
+            ↔ (owner_count_of self.owned.entries tag mode owner ≡ max_count) }
+        ensures local_full { IsErrOf (answer_locked result) Refusal.LocalFull
+            ↔ ((has_entry self.owned.entries tag mode ≡ false)
+            × (length self.owned.entries ≡ self.owned.max_local)) }
+        ensures steps { Locks (B.seat self.board) self.owned (B.view self.board).trace tag mode
+            (answer_locked result) (B.view (session_locked result).board).trace }
+
+        // What stands after it.
+        ensures entries { OnOk (answer_locked result) ((session_locked result).owned.entries
+            ≡ with_one_more self.owned.entries tag mode owner) }
+        ensures same_entries { OnErr (answer_locked result)
+            ((session_locked result).owned.entries ≡ self.owned.entries) }
+        ensures same { IsSame B.seat B.view B.stack self (session_locked result) }
+    {
+        match self.start(rt, tag, mode, owner) {
+            Started::Granted(session) => Locked::Granted(session),
+            Started::AlreadyHeld(session) => Locked::AlreadyHeld(session),
+            Started::Refused(session, refusal) => Locked::Refused(session, refusal),
+            Started::Queued(waiting) => match waiting.wait(rt) {
+                Waited::Granted(session) => Locked::Granted(session),
+                Waited::Refused(session, refusal) => Locked::Refused(session, refusal),
+            },
+        }
+    }
+
     /// Whether somebody awaits the object in a mode that conflicts with this one (`LockHasWaiters` in lock.c). It is refused
     /// where the session hasn't the mode; nothing has changed then.
     pub fn has_waiters<R: Wait>(&mut self, rt: &R, tag: Tag, mode: Mode) -> Result<bool, Refusal>
@@ -243,6 +280,65 @@ impl<T: PartTable, B: Board<T>> OwnWaiting<T, B> {
                 owner,
                 parts,
             }),
+        }
+    }
+
+    /// Ends the wait (`LockErrorCleanup` in proc.c): it is taken out of the queue, and those are granted who may go then; or
+    /// it turns out that it was granted before, and the session has the mode.
+    pub fn cancel<R: Wait>(self, rt: &R) -> Cancelled<OwnSession<T, B>>
+        // What it is answered.
+        ensures steps { Cancels (B.seat self.board).number (B.view self.board).trace self.tag self.mode
+            (answer_cancelled result) (B.view (session_cancelled result).board).trace }
+
+        // What stands after it.
+        ensures entries { answer_cancelled result ≡ ended.WasGranted → (session_cancelled result).owned.entries
+            ≡ with_one_more self.owned.entries self.tag self.mode self.owner }
+        ensures same_owned { answer_cancelled result ≡ ended.Removed →
+            (session_cancelled result).owned ≡ self.owned }
+        ensures same { HasEnded B.seat B.view B.stack self (session_cancelled result) }
+    {
+        let OwnWaiting {
+            mut board,
+            mut own,
+            tag,
+            mode,
+            owner,
+            parts,
+        } = self;
+        match waiting::cancel(rt, &mut board, &mut own.locals, tag, mode, owner) {
+            waiting::Cancelled::Removed => Cancelled::Removed(OwnSession { board, own, parts }),
+            waiting::Cancelled::WasGranted => {
+                Cancelled::WasGranted(OwnSession { board, own, parts })
+            }
+        }
+    }
+
+    /// Waits until the wait is granted, or another session asks to cancel it (`ProcSleep` in proc.c, with `LockErrorCleanup`
+    /// where it is interrupted). It is refused with `Cancelled` alone: it is out of the queue then, and the session holds
+    /// what it held. Where it was asked to cancel, but granted before it could, the session has the mode.
+    pub fn wait<R: Wait>(self, rt: &R) -> Waited<OwnSession<T, B>>
+        // What it is answered.
+        ensures cancelled { IsOkUnless (answer_waited result) Refusal.Cancelled }
+        ensures steps { Waits (B.seat self.board).number (B.view self.board).trace self.tag self.mode
+            (answer_waited result) (B.view (session_waited result).board).trace }
+
+        // What stands after it.
+        ensures entries { OnOk (answer_waited result) ((session_waited result).owned.entries
+            ≡ with_one_more self.owned.entries self.tag self.mode self.owner) }
+        ensures same_owned { OnErr (answer_waited result) ((session_waited result).owned ≡ self.owned) }
+        ensures same { HasEnded B.seat B.view B.stack self (session_waited result) }
+    {
+        let OwnWaiting {
+            mut board,
+            mut own,
+            tag,
+            mode,
+            owner,
+            parts,
+        } = self;
+        match waiting::wait(rt, &mut board, &mut own.locals, tag, mode, owner) {
+            Ok(()) => Waited::Granted(OwnSession { board, own, parts }),
+            Err(refusal) => Waited::Refused(OwnSession { board, own, parts }, refusal),
         }
     }
 }
