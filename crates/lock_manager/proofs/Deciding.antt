@@ -1,65 +1,122 @@
-use Rattle.std.proofs.Common.{◌≡◌, ℕ, true, false, List, Ok, Err, None, refl, sym, ap, ◌∙◌, subst, inl}
+use Rattle.std.proofs.Common.{◌≡◌, ℕ, ◌⊎◌, ◌++◌, append_assoc, Bool, true, false, List, [], ◌∷◌, Result, Ok, Err, Some, None, refl, sym, ap, ◌∙◌, subst, inl, inr}
+use Rattle.std.proofs.lemmas.Bool.{cases_Bool, false≢true, false_from_ne_true}
 use Rattle.modes_core.specs.declared.modes.Mode.{Mode}
 use Rattle.modes_core.specs.declared.tags.Tag.{Tag}
 use Rattle.modes_core.specs.declared.refusals.Refusal.{Refusal}
 use Rattle.modes_core.specs.Tag.{partition_of, is_strong_on}
 use Rattle.lock_table.specs.declared.moves.Move.{Move}
-use Rattle.lock_table.specs.declared.moves.Move.TheVariants.{Keep, Grant}
+use Rattle.lock_table.specs.declared.moves.Move.TheVariants.{Keep, Grant, Join}
 use Rattle.lock_table.specs.Clash.{ClashIs}
 use Rattle.lock_table.specs.Content.{Content, add_hold}
+use Rattle.lock_table.specs.Moves.{Moves}
+use Rattle.lock_table.specs.OwnWait.{is_for}
+use Rattle.lock_table.specs.Put.{set_at}
+use Rattle.lock_table.proofs.PutLemmas.{set_at-here, set_at-same, set_at-twice}
 use Rattle.wait_queue.specs.declared.requests.Decision.{Decision}
 use Rattle.wait_queue.specs.declared.requests.Decision.TheVariants.{Granted, Queued}
-use Rattle.wait_queue.specs.declared.requests.Kind.TheVariants.{Conditional}
+use Rattle.wait_queue.specs.declared.requests.Kind.{Kind}
+use Rattle.wait_queue.specs.declared.requests.Kind.TheVariants.{Conditional, Waiting}
 use Rattle.wait_queue.specs.Decide.{IsDecided, RefusedFor}
 use Rattle.lock_world.specs.Account.{Account, InHand}
-use Rattle.lock_world.specs.AccountSteps.{account_taking, account_putting}
-use Rattle.lock_world.specs.AccountLaw.{MayPutBy}
+use Rattle.lock_world.specs.AccountFacts.{KnowsContent}
+use Rattle.lock_world.specs.AccountSteps.{account_taking, account_putting, account_waiting, hand_recording}
+use Rattle.lock_world.specs.AccountLaw.{MayMoveBy, MayPutBy, MayPutRecordedBy}
 use Rattle.lock_world.specs.Counted.{is_done}
-use Rattle.shared_rule.specs.History.{taken_of}
+use Rattle.lock_world.specs.World.{Took, Episode}
+use Rattle.shared_rule.specs.Boards.{Seated}
+use Rattle.shared_rule.specs.History.{taken_of, in_hand}
 use Rattle.shared_rule.specs.Lawful.{MayPutPart}
 use Rattle.shared_rule.specs.Episodes.{account_episode}
 use Rattle.shared_rule.proofs.Episodes.{fresh_hand, taken-in_hand, taken-put, may_keep}
 use Rattle.lock_manager.specs.Rest.{IsIdle}
-use Rattle.lock_manager.specs.Requests.{DecidesInPart}
+use Rattle.lock_manager.specs.Requests.{DecidesInPart, account_awaiting, account_decided}
+use Rattle.lock_manager.proofs.Scanning.{not_eligible}
 
 -- Deciding a request in its partition.
 
--- A conditional request that is decided is granted where nothing clashes.
+-- A grant that is decided is a move of that content, of whichever kind the request is,
+pub granted-moves :
+    (kind : Kind) (taken put : Content) (number : ℕ) (tag : Tag) (mode : Mode) → IsDecided kind taken number tag mode Granted put
+    → Moves taken number (Grant tag mode) [] put
+granted-moves Conditional taken put number tag mode decided = ((None, decided.0, refl), refl, decided.1)
+granted-moves Waiting taken put number tag mode decided = (decided.0, refl, decided.1)
+
+-- and so is a wait.
+pub queued-moves :
+    (kind : Kind) (taken put : Content) (number : ℕ) (tag : Tag) (mode : Mode) → IsDecided kind taken number tag mode Queued put
+    → Moves taken number (Join tag mode) [] put
+queued-moves Conditional taken put number tag mode decided = absurd decided.1
+queued-moves Waiting taken put number tag mode decided = (decided.0, decided.1, refl, decided.2)
+
+-- A conditional request never waits.
 pub decided-granted :
     (taken put : Content) (number : ℕ) (tag : Tag) (mode : Mode) (decision : Decision) → IsDecided Conditional taken number tag mode decision put
-    → ClashIs taken number tag mode None × (put ≡ add_hold taken number tag mode)
-decided-granted taken put number tag mode Granted decided = decided
+    → decision ≡ Granted
+decided-granted taken put number tag mode Granted decided = refl
 decided-granted taken put number tag mode Queued decided = absurd decided.1
 
--- Then the partition, just taken, may be put with the hold.
-pub may_grant :
-    (limit number : ℕ) (a : Account) (tag : Tag) (mode : Mode) (taken put : Content) → a.awaited ≡ None → a.own tag mode ≡ false
-    → (is_strong_on tag mode ≡ true → is_done limit a.fast.counted tag mode ≡ true)
-    → ClashIs taken number tag mode None × (put ≡ add_hold taken number tag mode)
-    → MayPutBy limit number (account_taking a (partition_of tag) taken) (partition_of tag) (fresh_hand taken) (Grant tag mode) put
-may_grant limit number a tag mode taken put no_wait new counted free = record {
-  may_move = record {
-    in_hand = taken-in_hand a (partition_of tag) taken;
-    unrecorded = refl;
-    object = refl;
-    fits = (no_wait, new);
-    counted = counted;
-    moved = ((None, free.0, refl), refl, free.1);
-  };
-  by_putting = tt;
-}
+-- Whoever has no wait, and no slot, holds in the content of a partition just what is its own.
+pub held-own :
+    (number : ℕ) (a : Account) (stack : List ℕ) (tag : Tag) (taken : Content) → IsIdle a stack → KnowsContent number a (partition_of tag) taken
+    → taken.holds number tag ≡ a.own tag
+held-own number a stack tag taken idle knows = λ i m. at m i where
+  at : (m : Mode) → taken.holds number tag m ≡ a.own tag m
+  at m =
+      elim (cases_Bool (a.own tag m)) [
+        | inl own ↦
+            knows.tabled_holds tag m (ap (λ database. Rattle.modes_core.specs.Tag.is_eligible_for database tag m) idle.no_database ∙ not_eligible tag m) refl own
+            ∙ sym own
+        | inr none ↦
+            false_from_ne_true (taken.holds number tag m) (λ has. its none (knows.its_holds tag m has)) ∙ sym none
+      ] where
+        its : a.own tag m ≡ false → (a.own tag m ≡ true) ⊎ (is_for a.awaited tag m ≡ true) → ⊥
+        its none (inl own) = false≢true (sym none ∙ own)
+        its none (inr awaits) = false≢true (sym (ap (λ awaited. is_for awaited tag m) idle.no_wait) ∙ awaits)
 
--- and after a refusal as it was.
-pub may_put-granted :
-    (limit number : ℕ) (a b : Account) (p : ℕ) (tag : Tag) (mode : Mode) (taken put : Content) → p ≡ partition_of tag → b ≡ account_taking a p taken
-    → a.awaited ≡ None → a.own tag mode ≡ false → (is_strong_on tag mode ≡ true → is_done limit a.fast.counted tag mode ≡ true)
-    → ClashIs taken number tag mode None × (put ≡ add_hold taken number tag mode) → (mine : InHand) × MayPutPart limit number b p mine (Grant tag mode) put
-may_put-granted limit number a b p tag mode taken put home took no_wait new counted free = (
-  fresh_hand taken,
-  subst (λ (x : Account). MayPutPart limit number x p (fresh_hand taken) (Grant tag mode) put) (sym took)
-      (subst (λ (q : ℕ). MayPutPart limit number (account_taking a q taken) q (fresh_hand taken) (Grant tag mode) put) (sym home)
-      (inl (may_grant limit number a tag mode taken put no_wait new counted free))),
-)
+-- ---- the partition may be put
+
+module _ (limit number : ℕ) (a : Account) (stack : List ℕ) (p : ℕ) (tag : Tag) (mode : Mode) (taken put : Content) (idle : IsIdle a stack) (home : p ≡ partition_of tag)
+    (new : a.own tag mode ≡ false) (counted : is_strong_on tag mode ≡ true → is_done limit a.fast.counted tag mode ≡ true) where
+  -- with the hold where the request is granted,
+  may_grant : Moves taken number (Grant tag mode) [] put → MayPutBy limit number (account_taking a p taken) p (fresh_hand taken) (Grant tag mode) put
+  may_grant moved = record {
+    may_move = record {
+      in_hand = taken-in_hand a p taken;
+      unrecorded = refl;
+      object = sym home;
+      fits = (idle.no_wait, new);
+      counted = counted;
+      moved = moved;
+    };
+    by_putting = tt;
+  }
+
+  pub may_put-granted :
+      (b : Account) → b ≡ account_taking a p taken → Moves taken number (Grant tag mode) [] put → (mine : InHand) × MayPutPart limit number b p mine (Grant tag mode) put
+  may_put-granted b took moved = (
+    fresh_hand taken,
+    subst (λ (x : Account). MayPutPart limit number x p (fresh_hand taken) (Grant tag mode) put) (sym took) (inl (may_grant moved)),
+  )
+
+  -- or with the wait, once the wait word says so,
+  may_join : Moves taken number (Join tag mode) [] put → MayMoveBy limit number (account_taking a p taken) p (fresh_hand taken) (Join tag mode) [] put
+  may_join moved = record {
+    in_hand = taken-in_hand a p taken;
+    unrecorded = refl;
+    object = sym home;
+    fits = (idle.no_wait, new);
+    counted = counted;
+    moved = moved;
+  }
+
+  pub may_wait :
+      (b : Account) → b ≡ account_taking a p taken → Moves taken number (Join tag mode) [] put
+      → (mine : InHand) × MayMoveBy limit number b (partition_of tag) mine (Join tag mode) [] put
+  may_wait b took moved = (
+    fresh_hand taken,
+    subst (λ (x : Account). MayMoveBy limit number x (partition_of tag) (fresh_hand taken) (Join tag mode) [] put) (sym took)
+        (subst (λ (q : ℕ). MayMoveBy limit number (account_taking a p taken) q (fresh_hand taken) (Join tag mode) [] put) home (may_join moved)),
+  )
 
 pub may_put-kept :
     (limit number : ℕ) (a b : Account) (p : ℕ) (taken put : Content) → b ≡ account_taking a p taken → put ≡ taken → (mine : InHand) × MayPutPart limit number b p mine Keep put
@@ -69,42 +126,105 @@ may_put-kept limit number a b p taken put took same = (
       (subst (λ (c : Content). MayPutPart limit number (account_taking a p taken) p (fresh_hand taken) Keep c) (sym same) (inl (may_keep limit number a p taken))),
 )
 
--- Whoever takes a partition and puts it has made an episode,
-is_episode :
-    (a b c : Account) (stack : List ℕ) (p q : ℕ) (taken put : Content) (done : Move) → IsIdle a stack → p ≡ q → b ≡ account_taking a p taken
-    → c ≡ account_putting b p (taken_of (b.hand p)) put done → c ≡ account_episode a q taken put done
-is_episode a b c stack p q taken put done idle home took was_put =
-    was_put ∙ ap (λ (x : Account). account_putting x p (taken_of (x.hand p)) put done) took ∙ taken-put a p taken put done (λ i. idle.no_content i p)
-    ∙ ap (λ (k : ℕ). account_episode a k taken put done) home
+-- or as it was after a refusal.
+module _ (limit number : ℕ) (a b : Account) (stack : List ℕ) (p : ℕ) (tag : Tag) (mode : Mode) (taken put : Content) (idle : IsIdle a stack) (home : p ≡ partition_of tag)
+    (took : b ≡ account_taking a p taken) where
+  -- The account in between, once the wait word says that the session waits.
+  abbrev hand_waiting : InHand
+  hand_waiting = hand_recording (fresh_hand taken) put (Join tag mode) (λ _. false)
 
--- which grants the request,
-pub grants-in_part :
-    (number : ℕ) (a b c : Account) (stack : List ℕ) (p : ℕ) (tag : Tag) (mode : Mode) (taken put : Content) → IsIdle a stack → p ≡ partition_of tag
-    → b ≡ account_taking a p taken → c ≡ account_putting b p (taken_of (b.hand p)) put (Grant tag mode)
-    → ClashIs taken number tag mode None × (put ≡ add_hold taken number tag mode) → DecidesInPart number a tag mode (Ok tt) c
-grants-in_part number a b c stack p tag mode taken put idle home took was_put free = record {
-  taken = taken;
-  put = put;
-  free = free.0;
-  granted = free.1;
-  refused = tt;
-  kept = tt;
-  when_granted = is_episode a b c stack p (partition_of tag) taken put (Grant tag mode) idle home took was_put;
-  when_refused = tt;
-}
+  abbrev account_joined : Account
+  account_joined = account_waiting (account_taking a p taken) (fresh_hand taken) tag mode put (taken.holds number tag)
 
--- or refuses it.
-pub refuses-in_part :
-    (number : ℕ) (a b c : Account) (stack : List ℕ) (p : ℕ) (tag : Tag) (mode : Mode) (taken put : Content) → IsIdle a stack → p ≡ partition_of tag
-    → b ≡ account_taking a p taken → c ≡ account_putting b p (taken_of (b.hand p)) put Keep
-    → (refusal : Refusal) → RefusedFor Conditional taken number tag mode refusal → put ≡ taken → DecidesInPart number a tag mode (Err refusal) c
-refuses-in_part number a b c stack p tag mode taken put idle home took was_put refusal why same = record {
-  taken = taken;
-  put = put;
-  free = tt;
-  granted = tt;
-  refused = why;
-  kept = same;
-  when_granted = tt;
-  when_refused = is_episode a b c stack p (partition_of tag) taken put Keep idle home took was_put;
-}
+  joined-is : (c : Account) → c ≡ account_waiting b (in_hand (b.hand (partition_of tag))) tag mode put ((in_hand (b.hand (partition_of tag))).now.holds number tag) → c ≡ account_joined
+  joined-is c waits =
+      waits
+      ∙ ap (λ (x : Account). account_waiting x (in_hand (x.hand (partition_of tag))) tag mode put ((in_hand (x.hand (partition_of tag))).now.holds number tag)) took
+      ∙ ap (λ (mine : InHand). account_waiting (account_taking a p taken) mine tag mode put (mine.now.holds number tag))
+      (ap in_hand (ap (λ q. (account_taking a p taken).hand q) (sym home) ∙ taken-in_hand a p taken))
+
+  joined-in_hand : account_joined.hand p ≡ Some hand_waiting
+  joined-in_hand = set_at-here (account_taking a p taken).hand (partition_of tag) (Some hand_waiting) p home
+
+  pub may_put-joined :
+      (c : Account) → c ≡ account_waiting b (in_hand (b.hand (partition_of tag))) tag mode put ((in_hand (b.hand (partition_of tag))).now.holds number tag)
+      → (mine : InHand) × MayPutPart limit number c p mine Keep put
+  may_put-joined c waits = (
+    hand_waiting,
+    inr (record {
+      made = Join tag mode;
+      may_put = subst (λ (x : Account). MayPutRecordedBy x p hand_waiting (Join tag mode)) (sym (joined-is c waits))
+          (record { in_hand = joined-in_hand; recorded = refl; all_marked = λ _. refl; wait_is_over = tt });
+      keeps = refl;
+      same = refl;
+    }),
+  )
+
+  -- ---- the account after it
+
+  -- Whoever takes a partition and puts it has made an episode,
+  is_episode : (c : Account) (done : Move) → c ≡ account_putting b p (taken_of (b.hand p)) put done → c ≡ account_episode a (partition_of tag) taken put done
+  is_episode c done was_put =
+      was_put ∙ ap (λ (x : Account). account_putting x p (taken_of (x.hand p)) put done) took ∙ taken-put a p taken put done (λ i. idle.no_content i p)
+      ∙ ap (λ (k : ℕ). account_episode a k taken put done) home
+
+  -- which grants the request,
+  pub grants-in_part :
+      (kind : Kind) (c : Account) → c ≡ account_putting b p (taken_of (b.hand p)) put (Grant tag mode) → IsDecided kind taken number tag mode Granted put
+      → DecidesInPart kind number a tag mode (Ok Granted) c
+  grants-in_part kind c was_put decided = record {
+    taken = taken;
+    put = put;
+    decided = decided;
+    refused = tt;
+    kept = tt;
+    account = is_episode c (Grant tag mode) was_put;
+  }
+
+  -- refuses it,
+  pub refuses-in_part :
+      (kind : Kind) (c : Account) → c ≡ account_putting b p (taken_of (b.hand p)) put Keep
+      → (refusal : Refusal) → RefusedFor kind taken number tag mode refusal → put ≡ taken → DecidesInPart kind number a tag mode (Err refusal) c
+  refuses-in_part kind c was_put refusal why same = record {
+    taken = taken;
+    put = put;
+    decided = tt;
+    refused = why;
+    kept = same;
+    account = is_episode c Keep was_put;
+  }
+
+  -- or queues it.
+  pub queues-in_part :
+      (kind : Kind) (c d : Account) → KnowsContent number a p taken
+      → c ≡ account_waiting b (in_hand (b.hand (partition_of tag))) tag mode put ((in_hand (b.hand (partition_of tag))).now.holds number tag)
+      → d ≡ account_putting c p (taken_of (c.hand p)) put Keep → IsDecided kind taken number tag mode Queued put
+      → DecidesInPart kind number a tag mode (Ok Queued) d
+  queues-in_part kind c d knows waits was_put decided = record {
+    taken = taken;
+    put = put;
+    decided = decided;
+    refused = tt;
+    kept = tt;
+    account =
+        was_put
+        ∙ ap (λ (x : Account). account_putting x p (taken_of (x.hand p)) put Keep) (joined-is c waits)
+        ∙ ap (λ content. account_putting account_joined p content put Keep) (ap taken_of joined-in_hand)
+        ∙ (λ i. record (account_awaiting a tag mode) {
+          awaited = Some (record { tag = tag; mode = mode; held = held-own number a stack tag taken idle (subst (λ q. KnowsContent number a q taken) home knows) i });
+          hand = hand i;
+          trace = trace i;
+        });
+  } where
+    hand : set_at account_joined.hand p None ≡ a.hand
+    hand =
+        ap (λ q. set_at (set_at (set_at a.hand p (Some (fresh_hand taken))) q (Some hand_waiting)) p None) (sym home)
+        ∙ set_at-twice (set_at a.hand p (Some (fresh_hand taken))) p (Some hand_waiting) None
+        ∙ set_at-twice a.hand p (Some (fresh_hand taken)) None
+        ∙ set_at-same a.hand p None (sym (λ i. idle.no_content i p))
+
+    trace : (a.trace ++ Took p taken ∷ []) ++ Episode p taken put ∷ []
+        ≡ a.trace ++ Took (partition_of tag) taken ∷ Episode (partition_of tag) taken put ∷ []
+    trace =
+        append_assoc a.trace (Took p taken ∷ []) (Episode p taken put ∷ [])
+        ∙ ap (λ q. a.trace ++ Took q taken ∷ Episode q taken put ∷ []) home

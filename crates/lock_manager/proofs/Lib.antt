@@ -6,6 +6,11 @@ pub mod Waking
 pub mod Releasing
 pub mod Resting
 pub mod Holding
+pub mod Starting
+pub mod Polling
 pub mod Unlocking
 mod HeldModes
 mod Listed
+pub mod Leaving
+pub mod Cancelling
+pub mod Watching

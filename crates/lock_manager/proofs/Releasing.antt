@@ -1,5 +1,6 @@
-use Rattle.std.proofs.Common.{◌≡◌, ℕ, true, List, [], ◌∷◌, length, refl, sym, ◌∙◌, subst, inl}
+use Rattle.std.proofs.Common.{◌≡◌, ◌≢◌, ℕ, Bool, ◌==◌, true, false, ap, List, [], ◌∷◌, length, refl, sym, ◌∙◌, subst, inl}
 use Rattle.std.specs.Prelude.{map}
+use Rattle.std.proofs.lemmas.Bool.{false≢true}
 use Rattle.std.proofs.lemmas.List.{nil_from_length}
 use Rattle.modes_core.specs.declared.modes.Mode.{Mode}
 use Rattle.modes_core.specs.declared.tags.Tag.{Tag}
@@ -15,10 +16,14 @@ use Rattle.lock_world.specs.AccountSteps.{account_taking}
 use Rattle.shared_rule.specs.Boards.{Seated}
 use Rattle.shared_rule.specs.Lawful.{MayPutPart}
 use Rattle.shared_rule.proofs.Episodes.{fresh_hand, taken-in_hand}
-use Rattle.lock_manager.specs.Releases.{Wakens}
+use Rattle.lock_manager.specs.Releases.{Wakens, Tells}
 use Rattle.lock_manager.proofs.Waking.{release-once}
 
 -- Releasing a hold in a partition that was just taken.
+
+-- Somebody is told where the list isn't empty.
+pub somebody_told : (woken : List (ℕ × Mode)) (is_empty : Bool) → is_empty ≡ (length woken == 0) → is_empty ≡ false → woken ≢ []
+somebody_told woken is_empty is not_empty none = false≢true (sym not_empty ∙ is ∙ ap (λ its. length its == 0) none)
 
 -- Where nobody is told nobody was granted.
 none_granted : (granted : List Wait) → [] ≡ map whose_and_mode granted → granted ≡ []
@@ -57,10 +62,10 @@ module _ (seat : Seated) (a : Account) (p : ℕ) (tag : Tag) (mode : Mode) (take
       )
 
   -- and else tell those whom it lets go.
-  pub release-wakens :
+  pub release-tells :
       (its : Seated) (b : Account) → its ≡ seat → b ≡ account_taking a p taken → KnowsContent seat.number a p taken
-      → Wakens its b p (Release tag mode) woken put
-  release-wakens its b same_seat same knows =
+      → woken ≢ [] → Tells its b p (Release tag mode) woken put
+  release-tells its b same_seat same knows some =
       let wakens : Wakens seat (account_taking a p taken) p (Release tag mode) woken put =
       record {
         mine = fresh_hand taken;
@@ -69,5 +74,9 @@ module _ (seat : Seated) (a : Account) (p : ℕ) (tag : Tag) (mode : Mode) (take
         may_move = may_release;
         once = λ session. release-once taken put seat.number tag mode granted woken session moved whose (knows.once session tag);
       } in
-      subst (λ v. Wakens v b p (Release tag mode) woken put) {x = seat} {y = its} (sym same_seat)
-      (subst (λ v. Wakens seat v p (Release tag mode) woken put) {x = account_taking a p taken} {y = b} (sym same) wakens)
+      record {
+        from = b;
+        wakens = subst (λ v. Wakens v b p (Release tag mode) woken put) {x = seat} {y = its} (sym same_seat)
+            (subst (λ v. Wakens seat v p (Release tag mode) woken put) {x = account_taking a p taken} {y = b} (sym same) wakens);
+        so_far = inl (refl, some, refl);
+      }

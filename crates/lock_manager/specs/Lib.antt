@@ -4,3 +4,5 @@ pub mod Releases
 pub mod Sessions
 pub mod Managers
 pub mod Listings
+pub mod Waiting
+pub mod Waits

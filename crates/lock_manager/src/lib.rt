@@ -7,6 +7,8 @@ mod manager;
 mod releases;
 mod requests;
 mod sessions;
+mod waiting;
+mod waits;
 
 pub use config::{Config, MOST_LOCAL, MOST_SESSIONS};
 pub use listing::Listing;
@@ -15,6 +17,8 @@ pub use lock_table::{SlotRow, TableRow};
 pub use manager::{Final, Manager, Opener};
 pub use modes_core::{Mode, ModeSet, Owner, Refusal, SessionId, Tag};
 pub use sessions::{OwnSession, Session};
+pub use waiting::Asked;
+pub use waits::{Cancelled, Locked, OwnWaiting, Polled, Started, Waited, Waiting};
 
 #[cfg(test)]
 mod tests;

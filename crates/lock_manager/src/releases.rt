@@ -1,6 +1,6 @@
 //! Releases, over any board.
 
-ghost use Rattle.std.specs.Prelude.{◌≡◌, ◌≢◌, ◌<◌, ℕ, true, List, [], ◌∷◌, None};
+ghost use Rattle.std.specs.Prelude.{◌≡◌, ◌<◌, ℕ, true, List, [], ◌∷◌, None};
 ghost use Rattle.modes_core.specs.Tag.{is_strong_on};
 ghost use Rattle.local_locks.specs.Owned.{ended_by, left_by, IsWellOwned};
 ghost use Rattle.lock_world.specs.AccountSteps.{account_putting};
@@ -9,7 +9,7 @@ ghost use Rattle.lock_world.specs.Happens.Partitions.{WaitIsOver};
 ghost use Rattle.shared_rule.specs.History.{taken_of};
 ghost use Rattle.shared_rule.specs.Lawful.{IsGrantingIn};
 ghost use Rattle.lock_manager.specs.Rest.{IsIdle, IsAtRest};
-ghost use Rattle.lock_manager.specs.Releases.{Wakens, ReleasesInPart, Releases, ReleasesAll, account_released};
+ghost use Rattle.lock_manager.specs.Releases.{Tells, ReleasesInPart, Releases, ReleasesAll, account_released};
 
 use local_locks::{End, LocalTable};
 use lock_table::{Move, PartTable, Woken};
@@ -85,7 +85,8 @@ fn release_in_part<T: PartTable, B: Board<T>, R: Wait>(rt: &R, board: &mut B, ta
 }
 
 /// Marks the wait of each session that the move granted, puts the partition, and wakes them (`ProcLockWakeup` in proc.c).
-fn put_with_woken<T: PartTable, B: Board<T>>(
+/// The first mark makes the move, where it doesn't stand recorded already.
+pub fn put_with_woken<T: PartTable, B: Board<T>>(
     board: &mut B,
     part: u8,
     done: &Move,
@@ -96,9 +97,8 @@ fn put_with_woken<T: PartTable, B: Board<T>>(
     requires grants { IsGrantingIn part done.now }
     requires none_begun { T.begun content ≡ None }
     requires in_hand { (others : List ℕ) × (B.stack board.old ≡ part ∷ others) }
-    requires some { woken.now.items ≢ [] }
     requires wait_is_over { WaitIsOver (B.view board.old).awaited part done.now }
-    requires lawful { Wakens (B.seat board.old) (B.view board.old) part done.now woken.now.items (T.content content) }
+    requires lawful { Tells (B.seat board.old) (B.view board.old) part done.now woken.now.items (T.content content) }
     ensures account { B.view board.new ≡
         account_putting (B.view board.old) part (taken_of ((B.view board.old).hand part)) (T.content content) done.now }
     ensures stack { B.stack board.old ≡ part ∷ B.stack board.new }

@@ -1,4 +1,4 @@
-//! Acquires without waiting, over any board.
+//! Acquires without waiting, and requests of either kind, over any board.
 
 ghost use Rattle.std.specs.Prelude.{◌≡◌, ◌<◌, ◌≤◌, ◌↔◌, false, true, length, IsErrOf, OnOk, OnErr};
 ghost use Rattle.modes_core.specs.Tag.{is_strong_on};
@@ -6,14 +6,14 @@ ghost use Rattle.local_locks.specs.Owned.{has_entry, owner_count_of, max_count, 
 ghost use Rattle.lock_world.specs.Counted.{is_counted, is_at, is_done};
 ghost use Rattle.lock_world.specs.Happens.Counters.{most_counted};
 ghost use Rattle.lock_manager.specs.Rest.{IsIdle, IsAtRest};
-ghost use Rattle.lock_manager.specs.Requests.{Passes, Scans, DecidesInPart, Decides, Acquires, account_granted};
+ghost use Rattle.lock_manager.specs.Requests.{Passes, Scans, DecidesInPart, Decides, Acquires, account_requested};
 
 use local_locks::{Acquired, LocalTable};
 use lock_table::{Move, PartTable};
 use modes_core::{Mode, Owner, Refusal, SessionId, Tag, is_strong};
 use shared_rule::board::Board;
 use std::sync::Wait;
-use wait_queue::{Kind, decide};
+use wait_queue::{Decision, Kind, decide};
 
 /// Acquires a mode on an object for an owner, or refuses at once (`LockAcquire` in lock.c with `dontWait`). What the
 /// session has already is counted once more, with no step on shared state; a new mode is decided in the object's
@@ -47,38 +47,39 @@ pub fn acquire<T: PartTable, B: Board<T>, R: Wait>(
     if locals.total(tag, mode) != 0 {
         return Ok(locals.add(tag, mode, owner));
     }
-    match request(rt, board, &tag, mode) {
-        Ok(()) => Ok(locals.add(tag, mode, owner)),
+    match request(rt, board, &tag, mode, Kind::Conditional) {
+        Ok(_) => Ok(locals.add(tag, mode, owner)),
         Err(refusal) => Err(refusal),
     }
 }
 
 /// Decides a request for a mode that the session hasn't, in the object's partition (`LockAcquireExtended` in lock.c). A
 /// strong mode is counted before that, and its count goes back where it is refused.
-fn request<T: PartTable, B: Board<T>, R: Wait>(
+pub fn request<T: PartTable, B: Board<T>, R: Wait>(
     rt: &R,
     board: &mut B,
     tag: &Tag,
     mode: Mode,
-) -> Result<(), Refusal>
+    kind: Kind,
+) -> Result<Decision, Refusal>
     requires few { (B.seat board.old).limit ≤ 64 }
     requires idle { IsIdle (B.view board.old) (B.stack board.old) }
     requires new { (B.view board.old).own tag.now mode ≡ false }
     requires not_counted { is_counted (B.view board.old).fast.counted tag.now mode ≡ false }
     requires countable { length (B.view board.old).fast.counted < most_counted }
-    ensures steps { Decides (B.seat board.old) (B.view board.old).trace tag.now mode result (B.view board.new).trace }
-    ensures granted { OnOk result (B.view board.new ≡
-        account_granted (B.seat board.old).limit (B.view board.old) tag.now mode (B.view board.new).trace) }
-    ensures refused { OnErr result (B.view board.new ≡ record (B.view board.old) { trace = (B.view board.new).trace }) }
+    ensures steps { Decides kind (B.seat board.old) (B.view board.old).trace tag.now mode result
+        (B.view board.new).trace }
+    ensures account { B.view board.new ≡ account_requested (B.seat board.old).limit (B.view board.old) tag.now mode
+        result (B.view board.new).trace }
     ensures stack { B.stack board.new ≡ B.stack board.old }
     ensures seat { B.seat board.new ≡ B.seat board.old }
 {
     if !is_strong(*tag, mode) {
-        return decide_in_part(rt, board, tag, mode);
+        return decide_in_part(rt, board, tag, mode, kind);
     }
     count(rt, board, tag, mode);
-    match decide_in_part(rt, board, tag, mode) {
-        Ok(()) => Ok(()),
+    match decide_in_part(rt, board, tag, mode, kind) {
+        Ok(decision) => Ok(decision),
         Err(refusal) => {
             board.sub_strong(tag, mode);
             Err(refusal)
@@ -86,28 +87,36 @@ fn request<T: PartTable, B: Board<T>, R: Wait>(
     }
 }
 
-/// Decides it there (`LockCheckConflicts` with `GrantLock` in lock.c).
+/// Decides it there, and where it has to wait stores so in the own wait word (`LockCheckConflicts` with `GrantLock` in
+/// lock.c, and `ProcSleep` in proc.c).
 fn decide_in_part<T: PartTable, B: Board<T>, R: Wait>(
     rt: &R,
     board: &mut B,
     tag: &Tag,
     mode: Mode,
-) -> Result<(), Refusal>
+    kind: Kind,
+) -> Result<Decision, Refusal>
     requires idle { IsIdle (B.view board.old) (B.stack board.old) }
     requires new { (B.view board.old).own tag.now mode ≡ false }
     requires counted { is_strong_on tag.now mode ≡ true →
         is_done (B.seat board.old).limit (B.view board.old).fast.counted tag.now mode ≡ true }
-    ensures decided { DecidesInPart (B.seat board.old).number (B.view board.old) tag.now mode result (B.view board.new) }
+    ensures decided { DecidesInPart kind (B.seat board.old).number (B.view board.old) tag.now mode result
+        (B.view board.new) }
     ensures stack { B.stack board.new ≡ B.stack board.old }
     ensures seat { B.seat board.new ≡ B.seat board.old }
 {
     let number = board.number();
     let part = tag.partition();
     let mut content = board.take_part(rt, part);
-    match decide(&mut content, number, tag, mode, Kind::Conditional) {
-        Ok(_) => {
+    match decide(&mut content, number, tag, mode, kind) {
+        Ok(Decision::Granted) => {
             board.put_part(part, &Move::Grant { tag: *tag, mode }, content);
-            Ok(())
+            Ok(Decision::Granted)
+        }
+        Ok(Decision::Queued) => {
+            board.set_waiting(tag, mode, &content);
+            board.put_part(part, &Move::Keep, content);
+            Ok(Decision::Queued)
         }
         Err(refusal) => {
             board.put_part(part, &Move::Keep, content);

@@ -37,9 +37,9 @@ pub(crate) struct Own {
 /// ends by `close`; one that is let go leaves its holds and its number taken for ever.
 #[derive(Drop)]
 pub struct OwnSession<T: PartTable, B: Board<T>> {
-    board: B,
-    own: Box<Own>,
-    parts: PhantomData<T>,
+    pub(crate) board: B,
+    pub(crate) own: Box<Own>,
+    pub(crate) parts: PhantomData<T>,
 }
 
 impl<T: PartTable, B: Board<T>> Model for OwnSession<T, B> {

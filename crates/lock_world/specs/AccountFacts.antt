@@ -3,7 +3,7 @@ use Rattle.modes_core.specs.declared.modes.Mode.{Mode}
 use Rattle.modes_core.specs.declared.tags.Tag.{Tag}
 use Rattle.modes_core.specs.Tag.{partition_of, is_eligible_for}
 use Rattle.lock_table.specs.Content.{Content}
-use Rattle.lock_table.specs.OwnWait.{is_for}
+use Rattle.lock_table.specs.OwnWait.{OwnWait, is_for}
 use Rattle.lock_table.specs.Queue.{waits_there}
 use Rattle.lock_world.specs.Account.{Account, SlotsInHand}
 
@@ -26,3 +26,7 @@ pub record KnowsContent (number : ℕ) (a : Account) (p : ℕ) (content : Conten
   -- where it has no wait it stands in no queue, and nobody stands twice in one
   pub no_wait : (tag : Tag) → a.awaited ≡ None → waits_there (content.waits tag) number ≡ false
   pub once : (session : ℕ) (tag : Tag) → count_by (λ wait. wait.session == session) (content.waits tag) ≤ 1
+  -- where its wait on an object of the partition stands in no queue, it was granted, and its hold is there
+  pub granted_hold :
+      (wait : OwnWait) → a.awaited ≡ Some wait → partition_of wait.tag ≡ p → waits_there (content.waits wait.tag) number ≡ false
+      → content.holds number wait.tag wait.mode ≡ true

@@ -1,21 +1,23 @@
-use Rattle.std.proofs.Common.{◌≡◌, ◌⊎◌, ℕ, true, false, Some, sym, ap, ◌∙◌, inl, inr}
-use Rattle.std.proofs.lemmas.Bool.{false_from_ne_true, and_left}
+use Rattle.std.proofs.Common.{◌≡◌, ◌⊎◌, ℕ, true, false, Some, None, sym, ap, ◌∙◌, inl, inr}
+use Rattle.std.proofs.lemmas.Bool.{false_from_ne_true, both_ways, and_left}
 use Rattle.modes_core.specs.declared.modes.Mode.{Mode}
 use Rattle.modes_core.specs.declared.tags.Tag.{Tag}
 use Rattle.modes_core.specs.Tag.{partition_of, is_eligible_for}
-use Rattle.lock_table.specs.OwnWait.{is_for}
+use Rattle.lock_table.specs.OwnWait.{OwnWait, is_for}
 use Rattle.lock_table.specs.Queue.{waits_there}
 use Rattle.lock_world.specs.Account.{SlotsInHand, account}
 use Rattle.lock_world.specs.AccountFacts.{KnowsContent}
 use Rattle.lw_word.specs.SlotWord.{shows}
 use Rattle.lock_world.specs.SlotHolds.{slot_count, any_below, relation_of, slot_holds}
+use Rattle.lock_world.specs.WaitWord.{wait_state}
 use Rattle.lock_world.specs.World.{World}
 use Rattle.lock_world.specs.SafeWorld.{SafeWorld, tabled}
-use Rattle.lock_world.proofs.FromSafe.{session-stands, stands-once}
+use Rattle.lock_world.proofs.FromSafe.{session-stands, stands-once, waiting-stands}
 use Rattle.lock_world.proofs.FromSafeWorld.{held-in_table}
+use Rattle.lock_world.proofs.SafeWorld.OneSession.{is_for-itself}
 use Rattle.lock_world.proofs.Accounts.Lawful.{slots-known}
 
--- What a session knows of a content is so.
+-- What a session knows of a content that nobody has in hand is so.
 module _ (w : World) (safe : SafeWorld w) (s p : ℕ) where
   its : (t : Tag) (m : Mode) → (w.contents.now p).holds s t m ≡ true → (w.sessions.own s t m ≡ true) ⊎ (is_for (w.sessions.awaited s) t m ≡ true)
   its t m has = elim ((held-in_table w safe p s t m).0 has).1 [
@@ -37,8 +39,22 @@ module _ (w : World) (safe : SafeWorld w) (s p : ℕ) where
       and_left (is_eligible_for (w.words.database s) t m) (any_below slot_count (λ place. shows (w.words.slot s place) (relation_of t) m)) not_eligible in
       (held-in_table w safe p s t m).1 (home, inl (has, no_slot))
 
-  pub content-known : KnowsContent s (account w s) p (w.contents.now p)
-  content-known = record {
+  -- A wait that stands in no queue while nobody has the partition in hand was granted.
+  granted :
+      w.contents.hand p ≡ None → (wait : OwnWait) → w.sessions.awaited s ≡ Some wait → partition_of wait.tag ≡ p
+      → waits_there ((w.contents.now p).waits wait.tag) s ≡ false → (w.contents.now p).holds s wait.tag wait.mode ≡ true
+  granted free wait is home gone = at (safe.but_slots.table.promise.wait_words.waiting s wait is) where
+    at : (wait_state (w.words.wait s) ≡ 1) ⊎ (wait_state (w.words.wait s) ≡ 2) → (w.contents.now p).holds s wait.tag wait.mode ≡ true
+    at (inl one) =
+        let there : waits_there ((w.contents.now (partition_of wait.tag)).waits wait.tag) s ≡ true =
+        waiting-stands (tabled w) safe.but_slots s wait is (ap w.contents.hand home ∙ free) one in
+        absurd (both_ways _ gone (ap (λ q. waits_there ((w.contents.now q).waits wait.tag) s) (sym home) ∙ there))
+    at (inr two) =
+        let awaits : is_for (w.sessions.awaited s) wait.tag wait.mode ≡ true = ap (λ a. is_for a wait.tag wait.mode) is ∙ is_for-itself wait in
+        (held-in_table w safe p s wait.tag wait.mode).1 (home, inr (awaits, inl two))
+
+  pub content-known : w.contents.hand p ≡ None → KnowsContent s (account w s) p (w.contents.now p)
+  content-known free = record {
     holds_of_it = λ k t m has. ((held-in_table w safe p k t m).0 has).0;
     waits_of_it = λ k t there. (session-stands (tabled w) safe.but_slots p k t there).0;
     its_holds = its;
@@ -48,4 +64,5 @@ module _ (w : World) (safe : SafeWorld w) (s p : ℕ) where
         let stands = session-stands (tabled w) safe.but_slots p s t there in
         let some : w.sessions.awaited s ≡ Some stands.1.1.wait = stands.1.1.is_wait in cc);
     once = λ k t. stands-once (tabled w) safe.but_slots p k t;
+    granted_hold = granted free;
   }

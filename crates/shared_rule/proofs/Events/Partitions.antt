@@ -153,7 +153,7 @@ module _ {T : Type 0} (content : T → Content) (begun : T → Option Request) (
                 none_begun = home.none_begun;
                 knows = subst (λ (sessions : List (History T)). KnowsContent (first_number sessions) (first_account content sessions) p (content home.part)) (sym is)
                     (subst (λ a. KnowsContent x.number a p (content home.part)) (sym steps.account)
-                    (subst (KnowsContent x.number (account r.world x.number) p) (sym home.is_content) (content-known r.world r.safe x.number p)));
+                    (subst (KnowsContent x.number (account r.world x.number) p) (sym home.is_content) (content-known r.world r.safe x.number p (free-in_no_hand r.world r.safe p is_free))));
               })),
           (λ miss. absurd (miss (hit ∙ sym first))),
         ),

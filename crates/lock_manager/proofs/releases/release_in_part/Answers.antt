@@ -2,7 +2,7 @@ use Rattle.std.proofs.Common.{length, sym, ◌∙◌, subst}
 use Rattle.std.proofs.lemmas.Bool.{eqb-true}
 use Rattle.lock_table.specs.declared.moves.Move.TheVariants.{Release}
 use Rattle.lock_table.specs.Moves.{Moves}
-use Rattle.lock_manager.proofs.Releasing.{may_put_released, release-wakens}
+use Rattle.lock_manager.proofs.Releasing.{may_put_released, release-tells, somebody_told}
 use Rattle.lock_manager.proofs.releases.release_in_part.Goals as goal
 
 pub put_part-requires-clause-lawful : goal.put_part-requires-clause-lawful
@@ -23,7 +23,8 @@ put_with_woken-requires-clause-lawful g c =
     let put = g.T.PartTable.content c.release-woken.new.part in
     let woken = c.release-woken.ensures.woken in
     let moved = subst (λ number. Moves taken number (Release c.args.tag.now c.args.mode) woken.0 put) c.number-number.ensures woken.1 in
-    release-wakens (g.B.Board.seat c.args.board.now) (g.B.Board.view c.args.board.now) c.partition-part.result c.args.tag.now c.args.mode
+    release-tells (g.B.Board.seat c.args.board.now) (g.B.Board.view c.args.board.now) c.partition-part.result c.args.tag.now c.args.mode
     taken put woken.0 c.release-woken.result.items (sym c.partition-part.ensures.value) c.requires.held moved woken.2
     (g.B.Board.seat c.take_part-content.new.self) (g.B.Board.view c.take_part-content.new.self)
     c.take_part-content.ensures.seat c.take_part-content.ensures.view c.take_part-content.ensures.knows
+    (somebody_told c.release-woken.result.items c.is_empty.result c.is_empty.ensures c.if-is_empty.false)

@@ -1,4 +1,4 @@
-use Rattle.std.proofs.Common.{◌≡◌, ◌≢◌, ◌<◌, false, List, Result, Ok, Err, length, arith, sym, ap, ◌∙◌}
+use Rattle.std.proofs.Common.{◌≡◌, ◌≢◌, ◌<◌, true, false, List, Result, Ok, Err, length, arith, sym, ap, ◌∙◌, subst}
 use Rattle.std.proofs.lemmas.Bool.{false≢true}
 use Rattle.modes_core.specs.declared.refusals.Refusal.{Refusal}
 use Rattle.local_locks.specs.declared.answers.Acquired.{Acquired}
@@ -7,8 +7,10 @@ use Rattle.local_locks.specs.declared.records.Entry.{Entry}
 use Rattle.local_locks.specs.Owned.{has_entry, with_one_more, acquired_as}
 use Rattle.lock_world.specs.Account.{Account}
 use Rattle.lock_world.specs.Happens.Counters.{most_counted}
-use Rattle.lock_manager.proofs.Holding.{not_had, had, rest-not_counted, rest-few, rest-granted, rest-held_again}
-use Rattle.lock_manager.proofs.Requesting.{acquires-granted}
+use Rattle.wait_queue.specs.declared.requests.Kind.TheVariants.{Conditional}
+use Rattle.lock_manager.specs.Requests.{Decides, account_requested}
+use Rattle.lock_manager.proofs.Holding.{not_had, had, rest-idle, rest-not_counted, rest-few, rest-granted, rest-held_again}
+use Rattle.lock_manager.proofs.Requesting.{conditional-granted, acquires-granted, acquires-again, acquires-refused}
 use Rattle.lock_manager.proofs.requests.acquire.Goals as goal
 
 err_not_ok : (refusal : Refusal) (answer : Acquired) → (let it : Result Acquired Refusal = Err refusal in it) ≢ Ok answer
@@ -50,7 +52,9 @@ returns-in-Ok-clause-rest g c =
     rest-granted (g.B.Board.seat c.args.board.now).limit (g.B.Board.view c.args.board.now) (g.B.Board.view c.request.new.board) (g.B.Board.stack c.args.board.now) (g.B.Board.stack c.request.new.board)
     entries c.add-in-Ok.new.self.entries c.args.tag c.args.mode c.args.owner
     (not_had entries c.reserve.new.self.entries c.args.tag c.args.mode c.total.result c.reserve.ensures.entries c.total.ensures.well_owned.counted c.total.ensures.total c.if-total-ne0.false)
-    c.in-Ok.ensures.granted c.request.ensures.stack
+    (subst (λ decision. g.B.Board.view c.request.new.board ≡ account_requested (g.B.Board.seat c.args.board.now).limit (g.B.Board.view c.args.board.now) c.args.tag c.args.mode (Ok decision) (g.B.Board.view c.request.new.board).trace)
+    (conditional-granted (g.B.Board.seat c.args.board.now) (g.B.Board.view c.args.board.now).trace (g.B.Board.view c.request.new.board).trace c.args.tag c.args.mode c.in-Ok.field-0 c.in-Ok.ensures.steps)
+    c.in-Ok.ensures.account) c.request.ensures.stack
     (c.add-in-Ok.ensures.entries ∙ ap (λ (es : List Entry). with_one_more es c.args.tag c.args.mode c.args.owner) c.reserve.ensures.entries) c.requires.rest
 
 pub returns-in-Ok-clause-steps : goal.returns-in-Ok-clause-steps
@@ -59,7 +63,9 @@ returns-in-Ok-clause-steps g c =
     acquires-granted (g.B.Board.seat c.args.board.now) c.args.locals.now (g.B.Board.view c.args.board.now).trace (g.B.Board.view c.request.new.board).trace c.args.tag c.args.mode c.add-in-Ok.result
     (c.add-in-Ok.ensures.answer ∙ ap (λ (es : List Entry). acquired_as es c.args.tag c.args.mode) c.reserve.ensures.entries)
     (not_had entries c.reserve.new.self.entries c.args.tag c.args.mode c.total.result c.reserve.ensures.entries c.total.ensures.well_owned.counted c.total.ensures.total c.if-total-ne0.false)
-    c.in-Ok.ensures.steps
+    (subst (λ decision. Decides Conditional (g.B.Board.seat c.args.board.now) (g.B.Board.view c.args.board.now).trace c.args.tag c.args.mode (Ok decision) (g.B.Board.view c.request.new.board).trace)
+    (conditional-granted (g.B.Board.seat c.args.board.now) (g.B.Board.view c.args.board.now).trace (g.B.Board.view c.request.new.board).trace c.args.tag c.args.mode c.in-Ok.field-0 c.in-Ok.ensures.steps)
+    c.in-Ok.ensures.steps)
 
 pub returns-in-Err-clause-already_held : goal.returns-in-Err-clause-already_held
 returns-in-Err-clause-already_held g c =

@@ -1,13 +1,13 @@
-use Rattle.std.proofs.Common.{◌≡◌, sym, subst, None}
-use Rattle.lock_table.specs.declared.moves.Move.TheVariants.{Grant}
-use Rattle.lock_table.specs.Clash.{ClashIs}
-use Rattle.lock_table.specs.Content.{add_hold}
-use Rattle.wait_queue.specs.declared.requests.Kind.TheVariants.{Conditional}
-use Rattle.wait_queue.specs.Decide.{RefusedFor}
+use Rattle.std.proofs.Common.{◌≡◌, ◌∙◌, Ok, sym, ap, subst, []}
+use Rattle.lock_table.specs.declared.moves.Move.TheVariants.{Grant, Join, Keep}
+use Rattle.lock_table.specs.Moves.{Moves}
+use Rattle.wait_queue.specs.declared.requests.Decision.TheVariants.{Granted, Queued}
+use Rattle.wait_queue.specs.Decide.{IsDecided, RefusedFor}
 use Rattle.lock_world.specs.Account.{InHand}
+use Rattle.lock_world.specs.AccountLaw.{MayMoveBy}
 use Rattle.shared_rule.specs.Boards.{Seated}
 use Rattle.shared_rule.specs.Lawful.{MayPutPart}
-use Rattle.lock_manager.proofs.Deciding.{decided-granted, may_put-granted, may_put-kept, grants-in_part, refuses-in_part}
+use Rattle.lock_manager.proofs.Deciding.{granted-moves, queued-moves, may_put-granted, may_wait, may_put-joined, may_put-kept, grants-in_part, queues-in_part, refuses-in_part}
 use Rattle.lock_manager.proofs.requests.decide_in_part.Goals as goal
 
 pub put_part-requires-clause-lawful : goal.put_part-requires-clause-lawful
@@ -15,37 +15,53 @@ put_part-requires-clause-lawful g c =
     let seat = g.B.Board.seat c.args.board.now in
     let taken = g.T.PartTable.content c.take_part-content.result in
     let put = g.T.PartTable.content c.decide.new.part in
-    let free : ClashIs taken seat.number c.args.tag.now c.args.mode None × (put ≡ add_hold taken seat.number c.args.tag.now c.args.mode) =
-    subst (λ number. ClashIs taken number c.args.tag.now c.args.mode None × (put ≡ add_hold taken number c.args.tag.now c.args.mode)) c.number-number.ensures
-    (decided-granted taken put c.number-number.result c.args.tag.now c.args.mode c.in-Ok.field-0 c.in-Ok.ensures.decided) in
+    let moved = subst (λ number. Moves taken number (Grant c.args.tag.now c.args.mode) [] put) c.number-number.ensures
+    (granted-moves c.args.kind taken put c.number-number.result c.args.tag.now c.args.mode (subst (λ d. IsDecided c.args.kind taken c.number-number.result c.args.tag.now c.args.mode d put) c.in-Ok-Granted.field-0-is c.in-Ok-Granted.ensures.decided)) in
     subst (λ (s : Seated). (mine : InHand) × MayPutPart s.limit s.number (g.B.Board.view c.take_part-content.new.self) c.partition-part.result mine (Grant c.args.tag.now c.args.mode) put)
     (sym c.take_part-content.ensures.seat)
-    (may_put-granted seat.limit seat.number (g.B.Board.view c.args.board.now) (g.B.Board.view c.take_part-content.new.self) c.partition-part.result c.args.tag.now c.args.mode taken put
-    c.partition-part.ensures.value c.take_part-content.ensures.view c.requires.idle.no_wait c.requires.new c.requires.counted free)
+    (may_put-granted seat.limit seat.number (g.B.Board.view c.args.board.now) (g.B.Board.stack c.args.board.now) c.partition-part.result c.args.tag.now c.args.mode taken put
+    c.requires.idle c.partition-part.ensures.value c.requires.new c.requires.counted (g.B.Board.view c.take_part-content.new.self) c.take_part-content.ensures.view moved)
+
+pub set_waiting-requires : goal.set_waiting-requires
+set_waiting-requires g c =
+    let seat = g.B.Board.seat c.args.board.now in
+    let taken = g.T.PartTable.content c.take_part-content.result in
+    let put = g.T.PartTable.content c.decide.new.part in
+    let moved = subst (λ number. Moves taken number (Join c.args.tag.now c.args.mode) [] put) c.number-number.ensures
+    (queued-moves c.args.kind taken put c.number-number.result c.args.tag.now c.args.mode (subst (λ d. IsDecided c.args.kind taken c.number-number.result c.args.tag.now c.args.mode d put) c.in-Ok-Queued.field-0-is c.in-Ok-Queued.ensures.decided)) in
+    record {
+      lawful = subst (λ (s : Seated). (mine : InHand) × MayMoveBy s.limit s.number (g.B.Board.view c.take_part-content.new.self) (Rattle.modes_core.specs.Tag.partition_of c.args.tag.now) mine (Join c.args.tag.now c.args.mode) [] put)
+          (sym c.take_part-content.ensures.seat)
+          (may_wait seat.limit seat.number (g.B.Board.view c.args.board.now) (g.B.Board.stack c.args.board.now) c.partition-part.result c.args.tag.now c.args.mode taken put
+          c.requires.idle c.partition-part.ensures.value c.requires.new c.requires.counted (g.B.Board.view c.take_part-content.new.self) c.take_part-content.ensures.view moved);
+    }
+
+pub put_part-requires-in-Ok-Queued-clause-lawful : goal.put_part-requires-in-Ok-Queued-clause-lawful
+put_part-requires-in-Ok-Queued-clause-lawful g c =
+    let taken = g.T.PartTable.content c.take_part-content.result in
+    let put = g.T.PartTable.content c.decide.new.part in
+    let seat = g.B.Board.seat c.take_part-content.new.self in
+    subst (λ (s : Seated). (mine : InHand) × MayPutPart s.limit s.number (g.B.Board.view c.set_waiting.new.self) c.partition-part.result mine Keep put) (sym c.set_waiting.ensures.seat)
+    (may_put-joined seat.limit seat.number (g.B.Board.view c.args.board.now) (g.B.Board.view c.take_part-content.new.self) (g.B.Board.stack c.args.board.now)
+    c.partition-part.result c.args.tag.now c.args.mode taken put c.requires.idle c.partition-part.ensures.value c.take_part-content.ensures.view
+    (g.B.Board.view c.set_waiting.new.self) c.set_waiting.ensures.view)
 
 pub put_part-requires-in-Err-clause-lawful : goal.put_part-requires-in-Err-clause-lawful
 put_part-requires-in-Err-clause-lawful g c =
     may_put-kept (g.B.Board.seat c.take_part-content.new.self).limit (g.B.Board.seat c.take_part-content.new.self).number (g.B.Board.view c.args.board.now) (g.B.Board.view c.take_part-content.new.self)
     c.partition-part.result (g.T.PartTable.content c.take_part-content.result) (g.T.PartTable.content c.decide.new.part) c.take_part-content.ensures.view c.in-Err.ensures.unchanged
 
-pub returns-in-Ok-clause-decided : goal.returns-in-Ok-clause-decided
-returns-in-Ok-clause-decided g c =
-    let number = (g.B.Board.seat c.args.board.now).number in
+pub returns-in-Ok-Queued-clause-decided : goal.returns-in-Ok-Queued-clause-decided
+returns-in-Ok-Queued-clause-decided g c =
+    let seat = g.B.Board.seat c.take_part-content.new.self in
     let before = g.B.Board.view c.args.board.now in
     let taken = g.T.PartTable.content c.take_part-content.result in
     let put = g.T.PartTable.content c.decide.new.part in
-    let free : ClashIs taken number c.args.tag.now c.args.mode None × (put ≡ add_hold taken number c.args.tag.now c.args.mode) =
-    subst (λ k. ClashIs taken k c.args.tag.now c.args.mode None × (put ≡ add_hold taken k c.args.tag.now c.args.mode)) c.number-number.ensures
-    (decided-granted taken put c.number-number.result c.args.tag.now c.args.mode c.in-Ok.field-0 c.in-Ok.ensures.decided) in
-    grants-in_part number before (g.B.Board.view c.take_part-content.new.self) (g.B.Board.view c.put_part.new.self) (g.B.Board.stack c.args.board.now) c.partition-part.result c.args.tag.now c.args.mode
-    taken put c.requires.idle c.partition-part.ensures.value c.take_part-content.ensures.view c.put_part.ensures.view free
-
-pub returns-in-Err-clause-decided : goal.returns-in-Err-clause-decided
-returns-in-Err-clause-decided g c =
-    let number = (g.B.Board.seat c.args.board.now).number in
-    let before = g.B.Board.view c.args.board.now in
-    let taken = g.T.PartTable.content c.take_part-content.result in
-    let put = g.T.PartTable.content c.decide.new.part in
-    refuses-in_part number before (g.B.Board.view c.take_part-content.new.self) (g.B.Board.view c.put_part-in-Err.new.self) (g.B.Board.stack c.args.board.now) c.partition-part.result c.args.tag.now
-    c.args.mode taken put c.requires.idle c.partition-part.ensures.value c.take_part-content.ensures.view c.put_part-in-Err.ensures.view c.in-Err.refusal
-    (subst (λ k. RefusedFor Conditional taken k c.args.tag.now c.args.mode c.in-Err.refusal) c.number-number.ensures c.in-Err.ensures.refused) c.in-Err.ensures.unchanged
+    let number : c.number-number.result ≡ seat.number = c.number-number.ensures ∙ ap (λ (s : Seated). s.number) (sym c.take_part-content.ensures.seat) in
+    subst (λ (s : Seated). Rattle.lock_manager.specs.Requests.DecidesInPart c.args.kind s.number before c.args.tag.now c.args.mode (Ok Queued) (g.B.Board.view c.put_part-in-Ok-Queued.new.self)) c.take_part-content.ensures.seat
+    (queues-in_part seat.limit seat.number before (g.B.Board.view c.take_part-content.new.self) (g.B.Board.stack c.args.board.now) c.partition-part.result c.args.tag.now c.args.mode
+    taken put c.requires.idle c.partition-part.ensures.value c.take_part-content.ensures.view c.args.kind (g.B.Board.view c.set_waiting.new.self) (g.B.Board.view c.put_part-in-Ok-Queued.new.self)
+    (subst (λ (s : Seated). Rattle.lock_world.specs.AccountFacts.KnowsContent s.number before c.partition-part.result taken) (sym c.take_part-content.ensures.seat) c.take_part-content.ensures.knows)
+    c.set_waiting.ensures.view c.put_part-in-Ok-Queued.ensures.view
+    (subst (λ k. IsDecided c.args.kind taken k c.args.tag.now c.args.mode Queued put) number
+    (subst (λ d. IsDecided c.args.kind taken c.number-number.result c.args.tag.now c.args.mode d put) c.in-Ok-Queued.field-0-is c.in-Ok-Queued.ensures.decided)))

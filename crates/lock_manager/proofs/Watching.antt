@@ -1,0 +1,67 @@
+use Rattle.std.proofs.Common.{◌≡◌, ℕ, List, [], ◌∷◌, ◌++◌, Result, Ok, Err, refl, sym, ap, ◌∙◌, subst, append_assoc, append-nil, inl, inr}
+use Rattle.modes_core.specs.declared.modes.Mode.{Mode}
+use Rattle.modes_core.specs.declared.tags.Tag.{Tag}
+use Rattle.modes_core.specs.declared.refusals.Refusal.{Refusal}
+use Rattle.modes_core.specs.declared.refusals.Refusal.TheVariants.{Cancelled}
+use Rattle.lock_world.specs.declared.events.Word.TheVariants.{Wait}
+use Rattle.lock_world.specs.World.{TraceEntry, Loaded}
+use Rattle.lock_manager.specs.declared.waiting.Polled.{Polled}
+use Rattle.lock_manager.specs.declared.waiting.Polled.TheVariants.{Granted, Still, CancelAsked}
+use Rattle.lock_manager.specs.declared.waiting.Cancelled.TheVariants.{Removed, WasGranted}
+use Rattle.lock_manager.specs.Waiting.{polled_as, IsWatch, EndsWait, Waits, Cancels}
+
+-- A session that looks at its wait word again and again.
+
+-- So far it has seen neither a grant nor that it was asked to cancel.
+pub record IsWatching (number : ℕ) (before after : List TraceEntry) : Type 0 where
+  pub looks : List TraceEntry
+  pub watch : IsWatch number looks
+  pub trace : after ≡ before ++ looks
+
+pub watching-begins : (number : ℕ) (before : List TraceEntry) → IsWatching number before before
+watching-begins number before = record { looks = []; watch = tt; trace = sym (append-nil before) }
+
+watch-more : (number : ℕ) (looks : List TraceEntry) (shown : ℕ) → IsWatch number looks → polled_as shown ≡ Still → IsWatch number (looks ++ Loaded (Wait number) shown ∷ [])
+watch-more number [] shown watch still = (shown, refl, still, tt)
+watch-more number (entry ∷ looks) shown watch still = (watch.0, watch.1, watch.2, watch-more number looks shown watch.3 still)
+
+module _ (number : ℕ) (before now looked : List TraceEntry) (shown : ℕ) (so_far : IsWatching number before now) (loads : looked ≡ now ++ Loaded (Wait number) shown ∷ []) where
+  grown : looked ≡ before ++ so_far.looks ++ Loaded (Wait number) shown ∷ []
+  grown = loads ∙ ap (λ trace. trace ++ Loaded (Wait number) shown ∷ []) so_far.trace
+
+  -- It looks once more and goes on,
+  pub watching-next : (after : List TraceEntry) → after ≡ looked → polled_as shown ≡ Still → IsWatching number before after
+  watching-next after same still = record {
+    looks = so_far.looks ++ Loaded (Wait number) shown ∷ [];
+    watch = watch-more number so_far.looks shown so_far.watch still;
+    trace = same ∙ grown ∙ append_assoc before so_far.looks (Loaded (Wait number) shown ∷ []);
+  }
+
+  -- or its wait ends after that look,
+  wait-ends : (tag : Tag) (mode : Mode) (result : Result (Unit {0}) Refusal) (after : List TraceEntry) → EndsWait number looked tag mode shown result after
+      → Waits number before tag mode result after
+  wait-ends tag mode result after ends = record {
+    looks = so_far.looks;
+    watch = so_far.watch;
+    shown = shown;
+    ends = subst (λ trace. EndsWait number trace tag mode shown result after) {x = looked} {y = before ++ so_far.looks ++ Loaded (Wait number) shown ∷ []} grown ends;
+  }
+
+  -- by the grant that it showed,
+  pub ends-granted : (tag : Tag) (mode : Mode) (after : List TraceEntry) → polled_as shown ≡ Granted → after ≡ looked → Waits number before tag mode (Ok tt) after
+  ends-granted tag mode after granted same = wait-ends tag mode (Ok tt) after (inl (granted, same))
+
+  -- or by a cancel of its own, which finds the grant or the wait.
+  pub ends-found : (tag : Tag) (mode : Mode) (between after : List TraceEntry) → polled_as shown ≡ CancelAsked → between ≡ looked
+      → Cancels number between tag mode WasGranted after → Waits number before tag mode (Ok tt) after
+  ends-found tag mode between after asked same found =
+      wait-ends tag mode (Ok tt) after (inr (asked, subst (λ trace. Cancels number trace tag mode WasGranted after) {x = between} {y = looked} same found))
+
+  pub ends-cancelled : (tag : Tag) (mode : Mode) (between after : List TraceEntry) → polled_as shown ≡ CancelAsked → between ≡ looked
+      → Cancels number between tag mode Removed after → Waits number before tag mode (Err Cancelled) after
+  ends-cancelled tag mode between after asked same out =
+      wait-ends tag mode (Err Cancelled) after (asked, subst (λ trace. Cancels number trace tag mode Removed after) {x = between} {y = looked} same out)
+
+-- Looking on is another answer than the grant.
+pub still_not_granted : (◌≡◌ {A = Polled} Still Granted) → ⊥
+still_not_granted e = cc

@@ -1,0 +1,170 @@
+use Rattle.std.specs.Prelude.{◌≡◌, ◌⊎◌, ◌↔◌, ℕ, ◌==◌, Bool, true, false, List, [], ◌∷◌, ◌++◌, Result, Ok, Err, Some, None, if◌then◌else◌}
+use Rattle.modes_core.specs.declared.modes.Mode.{Mode}
+use Rattle.modes_core.specs.declared.tags.Tag.{Tag}
+use Rattle.modes_core.specs.declared.sessions.Owner.{Owner}
+use Rattle.modes_core.specs.declared.refusals.Refusal.{Refusal}
+use Rattle.modes_core.specs.declared.refusals.Refusal.TheVariants.{NoMemory, LocalFull, CountFull}
+use Rattle.modes_core.specs.declared.refusals.Refusal.TheVariants as refusal_
+use Rattle.modes_core.specs.Tag.{partition_of}
+use Rattle.local_locks.specs.declared.records.Entry.{Entry}
+use Rattle.local_locks.specs.Owned.{Owned, has_entry, with_one_more}
+use Rattle.lock_table.specs.Content.{Content}
+use Rattle.lock_table.specs.Content as content
+use Rattle.lock_table.specs.declared.moves.Move.TheVariants.{Leave}
+use Rattle.lock_table.specs.Moves.{Moves}
+use Rattle.lock_table.specs.Queue.{waits_there, some_awaits_conflict}
+use Rattle.wait_queue.specs.declared.requests.Kind.TheVariants as kind
+use Rattle.wait_queue.specs.declared.requests.Decision.TheVariants as decision
+use Rattle.lock_world.specs.declared.events.Word.TheVariants.{Wait}
+use Rattle.lock_world.specs.WaitWord.{wait_state, is_asked}
+use Rattle.lock_world.specs.World.{TraceEntry, Took, Episode, AskedToCancel, Loaded}
+use Rattle.lock_world.specs.Account.{Account}
+use Rattle.lock_world.specs.AccountSteps.{account_tracing, own_with}
+use Rattle.shared_rule.specs.Boards.{Seated}
+use Rattle.lock_manager.specs.declared.waiting.Started.{Started}
+use Rattle.lock_manager.specs.declared.waiting.Started.TheVariants.{Granted, AlreadyHeld, Queued}
+use Rattle.lock_manager.specs.declared.waiting.Asked.{Asked}
+use Rattle.lock_manager.specs.declared.waiting.Asked.TheVariants as asked
+use Rattle.lock_manager.specs.declared.waiting.Polled.{Polled}
+use Rattle.lock_manager.specs.declared.waiting.Polled.TheVariants as polled
+use Rattle.lock_manager.specs.declared.waiting.Cancelled.{Cancelled}
+use Rattle.lock_manager.specs.declared.waiting.Cancelled.TheVariants as cancelled
+use Rattle.lock_manager.specs.Rest.{counted_for, account_at_rest}
+use Rattle.lock_manager.specs.Requests.{Decides, counted_granted}
+
+-- Waits of a session, as its account and its trace have them.
+
+-- ---- a session that waits
+
+-- The account of a session that waits for the mode on the object, and is in no call: it is as one at rest, but for its wait,
+-- which was joined with the modes of the object that it has, and for the count of a strong mode.
+abbrev pub account_in_wait : ℕ → List Entry → Tag → Mode → List TraceEntry → Account
+account_in_wait limit entries tag mode trace = record (account_at_rest limit entries trace) {
+  awaited = Some (record { tag = tag; mode = mode; held = has_entry entries tag });
+  fast = record ((account_at_rest limit entries trace).fast) {
+    counted = counted_granted limit (counted_for limit entries) tag mode;
+  };
+}
+
+pub record IsWaiting (limit : ℕ) (a : Account) (stack : List ℕ) (entries : List Entry) (tag : Tag) (mode : Mode) : Type 0 where
+  pub account : a ≡ account_in_wait limit entries tag mode a.trace
+  pub no_entry : has_entry entries tag mode ≡ false
+  pub no_partition : stack ≡ []
+
+-- The same once it has loaded its wait word, which showed this: it has seen whether it was granted.
+pub record HasLooked (limit : ℕ) (a : Account) (stack : List ℕ) (entries : List Entry) (tag : Tag) (mode : Mode) (shown : ℕ) :
+    Type 0 where
+  pub account : a ≡ record (account_in_wait limit entries tag mode a.trace) { seen = wait_state shown == 2 }
+  pub no_entry : has_entry entries tag mode ≡ false
+  pub no_partition : stack ≡ []
+
+-- What of it a step in the middle of a call may count on: it has this wait, has not seen it granted, and has no word in hand.
+pub record IsInWait (a : Account) (stack : List ℕ) (tag : Tag) (mode : Mode) : Type 0 where
+  pub waits : a.awaited ≡ Some (record { tag = tag; mode = mode; held = a.own tag })
+  pub unseen : a.seen ≡ false
+  pub no_content : a.hand ≡ (λ _. None)
+  pub no_partition : stack ≡ []
+
+-- ---- an acquire that may wait
+
+-- the entries after it
+abbrev pub entries_started : Started → List Entry → Tag → Mode → Owner → List Entry
+entries_started Granted entries tag mode owner = with_one_more entries tag mode owner
+entries_started AlreadyHeld entries tag mode owner = with_one_more entries tag mode owner
+entries_started Queued entries tag mode owner = entries
+
+-- What joins the trace of an acquire that may wait, by its answer. One of a mode with an entry makes no step, nor does one
+-- that its own limits refuse, or want of memory for its entry. Every other one is decided.
+abbrev pub Starts : Seated → Owned → List TraceEntry → Tag → Mode → Result Started Refusal → List TraceEntry → Type 0
+Starts seat owned before tag mode (Ok AlreadyHeld) after = after ≡ before
+Starts seat owned before tag mode (Ok Granted) after = Decides kind.Waiting seat before tag mode (Ok decision.Granted) after
+Starts seat owned before tag mode (Ok Queued) after = Decides kind.Waiting seat before tag mode (Ok decision.Queued) after
+Starts seat owned before tag mode (Err CountFull) after = after ≡ before
+Starts seat owned before tag mode (Err LocalFull) after = after ≡ before
+Starts seat owned before tag mode (Err NoMemory) after =
+    ((has_entry owned.entries tag mode ≡ false) × (owned.room ≡ 0) × (after ≡ before))
+    ⊎ Decides kind.Waiting seat before tag mode (Err NoMemory) after
+Starts seat owned before tag mode (Err refusal) after = Decides kind.Waiting seat before tag mode (Err refusal) after
+
+-- ---- asking and looking
+
+-- The session asks another to cancel its wait, whose wait word showed this before, and says whether it waited.
+pub record Asks (a : Account) (other : ℕ) (answer : Asked) (b : Account) : Type 0 where
+  pub shown : ℕ
+  pub answered : (answer ≡ asked.Waiting) ↔ (wait_state shown ≡ 1)
+  pub account : b ≡ account_tracing a (AskedToCancel other shown)
+
+-- One episode in the object's partition, which leaves the content as it was taken, tells whether somebody awaits a mode in
+-- conflict with this one.
+pub record LooksForWaiters (before : List TraceEntry) (tag : Tag) (mode : Mode) (is_awaited : Bool) (after : List TraceEntry) : Type 0 where
+  pub taken : Content
+  pub answer : is_awaited ≡ some_awaits_conflict (taken.waits tag) mode
+  pub trace : after ≡ before ++ Took (partition_of tag) taken ∷ Episode (partition_of tag) taken taken ∷ []
+
+-- what a wait word tells its session
+abbrev pub polled_as : ℕ → Polled
+polled_as shown = if wait_state shown == 2 then polled.Granted else (if is_asked shown then polled.CancelAsked else polled.Still)
+
+-- One load of the own wait word gives the answer.
+pub record Polls (number : ℕ) (before : List TraceEntry) (answer : Polled) (after : List TraceEntry) : Type 0 where
+  pub shown : ℕ
+  pub answered : answer ≡ polled_as shown
+  pub trace : after ≡ before ++ Loaded (Wait number) shown ∷ []
+
+-- ---- taking a wait out
+
+-- One episode in the object's partition takes the session's wait out of the queue, and grants who may go then.
+pub record Leaves (number : ℕ) (before : List TraceEntry) (tag : Tag) (after : List TraceEntry) : Type 0 where
+  pub taken : Content
+  pub put : Content
+  pub granted : List content.Wait
+  pub moved : Moves taken number (Leave tag) granted put
+  pub trace : after ≡ before ++ Took (partition_of tag) taken ∷ Episode (partition_of tag) taken put ∷ []
+
+-- One episode finds that it was granted: the content, which is left as it was taken, has the hold, and no wait of the session.
+pub record FindsGrant (number : ℕ) (before : List TraceEntry) (tag : Tag) (mode : Mode) (after : List TraceEntry) : Type 0 where
+  pub taken : Content
+  pub gone : waits_there (taken.waits tag) number ≡ false
+  pub held : taken.holds number tag mode ≡ true
+  pub trace : after ≡ before ++ Took (partition_of tag) taken ∷ Episode (partition_of tag) taken taken ∷ []
+
+-- What joins the trace of a cancel, by its answer.
+abbrev pub Cancels : ℕ → List TraceEntry → Tag → Mode → Cancelled → List TraceEntry → Type 0
+Cancels number before tag mode cancelled.Removed after = Leaves number before tag after
+Cancels number before tag mode cancelled.WasGranted after = FindsGrant number before tag mode after
+
+-- the account once the wait is over, by how it ended
+abbrev pub account_cancelled : Account → Tag → Mode → Cancelled → List TraceEntry → Account
+account_cancelled a tag mode cancelled.Removed trace = record a { awaited = None; seen = false; trace = trace }
+account_cancelled a tag mode cancelled.WasGranted trace = record a {
+  own = own_with a.own tag mode true;
+  awaited = None;
+  seen = false;
+  trace = trace;
+}
+
+-- ---- waiting
+
+-- These are loads of the own wait word that show neither a grant nor that the session was asked to cancel.
+abbrev pub IsWatch : ℕ → List TraceEntry → Type 0
+IsWatch number [] = Unit {0}
+IsWatch number (entry ∷ entries) =
+    (shown : ℕ) × (entry ≡ Loaded (Wait number) shown) × (polled_as shown ≡ polled.Still) × IsWatch number entries
+
+-- How a wait ends, after the load that showed this: granted, or asked to cancel, which the session does itself; then it may
+-- find that the grant was first.
+abbrev pub EndsWait : ℕ → List TraceEntry → Tag → Mode → ℕ → Result (Unit {0}) Refusal → List TraceEntry → Type 0
+EndsWait number before tag mode shown (Ok done) after =
+    ((polled_as shown ≡ polled.Granted) × (after ≡ before))
+    ⊎ ((polled_as shown ≡ polled.CancelAsked) × Cancels number before tag mode cancelled.WasGranted after)
+EndsWait number before tag mode shown (Err refusal_.Cancelled) after =
+    (polled_as shown ≡ polled.CancelAsked) × Cancels number before tag mode cancelled.Removed after
+EndsWait number before tag mode shown (Err refusal) after = ⊥
+
+-- A whole wait: it looks before each sleep, and ends by what the last look showed.
+pub record Waits (number : ℕ) (before : List TraceEntry) (tag : Tag) (mode : Mode) (result : Result (Unit {0}) Refusal)
+    (after : List TraceEntry) : Type 0 where
+  pub looks : List TraceEntry
+  pub watch : IsWatch number looks
+  pub shown : ℕ
+  pub ends : EndsWait number (before ++ looks ++ Loaded (Wait number) shown ∷ []) tag mode shown result after

@@ -1,0 +1,179 @@
+use Rattle.std.specs.Prelude.{◌≡◌, ◌⊎◌, ℕ, List, Result, Ok, Err}
+use Rattle.modes_core.specs.declared.modes.Mode.{Mode}
+use Rattle.modes_core.specs.declared.tags.Tag.{Tag}
+use Rattle.modes_core.specs.declared.sessions.Owner.{Owner}
+use Rattle.modes_core.specs.declared.refusals.Refusal.{Refusal}
+use Rattle.local_locks.specs.declared.answers.Acquired.{Acquired}
+use Rattle.local_locks.specs.declared.answers.Acquired.TheVariants as acquired
+use Rattle.local_locks.specs.Owned.{Owned}
+use Rattle.lock_world.specs.World.{TraceEntry}
+use Rattle.lock_world.specs.Account.{Account}
+use Rattle.shared_rule.specs.Boards.{Seated}
+use Rattle.lock_manager.specs.declared.waiting.Started.{Started as Began}
+use Rattle.lock_manager.specs.declared.waiting.Started.TheVariants as began
+use Rattle.lock_manager.specs.declared.waiting.Polled.{Polled as Looked}
+use Rattle.lock_manager.specs.declared.waiting.Polled.TheVariants as looked
+use Rattle.lock_manager.specs.declared.waiting.Cancelled.{Cancelled as Ended}
+use Rattle.lock_manager.specs.declared.waiting.Cancelled.TheVariants as ended
+use Rattle.lock_manager.specs.declared.waits.Started.{Started}
+use Rattle.lock_manager.specs.declared.waits.Started.TheVariants as started
+use Rattle.lock_manager.specs.declared.waits.Locked.{Locked}
+use Rattle.lock_manager.specs.declared.waits.Locked.TheVariants as locked
+use Rattle.lock_manager.specs.declared.waits.Polled.{Polled}
+use Rattle.lock_manager.specs.declared.waits.Polled.TheVariants as polled
+use Rattle.lock_manager.specs.declared.waits.Cancelled.{Cancelled}
+use Rattle.lock_manager.specs.declared.waits.Cancelled.TheVariants as cancelled
+use Rattle.lock_manager.specs.declared.waits.Waited.{Waited}
+use Rattle.lock_manager.specs.declared.waits.Waited.TheVariants as waited
+use Rattle.lock_manager.specs.Sessions.{SessionView, IsResting}
+use Rattle.lock_manager.specs.Waiting.{IsWaiting, Starts, Waits}
+
+-- Sessions that wait, and answers with which a session comes back.
+
+-- What contracts see of a session that waits: its board, its database, what it owns, and what it waits for.
+pub record WaitingView (B : Type 0) : Type 0 where
+  pub board : B
+  pub database : ℕ
+  pub owned : Owned
+  pub tag : Tag
+  pub mode : Mode
+  pub owner : Owner
+
+-- ---- how an acquire that may wait began
+
+abbrev pub answer_started : {S W : Type 0} → Started S W → Result Began Refusal
+answer_started (started.Granted session) = Ok began.Granted
+answer_started (started.AlreadyHeld session) = Ok began.AlreadyHeld
+answer_started (started.Queued waiting) = Ok began.Queued
+answer_started (started.Refused session refusal) = Err refusal
+
+-- what the session that comes back has, whether it waits or not
+abbrev pub board_started : {B : Type 0} → Started (SessionView B) (WaitingView B) → B
+board_started (started.Granted session) = session.board
+board_started (started.AlreadyHeld session) = session.board
+board_started (started.Queued waiting) = waiting.board
+board_started (started.Refused session refusal) = session.board
+
+abbrev pub owned_started : {B : Type 0} → Started (SessionView B) (WaitingView B) → Owned
+owned_started (started.Granted session) = session.owned
+owned_started (started.AlreadyHeld session) = session.owned
+owned_started (started.Queued waiting) = waiting.owned
+owned_started (started.Refused session refusal) = session.owned
+
+-- P of the session that comes back, where it doesn't wait
+abbrev pub UnlessQueued : {S W : Type 0} → Started S W → (S → Type 0) → Type 0
+UnlessQueued (started.Granted session) P = P session
+UnlessQueued (started.AlreadyHeld session) P = P session
+UnlessQueued (started.Queued waiting) P = Unit {0}
+UnlessQueued (started.Refused session refusal) P = P session
+
+-- P of it where it waits
+abbrev pub IfQueued : {S W : Type 0} → Started S W → (W → Type 0) → Type 0
+IfQueued (started.Granted session) P = Unit {0}
+IfQueued (started.AlreadyHeld session) P = Unit {0}
+IfQueued (started.Queued waiting) P = P waiting
+IfQueued (started.Refused session refusal) P = Unit {0}
+
+-- ---- what a session that waits finds when it looks
+
+abbrev pub answer_polled : {S W : Type 0} → Polled S W → Looked
+answer_polled (polled.Granted session) = looked.Granted
+answer_polled (polled.Still waiting) = looked.Still
+answer_polled (polled.CancelAsked waiting) = looked.CancelAsked
+
+abbrev pub board_polled : {B : Type 0} → Polled (SessionView B) (WaitingView B) → B
+board_polled (polled.Granted session) = session.board
+board_polled (polled.Still waiting) = waiting.board
+board_polled (polled.CancelAsked waiting) = waiting.board
+
+-- P of the session that comes back, where its wait was granted
+abbrev pub IfGranted : {S W : Type 0} → Polled S W → (S → Type 0) → Type 0
+IfGranted (polled.Granted session) P = P session
+IfGranted (polled.Still waiting) P = Unit {0}
+IfGranted (polled.CancelAsked waiting) P = Unit {0}
+
+-- P of it where it still waits
+abbrev pub UnlessGranted : {S W : Type 0} → Polled S W → (W → Type 0) → Type 0
+UnlessGranted (polled.Granted session) P = Unit {0}
+UnlessGranted (polled.Still waiting) P = P waiting
+UnlessGranted (polled.CancelAsked waiting) P = P waiting
+
+-- ---- how a wait ended
+
+abbrev pub answer_cancelled : {S : Type 0} → Cancelled S → Ended
+answer_cancelled (cancelled.Removed session) = ended.Removed
+answer_cancelled (cancelled.WasGranted session) = ended.WasGranted
+
+abbrev pub session_cancelled : {S : Type 0} → Cancelled S → S
+session_cancelled (cancelled.Removed session) = session
+session_cancelled (cancelled.WasGranted session) = session
+
+abbrev pub answer_waited : {S : Type 0} → Waited S → Result (Unit {0}) Refusal
+answer_waited (waited.Granted session) = Ok tt
+answer_waited (waited.Refused session refusal) = Err refusal
+
+abbrev pub session_waited : {S : Type 0} → Waited S → S
+session_waited (waited.Granted session) = session
+session_waited (waited.Refused session refusal) = session
+
+-- ---- an acquire that waits as long as it must
+
+abbrev pub answer_locked : {S : Type 0} → Locked S → Result Acquired Refusal
+answer_locked (locked.Granted session) = Ok acquired.Granted
+answer_locked (locked.AlreadyHeld session) = Ok acquired.AlreadyHeld
+answer_locked (locked.Refused session refusal) = Err refusal
+
+abbrev pub session_locked : {S : Type 0} → Locked S → S
+session_locked (locked.Granted session) = session
+session_locked (locked.AlreadyHeld session) = session
+session_locked (locked.Refused session refusal) = session
+
+-- The request was queued, and its wait ended so.
+pub record QueuesAndWaits (seat : Seated) (owned : Owned) (before : List TraceEntry) (tag : Tag) (mode : Mode)
+    (result : Result (Unit {0}) Refusal) (after : List TraceEntry) : Type 0 where
+  pub queued : List TraceEntry
+  pub starts : Starts seat owned before tag mode (Ok began.Queued) queued
+  pub waits : Waits seat.number queued tag mode result after
+
+-- What joins its trace, by its answer: it is answered at once as one that may wait, or after its wait.
+abbrev pub Locks : Seated → Owned → List TraceEntry → Tag → Mode → Result Acquired Refusal → List TraceEntry → Type 0
+Locks seat owned before tag mode (Ok acquired.AlreadyHeld) after = Starts seat owned before tag mode (Ok began.AlreadyHeld) after
+Locks seat owned before tag mode (Ok acquired.Granted) after =
+    Starts seat owned before tag mode (Ok began.Granted) after ⊎ QueuesAndWaits seat owned before tag mode (Ok tt) after
+Locks seat owned before tag mode (Err refusal) after =
+    Starts seat owned before tag mode (Err refusal) after ⊎ QueuesAndWaits seat owned before tag mode (Err refusal) after
+
+-- ---- sessions by what their boards show
+
+module _ {B : Type 0} (seat : B → Seated) (view : B → Account) (stack : B → List ℕ) where
+  -- The session waits, and is in no call.
+  abbrev pub IsInQueue : WaitingView B → Type 0
+  IsInQueue waiting =
+      IsWaiting (seat waiting.board).limit (view waiting.board) (stack waiting.board) waiting.owned.entries waiting.tag waiting.mode
+
+  -- It is the same session, which has begun to wait for this.
+  pub record HasBegun (old : SessionView B) (tag : Tag) (mode : Mode) (owner : Owner) (new : WaitingView B) : Type 0 where
+    pub seat_ : seat new.board ≡ seat old.board
+    pub database : new.database ≡ old.database
+    pub max_local : new.owned.max_local ≡ old.owned.max_local
+    pub tag_ : new.tag ≡ tag
+    pub mode_ : new.mode ≡ mode
+    pub owner_ : new.owner ≡ owner
+    pub waits : IsInQueue new
+
+  -- It is the same session in the same wait, and owns what it owned.
+  pub record WaitsOn (old new : WaitingView B) : Type 0 where
+    pub seat_ : seat new.board ≡ seat old.board
+    pub database : new.database ≡ old.database
+    pub owned : new.owned ≡ old.owned
+    pub tag_ : new.tag ≡ old.tag
+    pub mode_ : new.mode ≡ old.mode
+    pub owner_ : new.owner ≡ old.owner
+    pub waits : IsInQueue new
+
+  -- It is the same session, whose wait is over, and which is in no call.
+  pub record HasEnded (old : WaitingView B) (new : SessionView B) : Type 0 where
+    pub seat_ : seat new.board ≡ seat old.board
+    pub database : new.database ≡ old.database
+    pub max_local : new.owned.max_local ≡ old.owned.max_local
+    pub rest : IsResting seat view stack new
