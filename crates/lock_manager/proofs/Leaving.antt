@@ -13,9 +13,9 @@ use Rattle.lock_table.specs.Waiter.{whose_and_mode}
 use Rattle.lock_table.proofs.PutLemmas.{set_at-here, set_at-same, set_at-twice}
 use Rattle.lock_world.specs.Account.{Account, InHand}
 use Rattle.lock_world.specs.AccountFacts.{KnowsContent}
-use Rattle.lock_world.specs.AccountLaw.{MayMoveBy, MayLeaveBy}
+use Rattle.lock_world.specs.AccountLaw.{MayLeaveBy}
 use Rattle.lock_world.specs.AccountSteps.{account_taking, account_putting, account_clearing, hand_recording, own_with}
-use Rattle.lock_world.specs.World.{TraceEntry, Took, Episode}
+use Rattle.lock_world.specs.World.{Took, Episode}
 use Rattle.shared_rule.specs.Boards.{Seated}
 use Rattle.shared_rule.specs.History.{taken_of, in_hand, is_among, sessions_told, is_granted, account_cleared, account_left}
 use Rattle.shared_rule.specs.Lawful.{MayPutPart, MayClearBy}

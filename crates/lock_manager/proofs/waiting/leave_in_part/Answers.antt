@@ -1,4 +1,4 @@
-use Rattle.std.proofs.Common.{◌≡◌, ◌∙◌, ℕ, Bool, true, false, List, refl, sym, ap, subst}
+use Rattle.std.proofs.Common.{◌≡◌, ◌∙◌, false, List, refl, sym, subst}
 use Rattle.std.specs.Prelude.{map}
 use Rattle.std.specs.Bool.{OnTrue, OnFalse}
 use Rattle.lock_table.specs.declared.moves.Move.TheVariants.{Leave}
@@ -10,7 +10,7 @@ use Rattle.lock_table.specs.Waiter.{whose_and_mode}
 use Rattle.shared_rule.specs.Boards.{Seated}
 use Rattle.shared_rule.specs.History.{account_cleared}
 use Rattle.shared_rule.specs.Lawful.{MayClearBy}
-use Rattle.lock_manager.proofs.Leaving.{not_there, still_there, may_clear_gone, may_put-over, over-steps, over-account, may_leave, leave-tells, left-steps, left-account}
+use Rattle.lock_manager.proofs.Leaving.{not_there, still_there, may_clear_gone, may_put-over, over-steps, over-account, may_leave, leave-tells}
 use Rattle.lock_manager.proofs.waiting.leave_in_part.Goals as goal
 
 -- Where it was granted.
