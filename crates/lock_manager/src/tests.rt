@@ -1,3 +1,7 @@
+//! Tests of sessions and their manager.
+
+mod waits;
+
 use crate::{Acquired, Config, Manager, Mode, Owner, Tag, Unlocked};
 use std::process::Abort;
 use std::test::Fail;
