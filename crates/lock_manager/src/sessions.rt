@@ -33,7 +33,9 @@ pub(crate) struct Own {
     pub(crate) alloc: Global,
 }
 
-/// A session, over any board and any keeper of the partitions. Contracts see its board, its database, and what it owns.
+/// A session, over any board and any keeper of the partitions. Contracts see its board, its database, and what it owns. It
+/// ends by `close`; one that is let go leaves its holds and its number taken for ever.
+#[derive(Drop)]
 pub struct OwnSession<T: PartTable, B: Board<T>> {
     board: B,
     own: Box<Own>,
