@@ -61,7 +61,7 @@ fn tell<R: Threads + Wait + Sync>(rt: &R, alloc: Global) -> Result<Story, Refusa
     let mut migration = match opener.session(&manager, 5) {
         Ok(session) => session,
         Err(refusal) => {
-            // The compiler lets no session be dropped, so the first one is closed before the return.
+            // A session that is let go keeps its holds and number for ever: close it before the return.
             worker.close(rt, &mut opener);
             return Err(refusal);
         }
