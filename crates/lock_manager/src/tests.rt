@@ -1,3 +1,12 @@
+//! Tests of sessions and their manager.
+
+mod answers;
+mod limits;
+mod listings;
+mod owners;
+mod strong;
+mod threads;
+
 use crate::{Acquired, Config, Manager, Mode, Owner, Tag, Unlocked};
 use std::process::Abort;
 use std::test::Fail;
