@@ -1,5 +1,11 @@
 //! Tests of sessions and their manager.
 
+mod answers;
+mod limits;
+mod listings;
+mod owners;
+mod strong;
+mod threads;
 mod waits;
 
 use crate::{Acquired, Config, Manager, Mode, Owner, Tag, Unlocked};
