@@ -58,3 +58,30 @@ pub fn keys(
     }
     Ok(made)
 }
+
+/// The same objects in this mode.
+pub fn in_mode(alloc: Global, keys: &[Key], mode: Mode) -> Result<Vec<Key>, AllocError> {
+    let mut made = Vec::new(alloc);
+    for (tag, _) in keys {
+        made.push((*tag, mode))?;
+    }
+    Ok(made)
+}
+
+/// Objects of one partition in AccessShareLock, so many at most, by numbers from this one on.
+pub fn keys_of_partition(
+    alloc: Global,
+    database: u32,
+    partition: u8,
+    from: u32,
+    count: usize,
+) -> Result<Vec<Key>, AllocError> {
+    let mut made = Vec::new(alloc);
+    for step in 0..10_000u32 {
+        let (tag, mode) = key(Kind::Objects, database, from.wrapping_add(step));
+        if made.len() < count && tag.partition() == partition {
+            made.push((tag, mode))?;
+        }
+    }
+    Ok(made)
+}

@@ -1,7 +1,7 @@
 use crate::bed::{Bed, ROWS, Row};
 use crate::keys::{Key, Kind, keys};
 use crate::loops::{acquire_all, end_all};
-use crate::rounds::{ROUNDS, Spread, Times, cpu_nanos};
+use crate::rounds::{ROUNDS, Spread, Times, cpu_nanos, print_ratio};
 use anyhow::Result;
 use local_locks::{End, LocalTable};
 use modes_core::Owner;
@@ -77,18 +77,6 @@ fn spread_of(spreads: &[(Row, Spread)], row: Row) -> Spread {
 /// The row's time with that of its empty loop taken off.
 fn above_empty(spreads: &[(Row, Spread)], row: Row) -> Spread {
     spread_of(spreads, row).above(spread_of(spreads, row.empty()))
-}
-
-fn print_ratio<R: Print>(rt: &R, what: &str, part: Spread, whole: Spread) -> Result<()> {
-    let (median, least) = part.hundredths_of(whole);
-    println!(rt;
-        "        {what:<44} {}.{:02} (smallest: {}.{:02})",
-        median / 100,
-        median % 100,
-        least / 100,
-        least % 100
-    )?;
-    Ok(())
 }
 
 fn print_size<R: CpuClock + AllocGlobal + Print>(

@@ -1,19 +1,25 @@
 use anyhow::Result;
 use std::alloc::{AllocError, Global};
 use std::fmt;
-use std::time::CpuClock;
+use std::time::{Clock, CpuClock, Duration};
 
 /// How often each time is taken.
 pub const ROUNDS: u32 = 15;
 
 /// The processor time that this thread has used, in nanoseconds.
 pub fn cpu_nanos(rt: &impl CpuClock) -> Result<u64> {
-    let used = rt.thread_cpu_time()?;
-    Ok(
-        used.as_secs()
-            .saturating_mul(1_000_000_000)
-            .saturating_add(u64::from(used.subsec_nanos())),
-    )
+    Ok(nanos(rt.thread_cpu_time()?))
+}
+
+/// The time by the clock on the wall, in nanoseconds since some start.
+pub fn wall_nanos(rt: &impl Clock) -> Result<u64> {
+    Ok(nanos(rt.monotonic()?))
+}
+
+fn nanos(time: Duration) -> u64 {
+    time.as_secs()
+        .saturating_mul(1_000_000_000)
+        .saturating_add(u64::from(time.subsec_nanos()))
 }
 
 /// The times of several rounds, each in tenths of a nanosecond for one step.
@@ -94,4 +100,17 @@ impl fmt::Display for Spread {
         write!(f, " ({}.{}", least / 10, least % 10)?;
         write!(f, " to {}.{})", most / 10, most % 10)
     }
+}
+
+/// Prints what part one time is of another.
+pub fn print_ratio<R: Print>(rt: &R, what: &str, part: Spread, whole: Spread) -> Result<()> {
+    let (median, least) = part.hundredths_of(whole);
+    println!(rt;
+        "        {what:<44} {}.{:02} (smallest: {}.{:02})",
+        median / 100,
+        median % 100,
+        least / 100,
+        least % 100
+    )?;
+    Ok(())
 }

@@ -1,0 +1,88 @@
+//! The loops over a session's calls that are timed.
+
+ghost use Rattle.std.specs.Prelude.{◌≡◌};
+
+use crate::keys::Key;
+use crate::rounds::cpu_nanos;
+use crate::session_doors::{commit, try_lock, unlock};
+use anyhow::Result;
+use lock_manager::OwnSession;
+use lock_table::PlainPart;
+use modes_core::{Owner, Refusal};
+use shared_rule::board::Board;
+use std::sync::Wait;
+use std::time::CpuClock;
+
+/// Takes each and releases it at once.
+pub fn lock_pairs<B: Board<PlainPart>, R: Wait>(
+    rt: &R,
+    session: &mut OwnSession<PlainPart, B>,
+    keys: &[Key],
+    owner: Owner,
+    laps: u32,
+) -> Result<(), Refusal>
+    ensures seat { B.seat session.new.board ≡ B.seat session.old.board }
+{
+    'laps: for _ in 0..laps {
+        'keys: for (tag, mode) in keys {
+            try_lock(rt, session, *tag, *mode, owner)?;
+            unlock(rt, session, *tag, *mode, owner)?;
+        }
+    }
+    Ok(())
+}
+
+/// Takes each.
+pub fn lock_all<B: Board<PlainPart>, R: Wait>(
+    rt: &R,
+    session: &mut OwnSession<PlainPart, B>,
+    keys: &[Key],
+    owner: Owner,
+) -> Result<(), Refusal>
+    ensures seat { B.seat session.new.board ≡ B.seat session.old.board }
+{
+    'keys: for (tag, mode) in keys {
+        try_lock(rt, session, *tag, *mode, owner)?;
+    }
+    Ok(())
+}
+
+/// Asks for each, and gives how many were refused.
+pub fn count_refused<B: Board<PlainPart>, R: Wait>(
+    rt: &R,
+    session: &mut OwnSession<PlainPart, B>,
+    keys: &[Key],
+    owner: Owner,
+    laps: u32,
+) -> u64
+    ensures seat { B.seat session.new.board ≡ B.seat session.old.board }
+{
+    let mut refused = 0u64;
+    'laps: for _ in 0..laps {
+        'keys: for (tag, mode) in keys {
+            let answer = try_lock(rt, session, *tag, *mode, owner);
+            refused = refused.wrapping_add(u64::from(answer.is_err()));
+        }
+    }
+    refused
+}
+
+/// Takes all and commits, over and over; gives the nanoseconds of the commits alone.
+pub fn lock_and_commit<B: Board<PlainPart>, R: Wait + CpuClock>(
+    rt: &R,
+    session: &mut OwnSession<PlainPart, B>,
+    keys: &[Key],
+    laps: u32,
+) -> Result<u64>
+    ensures seat { B.seat session.new.board ≡ B.seat session.old.board }
+{
+    let mut taken = 0u64;
+    'laps: for _ in 0..laps {
+        lock_all(rt, session, keys, Owner::Transaction)?;
+        let from = cpu_nanos(rt)?;
+        commit(rt, session);
+        let to = cpu_nanos(rt)?;
+        taken = taken.wrapping_add(to.saturating_sub(from));
+    }
+    Ok(taken)
+}

@@ -1,0 +1,94 @@
+//! What the lock manager is compared with: a hash map of how often each object is held in each mode, under one lock.
+use crate::keys::Key;
+use crate::rounds::cpu_nanos;
+use anyhow::Result;
+use modes_core::{Mode, Tag};
+use std::alloc::AllocError;
+use std::collections::HashMap;
+use std::sync::{Mutex, Wait};
+use std::time::CpuClock;
+
+pub type SharedMap = Mutex<HashMap<(Tag, Mode), u32>>;
+
+#[inline(never)]
+fn count<R: Wait>(rt: &R, map: &SharedMap, tag: Tag, mode: Mode) -> Result<(), AllocError> {
+    let mut held = map.lock(rt);
+    if let Some(count) = held.get_mut(&(tag, mode)) {
+        *count = count.wrapping_add(1);
+        return Ok(());
+    }
+    held.insert((tag, mode), 1)?;
+    Ok(())
+}
+
+#[inline(never)]
+fn uncount<R: Wait>(rt: &R, map: &SharedMap, tag: Tag, mode: Mode) {
+    let mut held = map.lock(rt);
+    if let Some(count) = held.get_mut(&(tag, mode)) {
+        if *count > 1 {
+            *count = count.wrapping_sub(1);
+            return;
+        }
+    }
+    held.remove(&(tag, mode));
+}
+
+#[inline(never)]
+fn is_held<R: Wait>(rt: &R, map: &SharedMap, tag: Tag, mode: Mode) -> bool {
+    map.lock(rt).contains_key(&(tag, mode))
+}
+
+/// Counts each once more, and once less at once.
+pub fn map_pairs<R: Wait>(
+    rt: &R,
+    map: &SharedMap,
+    keys: &[Key],
+    laps: u32,
+) -> Result<(), AllocError> {
+    for _ in 0..laps {
+        for (tag, mode) in keys {
+            count(rt, map, *tag, *mode)?;
+            uncount(rt, map, *tag, *mode);
+        }
+    }
+    Ok(())
+}
+
+/// Counts each once more.
+pub fn map_all<R: Wait>(rt: &R, map: &SharedMap, keys: &[Key]) -> Result<(), AllocError> {
+    for (tag, mode) in keys {
+        count(rt, map, *tag, *mode)?;
+    }
+    Ok(())
+}
+
+/// Looks each up, and gives how many are held.
+pub fn count_held<R: Wait>(rt: &R, map: &SharedMap, keys: &[Key], laps: u32) -> u64 {
+    let mut held = 0u64;
+    for _ in 0..laps {
+        for (tag, mode) in keys {
+            held = held.wrapping_add(u64::from(is_held(rt, map, *tag, *mode)));
+        }
+    }
+    held
+}
+
+/// Counts all once more and once less, over and over; gives the nanoseconds of the latter alone.
+pub fn map_and_uncount<R: Wait + CpuClock>(
+    rt: &R,
+    map: &SharedMap,
+    keys: &[Key],
+    laps: u32,
+) -> Result<u64> {
+    let mut taken = 0u64;
+    for _ in 0..laps {
+        map_all(rt, map, keys)?;
+        let from = cpu_nanos(rt)?;
+        for (tag, mode) in keys {
+            uncount(rt, map, *tag, *mode);
+        }
+        let to = cpu_nanos(rt)?;
+        taken = taken.wrapping_add(to.saturating_sub(from));
+    }
+    Ok(taken)
+}

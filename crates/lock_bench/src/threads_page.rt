@@ -1,0 +1,197 @@
+//! The page of threads.
+
+ghost use Rattle.std.specs.Prelude.{◌≡◌};
+
+use crate::crew::{Crew, Job, on_map};
+use crate::keys::{Key, keys_of_partition};
+use crate::rounds::{ROUNDS, Times, print_ratio, wall_nanos};
+use crate::shared_map::SharedMap;
+use anyhow::Result;
+use lock_manager::{Config, Manager};
+use lock_table::PlainPart;
+use modes_core::Owner;
+use shared_rule::board::Board;
+use std::alloc::{AllocError, Global};
+use std::collections::HashMap;
+use std::sync::{Mutex, Wait};
+use std::thread::Threads;
+use std::time::Clock;
+
+/// What the threads take.
+#[derive(Clone, Copy, Debug, PartialEq, Eq)]
+enum Case {
+    OneObject,
+    OnePartition,
+    OwnPartitions,
+}
+
+const CASES: [Case; 3] = [Case::OneObject, Case::OnePartition, Case::OwnPartitions];
+
+/// How many threads there are.
+const THREADS: [u32; 3] = [1, 2, 4];
+
+/// How many objects a thread has of its own.
+const OWN_KEYS: usize = 16;
+
+/// How many steps a thread has in a round.
+const STEPS: u32 = 100_000;
+
+impl Case {
+    fn name(self) -> &'static str {
+        match self {
+            Case::OneObject => "one object for all",
+            Case::OnePartition => "own objects in one partition",
+            Case::OwnPartitions => "own objects in own partitions",
+        }
+    }
+
+    /// What the thread with this number takes.
+    fn keys(self, alloc: Global, database: u32, thread: u8) -> Result<Vec<Key>, AllocError> {
+        let from = u32::from(thread) * 10_000;
+        match self {
+            Case::OneObject => keys_of_partition(alloc, database, 0, 0, 1),
+            Case::OnePartition => keys_of_partition(alloc, database, 0, from, OWN_KEYS),
+            Case::OwnPartitions => keys_of_partition(alloc, database, thread, from, OWN_KEYS),
+        }
+    }
+
+    /// The work of four threads, of which each has so many steps.
+    fn job(
+        self,
+        alloc: Global,
+        database: u32,
+        owner: Owner,
+        steps: u32,
+    ) -> Result<Job, AllocError> {
+        let mut keys = Vec::new(alloc);
+        for thread in 0..4u8 {
+            keys.push(self.keys(alloc, database, thread)?)?;
+        }
+        let laps = match self {
+            Case::OneObject => steps,
+            _ => steps / 16,
+        };
+        Ok(Job { keys, owner, laps })
+    }
+
+    /// How many steps a thread has with so many laps.
+    fn steps(self, laps: u32) -> u64 {
+        match self {
+            Case::OneObject => u64::from(laps),
+            _ => u64::from(laps) * 16,
+        }
+    }
+}
+
+/// Times rounds of the sessions' work and of the same work on the map, in turn.
+fn print_case<B: Board<PlainPart> + Send, R: Threads + Wait + Clock + AllocGlobal + Print + Sync>(
+    rt: &R,
+    crew: &mut Crew<B>,
+    job: &Job,
+    case: Case,
+    threads: u32,
+) -> Result<()>
+    ensures first { B.seat crew.new.first.board ≡ B.seat crew.old.first.board }
+    ensures second { B.seat crew.new.second.board ≡ B.seat crew.old.second.board }
+    ensures third { B.seat crew.new.third.board ≡ B.seat crew.old.third.board }
+    ensures fourth { B.seat crew.new.fourth.board ≡ B.seat crew.old.fourth.board }
+{
+    let map: SharedMap = Mutex::new(HashMap::new(rt.alloc()));
+    let acquires = case.steps(job.laps).wrapping_mul(u64::from(threads));
+    let mut of_crew = Times::new(rt.alloc());
+    let mut of_map = Times::new(rt.alloc());
+    'rounds: for _ in 0..ROUNDS {
+        let from = wall_nanos(rt)?;
+        crew.work(rt, job, threads);
+        let between = wall_nanos(rt)?;
+        on_map(rt, &map, job, threads);
+        let to = wall_nanos(rt)?;
+        of_crew.add(from, between, acquires)?;
+        of_map.add(between, to, acquires)?;
+    }
+    let name = case.name();
+    let of_crew = of_crew.spread();
+    let of_map = of_map.spread();
+    println!(rt; "        {name:<42} {of_crew}")?;
+    println!(rt; "        {:<42} {of_map}", "the same on a map in a mutex")?;
+    print_ratio(rt, "to that", of_crew, of_map)
+}
+
+/// The same once, and what it leaves.
+fn check_case<B: Board<PlainPart> + Send, R: Threads + Wait + AllocGlobal + Print + Sync>(
+    rt: &R,
+    crew: &mut Crew<B>,
+    job: &Job,
+    case: Case,
+    threads: u32,
+) -> Result<()>
+    ensures first { B.seat crew.new.first.board ≡ B.seat crew.old.first.board }
+    ensures second { B.seat crew.new.second.board ≡ B.seat crew.old.second.board }
+    ensures third { B.seat crew.new.third.board ≡ B.seat crew.old.third.board }
+    ensures fourth { B.seat crew.new.fourth.board ≡ B.seat crew.old.fourth.board }
+{
+    let map: SharedMap = Mutex::new(HashMap::new(rt.alloc()));
+    let acquires = case.steps(job.laps).wrapping_mul(u64::from(threads));
+    let granted = crew.work(rt, job, threads);
+    let counted = on_map(rt, &map, job, threads);
+    let left = crew.holds(rt)?;
+    let name = case.name();
+    println!(rt;
+        "        {name}: {acquires} acquires, granted {granted}, counted {counted}, holds {left}"
+    )?;
+    Ok(())
+}
+
+/// All cases, in one, two and four threads.
+fn print_crew<B: Board<PlainPart> + Send, R: Threads + Wait + Clock + AllocGlobal + Print + Sync>(
+    rt: &R,
+    crew: &mut Crew<B>,
+    database: u32,
+    owner: Owner,
+    check: bool,
+) -> Result<()>
+    ensures first { B.seat crew.new.first.board ≡ B.seat crew.old.first.board }
+    ensures second { B.seat crew.new.second.board ≡ B.seat crew.old.second.board }
+    ensures third { B.seat crew.new.third.board ≡ B.seat crew.old.third.board }
+    ensures fourth { B.seat crew.new.fourth.board ≡ B.seat crew.old.fourth.board }
+{
+    let steps = if check { 1_600 } else { STEPS };
+    'threads: for threads in THREADS {
+        println!(rt; "threads: {threads}")?;
+        'cases: for case in CASES {
+            let job = case.job(rt.alloc(), database, owner, steps)?;
+            if check {
+                check_case(rt, crew, &job, case, threads)?;
+            } else {
+                print_case(rt, crew, &job, case, threads)?;
+            }
+        }
+    }
+    Ok(())
+}
+
+/// Prints the table of times, or with `check` what the same steps leave.
+pub fn print<R: Threads + Wait + Clock + AllocGlobal + Print + Sync>(
+    rt: &R,
+    database: u32,
+    owner: Owner,
+    check: bool,
+) -> Result<()> {
+    if check {
+        println!(rt; "lock manager in threads")?;
+    } else {
+        println!(rt;
+            "lock manager in threads: nanoseconds by the clock for an acquire with its release, over all threads, median of {ROUNDS} rounds (smallest to largest)"
+        )?;
+    }
+    let config = Config {
+        sessions: 4,
+        max_local: 1_024,
+    };
+    let (manager, mut opener) = Manager::new(rt.alloc(), config)?;
+    let mut crew = Crew::open(rt, &manager, &mut opener, database)?;
+    let printed = print_crew(rt, &mut crew, database, owner, check);
+    crew.close(rt, &mut opener);
+    manager.finish(opener);
+    printed
+}
