@@ -3,6 +3,7 @@
 mod answers;
 mod limits;
 mod listings;
+mod memory;
 mod owners;
 mod strong;
 mod threads;

@@ -1,9 +1,11 @@
 //! What a manager, its opener and a session refuse at their limits.
 
-ghost use Rattle.std.specs.Prelude.{◌≡◌};
+ghost use Rattle.std.specs.Prelude.{◌≡◌, ◌+◌};
 ghost use Rattle.lock_manager.specs.Managers.{IsOpenerOf};
 
-use crate::{Acquired, Config, Manager, Mode, Opener, Owner, Refusal, Tag, Unlocked};
+use crate::{Acquired, Config, Manager, Mode, Opener, OwnSession, Owner, Refusal, Tag, Unlocked};
+use lock_table::PartTable;
+use shared_rule::board::Board;
 use std::process::Abort;
 use std::sync::Wait;
 use std::test::Fail;
@@ -48,6 +50,55 @@ fn refusal_of_opening<R: Wait>(rt: &R, manager: &Manager, opener: &mut Opener) -
         }
         Err(refusal) => Some(refusal),
     }
+}
+
+// Opens as many sessions, each while those before it are open, with the numbers from this one on; sees that there is
+// no further one; and closes them, the last one first.
+fn open_all<R: Abort + Wait>(rt: &R, manager: &Manager, opener: &mut Opener, number: u8, left: u8)
+    requires own { IsOpenerOf opener.old manager.now }
+    requires room { number + left ≡ 64 }
+    ensures own { IsOpenerOf opener.new manager.now }
+    ensures live { opener.new.live ≡ opener.old.live }
+{
+    assert_eq!(rt; opener.live(), u32::from(number));
+    if left == 0 {
+        let refused = refusal_of_opening(rt, manager, opener);
+        assert_eq!(rt; refused, Some(Refusal::NoMoreSessions));
+        assert_eq!(rt; opener.live(), u32::from(number), "the opener is as before");
+        return;
+    }
+    let mut session = opener.session(manager, 1).expect(rt, "a session is left");
+    assert_eq!(rt; session.id().number(), number);
+    let mode = Mode::AccessShare;
+    assert_eq!(rt;
+        session.try_lock(rt, TABLE, mode, Owner::Session),
+        Ok(Acquired::Granted)
+    );
+    open_all(rt, manager, opener, number + 1, left - 1);
+    assert_eq!(rt;
+        session.unlock(rt, TABLE, mode, Owner::Session),
+        Ok(Unlocked::Released)
+    );
+    session.close(rt, opener);
+}
+
+#[test]
+fn sixty_four_sessions_are_opened_at_a_time_and_no_other(rt: HostRuntime) -> Result<(), Fail> {
+    let config = Config {
+        sessions: 64,
+        max_local: 1,
+    };
+    let (manager, mut opener) = Manager::new(rt.alloc(), config)?;
+    open_all(&rt, &manager, &mut opener, 0, 64);
+    assert_eq!(rt; opener.live(), 0);
+    let refused = refusal_of_opening(&rt, &manager, &mut opener);
+    assert_eq!(rt;
+        refused,
+        Some(Refusal::NoMoreSessions),
+        "no number is given out again"
+    );
+    manager.finish(opener);
+    Ok(())
 }
 
 #[test]
@@ -116,6 +167,56 @@ fn a_session_has_no_more_entries_than_it_was_made_for(rt: HostRuntime) -> Result
         session.try_lock(&rt, TABLE, Mode::Exclusive, owner),
         Ok(Acquired::Granted)
     );
+    session.close(&rt, &mut opener);
+    manager.finish(opener);
+    Ok(())
+}
+
+// Acquires a mode that the session has once already for the transaction as often as can be counted.
+fn count_to_the_last<T: PartTable, B: Board<T>, R: Abort + Wait>(
+    rt: &R,
+    session: &mut OwnSession<T, B>,
+    mode: Mode,
+)
+    ensures { B.seat session.new.board ≡ B.seat session.old.board }
+{
+    for _ in 1..u16::MAX {
+        let again = session.try_lock(rt, TABLE, mode, Owner::Transaction);
+        assert_eq!(rt; again, Ok(Acquired::AlreadyHeld));
+    }
+}
+
+#[test]
+fn an_owner_counts_to_65_535_and_no_further(rt: HostRuntime) -> Result<(), Fail> {
+    let config = Config {
+        sessions: 1,
+        max_local: 1,
+    };
+    let (manager, mut opener) = Manager::new(rt.alloc(), config)?;
+    let mut session = opener.session(&manager, 1).expect(&rt, "a session");
+    let mode = Mode::Exclusive;
+    let granted = session.try_lock(&rt, TABLE, mode, Owner::Transaction);
+    assert_eq!(rt; granted, Ok(Acquired::Granted));
+    count_to_the_last(&rt, &mut session, mode);
+    let full = session.try_lock(&rt, TABLE, mode, Owner::Transaction);
+    assert_eq!(rt; full, Err(Refusal::CountFull));
+    assert_eq!(rt;
+        session.owner_count(TABLE, mode, Owner::Transaction),
+        u16::MAX
+    );
+    let for_session = session.try_lock(&rt, TABLE, mode, Owner::Session);
+    assert_eq!(rt;
+        for_session,
+        Ok(Acquired::AlreadyHeld),
+        "each owner counts for itself"
+    );
+    let one_less = session.unlock(&rt, TABLE, mode, Owner::Transaction);
+    assert_eq!(rt; one_less, Ok(Unlocked::StillHeld));
+    let once_more = session.try_lock(&rt, TABLE, mode, Owner::Transaction);
+    assert_eq!(rt; once_more, Ok(Acquired::AlreadyHeld));
+    session.commit(&rt);
+    assert_eq!(rt; session.owner_count(TABLE, mode, Owner::Transaction), 0);
+    assert_eq!(rt; session.owner_count(TABLE, mode, Owner::Session), 1);
     session.close(&rt, &mut opener);
     manager.finish(opener);
     Ok(())
