@@ -15,7 +15,7 @@ pub use listing::Listing;
 pub use local_locks::{Acquired, Unlocked};
 pub use lock_table::{SlotRow, TableRow};
 pub use manager::{Final, Manager, Opener};
-pub use modes_core::{Mode, ModeSet, Owner, Refusal, SessionId, Tag};
+pub use modes_core::{How, Mode, ModeSet, Owner, Refusal, SessionId, Tag};
 pub use sessions::{OwnSession, Session};
 pub use waiting::Asked;
 pub use waits::{Cancelled, Locked, OwnWaiting, Polled, Started, Waited, Waiting};
