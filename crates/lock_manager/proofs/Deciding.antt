@@ -1,4 +1,4 @@
-use Rattle.std.proofs.Common.{◌≡◌, ℕ, ◌⊎◌, ◌++◌, append_assoc, Bool, true, false, List, [], ◌∷◌, Result, Ok, Err, Some, None, refl, sym, ap, ◌∙◌, subst, inl, inr}
+use Rattle.std.proofs.Common.{◌≡◌, ℕ, ◌⊎◌, ◌++◌, append_assoc, true, false, List, [], ◌∷◌, Ok, Err, Some, None, refl, sym, ap, ◌∙◌, subst, inl, inr}
 use Rattle.std.proofs.lemmas.Bool.{cases_Bool, false≢true, false_from_ne_true}
 use Rattle.modes_core.specs.declared.modes.Mode.{Mode}
 use Rattle.modes_core.specs.declared.tags.Tag.{Tag}
@@ -6,8 +6,7 @@ use Rattle.modes_core.specs.declared.refusals.Refusal.{Refusal}
 use Rattle.modes_core.specs.Tag.{partition_of, is_strong_on}
 use Rattle.lock_table.specs.declared.moves.Move.{Move}
 use Rattle.lock_table.specs.declared.moves.Move.TheVariants.{Keep, Grant, Join}
-use Rattle.lock_table.specs.Clash.{ClashIs}
-use Rattle.lock_table.specs.Content.{Content, add_hold}
+use Rattle.lock_table.specs.Content.{Content}
 use Rattle.lock_table.specs.Moves.{Moves}
 use Rattle.lock_table.specs.OwnWait.{is_for}
 use Rattle.lock_table.specs.Put.{set_at}
@@ -23,13 +22,12 @@ use Rattle.lock_world.specs.AccountSteps.{account_taking, account_putting, accou
 use Rattle.lock_world.specs.AccountLaw.{MayMoveBy, MayPutBy, MayPutRecordedBy}
 use Rattle.lock_world.specs.Counted.{is_done}
 use Rattle.lock_world.specs.World.{Took, Episode}
-use Rattle.shared_rule.specs.Boards.{Seated}
 use Rattle.shared_rule.specs.History.{taken_of, in_hand}
 use Rattle.shared_rule.specs.Lawful.{MayPutPart}
 use Rattle.shared_rule.specs.Episodes.{account_episode}
 use Rattle.shared_rule.proofs.Episodes.{fresh_hand, taken-in_hand, taken-put, may_keep}
 use Rattle.lock_manager.specs.Rest.{IsIdle}
-use Rattle.lock_manager.specs.Requests.{DecidesInPart, account_awaiting, account_decided}
+use Rattle.lock_manager.specs.Requests.{DecidesInPart, account_awaiting}
 use Rattle.lock_manager.proofs.Scanning.{not_eligible}
 
 -- Deciding a request in its partition.

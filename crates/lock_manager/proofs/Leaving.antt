@@ -1,5 +1,7 @@
 use Rattle.std.proofs.Common.{◌≡◌, ℕ, Bool, true, false, ◌||◌, List, [], ◌∷◌, ◌++◌, Option, Some, None, refl, sym, ap, ◌∙◌, subst, append_assoc, inl, inr}
 use Rattle.std.specs.Prelude.{map, not}
+use Rattle.std.specs.Bool.{OnTrue, OnFalse}
+use Rattle.std.proofs.lemmas.Bool.{not-true}
 use Rattle.modes_core.specs.declared.modes.Mode.{Mode}
 use Rattle.modes_core.specs.declared.tags.Tag.{Tag}
 use Rattle.modes_core.specs.Tag.{partition_of}
@@ -8,14 +10,14 @@ use Rattle.lock_table.specs.Content.{Wait, Content}
 use Rattle.lock_table.specs.Moves.{Moves}
 use Rattle.lock_table.specs.OwnWait.{OwnWait}
 use Rattle.lock_table.specs.Put.{set_at}
-use Rattle.lock_table.specs.Queue.{waits_there}
+use Rattle.lock_table.specs.Queue.{waits_there, remove_wait, Wakes}
 use Rattle.lock_table.specs.Waiter.{whose_and_mode}
 use Rattle.lock_table.proofs.PutLemmas.{set_at-here, set_at-same, set_at-twice}
 use Rattle.lock_world.specs.Account.{Account, InHand}
 use Rattle.lock_world.specs.AccountFacts.{KnowsContent}
-use Rattle.lock_world.specs.AccountLaw.{MayMoveBy, MayLeaveBy}
+use Rattle.lock_world.specs.AccountLaw.{MayLeaveBy}
 use Rattle.lock_world.specs.AccountSteps.{account_taking, account_putting, account_clearing, hand_recording, own_with}
-use Rattle.lock_world.specs.World.{TraceEntry, Took, Episode}
+use Rattle.lock_world.specs.World.{Took, Episode}
 use Rattle.shared_rule.specs.Boards.{Seated}
 use Rattle.shared_rule.specs.History.{taken_of, in_hand, is_among, sessions_told, is_granted, account_cleared, account_left}
 use Rattle.shared_rule.specs.Lawful.{MayPutPart, MayClearBy}
@@ -27,14 +29,31 @@ use Rattle.lock_manager.proofs.Waking.{leave-once}
 
 -- The end of a wait in its partition: it is taken out of the queue, or it was granted.
 
--- What a removal says of the queue.
-pub not_there : (there was_granted : Bool) → was_granted ≡ not there → was_granted ≡ true → there ≡ false
-not_there true was_granted is granted = sym granted ∙ is
-not_there false was_granted is granted = refl
+-- What a removal tells, by the number of the session that makes it: the wait was not there, and nothing has changed,
+pub removal-found :
+    (taken put : Content) (tag : Tag) (k number : ℕ) (was_granted : Bool) → k ≡ number → was_granted ≡ not (waits_there (taken.waits tag) k)
+    → OnTrue was_granted (put ≡ taken) → was_granted ≡ true → (waits_there (taken.waits tag) number ≡ false) × (put ≡ taken)
+removal-found taken put tag k number was_granted same found unchanged granted = (
+  subst (λ n. waits_there (taken.waits tag) n ≡ false) {x = k} {y = number} same (not-true (waits_there (taken.waits tag) k) (sym found ∙ granted)),
+  subst (λ b. OnTrue b (put ≡ taken)) {x = was_granted} {y = true} granted unchanged,
+)
 
-pub still_there : (there was_granted : Bool) → was_granted ≡ not there → was_granted ≡ false → there ≡ true
-still_there true was_granted is waits = refl
-still_there false was_granted is waits = sym waits ∙ is
+-- or it was, and has left the queue.
+pub removal-left :
+    (taken put : Content) (tag : Tag) (k number : ℕ) (was_granted : Bool) (woken : List (ℕ × Mode)) → k ≡ number → was_granted ≡ not (waits_there (taken.waits tag) k)
+    → OnFalse was_granted ((granted : List Wait) × Wakes (remove_wait taken k tag) tag granted put × (woken ≡ map whose_and_mode granted)) → was_granted ≡ false
+    → (granted : List Wait) × Moves taken number (Leave tag) granted put × (woken ≡ map whose_and_mode granted)
+removal-left taken put tag k number was_granted woken same found removed waits =
+    let out = subst (λ b. OnFalse b ((granted : List Wait) × Wakes (remove_wait taken k tag) tag granted put × (woken ≡ map whose_and_mode granted))) {x = was_granted} {y = false} waits removed in
+    (out.0, subst (λ n. Moves taken n (Leave tag) out.0 put) {x = k} {y = number} same (there (waits_there (taken.waits tag) k) found, out.1), out.2) where
+      there : (is_there : Bool) → was_granted ≡ not is_there → is_there ≡ true
+      there true is = refl
+      there false is = sym waits ∙ is
+
+-- Clearing the wait word, on a board of the same seat.
+pub cleared-same :
+    (seat its : Seated) (b c : Account) → its ≡ seat → c ≡ account_cleared its.number b b.awaited → c ≡ account_cleared seat.number b b.awaited
+cleared-same seat its b c same clears = subst (λ (s : Seated). c ≡ account_cleared s.number b b.awaited) {x = its} {y = seat} same clears
 
 module _ (number : ℕ) (a : Account) (stack : List ℕ) (p : ℕ) (tag : Tag) (mode : Mode) (taken : Content) (waits : IsInWait a stack tag mode) (home : p ≡ partition_of tag) where
   -- the wait by the session's account

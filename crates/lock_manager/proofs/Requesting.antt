@@ -15,12 +15,10 @@ use Rattle.wait_queue.specs.declared.requests.Kind.TheVariants.{Conditional, Wai
 use Rattle.wait_queue.specs.declared.requests.Decision.{Decision}
 use Rattle.wait_queue.specs.declared.requests.Decision.TheVariants.{Granted, Queued}
 use Rattle.wait_queue.specs.Decide.{RefusedFor}
-use Rattle.lock_table.specs.declared.moves.Move.{Move}
-use Rattle.lock_table.specs.declared.moves.Move.TheVariants.{Keep, Grant}
-use Rattle.lock_table.specs.Content.{Content}
+use Rattle.lock_table.specs.declared.moves.Move.TheVariants.{Keep}
 use Rattle.lock_world.specs.Account.{Account}
 use Rattle.lock_world.specs.AccountSteps.{account_uncounting, own_with}
-use Rattle.lock_world.specs.Counted.{is_counted, uncounting}
+use Rattle.lock_world.specs.Counted.{is_counted}
 use Rattle.lock_world.specs.World.{TraceEntry, Took, Episode}
 use Rattle.shared_rule.specs.Boards.{Seated}
 use Rattle.shared_rule.specs.Episodes.{account_episode}

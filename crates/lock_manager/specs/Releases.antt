@@ -32,8 +32,8 @@ abbrev pub account_marked : Account → ℕ → Move → Content → List (ℕ �
 account_marked a partition done now rest =
     account_marking a partition (in_hand (a.hand partition)) now done done (is_among (sessions_told rest))
 
--- How far the telling has come from the one account to the other: nobody is marked yet, and the first mark is to make the
--- move; or the move stands recorded, and these are left.
+-- How far the telling has come from the one account to the other: nobody is marked yet, and the first mark is to make
+-- the move; or the move stands recorded, and these are left.
 abbrev pub IsMarking : Account → ℕ → Move → Content → List (ℕ × Mode) → List (ℕ × Mode) → Account → Type 0
 IsMarking a partition done now woken rest b =
     ((rest ≡ woken) × (woken ≢ []) × (b ≡ a)) ⊎ (b ≡ account_marked a partition done now rest)
@@ -53,8 +53,8 @@ pub record ReleasesInPart (number : ℕ) (a : Account) (tag : Tag) (mode : Mode)
   pub moved : Moves taken number (Release tag mode) granted put
   pub account : b ≡ account_episode a (partition_of tag) taken put (Release tag mode)
 
--- One episode in the object's partition releases the hold: it is gone, and who may go then is granted. No other step joins the
--- trace.
+-- One episode in the object's partition releases the hold: it is gone, and who may go then is granted. No other step
+-- joins the trace.
 pub record Releases (number : ℕ) (before : List TraceEntry) (tag : Tag) (mode : Mode) (after : List TraceEntry) : Type 0 where
   pub taken : Content
   pub put : Content

@@ -63,8 +63,8 @@ account_decided a tag mode taken put (Ok decision.Queued) =
     account_awaiting (account_episode a (partition_of tag) taken put move_.Keep) tag mode
 account_decided a tag mode taken put (Err refusal) = account_episode a (partition_of tag) taken put move_.Keep
 
--- The episode that decides: the content put is the one taken with a hold or a wait more, as was decided by it, and after a
--- refusal as it was.
+-- The episode that decides: the content put is the one taken with a hold or a wait more, as was decided by it, and
+-- after a refusal as it was.
 pub record DecidesInPart (kind : Kind) (number : ℕ) (a : Account) (tag : Tag) (mode : Mode)
     (result : Result Decision Refusal) (b : Account) : Type 0 where
   pub taken : Content
@@ -74,9 +74,10 @@ pub record DecidesInPart (kind : Kind) (number : ℕ) (a : Account) (tag : Tag) 
   pub kept : OnErr result (put ≡ taken)
   pub account : b ≡ account_decided a tag mode taken put result
 
--- The request has one episode, in the object's partition, and its answer is that of the content taken: where it is granted
--- the content put has the hold, and where it is queued the wait; else that is put as it was, and the refusal names what is
--- in the way there, or memory. A strong mode scans all sessions before that. No other step joins the trace.
+-- The request has one episode, in the object's partition, and its answer is that of the content taken: where it is
+-- granted the content put has the hold, and where it is queued the wait; else that is put as it was, and the refusal
+-- names what is in the way there, or memory. A strong mode scans all sessions before that. No other step joins the
+-- trace.
 pub record Decides (kind : Kind) (seat : Seated) (before : List TraceEntry) (tag : Tag) (mode : Mode)
     (result : Result Decision Refusal) (after : List TraceEntry) : Type 0 where
   pub loads : List TraceEntry
@@ -116,8 +117,8 @@ account_requested limit a tag mode (Ok decision.Granted) trace = account_granted
 account_requested limit a tag mode (Ok decision.Queued) trace = account_queued limit a tag mode trace
 account_requested limit a tag mode (Err refusal) trace = record a { trace = trace }
 
--- What joins the trace of an acquire, by its answer. One of a mode with an entry makes no step, nor does one that its own
--- limits refuse, or want of memory for its entry. Every other one is decided.
+-- What joins the trace of an acquire, by its answer. One of a mode with an entry makes no step, nor does one that its
+-- own limits refuse, or want of memory for its entry. Every other one is decided.
 abbrev pub Acquires : Seated → Owned → List TraceEntry → Tag → Mode → Result Acquired Refusal → List TraceEntry → Type 0
 Acquires seat owned before tag mode (Ok AlreadyHeld) after = after ≡ before
 Acquires seat owned before tag mode (Ok Granted) after =

@@ -36,8 +36,8 @@ use Rattle.lock_manager.specs.Requests.{Decides, counted_granted}
 
 -- ---- a session that waits
 
--- The account of a session that waits for the mode on the object, and is in no call: it is as one at rest, but for its wait,
--- which was joined with the modes of the object that it has, and for the count of a strong mode.
+-- The account of a session that waits for the mode on the object, and is in no call: it is as one at rest, but for
+-- its wait, which was joined with the modes of the object that it has, and for the count of a strong mode.
 abbrev pub account_in_wait : ℕ → List Entry → Tag → Mode → List TraceEntry → Account
 account_in_wait limit entries tag mode trace = record (account_at_rest limit entries trace) {
   awaited = Some (record { tag = tag; mode = mode; held = has_entry entries tag });
@@ -46,19 +46,21 @@ account_in_wait limit entries tag mode trace = record (account_at_rest limit ent
   };
 }
 
-pub record IsWaiting (limit : ℕ) (a : Account) (stack : List ℕ) (entries : List Entry) (tag : Tag) (mode : Mode) : Type 0 where
+pub record IsWaiting (limit : ℕ) (a : Account) (stack : List ℕ) (entries : List Entry) (tag : Tag) (mode : Mode) :
+    Type 0 where
   pub account : a ≡ account_in_wait limit entries tag mode a.trace
   pub no_entry : has_entry entries tag mode ≡ false
   pub no_partition : stack ≡ []
 
 -- The same once it has loaded its wait word, which showed this: it has seen whether it was granted.
-pub record HasLooked (limit : ℕ) (a : Account) (stack : List ℕ) (entries : List Entry) (tag : Tag) (mode : Mode) (shown : ℕ) :
-    Type 0 where
+pub record HasLooked (limit : ℕ) (a : Account) (stack : List ℕ) (entries : List Entry) (tag : Tag) (mode : Mode)
+    (shown : ℕ) : Type 0 where
   pub account : a ≡ record (account_in_wait limit entries tag mode a.trace) { seen = wait_state shown == 2 }
   pub no_entry : has_entry entries tag mode ≡ false
   pub no_partition : stack ≡ []
 
--- What of it a step in the middle of a call may count on: it has this wait, has not seen it granted, and has no word in hand.
+-- What of it a step in the middle of a call may count on: it has this wait, has not seen it granted, and has no word
+-- in hand.
 pub record IsInWait (a : Account) (stack : List ℕ) (tag : Tag) (mode : Mode) : Type 0 where
   pub waits : a.awaited ≡ Some (record { tag = tag; mode = mode; held = a.own tag })
   pub unseen : a.seen ≡ false
@@ -73,18 +75,21 @@ entries_started Granted entries tag mode owner = with_one_more entries tag mode 
 entries_started AlreadyHeld entries tag mode owner = with_one_more entries tag mode owner
 entries_started Queued entries tag mode owner = entries
 
--- What joins the trace of an acquire that may wait, by its answer. One of a mode with an entry makes no step, nor does one
--- that its own limits refuse, or want of memory for its entry. Every other one is decided.
+-- What joins the trace of an acquire that may wait, by its answer. One of a mode with an entry makes no step, nor
+-- does one that its own limits refuse, or want of memory for its entry. Every other one is decided.
 abbrev pub Starts : Seated → Owned → List TraceEntry → Tag → Mode → Result Started Refusal → List TraceEntry → Type 0
 Starts seat owned before tag mode (Ok AlreadyHeld) after = after ≡ before
-Starts seat owned before tag mode (Ok Granted) after = Decides kind.Waiting seat before tag mode (Ok decision.Granted) after
-Starts seat owned before tag mode (Ok Queued) after = Decides kind.Waiting seat before tag mode (Ok decision.Queued) after
+Starts seat owned before tag mode (Ok Granted) after =
+    Decides kind.Waiting seat before tag mode (Ok decision.Granted) after
+Starts seat owned before tag mode (Ok Queued) after =
+    Decides kind.Waiting seat before tag mode (Ok decision.Queued) after
 Starts seat owned before tag mode (Err CountFull) after = after ≡ before
 Starts seat owned before tag mode (Err LocalFull) after = after ≡ before
 Starts seat owned before tag mode (Err NoMemory) after =
     ((has_entry owned.entries tag mode ≡ false) × (owned.room ≡ 0) × (after ≡ before))
     ⊎ Decides kind.Waiting seat before tag mode (Err NoMemory) after
-Starts seat owned before tag mode (Err refusal) after = Decides kind.Waiting seat before tag mode (Err refusal) after
+Starts seat owned before tag mode (Err refusal) after =
+    Decides kind.Waiting seat before tag mode (Err refusal) after
 
 -- ---- asking and looking
 
@@ -94,16 +99,19 @@ pub record Asks (a : Account) (other : ℕ) (answer : Asked) (b : Account) : Typ
   pub answered : (answer ≡ asked.Waiting) ↔ (wait_state shown ≡ 1)
   pub account : b ≡ account_tracing a (AskedToCancel other shown)
 
--- One episode in the object's partition, which leaves the content as it was taken, tells whether somebody awaits a mode in
--- conflict with this one.
-pub record LooksForWaiters (before : List TraceEntry) (tag : Tag) (mode : Mode) (is_awaited : Bool) (after : List TraceEntry) : Type 0 where
+-- One episode in the object's partition, which leaves the content as it was taken, tells whether somebody awaits a
+-- mode in conflict with this one.
+pub record LooksForWaiters (before : List TraceEntry) (tag : Tag) (mode : Mode) (is_awaited : Bool)
+    (after : List TraceEntry) : Type 0 where
   pub taken : Content
   pub answer : is_awaited ≡ some_awaits_conflict (taken.waits tag) mode
   pub trace : after ≡ before ++ Took (partition_of tag) taken ∷ Episode (partition_of tag) taken taken ∷ []
 
 -- what a wait word tells its session
 abbrev pub polled_as : ℕ → Polled
-polled_as shown = if wait_state shown == 2 then polled.Granted else (if is_asked shown then polled.CancelAsked else polled.Still)
+polled_as shown =
+    if wait_state shown == 2 then polled.Granted
+    else (if is_asked shown then polled.CancelAsked else polled.Still)
 
 -- One load of the own wait word gives the answer.
 pub record Polls (number : ℕ) (before : List TraceEntry) (answer : Polled) (after : List TraceEntry) : Type 0 where
@@ -121,8 +129,10 @@ pub record Leaves (number : ℕ) (before : List TraceEntry) (tag : Tag) (after :
   pub moved : Moves taken number (Leave tag) granted put
   pub trace : after ≡ before ++ Took (partition_of tag) taken ∷ Episode (partition_of tag) taken put ∷ []
 
--- One episode finds that it was granted: the content, which is left as it was taken, has the hold, and no wait of the session.
-pub record FindsGrant (number : ℕ) (before : List TraceEntry) (tag : Tag) (mode : Mode) (after : List TraceEntry) : Type 0 where
+-- One episode finds that it was granted: the content, which is left as it was taken, has the hold, and no wait of the
+-- session.
+pub record FindsGrant (number : ℕ) (before : List TraceEntry) (tag : Tag) (mode : Mode) (after : List TraceEntry) :
+    Type 0 where
   pub taken : Content
   pub gone : waits_there (taken.waits tag) number ≡ false
   pub held : taken.holds number tag mode ≡ true
@@ -151,8 +161,8 @@ IsWatch number [] = Unit {0}
 IsWatch number (entry ∷ entries) =
     (shown : ℕ) × (entry ≡ Loaded (Wait number) shown) × (polled_as shown ≡ polled.Still) × IsWatch number entries
 
--- How a wait ends, after the load that showed this: granted, or asked to cancel, which the session does itself; then it may
--- find that the grant was first.
+-- How a wait ends, after the load that showed this: granted, or asked to cancel, which the session does itself; then
+-- it may find that the grant was first.
 abbrev pub EndsWait : ℕ → List TraceEntry → Tag → Mode → ℕ → Result (Unit {0}) Refusal → List TraceEntry → Type 0
 EndsWait number before tag mode shown (Ok done) after =
     ((polled_as shown ≡ polled.Granted) × (after ≡ before))

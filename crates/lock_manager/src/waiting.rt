@@ -56,9 +56,9 @@ pub enum Cancelled {
     WasGranted,
 }
 
-/// Acquires a mode on an object for an owner, or begins to wait for it (`LockAcquire` in lock.c, up to `WaitOnLock`). What
-/// the session has already is counted once more, with no step on shared state; a new mode is decided in the object's
-/// partition. While the session waits room is reserved for the entry.
+/// Acquires a mode on an object for an owner, or begins to wait for it (`LockAcquire` in lock.c, up to `WaitOnLock`).
+/// What the session has already is counted once more, with no step on shared state; a new mode is decided in the
+/// object's partition. While the session waits room is reserved for the entry.
 pub fn start<T: PartTable, B: Board<T>, R: Wait>(
     rt: &R,
     board: &mut B,
@@ -72,7 +72,8 @@ pub fn start<T: PartTable, B: Board<T>, R: Wait>(
     requires rest { IsAtRest (B.seat board.old).limit (B.view board.old) (B.stack board.old) locals.old.entries }
     ensures already_held { (result ≡ Ok Started.AlreadyHeld) ↔ ((has_entry locals.old.entries tag mode ≡ true)
         × (owner_count_of locals.old.entries tag mode owner < max_count)) }
-    ensures count_full { IsErrOf result Refusal.CountFull ↔ (owner_count_of locals.old.entries tag mode owner ≡ max_count) }
+    ensures count_full { IsErrOf result Refusal.CountFull
+        ↔ (owner_count_of locals.old.entries tag mode owner ≡ max_count) }
     ensures local_full { IsErrOf result Refusal.LocalFull
         ↔ ((has_entry locals.old.entries tag mode ≡ false) × (length locals.old.entries ≡ locals.old.max_local)) }
     ensures steps { Starts (B.seat board.old) locals.old (B.view board.old).trace tag mode result
@@ -118,8 +119,8 @@ pub fn ask_cancel<T: PartTable, B: Board<T>>(board: &mut B, other: SessionId) ->
     Asked::Waiting
 }
 
-/// Whether somebody awaits the object in a mode that conflicts with this one, which the session has (`LockHasWaiters` in
-/// lock.c).
+/// Whether somebody awaits the object in a mode that conflicts with this one, which the session has (`LockHasWaiters`
+/// in lock.c).
 pub fn has_waiters<T: PartTable, B: Board<T>, R: Wait>(
     rt: &R,
     board: &mut B,
@@ -155,7 +156,8 @@ pub fn poll<T: PartTable, B: Board<T>>(
     mode: Mode,
     owner: Owner,
 ) -> Polled
-    requires waiting { IsWaiting (B.seat board.old).limit (B.view board.old) (B.stack board.old) locals.old.entries tag mode }
+    requires waiting { IsWaiting (B.seat board.old).limit (B.view board.old) (B.stack board.old) locals.old.entries
+        tag mode }
     requires reserved { IsReserved locals.old tag mode owner }
     ensures polled { Polls (B.seat board.old).number (B.view board.old).trace result (B.view board.new).trace }
     ensures rest { result ≡ Polled.Granted →
@@ -207,9 +209,9 @@ fn take_up<T: PartTable, B: Board<T>>(
     Polled::Still
 }
 
-/// Ends the session's wait: it is taken out of the queue, where it still stands there, and those are granted who may go then;
-/// where it had been granted the session has the mode (`LockErrorCleanup` in proc.c). The count of a strong mode goes back
-/// with the wait (`AbortStrongLockAcquire` in lock.c).
+/// Ends the session's wait: it is taken out of the queue, where it still stands there, and those are granted who may
+/// go then; where it had been granted the session has the mode (`LockErrorCleanup` in proc.c). The count of a strong
+/// mode goes back with the wait (`AbortStrongLockAcquire` in lock.c).
 pub fn cancel<T: PartTable, B: Board<T>, R: Wait>(
     rt: &R,
     board: &mut B,
@@ -218,9 +220,11 @@ pub fn cancel<T: PartTable, B: Board<T>, R: Wait>(
     mode: Mode,
     owner: Owner,
 ) -> Cancelled
-    requires waiting { IsWaiting (B.seat board.old).limit (B.view board.old) (B.stack board.old) locals.old.entries tag mode }
+    requires waiting { IsWaiting (B.seat board.old).limit (B.view board.old) (B.stack board.old) locals.old.entries
+        tag mode }
     requires reserved { IsReserved locals.old tag mode owner }
-    ensures steps { Cancels (B.seat board.old).number (B.view board.old).trace tag mode result (B.view board.new).trace }
+    ensures steps { Cancels (B.seat board.old).number (B.view board.old).trace tag mode result
+        (B.view board.new).trace }
     ensures rest { IsAtRest (B.seat board.old).limit (B.view board.new) (B.stack board.new) locals.new.entries }
     ensures entries { result ≡ Cancelled.WasGranted →
         locals.new.entries ≡ with_one_more locals.old.entries tag mode owner }
@@ -244,9 +248,9 @@ pub fn cancel<T: PartTable, B: Board<T>, R: Wait>(
     }
 }
 
-/// Waits until the wait is granted, or another session asks to cancel it (`ProcSleep` in proc.c, with `LockErrorCleanup`
-/// where it is interrupted). It looks at the own wait word before each sleep. Where it was asked to cancel, and the grant
-/// was first, the session has the mode.
+/// Waits until the wait is granted, or another session asks to cancel it (`ProcSleep` in proc.c, with
+/// `LockErrorCleanup` where it is interrupted). It looks at the own wait word before each sleep. Where it was asked
+/// to cancel, and the grant was first, the session has the mode.
 pub fn wait<T: PartTable, B: Board<T>, R: Wait>(
     rt: &R,
     board: &mut B,
@@ -255,7 +259,8 @@ pub fn wait<T: PartTable, B: Board<T>, R: Wait>(
     mode: Mode,
     owner: Owner,
 ) -> Result<(), Refusal>
-    requires waiting { IsWaiting (B.seat board.old).limit (B.view board.old) (B.stack board.old) locals.old.entries tag mode }
+    requires waiting { IsWaiting (B.seat board.old).limit (B.view board.old) (B.stack board.old) locals.old.entries
+        tag mode }
     requires reserved { IsReserved locals.old tag mode owner }
     ensures cancelled { IsOkUnless result Refusal.Cancelled }
     ensures steps { Waits (B.seat board.old).number (B.view board.old).trace tag mode result (B.view board.new).trace }
@@ -280,8 +285,8 @@ pub fn wait<T: PartTable, B: Board<T>, R: Wait>(
     unreachable!()
 }
 
-/// Takes the wait out of the queue in the object's partition, or finds there that it was granted (`RemoveFromWaitQueue` in
-/// lock.c).
+/// Takes the wait out of the queue in the object's partition, or finds there that it was granted
+/// (`RemoveFromWaitQueue` in lock.c).
 fn leave_in_part<T: PartTable, B: Board<T>, R: Wait>(
     rt: &R,
     board: &mut B,

@@ -1,4 +1,4 @@
-use Rattle.std.proofs.Common.{refl, ap, ◌∙◌, subst, sym, arith}
+use Rattle.std.proofs.Common.{refl, ◌∙◌, subst, arith}
 use Rattle.lock_world.specs.Happens.Partitions.{WaitIsOver}
 use Rattle.lock_manager.proofs.Waking.{telling-begins, may_mark-at, marking-next_at, all_marked, may_put_marked, told-put, wait-same}
 use Rattle.lock_manager.proofs.releases.put_with_woken.Goals as goal

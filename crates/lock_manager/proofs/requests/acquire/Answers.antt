@@ -1,4 +1,4 @@
-use Rattle.std.proofs.Common.{◌≡◌, ◌≢◌, ◌<◌, true, false, List, Result, Ok, Err, length, arith, sym, ap, ◌∙◌, subst}
+use Rattle.std.proofs.Common.{◌≡◌, ◌≢◌, ◌<◌, false, List, Result, Ok, Err, length, arith, sym, ap, ◌∙◌, subst}
 use Rattle.std.proofs.lemmas.Bool.{false≢true}
 use Rattle.modes_core.specs.declared.refusals.Refusal.{Refusal}
 use Rattle.local_locks.specs.declared.answers.Acquired.{Acquired}
@@ -9,8 +9,8 @@ use Rattle.lock_world.specs.Account.{Account}
 use Rattle.lock_world.specs.Happens.Counters.{most_counted}
 use Rattle.wait_queue.specs.declared.requests.Kind.TheVariants.{Conditional}
 use Rattle.lock_manager.specs.Requests.{Decides, account_requested}
-use Rattle.lock_manager.proofs.Holding.{not_had, had, rest-idle, rest-not_counted, rest-few, rest-granted, rest-held_again}
-use Rattle.lock_manager.proofs.Requesting.{conditional-granted, acquires-granted, acquires-again, acquires-refused}
+use Rattle.lock_manager.proofs.Holding.{not_had, had, rest-not_counted, rest-few, rest-granted, rest-held_again}
+use Rattle.lock_manager.proofs.Requesting.{conditional-granted, acquires-granted}
 use Rattle.lock_manager.proofs.requests.acquire.Goals as goal
 
 err_not_ok : (refusal : Refusal) (answer : Acquired) → (let it : Result Acquired Refusal = Err refusal in it) ≢ Ok answer

@@ -1,13 +1,13 @@
 use Rattle.std.proofs.Common.{◌≡◌, ◌∙◌, Ok, sym, ap, subst, []}
 use Rattle.lock_table.specs.declared.moves.Move.TheVariants.{Grant, Join, Keep}
 use Rattle.lock_table.specs.Moves.{Moves}
-use Rattle.wait_queue.specs.declared.requests.Decision.TheVariants.{Granted, Queued}
-use Rattle.wait_queue.specs.Decide.{IsDecided, RefusedFor}
+use Rattle.wait_queue.specs.declared.requests.Decision.TheVariants.{Queued}
+use Rattle.wait_queue.specs.Decide.{IsDecided}
 use Rattle.lock_world.specs.Account.{InHand}
 use Rattle.lock_world.specs.AccountLaw.{MayMoveBy}
 use Rattle.shared_rule.specs.Boards.{Seated}
 use Rattle.shared_rule.specs.Lawful.{MayPutPart}
-use Rattle.lock_manager.proofs.Deciding.{granted-moves, queued-moves, may_put-granted, may_wait, may_put-joined, may_put-kept, grants-in_part, queues-in_part, refuses-in_part}
+use Rattle.lock_manager.proofs.Deciding.{granted-moves, queued-moves, may_put-granted, may_wait, may_put-joined, may_put-kept, queues-in_part}
 use Rattle.lock_manager.proofs.requests.decide_in_part.Goals as goal
 
 pub put_part-requires-clause-lawful : goal.put_part-requires-clause-lawful

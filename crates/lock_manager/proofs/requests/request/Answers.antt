@@ -1,4 +1,4 @@
-use Rattle.std.proofs.Common.{◌≡◌, Ok, Err, sym, subst}
+use Rattle.std.proofs.Common.{Ok, Err, sym, subst}
 use Rattle.shared_rule.specs.Boards.{Seated}
 use Rattle.lock_manager.specs.Requests.{DecidesInPart}
 use Rattle.lock_manager.proofs.Requesting.{weak-decides, weak-account, strong-decides, strong-account, strong-refused-steps, strong-refused}

@@ -1,8 +1,7 @@
-use Rattle.std.proofs.Common.{◌≡◌, ◌<◌, true, false, List, Ok, Err, length, arith, sym, ap, ◌∙◌, subst}
+use Rattle.std.proofs.Common.{◌≡◌, ◌<◌, false, List, Ok, length, arith, sym, ap, ◌∙◌, subst}
 use Rattle.std.proofs.lemmas.Bool.{false≢true}
 use Rattle.local_locks.specs.declared.records.Entry.{Entry}
 use Rattle.local_locks.specs.Owned.{has_entry, with_one_more}
-use Rattle.wait_queue.specs.declared.requests.Decision.TheVariants.{Granted, Queued}
 use Rattle.lock_world.specs.Account.{Account}
 use Rattle.lock_world.specs.Happens.Counters.{most_counted}
 use Rattle.lock_manager.specs.Requests.{account_requested}
