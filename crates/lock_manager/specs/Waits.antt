@@ -137,7 +137,8 @@ pub record QueuesAndWaits (seat : Seated) (owned : Owned) (before : List TraceEn
 
 -- What joins its trace, by its answer: it is answered at once as one that may wait, or after its wait.
 abbrev pub Locks : Seated → Owned → List TraceEntry → Tag → Mode → Result Acquired Refusal → List TraceEntry → Type 0
-Locks seat owned before tag mode (Ok acquired.AlreadyHeld) after = Starts seat owned before tag mode (Ok began.AlreadyHeld) after
+Locks seat owned before tag mode (Ok acquired.AlreadyHeld) after =
+    Starts seat owned before tag mode (Ok began.AlreadyHeld) after
 Locks seat owned before tag mode (Ok acquired.Granted) after =
     Starts seat owned before tag mode (Ok began.Granted) after ⊎ QueuesAndWaits seat owned before tag mode (Ok tt) after
 Locks seat owned before tag mode (Err refusal) after =
@@ -149,10 +150,12 @@ module _ {B : Type 0} (seat : B → Seated) (view : B → Account) (stack : B �
   -- The session waits, and is in no call.
   abbrev pub IsInQueue : WaitingView B → Type 0
   IsInQueue waiting =
-      IsWaiting (seat waiting.board).limit (view waiting.board) (stack waiting.board) waiting.owned.entries waiting.tag waiting.mode
+      IsWaiting (seat waiting.board).limit (view waiting.board) (stack waiting.board)
+      waiting.owned.entries waiting.tag waiting.mode
 
   -- It is the same session, which has begun to wait for this.
-  pub record HasBegun (old : SessionView B) (tag : Tag) (mode : Mode) (owner : Owner) (new : WaitingView B) : Type 0 where
+  pub record HasBegun (old : SessionView B) (tag : Tag) (mode : Mode) (owner : Owner) (new : WaitingView B) :
+      Type 0 where
     pub seat_ : seat new.board ≡ seat old.board
     pub database : new.database ≡ old.database
     pub max_local : new.owned.max_local ≡ old.owned.max_local

@@ -116,11 +116,12 @@ pub enum Waited<S> {
 }
 
 impl<T: PartTable, B: Board<T>> OwnSession<T, B> {
-    /// Takes a mode on an object for an owner, or begins to wait for it (`LockAcquire` in lock.c without `dontWait`, up to
-    /// where `ProcSleep` in proc.c has joined the queue). What the session has already is counted once more, with no step on
-    /// shared state. It is refused, in this order, where the owner's count is full, the local table is full, memory is
-    /// wanting, or the wait would close a simple deadlock. After a refusal the session holds what it held. There is no
-    /// timeout: a time limit is this call, then `poll`, and an `ask_cancel` of another session or `cancel` when it is over.
+    /// Takes a mode on an object for an owner, or begins to wait for it (`LockAcquire` in lock.c without `dontWait`, up
+    /// to where `ProcSleep` in proc.c has joined the queue). What the session has already is counted once more, with no
+    /// step on shared state. It is refused, in this order, where the owner's count is full, the local table is full,
+    /// memory is wanting, or the wait would close a simple deadlock. After a refusal the session holds what it held.
+    /// There is no timeout: a time limit is this call, then `poll`, and an `ask_cancel` of another session or `cancel`
+    /// when it is over.
     pub fn start<R: Wait>(
         self,
         rt: &R,
@@ -171,9 +172,9 @@ impl<T: PartTable, B: Board<T>> OwnSession<T, B> {
         }
     }
 
-    /// Takes a mode on an object for an owner, and waits for it where it must (`LockAcquire` in lock.c without `dontWait`):
-    /// `start`, and `wait` where that queued the request. It is refused where these are: the wait is over then, and the
-    /// session holds what it held.
+    /// Takes a mode on an object for an owner, and waits for it where it must (`LockAcquire` in lock.c without
+    /// `dontWait`): `start`, and `wait` where that queued the request. It is refused where these are: the wait is over
+    /// then, and the session holds what it held.
     pub fn lock<R: Wait>(self, rt: &R, tag: Tag, mode: Mode, owner: Owner) -> Locked<Self>
         // What it is answered.
         ensures already_held { (answer_locked result ≡ Ok Acquired.AlreadyHeld)
@@ -205,8 +206,8 @@ impl<T: PartTable, B: Board<T>> OwnSession<T, B> {
         }
     }
 
-    /// Whether somebody awaits the object in a mode that conflicts with this one (`LockHasWaiters` in lock.c). It is refused
-    /// where the session hasn't the mode; nothing has changed then.
+    /// Whether somebody awaits the object in a mode that conflicts with this one (`LockHasWaiters` in lock.c). It is
+    /// refused where the session hasn't the mode; nothing has changed then.
     pub fn has_waiters<R: Wait>(&mut self, rt: &R, tag: Tag, mode: Mode) -> Result<bool, Refusal>
         // What it is answered.
         ensures not_held { IsErrOf result Refusal.NotHeld ↔ (has_entry self.old.owned.entries tag mode ≡ false) }
@@ -241,8 +242,8 @@ impl<T: PartTable, B: Board<T>> OwnWaiting<T, B> {
         self.board.number()
     }
 
-    /// Looks at the wait once (`ProcSleep` in proc.c where it reads `waitStatus`): it was granted, and has ended, or it goes
-    /// on, and another session may have asked to cancel it.
+    /// Looks at the wait once (`ProcSleep` in proc.c where it reads `waitStatus`): it was granted, and has ended, or it
+    /// goes on, and another session may have asked to cancel it.
     pub fn poll(self) -> Polled<OwnSession<T, B>, Self>
         // What it is answered.
         ensures polled { Polls (B.seat self.board).number (B.view self.board).trace (answer_polled result)
@@ -283,8 +284,8 @@ impl<T: PartTable, B: Board<T>> OwnWaiting<T, B> {
         }
     }
 
-    /// Ends the wait (`LockErrorCleanup` in proc.c): it is taken out of the queue, and those are granted who may go then; or
-    /// it turns out that it was granted before, and the session has the mode.
+    /// Ends the wait (`LockErrorCleanup` in proc.c): it is taken out of the queue, and those are granted who may go
+    /// then; or it turns out that it was granted before, and the session has the mode.
     pub fn cancel<R: Wait>(self, rt: &R) -> Cancelled<OwnSession<T, B>>
         // What it is answered.
         ensures steps { Cancels (B.seat self.board).number (B.view self.board).trace self.tag self.mode
@@ -313,9 +314,10 @@ impl<T: PartTable, B: Board<T>> OwnWaiting<T, B> {
         }
     }
 
-    /// Waits until the wait is granted, or another session asks to cancel it (`ProcSleep` in proc.c, with `LockErrorCleanup`
-    /// where it is interrupted). It is refused with `Cancelled` alone: it is out of the queue then, and the session holds
-    /// what it held. Where it was asked to cancel, but granted before it could, the session has the mode.
+    /// Waits until the wait is granted, or another session asks to cancel it (`ProcSleep` in proc.c, with
+    /// `LockErrorCleanup` where it is interrupted). It is refused with `Cancelled` alone: it is out of the queue then,
+    /// and the session holds what it held. Where it was asked to cancel, but granted before it could, the session has
+    /// the mode.
     pub fn wait<R: Wait>(self, rt: &R) -> Waited<OwnSession<T, B>>
         // What it is answered.
         ensures cancelled { IsOkUnless (answer_waited result) Refusal.Cancelled }
