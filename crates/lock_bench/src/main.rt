@@ -16,21 +16,36 @@ mod session_loops;
 mod shared_map;
 mod threads_page;
 
-use anyhow::Result;
 use clap::{Arg, ArgAction, Command};
 use modes_core::Owner;
 use std::alloc::Global;
 use std::env;
+use std::io::{self, Write};
+use std::process::ExitCode;
+use std::sync::Wait;
+use std::thread::Threads;
+use std::time::{Clock, CpuClock};
 
 const PAGES: [&str; 3] = ["local", "manager", "threads"];
 
+/// The status of pages that were printed, and of a text that was asked for.
+const SUCCESS: u8 = 0;
+
+/// The status of a fault of input, output or memory.
+const FAULT: u8 = 1;
+
+/// The status where the program's own words are refused.
+const REFUSED_WORDS: u8 = 2;
+
 /// What the words of the command line ask for.
+#[derive(Clone, Copy, Debug)]
 struct Wanted {
     check: bool,
     pages: [bool; 3],
 }
 
-fn parse(alloc: Global, words: &[String]) -> Result<Wanted> {
+/// What the words ask for. Refused words and a call for help are an error.
+fn parse<'a>(alloc: Global, words: &'a [String]) -> Result<Wanted, clap::Error> {
     let page = Arg::new(alloc, "page")
         .value_name("PAGE")
         .value_parser(PAGES.as_slice())
@@ -53,29 +68,73 @@ fn parse(alloc: Global, words: &[String]) -> Result<Wanted> {
     })
 }
 
-fn main(rt: HostRuntime) -> Result<()> {
-    let words: Vec<String> = env::args(&rt)?.collect(rt.alloc())?;
-    // From outside, so that no call is specialised to them.
-    let database = if words.is_empty() { 1 } else { 5 };
-    let owner = if words.is_empty() {
+/// Prints the pages. The status is 0, 2 for refused words, and 1 for any other fault.
+fn main(rt: HostRuntime) -> ExitCode {
+    let mut errors = rt.stderr();
+    match run(&rt, read_words(&rt), &mut errors) {
+        Ok(status) => ExitCode::from(status),
+        Err(error) => {
+            // Where the errors can't be written, the status says it alone.
+            let _ = writeln!(errors, "error: {error}");
+            ExitCode::from(FAULT)
+        }
+    }
+}
+
+/// The words of the command line. The error is want of memory, or a word that is not UTF-8.
+fn read_words(rt: &HostRuntime) -> io::Result<Vec<String>> {
+    Ok(env::args(rt)?.collect(rt.alloc())?)
+}
+
+/// Prints what the words ask for, and answers the status.
+fn run<R: Threads + Wait + Clock + CpuClock + AllocGlobal + Print + Sync, E: Write>(
+    rt: &R,
+    words: io::Result<Vec<String>>,
+    errors: &mut E,
+) -> anyhow::Result<u8> {
+    let words = words?;
+    match parse(rt.alloc(), words.as_slice()) {
+        Ok(wanted) => {
+            // From outside, so that no call is specialised to it.
+            let database = if words.is_empty() { 1 } else { 5 };
+            print_pages(rt, &wanted, database)?;
+            Ok(SUCCESS)
+        }
+        Err(error) if error.use_stderr() => {
+            write!(errors, "{error}")?;
+            Ok(REFUSED_WORDS)
+        }
+        Err(error) => {
+            print!(rt; "{error}")?;
+            Ok(SUCCESS)
+        }
+    }
+}
+
+fn print_pages<R: Threads + Wait + Clock + CpuClock + AllocGlobal + Print + Sync>(
+    rt: &R,
+    wanted: &Wanted,
+    database: u32,
+) -> anyhow::Result<()> {
+    let owner = if database == 1 {
         Owner::Session
     } else {
         Owner::Transaction
     };
-    let Wanted { check, pages } = parse(rt.alloc(), words.as_slice())?;
-    let [local, manager, threads] = pages;
+    let check = wanted.check;
+    let [local, manager, threads] = wanted.pages;
     if local {
         if check {
-            local_page::check(&rt, database, owner)?;
+            local_page::check(rt, database, owner)?;
         } else {
-            local_page::print(&rt, database, owner)?;
+            local_page::print(rt, database, owner)?;
         }
     }
     if manager {
-        manager_page::print(&rt, database, owner, check)?;
+        manager_page::print(rt, database, owner, check)?;
     }
     if threads {
-        threads_page::print(&rt, database, owner, check)?;
+        threads_page::print(rt, database, owner, check)?;
     }
     Ok(())
 }

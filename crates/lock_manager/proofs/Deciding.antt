@@ -1,5 +1,4 @@
-use Rattle.std.proofs.Common.{◌≡◌, ℕ, ◌⊎◌, ◌++◌, append_assoc, true, false, List, [], ◌∷◌, Ok, Err, Some, None, refl, sym, ap, ◌∙◌, subst, inl, inr}
-use Rattle.std.proofs.lemmas.Bool.{cases_Bool, false≢true, false_from_ne_true}
+use Rattle.std.proofs.Common.{◌≡◌, ℕ, ◌++◌, append_assoc, true, false, List, [], ◌∷◌, Ok, Err, Some, None, refl, sym, ap, ◌∙◌, subst, inl, inr}
 use Rattle.modes_core.specs.declared.modes.Mode.{Mode}
 use Rattle.modes_core.specs.declared.tags.Tag.{Tag}
 use Rattle.modes_core.specs.declared.refusals.Refusal.{Refusal}
@@ -8,7 +7,6 @@ use Rattle.lock_table.specs.declared.moves.Move.{Move}
 use Rattle.lock_table.specs.declared.moves.Move.TheVariants.{Keep, Grant, Join}
 use Rattle.lock_table.specs.Content.{Content}
 use Rattle.lock_table.specs.Moves.{Moves}
-use Rattle.lock_table.specs.OwnWait.{is_for}
 use Rattle.lock_table.specs.Put.{set_at}
 use Rattle.lock_table.proofs.PutLemmas.{set_at-here, set_at-same, set_at-twice}
 use Rattle.wait_queue.specs.declared.requests.Decision.{Decision}
@@ -17,7 +15,6 @@ use Rattle.wait_queue.specs.declared.requests.Kind.{Kind}
 use Rattle.wait_queue.specs.declared.requests.Kind.TheVariants.{Conditional, Waiting}
 use Rattle.wait_queue.specs.Decide.{IsDecided, RefusedFor}
 use Rattle.lock_world.specs.Account.{Account, InHand}
-use Rattle.lock_world.specs.AccountFacts.{KnowsContent}
 use Rattle.lock_world.specs.AccountSteps.{account_taking, account_putting, account_waiting, hand_recording}
 use Rattle.lock_world.specs.AccountLaw.{MayMoveBy, MayPutBy, MayPutRecordedBy}
 use Rattle.lock_world.specs.Counted.{is_done}
@@ -28,7 +25,6 @@ use Rattle.shared_rule.specs.Episodes.{account_episode}
 use Rattle.shared_rule.proofs.Episodes.{fresh_hand, taken-in_hand, taken-put, may_keep}
 use Rattle.lock_manager.specs.Rest.{IsIdle}
 use Rattle.lock_manager.specs.Requests.{DecidesInPart, account_awaiting}
-use Rattle.lock_manager.proofs.Scanning.{not_eligible}
 
 -- Deciding a request in its partition.
 
@@ -52,24 +48,6 @@ pub decided-granted :
     → decision ≡ Granted
 decided-granted taken put number tag mode Granted decided = refl
 decided-granted taken put number tag mode Queued decided = absurd decided.1
-
--- Whoever has no wait, and no slot, holds in the content of a partition just what is its own.
-pub held-own :
-    (number : ℕ) (a : Account) (stack : List ℕ) (tag : Tag) (taken : Content) → IsIdle a stack → KnowsContent number a (partition_of tag) taken
-    → taken.holds number tag ≡ a.own tag
-held-own number a stack tag taken idle knows = λ i m. at m i where
-  at : (m : Mode) → taken.holds number tag m ≡ a.own tag m
-  at m =
-      elim (cases_Bool (a.own tag m)) [
-        | inl own ↦
-            knows.tabled_holds tag m (ap (λ database. Rattle.modes_core.specs.Tag.is_eligible_for database tag m) idle.no_database ∙ not_eligible tag m) refl own
-            ∙ sym own
-        | inr none ↦
-            false_from_ne_true (taken.holds number tag m) (λ has. its none (knows.its_holds tag m has)) ∙ sym none
-      ] where
-        its : a.own tag m ≡ false → (a.own tag m ≡ true) ⊎ (is_for a.awaited tag m ≡ true) → ⊥
-        its none (inl own) = false≢true (sym none ∙ own)
-        its none (inr awaits) = false≢true (sym (ap (λ awaited. is_for awaited tag m) idle.no_wait) ∙ awaits)
 
 -- ---- the partition may be put
 
@@ -194,11 +172,11 @@ module _ (limit number : ℕ) (a b : Account) (stack : List ℕ) (p : ℕ) (tag 
 
   -- or queues it.
   pub queues-in_part :
-      (kind : Kind) (c d : Account) → KnowsContent number a p taken
+      (kind : Kind) (c d : Account)
       → c ≡ account_waiting b (in_hand (b.hand (partition_of tag))) tag mode put ((in_hand (b.hand (partition_of tag))).now.holds number tag)
       → d ≡ account_putting c p (taken_of (c.hand p)) put Keep → IsDecided kind taken number tag mode Queued put
       → DecidesInPart kind number a tag mode (Ok Queued) d
-  queues-in_part kind c d knows waits was_put decided = record {
+  queues-in_part kind c d waits was_put decided = record {
     taken = taken;
     put = put;
     decided = decided;
@@ -208,8 +186,7 @@ module _ (limit number : ℕ) (a b : Account) (stack : List ℕ) (p : ℕ) (tag 
         was_put
         ∙ ap (λ (x : Account). account_putting x p (taken_of (x.hand p)) put Keep) (joined-is c waits)
         ∙ ap (λ content. account_putting account_joined p content put Keep) (ap taken_of joined-in_hand)
-        ∙ (λ i. record (account_awaiting a tag mode) {
-          awaited = Some (record { tag = tag; mode = mode; held = held-own number a stack tag taken idle (subst (λ q. KnowsContent number a q taken) home knows) i });
+        ∙ (λ i. record (account_awaiting a tag mode (taken.holds number tag)) {
           hand = hand i;
           trace = trace i;
         });

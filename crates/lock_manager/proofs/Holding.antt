@@ -10,24 +10,52 @@ use Rattle.local_locks.specs.declared.records.Entry.{Entry}
 use Rattle.local_locks.specs.Owned.{IsCounted, is_of, has_entry, total_of, raised, lowered, change, new_entry, with_one_more}
 use Rattle.local_locks.proofs.EntryLaws.{has_entry-none, has_entry-some, same_key, same_key-from, has_entry-with_one_more}
 use Rattle.lock_world.specs.Account.{Account}
-use Rattle.lock_world.specs.AccountSteps.{own_with}
+use Rattle.lock_world.specs.AccountSteps.{own_with, account_storing}
 use Rattle.lock_world.specs.Counted.{Counted, is_counted}
-use Rattle.lock_manager.specs.Rest.{counted_for, account_at_rest, IsAtRest, IsIdle}
+use Rattle.lock_world.specs.SlotHolds.{used}
+use Rattle.lock_world.proofs.Slots.Used.{used-nothing}
+use Rattle.shared_rule.specs.History.{blank_account}
+use Rattle.lock_manager.specs.Rest.{counted_for, account_at_rest, IsUseCount, IsAtRest, IsIdle}
 use Rattle.lock_manager.specs.Requests.{counted_granted, account_granted}
 use Rattle.lock_manager.proofs.Resting.{own_with-key, with_strong, counted_for-cons}
 
 -- What a session at rest holds and has counted, after one acquire or one release.
 
 -- A session at rest may begin a request.
-pub rest-idle : (limit : ℕ) (a : Account) (stack : List ℕ) (entries : List Entry) → IsAtRest limit a stack entries → IsIdle a stack
-rest-idle limit a stack entries rest = record {
+pub rest-idle : (limit database uses : ℕ) (a : Account) (stack : List ℕ) (entries : List Entry) → IsAtRest limit database uses a stack entries → IsIdle a stack
+rest-idle limit database uses a stack entries rest = record {
   no_wait = ap (λ (x : Account). x.awaited) rest.account;
   no_content = ap (λ (x : Account). x.hand) rest.account;
   no_slots = ap (λ (x : Account). x.fast.slots) rest.account;
   no_zero = ap (λ (x : Account). x.fast.zero) rest.account;
-  no_database = ap (λ (x : Account). x.fast.database) rest.account;
   no_partition = rest.no_partition;
 }
+
+-- Its account has its database.
+pub rest-database :
+    (limit database uses : ℕ) (a : Account) (stack : List ℕ) (entries : List Entry) → IsAtRest limit database uses a stack entries → a.fast.database ≡ database
+rest-database limit database uses a stack entries rest = ap (λ (x : Account). x.fast.database) rest.account
+
+-- A use count is of what is remembered alone.
+pub use_count-same : (a b : Account) (uses : ℕ) → a.fast.remembered ≡ b.fast.remembered → IsUseCount a uses → IsUseCount b uses
+use_count-same a b uses same its = record {
+  enough = subst (λ (slot : ℕ → ℕ). used slot ≤ uses) same its.enough;
+  within = its.within;
+}
+
+-- A session whose database was just stored is at rest.
+pub rest-new :
+    (limit database uses : ℕ) (a : Account) (stack : List ℕ) (entries : List Entry) → a ≡ account_storing blank_account database → uses ≡ 0 → stack ≡ [] → entries ≡ []
+    → IsAtRest limit database uses a stack entries
+rest-new limit database uses a stack entries blank none empty nothing =
+    let remembered : (λ _. 0) ≡ a.fast.remembered = sym (ap (λ (x : Account). x.fast.remembered) blank) in
+    let trace : [] ≡ a.trace = sym (ap (λ (x : Account). x.trace) blank) in
+    let unused : used a.fast.remembered ≡ 0 = ap used (sym remembered) ∙ used-nothing in
+    record {
+      account = blank ∙ (λ i. account_at_rest limit database (remembered i) (sym nothing i) (trace i));
+      use_count = record { enough = omega (arith, unused); within = omega (arith, none) };
+      no_partition = empty;
+    }
 
 -- What its total says of an entry, once room for one more acquire was reserved.
 pub not_had :
@@ -42,7 +70,7 @@ had before reserved tag mode total same is some =
     ap (λ (entries : List Entry). has_entry entries tag mode) (sym same) ∙ has_entry-some reserved tag mode more
 
 -- It has counted nothing for what it has no entry of,
-counted-none :
+pub counted-none :
     (limit : ℕ) (entries : List Entry) (tag : Tag) (mode : Mode) → has_entry entries tag mode ≡ false → is_counted (counted_for limit entries) tag mode ≡ false
 counted-none limit [] tag mode none = refl
 counted-none limit (entry ∷ entries) tag mode none =
@@ -58,9 +86,9 @@ counted-none limit (entry ∷ entries) tag mode none =
     ]
 
 pub rest-not_counted :
-    (limit : ℕ) (a : Account) (stack : List ℕ) (entries : List Entry) (tag : Tag) (mode : Mode) → IsAtRest limit a stack entries
+    (limit database uses : ℕ) (a : Account) (stack : List ℕ) (entries : List Entry) (tag : Tag) (mode : Mode) → IsAtRest limit database uses a stack entries
     → has_entry entries tag mode ≡ false → is_counted a.fast.counted tag mode ≡ false
-rest-not_counted limit a stack entries tag mode rest none =
+rest-not_counted limit database uses a stack entries tag mode rest none =
     ap (λ (x : Account). is_counted x.fast.counted tag mode) rest.account ∙ counted-none limit entries tag mode none
 
 -- and no more than it has entries.
@@ -75,8 +103,8 @@ counted-few limit (entry ∷ entries) =
       at false fewer = omega (arith, fewer)
 
 pub rest-few :
-    (limit most : ℕ) (a : Account) (stack : List ℕ) (entries : List Entry) → IsAtRest limit a stack entries → length entries < most → length a.fast.counted < most
-rest-few limit most a stack entries rest room =
+    (limit database uses most : ℕ) (a : Account) (stack : List ℕ) (entries : List Entry) → IsAtRest limit database uses a stack entries → length entries < most → length a.fast.counted < most
+rest-few limit database uses most a stack entries rest room =
     let few : length (counted_for limit entries) ≤ length entries = counted-few limit entries in
     subst (λ (x : Account). length x.fast.counted < most) (sym rest.account) (omega (arith, few, room))
 
@@ -120,17 +148,19 @@ counted-granted limit entries tag mode owner none =
       same Transaction = refl
 
 pub rest-granted :
-    (limit : ℕ) (a b : Account) (stack its : List ℕ) (old new : List Entry) (tag : Tag) (mode : Mode) (owner : Owner) → has_entry old tag mode ≡ false
-    → b ≡ account_granted limit a tag mode b.trace → its ≡ stack → new ≡ with_one_more old tag mode owner → IsAtRest limit a stack old → IsAtRest limit b its new
-rest-granted limit a b stack its old new tag mode owner none granted same more rest = record {
+    (limit database uses left : ℕ) (a b : Account) (stack its : List ℕ) (old new : List Entry) (tag : Tag) (mode : Mode) (owner : Owner) → has_entry old tag mode ≡ false
+    → b ≡ account_granted limit a tag mode b.fast.remembered b.trace → IsUseCount b left → its ≡ stack → new ≡ with_one_more old tag mode owner
+    → IsAtRest limit database uses a stack old → IsAtRest limit database left b its new
+rest-granted limit database uses left a b stack its old new tag mode owner none granted use_count same more rest = record {
   account =
       granted
-      ∙ ap (λ (x : Account). account_granted limit x tag mode b.trace) rest.account
-      ∙ (λ i. record (account_at_rest limit old b.trace) {
+      ∙ ap (λ (x : Account). account_granted limit x tag mode b.fast.remembered b.trace) rest.account
+      ∙ (λ i. record (account_at_rest limit database b.fast.remembered old b.trace) {
         own = own-granted old tag mode owner i;
-        fast = record ((account_at_rest limit old b.trace).fast) { counted = counted-granted limit old tag mode owner none i };
+        fast = record ((account_at_rest limit database b.fast.remembered old b.trace).fast) { counted = counted-granted limit old tag mode owner none i };
       })
-      ∙ ap (λ entries. account_at_rest limit entries b.trace) (sym more);
+      ∙ ap (λ entries. account_at_rest limit database b.fast.remembered entries b.trace) (sym more);
+  use_count = use_count;
   no_partition = same ∙ rest.no_partition;
 }
 
@@ -157,20 +187,26 @@ lowered-same Session e = (refl, refl)
 lowered-same Transaction e = (refl, refl)
 
 -- A session at rest with entries that hold and count the same is at rest with them.
-rest-same :
-    (limit : ℕ) (a : Account) (stack : List ℕ) (old new : List Entry) → has_entry old ≡ has_entry new → counted_for limit old ≡ counted_for limit new
-    → IsAtRest limit a stack old → IsAtRest limit a stack new
-rest-same limit a stack old new own counted rest = record {
-  account = rest.account ∙ (λ i. record (account_at_rest limit old a.trace) { own = own i; fast = record ((account_at_rest limit old a.trace).fast) { counted = counted i } });
+pub rest-same :
+    (limit database uses : ℕ) (a : Account) (stack : List ℕ) (old new : List Entry) → has_entry old ≡ has_entry new → counted_for limit old ≡ counted_for limit new
+    → IsAtRest limit database uses a stack old → IsAtRest limit database uses a stack new
+rest-same limit database uses a stack old new own counted rest = record {
+  account =
+      rest.account
+      ∙ (λ i. record (account_at_rest limit database a.fast.remembered old a.trace) {
+        own = own i;
+        fast = record ((account_at_rest limit database a.fast.remembered old a.trace).fast) { counted = counted i };
+      });
+  use_count = rest.use_count;
   no_partition = rest.no_partition;
 }
 
 -- What is held already may be acquired once more,
 pub rest-held_again :
-    (limit : ℕ) (a : Account) (stack : List ℕ) (old new : List Entry) (tag : Tag) (mode : Mode) (owner : Owner) → has_entry old tag mode ≡ true
-    → new ≡ with_one_more old tag mode owner → IsAtRest limit a stack old → IsAtRest limit a stack new
-rest-held_again limit a stack old new tag mode owner held more rest =
-    rest-same limit a stack old new (λ i t m. own t m i)
+    (limit database uses : ℕ) (a : Account) (stack : List ℕ) (old new : List Entry) (tag : Tag) (mode : Mode) (owner : Owner) → has_entry old tag mode ≡ true
+    → new ≡ with_one_more old tag mode owner → IsAtRest limit database uses a stack old → IsAtRest limit database uses a stack new
+rest-held_again limit database uses a stack old new tag mode owner held more rest =
+    rest-same limit database uses a stack old new (λ i t m. own t m i)
     (sym (counted-changed limit (raised owner) old tag mode (raised-same owner))
     ∙ sym (ap (λ b. counted_for limit (if b then change (raised owner) old tag mode else old ++ new_entry tag mode owner ∷ [])) held)
     ∙ ap (counted_for limit) (sym more)) rest where

@@ -58,7 +58,7 @@ cleared-same seat its b c same clears = subst (λ (s : Seated). c ≡ account_cl
 module _ (number : ℕ) (a : Account) (stack : List ℕ) (p : ℕ) (tag : Tag) (mode : Mode) (taken : Content) (waits : IsInWait a stack tag mode) (home : p ≡ partition_of tag) where
   -- the wait by the session's account
   abbrev wait : OwnWait
-  wait = record { tag = tag; mode = mode; held = a.own tag }
+  wait = record { tag = tag; mode = mode; held = waits.held }
 
   -- the account with the partition in hand
   abbrev account_taken : Account

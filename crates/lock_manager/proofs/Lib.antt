@@ -1,5 +1,3 @@
-pub mod Counting
-pub mod Scanning
 pub mod Deciding
 pub mod Requesting
 pub mod Waking
@@ -14,3 +12,5 @@ mod Listed
 pub mod Leaving
 pub mod Cancelling
 pub mod Watching
+mod Reading
+mod Slotting

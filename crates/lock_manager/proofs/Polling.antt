@@ -11,31 +11,33 @@ use Rattle.lock_world.specs.World.{TraceEntry}
 use Rattle.lock_world.specs.Account.{Account}
 use Rattle.shared_rule.specs.History.{account_cleared}
 use Rattle.shared_rule.specs.Lawful.{MayClearBy}
-use Rattle.lock_manager.specs.Rest.{account_at_rest, IsAtRest}
+use Rattle.lock_manager.specs.Rest.{account_at_rest, IsUseCount, IsAtRest}
 use Rattle.lock_manager.specs.Requests.{account_granted}
 use Rattle.lock_manager.specs.Waiting.{account_in_wait, HasLooked}
-use Rattle.lock_manager.proofs.Holding.{rest-granted}
+use Rattle.lock_manager.proofs.Holding.{use_count-same, rest-granted}
 
 -- What a session that waits sees in its wait word.
 
 -- the wait by the session's account
-abbrev pub own_wait : List Entry → Tag → Mode → OwnWait
-own_wait entries tag mode = record { tag = tag; mode = mode; held = has_entry entries tag }
+abbrev pub own_wait : Tag → Mode → (Mode → Bool) → OwnWait
+own_wait tag mode held = record { tag = tag; mode = mode; held = held }
 
 -- A wait that ends granted leaves the session with what it waited for.
 pub rest-taken_over :
-    (limit : ℕ) (b : Account) (its : List ℕ) (old new : List Entry) (tag : Tag) (mode : Mode) (owner : Owner) (trace : List TraceEntry) (stack : List ℕ)
-    → has_entry old tag mode ≡ false → b ≡ account_granted limit (account_at_rest limit old trace) tag mode b.trace → its ≡ stack → stack ≡ []
-    → new ≡ with_one_more old tag mode owner → IsAtRest limit b its new
-rest-taken_over limit b its old new tag mode owner trace stack none granted same empty more =
-    rest-granted limit (account_at_rest limit old trace) b stack its old new tag mode owner none granted same more (record { account = refl; no_partition = empty })
+    (limit database uses : ℕ) (remembered : ℕ → ℕ) (b : Account) (its : List ℕ) (old new : List Entry) (tag : Tag) (mode : Mode) (owner : Owner) (trace : List TraceEntry) (stack : List ℕ)
+    → has_entry old tag mode ≡ false → b ≡ account_granted limit (account_at_rest limit database remembered old trace) tag mode b.fast.remembered b.trace
+    → IsUseCount b uses → IsUseCount (account_at_rest limit database remembered old trace) uses
+    → its ≡ stack → stack ≡ [] → new ≡ with_one_more old tag mode owner → IsAtRest limit database uses b its new
+rest-taken_over limit database uses remembered b its old new tag mode owner trace stack none granted now before same empty more =
+    rest-granted limit database uses uses (account_at_rest limit database remembered old trace) b stack its old new tag mode owner none granted now same more
+    (record { account = refl; use_count = before; no_partition = empty })
 
-module _ (limit number : ℕ) (a : Account) (stack : List ℕ) (entries : List Entry) (tag : Tag) (mode : Mode) (shown : ℕ)
-    (looked : HasLooked limit a stack entries tag mode shown) (two : wait_state shown ≡ 2) where
+module _ (limit database uses number : ℕ) (a : Account) (stack : List ℕ) (entries : List Entry) (tag : Tag) (mode : Mode) (shown : ℕ)
+    (looked : HasLooked limit database uses a stack entries tag mode shown) (two : wait_state shown ≡ 2) where
   -- Where the word shows the grant it may be cleared,
   pub may_clear_seen : (wait : OwnWait) × MayClearBy number a wait
   may_clear_seen = (
-    own_wait entries tag mode,
+    own_wait tag mode looked.held,
     inl (record {
       is_wait = ap (λ (x : Account). x.awaited) looked.account;
       has_seen = ap (λ (x : Account). x.seen) looked.account ∙ eq-eqb (wait_state shown) 2 two;
@@ -43,20 +45,24 @@ module _ (limit number : ℕ) (a : Account) (stack : List ℕ) (entries : List E
   )
 
   -- and then the hold is the session's own.
-  cleared : (b : Account) → b ≡ account_cleared number a a.awaited → b ≡ account_granted limit (account_at_rest limit entries a.trace) tag mode a.trace
+  abbrev rested : Account
+  rested = account_at_rest limit database a.fast.remembered entries a.trace
+
+  cleared : (b : Account) → b ≡ account_cleared number a a.awaited → b ≡ account_granted limit rested tag mode a.fast.remembered a.trace
   cleared b clears =
       clears ∙ ap (λ (x : Account). account_cleared number x x.awaited) looked.account ∙ at (wait_state shown == 2) (eq-eqb (wait_state shown) 2 two) where
         at : (seen : Bool) → seen ≡ true
-            → account_cleared number (record (account_in_wait limit entries tag mode a.trace) { seen = seen }) (Some (own_wait entries tag mode))
-            ≡ account_granted limit (account_at_rest limit entries a.trace) tag mode a.trace
+            → account_cleared number (record (account_in_wait limit database a.fast.remembered entries tag mode looked.held a.trace) { seen = seen }) (Some (own_wait tag mode looked.held))
+            ≡ account_granted limit rested tag mode a.fast.remembered a.trace
         at true is = refl
         at false is = absurd (false≢true is)
 
   pub rest-seen :
       (b : Account) (its : List ℕ) (new : List Entry) (owner : Owner) → b ≡ account_cleared number a a.awaited → its ≡ stack
-      → new ≡ with_one_more entries tag mode owner → IsAtRest limit b its new
+      → new ≡ with_one_more entries tag mode owner → IsAtRest limit database uses b its new
   rest-seen b its new owner clears same more =
-      let granted : b ≡ account_granted limit (account_at_rest limit entries a.trace) tag mode a.trace = cleared b clears in
-      rest-taken_over limit b its entries new tag mode owner a.trace stack looked.no_entry
-      (granted ∙ ap (account_granted limit (account_at_rest limit entries a.trace) tag mode) (sym (ap (λ (x : Account). x.trace) granted)))
-      same looked.no_partition more
+      let granted : b ≡ account_granted limit rested tag mode a.fast.remembered a.trace = cleared b clears in
+      let use_count : IsUseCount b uses = use_count-same a b uses (sym (ap (λ (x : Account). x.fast.remembered) granted)) looked.use_count in
+      rest-taken_over limit database uses a.fast.remembered b its entries new tag mode owner a.trace stack looked.no_entry
+      (granted ∙ (λ i. account_granted limit rested tag mode (sym (ap (λ (x : Account). x.fast.remembered) granted) i) (sym (ap (λ (x : Account). x.trace) granted) i)))
+      use_count (use_count-same a rested uses refl looked.use_count) same looked.no_partition more

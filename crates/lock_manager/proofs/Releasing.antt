@@ -1,10 +1,10 @@
-use Rattle.std.proofs.Common.{◌≡◌, ◌≢◌, ℕ, Bool, ◌==◌, true, false, ap, List, [], ◌∷◌, length, refl, sym, ◌∙◌, subst, inl}
+use Rattle.std.proofs.Common.{◌≡◌, ◌≢◌, ◌⊎◌, ℕ, Bool, ◌==◌, true, false, ap, List, [], ◌∷◌, ◌++◌, append-nil, length, refl, sym, ◌∙◌, subst, inl, inr}
 use Rattle.std.specs.Prelude.{map}
-use Rattle.std.proofs.lemmas.Bool.{false≢true}
+use Rattle.std.proofs.lemmas.Bool.{false≢true, and_left}
 use Rattle.std.proofs.lemmas.List.{nil_from_length}
 use Rattle.modes_core.specs.declared.modes.Mode.{Mode}
 use Rattle.modes_core.specs.declared.tags.Tag.{Tag}
-use Rattle.modes_core.specs.Tag.{partition_of}
+use Rattle.modes_core.specs.Tag.{partition_of, is_strong_on, is_eligible_for}
 use Rattle.lock_table.specs.declared.moves.Move.TheVariants.{Release}
 use Rattle.lock_table.specs.Content.{Wait, Content}
 use Rattle.lock_table.specs.Moves.{Moves}
@@ -12,11 +12,19 @@ use Rattle.lock_table.specs.Waiter.{whose_and_mode}
 use Rattle.lock_world.specs.Account.{Account, InHand}
 use Rattle.lock_world.specs.AccountFacts.{KnowsContent}
 use Rattle.lock_world.specs.AccountLaw.{MayMoveBy, MayPutBy}
-use Rattle.lock_world.specs.AccountSteps.{account_taking}
+use Rattle.lock_world.specs.AccountSteps.{account_taking, account_uncounting, own_with}
+use Rattle.lock_world.specs.Counted.{is_counted, uncounting}
+use Rattle.lock_world.specs.SlotHolds.{slot_count, slot_holds}
+use Rattle.lock_world.specs.World.{TraceEntry, Took, Episode}
+use Rattle.fast_path.specs.Slots.{slot_loads, account_tried}
+use Rattle.fast_path.specs.Releases.{Ungrants}
 use Rattle.shared_rule.specs.Boards.{Seated}
 use Rattle.shared_rule.specs.Lawful.{MayPutPart}
 use Rattle.shared_rule.proofs.Episodes.{fresh_hand, taken-in_hand}
-use Rattle.lock_manager.specs.Releases.{Wakens, Tells}
+use Rattle.lock_manager.specs.Rest.{IsUseCount, IsIdle}
+use Rattle.lock_manager.specs.Releases.{Wakens, Tells, ReleasesInPart, ReleasesHold, LooksNowhere, FindsNone, Releases, account_released}
+use Rattle.lock_manager.proofs.Holding.{use_count-same}
+use Rattle.lock_manager.proofs.Requesting.{if-true, if-false, eligible-weak}
 use Rattle.lock_manager.proofs.Waking.{release-once}
 
 -- Releasing a hold in a partition that was just taken.
@@ -80,3 +88,148 @@ module _ (seat : Seated) (a : Account) (p : ℕ) (tag : Tag) (mode : Mode) (take
             (subst (λ v. Wakens seat v p (Release tag mode) woken put) {x = account_taking a p taken} {y = b} (sym same) wakens);
         so_far = inl (refl, some, refl);
       }
+
+-- ---- the whole release
+
+-- What no slot may have is in none.
+pub not_eligible-in_none :
+    (database : ℕ) (slot : ℕ → ℕ) (tag : Tag) (mode : Mode) → is_eligible_for database tag mode ≡ false → slot_holds database slot tag mode ≡ false
+not_eligible-in_none database slot tag mode not_eligible = and_left (is_eligible_for database tag mode) _ not_eligible
+
+-- A hold in the table is released there, and then a strong mode is counted no more.
+module _ (number : ℕ) (a b : Account) (tag : Tag) (mode : Mode) (released : ReleasesInPart number a tag mode b) where
+  in_part-trace : b.trace ≡ a.trace ++ Took (partition_of tag) released.taken ∷ Episode (partition_of tag) released.taken released.put ∷ []
+  in_part-trace = ap (λ (x : Account). x.trace) released.account
+
+  pub releases-weak : is_strong_on tag mode ≡ false → ReleasesHold number a tag mode b
+  releases-weak weak = record {
+    taken = released.taken;
+    put = released.put;
+    granted = released.granted;
+    moved = released.moved;
+    account =
+        released.account
+        ∙ (λ i. record a {
+          own = own_with a.own tag mode false;
+          fast = record (a.fast) { counted = sym (if-false (is_strong_on tag mode) (uncounting a.fast.counted tag mode) a.fast.counted weak) i };
+          trace = a.trace ++ Took (partition_of tag) released.taken ∷ Episode (partition_of tag) released.taken released.put ∷ [];
+        });
+  }
+
+  pub releases-strong : (c : Account) → is_strong_on tag mode ≡ true → c ≡ account_uncounting b tag mode → ReleasesHold number a tag mode c
+  releases-strong c strong back = record {
+    taken = released.taken;
+    put = released.put;
+    granted = released.granted;
+    moved = released.moved;
+    account =
+        back
+        ∙ ap (λ (x : Account). account_uncounting x tag mode) released.account
+        ∙ (λ i. record a {
+          own = own_with a.own tag mode false;
+          fast = record (a.fast) { counted = sym (if-true (is_strong_on tag mode) (uncounting a.fast.counted tag mode) a.fast.counted strong) i };
+          trace = a.trace ++ Took (partition_of tag) released.taken ∷ Episode (partition_of tag) released.taken released.put ∷ [];
+        });
+  }
+
+-- The account once the session has looked in its slots, or without that.
+pub record HasLookedForHold (number : ℕ) (a : Account) (uses : ℕ) (tag : Tag) (mode : Mode) (b : Account) (left : ℕ) : Type 0 where
+  pub loads : List TraceEntry
+  pub before : LooksNowhere a uses tag mode loads left ⊎ FindsNone number a uses tag mode loads left
+  pub account : b ≡ account_tried a b.fast.remembered (a.trace ++ loads)
+
+pub looks-nowhere :
+    (number : ℕ) (a : Account) (uses : ℕ) (tag : Tag) (mode : Mode) → (is_eligible_for a.fast.database tag mode ≡ false) ⊎ (uses ≡ 0)
+    → HasLookedForHold number a uses tag mode a uses
+looks-nowhere number a uses tag mode why = record {
+  loads = [];
+  before = inl (record { not_tried = why; no_step = refl; same = refl });
+  account = λ i. record a { trace = sym (append-nil a.trace) i };
+}
+
+pub looks-found :
+    (number : ℕ) (a b : Account) (uses left : ℕ) (tag : Tag) (mode : Mode) → is_eligible_for a.fast.database tag mode ≡ true
+    → Ungrants number a uses tag mode false b left → HasLookedForHold number a uses tag mode b left
+looks-found number a b uses left tag mode eligible (inl untried) =
+    subst (λ (its : ℕ). HasLookedForHold number a uses tag mode b its) (sym untried.2)
+    (subst (λ (x : Account). HasLookedForHold number a uses tag mode x uses) (sym untried.1) (looks-nowhere number a uses tag mode (inr untried.0)))
+looks-found number a b uses left tag mode eligible (inr looked) = record {
+  loads = slot_loads number looked.1.word slot_count;
+  before = inr (record {
+    looks = record { eligible = eligible; some = looked.0 };
+    word = looked.1.word;
+    in_none = looked.1.in_none;
+    loaded = refl;
+    recomputed = looked.1.recomputed;
+  });
+  account = looked.1.account ∙ (λ i. account_tried a (sym (ap (λ (x : Account). x.fast.remembered) looked.1.account) i) (a.trace ++ slot_loads number looked.1.word slot_count));
+}
+
+-- A hold that a slot has is cleared there,
+pub slot-released :
+    (number : ℕ) (a b : Account) (uses left : ℕ) (tag : Tag) (mode : Mode) (found : Bool) → is_eligible_for a.fast.database tag mode ≡ true → found ≡ true
+    → Ungrants number a uses tag mode found b left → Releases number a uses tag mode b left
+slot-released number a b uses left tag mode true eligible is ungrants =
+    inl (record { looks = record { eligible = eligible; some = ungrants.0 }; cleared = ungrants.1 })
+slot-released number a b uses left tag mode false eligible is ungrants = absurd (false≢true is)
+
+pub slot-released_account :
+    (number : ℕ) (a b : Account) (uses left : ℕ) (tag : Tag) (mode : Mode) (found : Bool) → is_eligible_for a.fast.database tag mode ≡ true → found ≡ true
+    → Ungrants number a uses tag mode found b left → b ≡ account_released a tag mode b.fast.remembered b.trace
+slot-released_account number a b uses left tag mode false eligible is ungrants = absurd (false≢true is)
+slot-released_account number a b uses left tag mode true eligible is ungrants =
+    ungrants.1.account
+    ∙ (λ i. record a {
+      own = own_with a.own tag mode false;
+      fast = record (a.fast) {
+        remembered = sym (ap (λ (x : Account). x.fast.remembered) ungrants.1.account) i;
+        counted = sym (if-false (is_strong_on tag mode) (uncounting a.fast.counted tag mode) a.fast.counted (eligible-weak a.fast.database tag mode eligible)) i;
+      };
+      trace = sym (ap (λ (x : Account). x.trace) ungrants.1.account) i;
+    })
+
+-- and another one in the table.
+module _ (number : ℕ) (a b c : Account) (uses left : ℕ) (tag : Tag) (mode : Mode) (looked : HasLookedForHold number a uses tag mode b left)
+    (released : ReleasesHold number b tag mode c) where
+  table-trace : c.trace ≡ a.trace ++ looked.loads ++ Took (partition_of tag) released.taken ∷ Episode (partition_of tag) released.taken released.put ∷ []
+  table-trace =
+      ap (λ (x : Account). x.trace) released.account
+      ∙ ap (λ (x : Account). x.trace ++ Took (partition_of tag) released.taken ∷ Episode (partition_of tag) released.taken released.put ∷ []) looked.account
+
+  pub table-released_account : c ≡ account_released a tag mode c.fast.remembered c.trace
+  table-released_account =
+      released.account
+      ∙ (λ i. account_released b tag mode (sym (ap (λ (x : Account). x.fast.remembered) released.account) i) (sym (ap (λ (x : Account). x.trace) released.account) i))
+      ∙ ap (λ (x : Account). account_released x tag mode c.fast.remembered c.trace) looked.account
+
+  pub table-released : Releases number a uses tag mode c left
+  table-released = inr (record {
+    loads = looked.loads;
+    before = looked.before;
+    taken = released.taken;
+    put = released.put;
+    granted = released.granted;
+    moved = released.moved;
+    trace = table-trace;
+    account = table-released_account;
+  })
+
+  pub table-use_count : (its : ℕ) → IsUseCount b its → IsUseCount c its
+  table-use_count its = use_count-same b c its (sym (ap (λ (x : Account). x.fast.remembered) released.account))
+
+-- Between looking and releasing the session is idle, and has what it had.
+module _ (number : ℕ) (a : Account) (uses : ℕ) (tag : Tag) (mode : Mode) (b : Account) (left : ℕ) (looked : HasLookedForHold number a uses tag mode b left) where
+  pub looked-idle : (stack its : List ℕ) → its ≡ stack → IsIdle a stack → IsIdle b its
+  looked-idle stack its same idle = record {
+    no_wait = ap (λ (x : Account). x.awaited) looked.account ∙ idle.no_wait;
+    no_content = ap (λ (x : Account). x.hand) looked.account ∙ idle.no_content;
+    no_slots = ap (λ (x : Account). x.fast.slots) looked.account ∙ idle.no_slots;
+    no_zero = ap (λ (x : Account). x.fast.zero) looked.account ∙ idle.no_zero;
+    no_partition = same ∙ idle.no_partition;
+  }
+
+  pub looked-own : (its : Mode) (there : Bool) → a.own tag its ≡ there → b.own tag its ≡ there
+  looked-own its there own = ap (λ (x : Account). x.own tag its) looked.account ∙ own
+
+  pub looked-counted : is_counted a.fast.counted tag mode ≡ true → is_counted b.fast.counted tag mode ≡ true
+  looked-counted counted = ap (λ (x : Account). is_counted x.fast.counted tag mode) looked.account ∙ counted

@@ -17,9 +17,8 @@ use Rattle.lock_table.specs.Put.{put}
 use Rattle.lock_world.specs.Account.{Account}
 use Rattle.lock_world.specs.AccountSteps.{own_with}
 use Rattle.lock_world.specs.Counted.{Counted, is_counted, uncounting}
-use Rattle.lock_world.specs.World.{TraceEntry}
 use Rattle.shared_rule.specs.Boards.{Seated}
-use Rattle.lock_manager.specs.Rest.{counted_for, account_at_rest, IsAtRest}
+use Rattle.lock_manager.specs.Rest.{counted_for, account_at_rest, IsUseCount, IsAtRest}
 use Rattle.lock_manager.specs.Releases.{Releases, ReleasesAll, counted_released, account_released}
 
 -- What a session at rest holds and has counted, as it goes on with the end of a transaction.
@@ -231,56 +230,61 @@ entry-counted limit (entry ∷ entries) tag mode has strong =
 
 -- With the hold released that the end takes away next it is at rest with the entries left,
 pub rest-next :
-    (limit : ℕ) (end : End) (a b : Account) (stack its : List ℕ) (old new : List Entry) (key : Tag × Mode)
+    (limit database uses left : ℕ) (end : End) (a b : Account) (stack its : List ℕ) (old new : List Entry) (key : Tag × Mode)
     → IsDistinct are_of_same old → ended_by end old ≡ key ∷ ended_by end new → new ≡ with_next_ended end old
-    → b ≡ account_released a key.0 key.1 b.trace → its ≡ stack → IsAtRest limit a stack old → IsAtRest limit b its new
-rest-next limit end a b stack its old new key once next left released same at = record {
+    → b ≡ account_released a key.0 key.1 b.fast.remembered b.trace → IsUseCount b left → its ≡ stack
+    → IsAtRest limit database uses a stack old → IsAtRest limit database left b its new
+rest-next limit database uses left end a b stack its old new key once next gone released use_count same at = record {
   account =
       released
-      ∙ ap (λ (v : Account). account_released v key.0 key.1 b.trace) at.account
-      ∙ (λ i. record (account_at_rest limit old b.trace) {
+      ∙ ap (λ (v : Account). account_released v key.0 key.1 b.fast.remembered b.trace) at.account
+      ∙ (λ i. record (account_at_rest limit database b.fast.remembered old b.trace) {
         own = own-next end old key (ended_by end new) once next i;
-        fast = record ((account_at_rest limit old b.trace).fast) { counted = counted-next limit end old key (ended_by end new) once next i };
+        fast = record ((account_at_rest limit database b.fast.remembered old b.trace).fast) {
+          counted = counted-next limit end old key (ended_by end new) once next i;
+        };
       })
-      ∙ ap (λ entries. account_at_rest limit entries b.trace) (sym left);
+      ∙ ap (λ entries. account_at_rest limit database b.fast.remembered entries b.trace) (sym gone);
+  use_count = use_count;
   no_partition = same ∙ at.no_partition;
 }
 
 -- and so after a step that takes nothing away.
 pub rest-last :
-    (limit : ℕ) (end : End) (a : Account) (stack : List ℕ) (old new : List Entry) → ended_by end old ≡ [] → new ≡ with_next_ended end old
-    → IsAtRest limit a stack old → IsAtRest limit a stack new
-rest-last limit end a stack old new none left at = record {
+    (limit database uses : ℕ) (end : End) (a : Account) (stack : List ℕ) (old new : List Entry) → ended_by end old ≡ [] → new ≡ with_next_ended end old
+    → IsAtRest limit database uses a stack old → IsAtRest limit database uses a stack new
+rest-last limit database uses end a stack old new none gone at = record {
   account =
       at.account
-      ∙ (λ i. record (account_at_rest limit old a.trace) {
+      ∙ (λ i. record (account_at_rest limit database a.fast.remembered old a.trace) {
         own = own-last end old none i;
-        fast = record ((account_at_rest limit old a.trace).fast) { counted = counted-last limit end old none i };
+        fast = record ((account_at_rest limit database a.fast.remembered old a.trace).fast) { counted = counted-last limit end old none i };
       })
-      ∙ ap (λ entries. account_at_rest limit entries a.trace) (sym left);
+      ∙ ap (λ entries. account_at_rest limit database a.fast.remembered entries a.trace) (sym gone);
+  use_count = at.use_count;
   no_partition = at.no_partition;
 }
 
 -- It holds what the end takes away next, and has counted it where it is a strong lock.
 pub rest-held :
-    (limit : ℕ) (end : End) (a : Account) (stack : List ℕ) (entries : List Entry) (key : Tag × Mode) (rest : List (Tag × Mode))
-    → ended_by end entries ≡ key ∷ rest → IsAtRest limit a stack entries → a.own key.0 key.1 ≡ true
-rest-held limit end a stack entries key rest next at =
+    (limit database uses : ℕ) (end : End) (a : Account) (stack : List ℕ) (entries : List Entry) (key : Tag × Mode) (rest : List (Tag × Mode))
+    → ended_by end entries ≡ key ∷ rest → IsAtRest limit database uses a stack entries → a.own key.0 key.1 ≡ true
+rest-held limit database uses end a stack entries key rest next at =
     ap (λ (v : Account). v.own key.0 key.1) at.account ∙ has_entry-ended end entries key rest next
 
 pub rest-counted :
-    (limit : ℕ) (end : End) (a : Account) (stack : List ℕ) (entries : List Entry) (key : Tag × Mode) (rest : List (Tag × Mode))
-    → ended_by end entries ≡ key ∷ rest → IsAtRest limit a stack entries
+    (limit database uses : ℕ) (end : End) (a : Account) (stack : List ℕ) (entries : List Entry) (key : Tag × Mode) (rest : List (Tag × Mode))
+    → ended_by end entries ≡ key ∷ rest → IsAtRest limit database uses a stack entries
     → is_strong_on key.0 key.1 ≡ true → is_counted a.fast.counted key.0 key.1 ≡ true
-rest-counted limit end a stack entries key rest next at strong =
+rest-counted limit database uses end a stack entries key rest next at strong =
     ap (λ (v : Account). is_counted v.fast.counted key.0 key.1) at.account
     ∙ entry-counted limit entries key.0 key.1 (has_entry-ended end entries key rest next) strong
 
 -- The release of the next hold leads on to the releases of those left.
 pub releases-next :
-    (seat its : Seated) (end : End) (before after last : List TraceEntry) (old new : List Entry) (key : Tag × Mode) → its ≡ seat
-    → ended_by end old ≡ key ∷ ended_by end new → Releases its.number before key.0 key.1 after
-    → ReleasesAll seat.number after (ended_by end new) last → ReleasesAll seat.number before (ended_by end old) last
-releases-next seat its end before after last old new key same next first others =
-    subst (λ keys. ReleasesAll seat.number before keys last) {x = key ∷ ended_by end new} {y = ended_by end old} (sym next)
-    (after, subst (λ (v : Seated). Releases v.number before key.0 key.1 after) same first, others)
+    (seat its : Seated) (end : End) (a b c : Account) (uses between left : ℕ) (old new : List Entry) (key : Tag × Mode) → its ≡ seat
+    → ended_by end old ≡ key ∷ ended_by end new → Releases its.number a uses key.0 key.1 b between
+    → ReleasesAll seat.number b between (ended_by end new) c left → ReleasesAll seat.number a uses (ended_by end old) c left
+releases-next seat its end a b c uses between left old new key same next first others =
+    subst (λ keys. ReleasesAll seat.number a uses keys c left) {x = key ∷ ended_by end new} {y = ended_by end old} (sym next)
+    (b, between, subst (λ (v : Seated). Releases v.number a uses key.0 key.1 b between) same first, others)

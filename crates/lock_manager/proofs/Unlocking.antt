@@ -18,22 +18,23 @@ use Rattle.lock_world.specs.AccountSteps.{own_with}
 use Rattle.lock_world.specs.Counted.{Counted, is_counted, uncounting}
 use Rattle.lock_world.specs.World.{TraceEntry}
 use Rattle.shared_rule.specs.Seats.{DoNotConflict, MayCloseBy}
-use Rattle.lock_manager.specs.Rest.{counted_for, account_at_rest, IsAtRest}
+use Rattle.lock_manager.specs.Rest.{counted_for, account_at_rest, IsUseCount, IsAtRest}
 use Rattle.lock_manager.specs.Releases.{counted_released, account_released}
 use Rattle.lock_manager.specs.Sessions.{DontConflict}
+use Rattle.lock_manager.proofs.Holding.{rest-same}
 
 -- It holds what it has entries for.
 pub own-rest :
-    (limit : ℕ) (a : Account) (stack : List ℕ) (entries : List Entry) → IsAtRest limit a stack entries →
+    (limit database uses : ℕ) (a : Account) (stack : List ℕ) (entries : List Entry) → IsAtRest limit database uses a stack entries →
     (tag : Tag) (mode : Mode) → a.own tag mode ≡ has_entry entries tag mode
-own-rest limit a stack entries rest tag mode = ap (λ (b : Account). b.own tag mode) rest.account
+own-rest limit database uses a stack entries rest tag mode = ap (λ (b : Account). b.own tag mode) rest.account
 
 -- Two sessions whose holds don't conflict have no entries that do.
 pub entries-apart :
-    (limit its_limit : ℕ) (a b : Account) (stack its_stack : List ℕ) (entries its_entries : List Entry) →
-    IsAtRest limit a stack entries → IsAtRest its_limit b its_stack its_entries → DoNotConflict a b → DontConflict entries its_entries
-entries-apart limit its_limit a b stack its_stack entries its_entries rest its_rest apart tag mode its has its_has =
-    apart tag mode its (own-rest limit a stack entries rest tag mode ∙ has) (own-rest its_limit b its_stack its_entries its_rest tag its ∙ its_has)
+    (limit its_limit database its_database uses its_uses : ℕ) (a b : Account) (stack its_stack : List ℕ) (entries its_entries : List Entry) →
+    IsAtRest limit database uses a stack entries → IsAtRest its_limit its_database its_uses b its_stack its_entries → DoNotConflict a b → DontConflict entries its_entries
+entries-apart limit its_limit database its_database uses its_uses a b stack its_stack entries its_entries rest its_rest apart tag mode its has its_has =
+    apart tag mode its (own-rest limit database uses a stack entries rest tag mode ∙ has) (own-rest its_limit its_database its_uses b its_stack its_entries its_rest tag its ∙ its_has)
 
 -- The end of a session leaves it no entry,
 pub left_by-close : (entries : List Entry) → left_by Close entries ≡ []
@@ -41,9 +42,9 @@ left_by-close [] = refl
 left_by-close (entry ∷ entries) = left_by-close entries
 
 -- and with none it may be closed.
-pub MayCloseBy-rest : (limit : ℕ) (a : Account) (stack : List ℕ) (entries : List Entry) → IsAtRest limit a stack entries → entries ≡ [] → MayCloseBy a
-MayCloseBy-rest limit a stack entries rest none =
-    subst MayCloseBy (sym (rest.account ∙ ap (λ (es : List Entry). account_at_rest limit es a.trace) none)) (record {
+pub MayCloseBy-rest : (limit database uses : ℕ) (a : Account) (stack : List ℕ) (entries : List Entry) → IsAtRest limit database uses a stack entries → entries ≡ [] → MayCloseBy a
+MayCloseBy-rest limit database uses a stack entries rest none =
+    subst MayCloseBy (sym (rest.account ∙ ap (λ (es : List Entry). account_at_rest limit database a.fast.remembered es a.trace) none)) (record {
       no_hold = λ tag mode. refl;
       no_wait = refl;
       no_partition = λ partition. refl;
@@ -147,17 +148,20 @@ is_counted-entry limit (entry ∷ entries) tag mode strong has =
     ]
 
 pub is_counted-rest :
-    (limit : ℕ) (a : Account) (stack : List ℕ) (entries : List Entry) (tag : Tag) (mode : Mode) → IsAtRest limit a stack entries →
+    (limit database uses : ℕ) (a : Account) (stack : List ℕ) (entries : List Entry) (tag : Tag) (mode : Mode) → IsAtRest limit database uses a stack entries →
     is_strong_on tag mode ≡ true → has_entry entries tag mode ≡ true → is_counted a.fast.counted tag mode ≡ true
-is_counted-rest limit a stack entries tag mode rest strong has =
+is_counted-rest limit database uses a stack entries tag mode rest strong has =
     ap (λ (b : Account). is_counted b.fast.counted tag mode) rest.account ∙ is_counted-entry limit entries tag mode strong has
 
 -- ---- releases
 
 -- an account at rest with these holds and these strong locks counted
-abbrev at_rest_with : ℕ → List Entry → List TraceEntry → (Tag → Mode → Bool) → List Counted → Account
-at_rest_with limit entries trace own counted =
-    record (account_at_rest limit entries trace) { own = own; fast = record ((account_at_rest limit entries trace).fast) { counted = counted } }
+abbrev at_rest_with : ℕ → ℕ → (ℕ → ℕ) → List Entry → List TraceEntry → (Tag → Mode → Bool) → List Counted → Account
+at_rest_with limit database remembered entries trace own counted =
+    record (account_at_rest limit database remembered entries trace) {
+      own = own;
+      fast = record ((account_at_rest limit database remembered entries trace).fast) { counted = counted };
+    }
 
 -- A release that was not the last leaves what is counted,
 counted-still_held :
@@ -176,18 +180,11 @@ counted-still_held limit old new tag mode owner less some =
 
 -- and so the session rests.
 pub IsAtRest-still_held :
-    (limit : ℕ) (a : Account) (stack : List ℕ) (old new : List Entry) (tag : Tag) (mode : Mode) (owner : Owner) → IsAtRest limit a stack old →
-    new ≡ with_one_less old tag mode owner → 0 < total_of new tag mode → IsAtRest limit a stack new
-IsAtRest-still_held limit a stack old new tag mode owner rest less some =
-    let own : has_entry new ≡ has_entry old = λ i t m. keys-still_held old new tag mode owner less some t m i in
-    record {
-      account = rest.account ∙ sym (same own (counted-still_held limit old new tag mode owner less some));
-      no_partition = rest.no_partition;
-    } where
-      same : has_entry new ≡ has_entry old → counted_for limit new ≡ counted_for limit old → account_at_rest limit new a.trace ≡ account_at_rest limit old a.trace
-      same own counted =
-          ap (λ (o : Tag → Mode → Bool). at_rest_with limit old a.trace o (counted_for limit new)) own ∙
-          ap (at_rest_with limit old a.trace (has_entry old)) counted
+    (limit database uses : ℕ) (a : Account) (stack : List ℕ) (old new : List Entry) (tag : Tag) (mode : Mode) (owner : Owner) →
+    IsAtRest limit database uses a stack old → new ≡ with_one_less old tag mode owner → 0 < total_of new tag mode → IsAtRest limit database uses a stack new
+IsAtRest-still_held limit database uses a stack old new tag mode owner rest less some =
+    let own : has_entry old ≡ has_entry new = λ i t m. sym (keys-still_held old new tag mode owner less some t m) i in
+    rest-same limit database uses a stack old new own (sym (counted-still_held limit old new tag mode owner less some)) rest
 
 -- The last one takes the hold and what is counted for it away.
 own-released :
@@ -222,15 +219,18 @@ counted-released limit old new tag mode owner less had gone =
     ]
 
 pub IsAtRest-released :
-    (limit : ℕ) (a b : Account) (stack its_stack : List ℕ) (old new : List Entry) (tag : Tag) (mode : Mode) (owner : Owner) → IsAtRest limit a stack old →
-    new ≡ with_one_less old tag mode owner → has_entry old tag mode ≡ true → has_entry new tag mode ≡ false →
-    b ≡ account_released a tag mode b.trace → its_stack ≡ stack → IsAtRest limit b its_stack new
-IsAtRest-released limit a b stack its_stack old new tag mode owner rest less had gone released same_stack =
+    (limit database uses left : ℕ) (a b : Account) (stack its_stack : List ℕ) (old new : List Entry) (tag : Tag) (mode : Mode) (owner : Owner) →
+    IsAtRest limit database uses a stack old → new ≡ with_one_less old tag mode owner → has_entry old tag mode ≡ true → has_entry new tag mode ≡ false →
+    b ≡ account_released a tag mode b.fast.remembered b.trace → IsUseCount b left → its_stack ≡ stack → IsAtRest limit database left b its_stack new
+IsAtRest-released limit database uses left a b stack its_stack old new tag mode owner rest less had gone released use_count same_stack =
     let own : own_with (has_entry old) tag mode false ≡ has_entry new = λ i t m. own-released old new tag mode owner less gone t m i in
     record {
       account =
-          released ∙ ap (λ (c : Account). account_released c tag mode b.trace) rest.account ∙
-          ap (λ (o : Tag → Mode → Bool). at_rest_with limit new b.trace o (counted_released (counted_for limit old) tag mode)) own ∙
-          ap (at_rest_with limit new b.trace (has_entry new)) (counted-released limit old new tag mode owner less had gone);
+          released ∙ ap (λ (c : Account). account_released c tag mode b.fast.remembered b.trace) rest.account ∙
+          ap
+          (λ (o : Tag → Mode → Bool).
+          at_rest_with limit database b.fast.remembered new b.trace o (counted_released (counted_for limit old) tag mode)) own ∙
+          ap (at_rest_with limit database b.fast.remembered new b.trace (has_entry new)) (counted-released limit old new tag mode owner less had gone);
+      use_count = use_count;
       no_partition = same_stack ∙ rest.no_partition;
     }

@@ -1,9 +1,11 @@
-use Rattle.std.specs.Prelude.{◌≡◌, ℕ, ◌+◌, true, List, [], ◌∷◌, ◌++◌, length, count_by, slice_index_or, if◌then◌else◌, Result, IfOk, OnOk}
+use Rattle.std.specs.Prelude.{◌≡◌, ◌⊎◌, ℕ, ◌≤◌, ◌+◌, true, List, [], ◌∷◌, ◌++◌, length, count_by, slice_index_or}
+use Rattle.std.specs.Prelude.{if◌then◌else◌, Result, Err, IfOk, OnOk}
 use Rattle.modes_core.specs.declared.modes.Mode.{Mode}
 use Rattle.modes_core.specs.declared.tags.Tag.{Tag}
 use Rattle.modes_core.specs.declared.refusals.Refusal.{Refusal}
+use Rattle.modes_core.specs.declared.refusals.Refusal.TheVariants.{NoMemory}
 use Rattle.modes_core.specs.Tag.{partition_of}
-use Rattle.lock_table.specs.declared.no_memory.NoMemory.{NoMemory}
+use Rattle.lock_table.specs.declared.no_memory.NoMemory as no_memory
 use Rattle.lock_table.specs.declared.rows.TableRow.{TableRow}
 use Rattle.lock_table.specs.Content.{Content, empty_content}
 use Rattle.lock_table.specs.Listing.{row_eq, has_row, IsListing}
@@ -11,6 +13,7 @@ use Rattle.lock_table.specs.Queue.{waits_there}
 use Rattle.lock_table.specs.WholeContent.{whole_of}
 use Rattle.lock_world.specs.Account.{Account}
 use Rattle.lock_world.specs.World.{TraceEntry, Took, Episode}
+use Rattle.fast_path.specs.Rows.{rows_of_all, loads_of_all}
 use Rattle.lock_manager.specs.declared.listing.Listing.{Listing}
 
 -- A listing of all that is held and awaited, as the session's trace has it.
@@ -26,13 +29,39 @@ listing_steps partition (content ∷ contents) =
 abbrev pub content_at : List Content → ℕ → Content
 content_at contents partition = slice_index_or contents partition empty_content
 
--- All sixteen partitions are taken, in rising order, and put back as they were, in the opposite order. While all are in hand their
--- contents stand side by side, and the table's rows list these.
-pub record Lists (before : List TraceEntry) (result : Result Listing Refusal) (after : List TraceEntry) : Type 0 where
+-- All sixteen partitions are taken, in rising order, and put back as they were, in the opposite order. While all are in hand
+-- their contents stand side by side, and the rows list these.
+pub record ListsTable (before : List TraceEntry) (result : Result (Unit {0}) no_memory.NoMemory) (rows : List TableRow)
+    (after : List TraceEntry) : Type 0 where
   pub contents : List Content
   pub sixteen : length contents ≡ 16
   pub trace : after ≡ before ++ listing_steps 0 contents
+  pub table : OnOk result (IsListing (whole_of (content_at contents)) rows)
+
+-- A whole listing. The database and the slots of each session that there can be are loaded, in rising order, and the slot
+-- rows are those of what these loads showed. After that the partitions are taken, and the table's rows list their contents.
+pub record ListsAll (limit : ℕ) (before : List TraceEntry) (result : Result Listing Refusal) (after : List TraceEntry) :
+    Type 0 where
+  pub database : ℕ → ℕ
+  pub word : ℕ → ℕ → ℕ
+  pub fast : IfOk result (λ listing. listing.fast.items ≡ rows_of_all limit database word)
+  pub contents : List Content
+  pub sixteen : length contents ≡ 16
+  pub trace : after ≡ (before ++ loads_of_all limit database word) ++ listing_steps 0 contents
   pub table : IfOk result (λ listing. IsListing (whole_of (content_at contents)) listing.table.items)
+
+-- One for whose slot rows memory was wanting: no partition is taken.
+pub record StopsAtSlots (limit : ℕ) (before : List TraceEntry) (result : Result Listing Refusal)
+    (after : List TraceEntry) : Type 0 where
+  pub refused : result ≡ Err NoMemory
+  pub database : ℕ → ℕ
+  pub word : ℕ → ℕ → ℕ
+  pub loaded : ℕ
+  pub within : loaded ≤ limit
+  pub trace : after ≡ before ++ loads_of_all loaded database word
+
+abbrev pub Lists : ℕ → List TraceEntry → Result Listing Refusal → List TraceEntry → Type 0
+Lists limit before result after = ListsAll limit before result after ⊎ StopsAtSlots limit before result after
 
 -- The same of the partitions from one on.
 
@@ -50,7 +79,7 @@ abbrev pub AreOfPartitions : ℕ → List Content → Type 0
 AreOfPartitions partition [] = Unit {0}
 AreOfPartitions partition (content ∷ contents) = IsOfPartition partition content × AreOfPartitions (partition + 1) contents
 
-pub record ListsFrom (partition : ℕ) (a : Account) (old : List TableRow) (result : Result (Unit {0}) NoMemory)
+pub record ListsFrom (partition : ℕ) (a : Account) (old : List TableRow) (result : Result (Unit {0}) no_memory.NoMemory)
     (b : Account) (new : List TableRow) : Type 0 where
   pub contents : List Content
   pub last : partition + length contents ≡ 16

@@ -46,13 +46,14 @@ pub record IsCounted (issued limit live : ℕ) : Type 0 where
   pub few : limit ≤ 64
 
 module _ {B : Type 0} (seat : B → Seated) (view : B → Account) (stack : B → List ℕ) where
-  -- A session that the opener has just given out, for this database: it has the next number, holds nothing and has made
-  -- no step, and one local entry needs no memory.
+  -- A session that the opener has just given out, for this database: it has the next number, holds nothing, has no slot
+  -- in use and has made no step, and one local entry needs no memory.
   pub record IsOpened (opener : OpenerView) (manager : ManagerView) (database : ℕ) (session : SessionView B) : Type 0 where
     pub number : (seat session.board).number ≡ opener.issued
     pub limit : (seat session.board).limit ≡ opener.limit
     pub table : (seat session.board).table ≡ opener.table
     pub database_ : session.database ≡ database
+    pub no_slot : session.uses ≡ 0
     pub nothing : session.owned.entries ≡ []
     pub room : 0 < session.owned.room
     pub max_local : session.owned.max_local ≡ manager.max_local

@@ -1,7 +1,8 @@
-use Rattle.std.specs.Prelude.{◌≡◌, ◌≢◌, ◌⊎◌, ℕ, ◌≤◌, ◌==◌, false, List, [], ◌∷◌, ◌++◌, map, count_by, if◌then◌else◌}
+use Rattle.std.specs.Prelude.{◌≡◌, ◌≢◌, ◌⊎◌, ℕ, ◌≤◌, ◌==◌, true, false}
+use Rattle.std.specs.Prelude.{List, [], ◌∷◌, ◌++◌, map, count_by, if◌then◌else◌}
 use Rattle.modes_core.specs.declared.modes.Mode.{Mode}
 use Rattle.modes_core.specs.declared.tags.Tag.{Tag}
-use Rattle.modes_core.specs.Tag.{partition_of, is_strong_on}
+use Rattle.modes_core.specs.Tag.{partition_of, is_strong_on, is_eligible_for}
 use Rattle.lock_table.specs.declared.moves.Move.{Move}
 use Rattle.lock_table.specs.declared.moves.Move.TheVariants.{Release}
 use Rattle.lock_table.specs.Content.{Wait, Content}
@@ -12,6 +13,9 @@ use Rattle.lock_world.specs.AccountLaw.{MayMoveBy}
 use Rattle.lock_world.specs.AccountSteps.{own_with, account_marking}
 use Rattle.lock_world.specs.Counted.{Counted, uncounting}
 use Rattle.lock_world.specs.World.{TraceEntry, Took, Episode}
+use Rattle.lock_world.specs.SlotHolds.{slot_count, slot_holds, used}
+use Rattle.fast_path.specs.Slots.{slot_loads}
+use Rattle.fast_path.specs.Releases.{ClearsSlot}
 use Rattle.shared_rule.specs.Boards.{Seated}
 use Rattle.shared_rule.specs.Episodes.{account_episode}
 use Rattle.shared_rule.specs.History.{in_hand, is_among, sessions_told}
@@ -53,29 +57,77 @@ pub record ReleasesInPart (number : ℕ) (a : Account) (tag : Tag) (mode : Mode)
   pub moved : Moves taken number (Release tag mode) granted put
   pub account : b ≡ account_episode a (partition_of tag) taken put (Release tag mode)
 
--- One episode in the object's partition releases the hold: it is gone, and who may go then is granted. No other step
--- joins the trace.
-pub record Releases (number : ℕ) (before : List TraceEntry) (tag : Tag) (mode : Mode) (after : List TraceEntry) : Type 0 where
-  pub taken : Content
-  pub put : Content
-  pub granted : List Wait
-  pub moved : Moves taken number (Release tag mode) granted put
-  pub trace : after ≡ before ++ Took (partition_of tag) taken ∷ Episode (partition_of tag) taken put ∷ []
-
--- These holds are released, one after another.
-abbrev pub ReleasesAll : ℕ → List TraceEntry → List (Tag × Mode) → List TraceEntry → Type 0
-ReleasesAll number before [] after = after ≡ before
-ReleasesAll number before (key ∷ keys) after =
-    (between : List TraceEntry) × Releases number before key.0 key.1 between × ReleasesAll number between keys after
+-- ---- the whole release: `a` and `uses` are the account and the use count before it, `b` and `left` those after it
 
 -- what is counted once the mode is released
 abbrev pub counted_released : List Counted → Tag → Mode → List Counted
 counted_released counted tag mode = if is_strong_on tag mode then uncounting counted tag mode else counted
 
 -- the account with the mode released
-abbrev pub account_released : Account → Tag → Mode → List TraceEntry → Account
-account_released a tag mode trace = record a {
+abbrev pub account_released : Account → Tag → Mode → (ℕ → ℕ) → List TraceEntry → Account
+account_released a tag mode remembered trace = record a {
   own = own_with a.own tag mode false;
-  fast = record (a.fast) { counted = counted_released a.fast.counted tag mode };
+  fast = record (a.fast) { remembered = remembered; counted = counted_released a.fast.counted tag mode };
   trace = trace;
 }
+
+-- The whole release of a hold that stands in the table: once that episode is made a strong mode is counted no more.
+pub record ReleasesHold (number : ℕ) (a : Account) (tag : Tag) (mode : Mode) (b : Account) : Type 0 where
+  pub taken : Content
+  pub put : Content
+  pub granted : List Wait
+  pub moved : Moves taken number (Release tag mode) granted put
+  pub account : b ≡ account_released a tag mode a.fast.remembered
+      (a.trace ++ Took (partition_of tag) taken ∷ Episode (partition_of tag) taken put ∷ [])
+
+-- The session looks in its slots: the mode on the object may be in one of them, and by its use count one is in use.
+pub record LooksInSlots (a : Account) (uses : ℕ) (tag : Tag) (mode : Mode) : Type 0 where
+  pub eligible : is_eligible_for a.fast.database tag mode ≡ true
+  pub some : uses ≢ 0
+
+-- It looks, and clears the mode in the slot that has it. There is no episode, nor any other step.
+pub record ReleasesSlot (number : ℕ) (a : Account) (uses : ℕ) (tag : Tag) (mode : Mode) (b : Account) (left : ℕ) :
+    Type 0 where
+  pub looks : LooksInSlots a uses tag mode
+  pub cleared : ClearsSlot number a tag mode b left
+
+-- It looks, and finds the hold in none of the sixteen: it was moved to the table, or granted there.
+pub record FindsNone (number : ℕ) (a : Account) (uses : ℕ) (tag : Tag) (mode : Mode) (loads : List TraceEntry)
+    (left : ℕ) : Type 0 where
+  pub looks : LooksInSlots a uses tag mode
+  pub word : ℕ → ℕ
+  pub in_none : slot_holds a.fast.database word tag mode ≡ false
+  pub loaded : loads ≡ slot_loads number word slot_count
+  pub recomputed : left ≡ used word
+
+-- It doesn't look, as the mode may not be in a slot or none is in use.
+pub record LooksNowhere (a : Account) (uses : ℕ) (tag : Tag) (mode : Mode) (loads : List TraceEntry) (left : ℕ) :
+    Type 0 where
+  pub not_tried : (is_eligible_for a.fast.database tag mode ≡ false) ⊎ (uses ≡ 0)
+  pub no_step : loads ≡ []
+  pub same : left ≡ uses
+
+-- One episode in the object's partition releases the hold: it is gone, and who may go then is granted. Before it
+-- stands the look at the slots, if there was one. No other step joins the trace.
+pub record ReleasesInTable (number : ℕ) (a : Account) (uses : ℕ) (tag : Tag) (mode : Mode) (b : Account) (left : ℕ) :
+    Type 0 where
+  pub loads : List TraceEntry
+  pub before : LooksNowhere a uses tag mode loads left ⊎ FindsNone number a uses tag mode loads left
+  pub taken : Content
+  pub put : Content
+  pub granted : List Wait
+  pub moved : Moves taken number (Release tag mode) granted put
+  pub trace : b.trace ≡ a.trace ++ loads ++ Took (partition_of tag) taken ∷ Episode (partition_of tag) taken put ∷ []
+  pub account : b ≡ account_released a tag mode b.fast.remembered b.trace
+
+-- The hold is released where it stands, in a slot or in the table.
+abbrev pub Releases : ℕ → Account → ℕ → Tag → Mode → Account → ℕ → Type 0
+Releases number a uses tag mode b left =
+    ReleasesSlot number a uses tag mode b left ⊎ ReleasesInTable number a uses tag mode b left
+
+-- These holds are released, one after another.
+abbrev pub ReleasesAll : ℕ → Account → ℕ → List (Tag × Mode) → Account → ℕ → Type 0
+ReleasesAll number a uses [] b left = (b ≡ a) × (left ≡ uses)
+ReleasesAll number a uses (key ∷ keys) b left =
+    (between : Account) × (its : ℕ) × Releases number a uses key.0 key.1 between its
+    × ReleasesAll number between its keys b left

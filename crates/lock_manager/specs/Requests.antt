@@ -1,10 +1,10 @@
-use Rattle.std.specs.Prelude.{◌≡◌, ◌⊎◌, ℕ, zero, suc, true, false, List, [], ◌∷◌, ◌++◌, Result, Ok, Err, OnErr, IfOk, IfErr, Some, if◌then◌else◌}
-use Rattle.std.specs.Bool.{MatchBool}
+use Rattle.std.specs.Prelude.{◌≡◌, ◌≢◌, ◌⊎◌, ℕ, Bool, true, false, List, [], ◌∷◌, ◌++◌}
+use Rattle.std.specs.Prelude.{Result, Ok, Err, OnErr, IfOk, IfErr, Some, if◌then◌else◌}
 use Rattle.modes_core.specs.declared.modes.Mode.{Mode}
 use Rattle.modes_core.specs.declared.tags.Tag.{Tag}
 use Rattle.modes_core.specs.declared.refusals.Refusal.{Refusal}
-use Rattle.modes_core.specs.declared.refusals.Refusal.TheVariants.{NoMemory, LocalFull, CountFull}
-use Rattle.modes_core.specs.Tag.{partition_of, is_strong_on}
+use Rattle.modes_core.specs.declared.refusals.Refusal.TheVariants.{NoMemory, LocalFull, CountFull, NotEligible}
+use Rattle.modes_core.specs.Tag.{partition_of, index_of, is_strong_on, is_eligible_for}
 use Rattle.local_locks.specs.declared.answers.Acquired.{Acquired}
 use Rattle.local_locks.specs.declared.answers.Acquired.TheVariants.{Granted, AlreadyHeld}
 use Rattle.local_locks.specs.Owned.{Owned, has_entry}
@@ -15,53 +15,74 @@ use Rattle.wait_queue.specs.declared.requests.Kind.TheVariants.{Conditional}
 use Rattle.wait_queue.specs.declared.requests.Decision.{Decision}
 use Rattle.wait_queue.specs.declared.requests.Decision.TheVariants as decision
 use Rattle.wait_queue.specs.Decide.{IsDecided, RefusedFor}
-use Rattle.lock_world.specs.declared.events.Word.TheVariants.{Database}
+use Rattle.lock_world.specs.declared.events.Word.TheVariants.{Strong}
 use Rattle.lock_world.specs.Account.{Account}
 use Rattle.lock_world.specs.AccountSteps.{own_with}
-use Rattle.lock_world.specs.Counted.{Counted, passing}
+use Rattle.lock_world.specs.Counted.{Counted}
+use Rattle.lock_world.specs.SlotHolds.{slot_count}
 use Rattle.lock_world.specs.World.{TraceEntry, Took, Episode, Loaded}
+use Rattle.fast_path.specs.Grants.{GrantsInSlot, TriesGrant}
+use Rattle.fast_path.specs.Transfers.{AreTurns, CutsShort}
 use Rattle.shared_rule.specs.Boards.{Seated}
 use Rattle.shared_rule.specs.Episodes.{account_episode}
 
--- A request for a mode that the session hasn't, as its trace has it.
+-- A request for a mode that the session hasn't, as its trace has it. `a` and `uses` are the account and the use count
+-- before it, `b` and `left` those after it.
 
--- The database words of the sessions below the limit are loaded, each once, in rising order.
-abbrev pub IsScan : ℕ → List TraceEntry → Type 0
-IsScan zero loads = loads ≡ []
-IsScan (suc owner) loads =
-    (before : List TraceEntry) × (shown : ℕ) × IsScan owner before × (loads ≡ before ++ Loaded (Database owner) shown ∷ [])
+-- ---- by the fast path
 
--- One turn of the scan: the session's database is loaded, and the strong lock goes past it.
-pub record Passes (a : Account) (owner : ℕ) (tag : Tag) (mode : Mode) (b : Account) : Type 0 where
+-- The fast path is tried: the mode on the object may go by a slot of the session, and by its use count not all
+-- sixteen are in use.
+pub record TriesSlot (a : Account) (uses : ℕ) (tag : Tag) (mode : Mode) : Type 0 where
+  pub eligible : is_eligible_for a.fast.database tag mode ≡ true
+  pub room : uses ≢ slot_count
+
+-- It is tried, and grants the mode in a slot. There is no episode, nor any other step.
+pub record GoesBySlot (number : ℕ) (a : Account) (uses : ℕ) (tag : Tag) (mode : Mode) (b : Account) (left : ℕ) :
+    Type 0 where
+  pub tried : TriesSlot a uses tag mode
+  pub granted : GrantsInSlot number a a.trace uses tag mode b left
+
+-- ---- what goes before the episode that decides
+
+-- The fast path is tried, and its one load of the object's counter shows that a strong lock is counted there.
+pub record FindsStrong (a : Account) (uses : ℕ) (tag : Tag) (mode : Mode) (steps : List TraceEntry) : Type 0 where
+  pub tried : TriesSlot a uses tag mode
   pub shown : ℕ
-  pub account : b ≡ record a {
-    fast = record (a.fast) { counted = passing a.fast.counted tag mode owner };
-    trace = a.trace ++ Loaded (Database owner) shown ∷ [];
-  }
+  pub counted : shown ≢ 0
+  pub load : steps ≡ Loaded (Strong (index_of tag)) shown ∷ []
 
--- The strong lock is counted, and past each session below the limit.
-pub record Scans (limit : ℕ) (a : Account) (tag : Tag) (mode : Mode) (b : Account) : Type 0 where
-  pub loads : List TraceEntry
-  pub scan : IsScan limit loads
-  pub account : b ≡ record a {
-    fast = record (a.fast) { counted = a.fast.counted ++ record { tag = tag; mode = mode; position = limit } ∷ [] };
-    trace = a.trace ++ loads;
-  }
+-- It isn't tried, as the mode may not go by a slot or sixteen are used, and nothing goes before.
+pub record GoesByTable (a : Account) (uses : ℕ) (tag : Tag) (mode : Mode) (steps : List TraceEntry) : Type 0 where
+  pub weak : is_strong_on tag mode ≡ false
+  pub not_tried : (is_eligible_for a.fast.database tag mode ≡ false) ⊎ (uses ≡ slot_count)
+  pub no_step : steps ≡ []
 
--- the account of a session that waits for the mode on the object, with the modes of it that it has
-abbrev pub account_awaiting : Account → Tag → Mode → Account
-account_awaiting a tag mode = record a {
-  awaited = Some (record { tag = tag; mode = mode; held = a.own tag });
+-- The mode is strong, and goes past each session in its turn, which moves what stands in its way to the table.
+pub record MovesSlots (limit : ℕ) (tag : Tag) (mode : Mode) (steps : List TraceEntry) : Type 0 where
+  pub strong : is_strong_on tag mode ≡ true
+  pub turns : AreTurns limit tag steps
+
+abbrev pub LeadsToTable : ℕ → Account → ℕ → Tag → Mode → List TraceEntry → Type 0
+LeadsToTable limit a uses tag mode steps =
+    GoesByTable a uses tag mode steps ⊎ (FindsStrong a uses tag mode steps ⊎ MovesSlots limit tag mode steps)
+
+-- ---- the episode that decides
+
+-- the account of a session that waits for the mode on the object, with the modes of it that it has in the table
+abbrev pub account_awaiting : Account → Tag → Mode → (Mode → Bool) → Account
+account_awaiting a tag mode held = record a {
+  awaited = Some (record { tag = tag; mode = mode; held = held });
   seen = false;
 }
 
 -- the account after the episode that decides, by what was decided
-abbrev pub account_decided : Account → Tag → Mode → Content → Content → Result Decision Refusal → Account
-account_decided a tag mode taken put (Ok decision.Granted) =
+abbrev pub account_decided : ℕ → Account → Tag → Mode → Content → Content → Result Decision Refusal → Account
+account_decided number a tag mode taken put (Ok decision.Granted) =
     account_episode a (partition_of tag) taken put (move_.Grant tag mode)
-account_decided a tag mode taken put (Ok decision.Queued) =
-    account_awaiting (account_episode a (partition_of tag) taken put move_.Keep) tag mode
-account_decided a tag mode taken put (Err refusal) = account_episode a (partition_of tag) taken put move_.Keep
+account_decided number a tag mode taken put (Ok decision.Queued) =
+    account_awaiting (account_episode a (partition_of tag) taken put move_.Keep) tag mode (taken.holds number tag)
+account_decided number a tag mode taken put (Err refusal) = account_episode a (partition_of tag) taken put move_.Keep
 
 -- The episode that decides: the content put is the one taken with a hold or a wait more, as was decided by it, and
 -- after a refusal as it was.
@@ -72,22 +93,45 @@ pub record DecidesInPart (kind : Kind) (number : ℕ) (a : Account) (tag : Tag) 
   pub decided : IfOk result (λ decision. IsDecided kind taken number tag mode decision put)
   pub refused : IfErr result (RefusedFor kind taken number tag mode)
   pub kept : OnErr result (put ≡ taken)
-  pub account : b ≡ account_decided a tag mode taken put result
+  pub account : b ≡ account_decided number a tag mode taken put result
 
 -- The request has one episode, in the object's partition, and its answer is that of the content taken: where it is
 -- granted the content put has the hold, and where it is queued the wait; else that is put as it was, and the refusal
--- names what is in the way there, or memory. A strong mode scans all sessions before that. No other step joins the
--- trace.
-pub record Decides (kind : Kind) (seat : Seated) (before : List TraceEntry) (tag : Tag) (mode : Mode)
-    (result : Result Decision Refusal) (after : List TraceEntry) : Type 0 where
-  pub loads : List TraceEntry
+-- names what is in the way there, or memory. Before it stands what led to the table. No other step joins the trace.
+pub record Decides (kind : Kind) (seat : Seated) (a : Account) (uses : ℕ) (tag : Tag) (mode : Mode)
+    (result : Result Decision Refusal) (b : Account) (left : ℕ) : Type 0 where
+  pub steps : List TraceEntry
   pub taken : Content
   pub put : Content
-  pub scanned : MatchBool (is_strong_on tag mode) (IsScan seat.limit loads) (loads ≡ [])
+  pub before : LeadsToTable seat.limit a uses tag mode steps
   pub decided : IfOk result (λ decision. IsDecided kind taken seat.number tag mode decision put)
   pub refused : IfErr result (RefusedFor kind taken seat.number tag mode)
   pub kept : OnErr result (put ≡ taken)
-  pub trace : after ≡ before ++ loads ++ Took (partition_of tag) taken ∷ Episode (partition_of tag) taken put ∷ []
+  pub trace : b.trace ≡ a.trace ++ steps ++ Took (partition_of tag) taken ∷ Episode (partition_of tag) taken put ∷ []
+  pub same : left ≡ uses
+
+-- The mode is strong, and memory is wanting in the turn of a session, before all is moved that stands in its way:
+-- there is no episode that decides.
+pub record StopsMoving (limit : ℕ) (a : Account) (uses : ℕ) (tag : Tag) (mode : Mode) (b : Account) (left : ℕ) :
+    Type 0 where
+  pub strong : is_strong_on tag mode ≡ true
+  pub steps : List TraceEntry
+  pub cut : CutsShort limit tag steps
+  pub trace : b.trace ≡ a.trace ++ steps
+  pub same : left ≡ uses
+
+-- ---- the whole request
+
+-- What joins the trace of a request, by its answer: it is granted in a slot, or decided in the table, or stopped on
+-- the way.
+abbrev pub Requests : Kind → Seated → Account → ℕ → Tag → Mode → Result Decision Refusal → Account → ℕ → Type 0
+Requests kind seat a uses tag mode (Ok decision.Granted) b left =
+    GoesBySlot seat.number a uses tag mode b left ⊎ Decides kind seat a uses tag mode (Ok decision.Granted) b left
+Requests kind seat a uses tag mode (Ok decision.Queued) b left =
+    Decides kind seat a uses tag mode (Ok decision.Queued) b left
+Requests kind seat a uses tag mode (Err NoMemory) b left =
+    StopsMoving seat.limit a uses tag mode b left ⊎ Decides kind seat a uses tag mode (Err NoMemory) b left
+Requests kind seat a uses tag mode (Err refusal) b left = Decides kind seat a uses tag mode (Err refusal) b left
 
 -- what is counted once the mode is granted or awaited
 abbrev pub counted_granted : ℕ → List Counted → Tag → Mode → List Counted
@@ -95,38 +139,54 @@ counted_granted limit counted tag mode =
     if is_strong_on tag mode then counted ++ record { tag = tag; mode = mode; position = limit } ∷ [] else counted
 
 -- the account with the mode granted
-abbrev pub account_granted : ℕ → Account → Tag → Mode → List TraceEntry → Account
-account_granted limit a tag mode trace = record a {
+abbrev pub account_granted : ℕ → Account → Tag → Mode → (ℕ → ℕ) → List TraceEntry → Account
+account_granted limit a tag mode remembered trace = record a {
   own = own_with a.own tag mode true;
-  fast = record (a.fast) { counted = counted_granted limit a.fast.counted tag mode };
+  fast = record (a.fast) { remembered = remembered; counted = counted_granted limit a.fast.counted tag mode };
   trace = trace;
 }
 
 -- the account with the mode awaited
-abbrev pub account_queued : ℕ → Account → Tag → Mode → List TraceEntry → Account
-account_queued limit a tag mode trace = record a {
-  awaited = Some (record { tag = tag; mode = mode; held = a.own tag });
+abbrev pub account_queued : ℕ → Account → Tag → Mode → (Mode → Bool) → (ℕ → ℕ) → List TraceEntry → Account
+account_queued limit a tag mode held remembered trace = record a {
+  awaited = Some (record { tag = tag; mode = mode; held = held });
   seen = false;
-  fast = record (a.fast) { counted = counted_granted limit a.fast.counted tag mode };
+  fast = record (a.fast) { remembered = remembered; counted = counted_granted limit a.fast.counted tag mode };
   trace = trace;
 }
 
--- the account after a request, by its answer
-abbrev pub account_requested : ℕ → Account → Tag → Mode → Result Decision Refusal → List TraceEntry → Account
-account_requested limit a tag mode (Ok decision.Granted) trace = account_granted limit a tag mode trace
-account_requested limit a tag mode (Ok decision.Queued) trace = account_queued limit a tag mode trace
-account_requested limit a tag mode (Err refusal) trace = record a { trace = trace }
+-- What a request makes of the account, by its answer, but for what the session remembers of its slots, and the trace.
+abbrev pub IsRequested : ℕ → Account → Tag → Mode → Result Decision Refusal → Account → Type 0
+IsRequested limit a tag mode (Ok decision.Granted) b = b ≡ account_granted limit a tag mode b.fast.remembered b.trace
+IsRequested limit a tag mode (Ok decision.Queued) b =
+    (held : Mode → Bool) × (b ≡ account_queued limit a tag mode held b.fast.remembered b.trace)
+IsRequested limit a tag mode (Err refusal) b =
+    b ≡ record a { fast = record (a.fast) { remembered = b.fast.remembered }; trace = b.trace }
 
 -- What joins the trace of an acquire, by its answer. One of a mode with an entry makes no step, nor does one that its
--- own limits refuse, or want of memory for its entry. Every other one is decided.
-abbrev pub Acquires : Seated → Owned → List TraceEntry → Tag → Mode → Result Acquired Refusal → List TraceEntry → Type 0
-Acquires seat owned before tag mode (Ok AlreadyHeld) after = after ≡ before
-Acquires seat owned before tag mode (Ok Granted) after =
-    Decides Conditional seat before tag mode (Ok decision.Granted) after
-Acquires seat owned before tag mode (Err CountFull) after = after ≡ before
-Acquires seat owned before tag mode (Err LocalFull) after = after ≡ before
-Acquires seat owned before tag mode (Err NoMemory) after =
-    ((has_entry owned.entries tag mode ≡ false) × (owned.room ≡ 0) × (after ≡ before))
-    ⊎ Decides Conditional seat before tag mode (Err NoMemory) after
-Acquires seat owned before tag mode (Err refusal) after =
-    Decides Conditional seat before tag mode (Err refusal) after
+-- own limits refuse, or want of memory for its entry. Every other one is a request.
+abbrev pub Acquires : Seated → Owned → Account → ℕ → Tag → Mode → Result Acquired Refusal → Account → ℕ → Type 0
+Acquires seat owned a uses tag mode (Ok AlreadyHeld) b left = (b ≡ a) × (left ≡ uses)
+Acquires seat owned a uses tag mode (Ok Granted) b left =
+    Requests Conditional seat a uses tag mode (Ok decision.Granted) b left
+Acquires seat owned a uses tag mode (Err CountFull) b left = (b ≡ a) × (left ≡ uses)
+Acquires seat owned a uses tag mode (Err LocalFull) b left = (b ≡ a) × (left ≡ uses)
+Acquires seat owned a uses tag mode (Err NoMemory) b left =
+    ((has_entry owned.entries tag mode ≡ false) × (owned.room ≡ 0) × (b ≡ a) × (left ≡ uses))
+    ⊎ Requests Conditional seat a uses tag mode (Err NoMemory) b left
+Acquires seat owned a uses tag mode (Err refusal) b left =
+    Requests Conditional seat a uses tag mode (Err refusal) b left
+
+-- What joins the trace of an acquire by the fast path alone, by its answer. One of a mode with an entry makes no
+-- step, nor does one that may not go by a slot, nor one that its own limits refuse, or want of memory for its entry.
+-- Every other one is tried once, and waits for nobody.
+abbrev pub AcquiresBySlot : ℕ → Owned → Account → ℕ → Tag → Mode → Result Acquired Refusal → Account → ℕ → Type 0
+AcquiresBySlot number owned a uses tag mode (Ok AlreadyHeld) b left = (b ≡ a) × (left ≡ uses)
+AcquiresBySlot number owned a uses tag mode (Ok Granted) b left = TriesGrant number a uses tag mode (Ok tt) b left
+AcquiresBySlot number owned a uses tag mode (Err CountFull) b left = (b ≡ a) × (left ≡ uses)
+AcquiresBySlot number owned a uses tag mode (Err NotEligible) b left = (b ≡ a) × (left ≡ uses)
+AcquiresBySlot number owned a uses tag mode (Err LocalFull) b left = (b ≡ a) × (left ≡ uses)
+AcquiresBySlot number owned a uses tag mode (Err NoMemory) b left =
+    (has_entry owned.entries tag mode ≡ false) × (owned.room ≡ 0) × (b ≡ a) × (left ≡ uses)
+AcquiresBySlot number owned a uses tag mode (Err refusal) b left =
+    TriesGrant number a uses tag mode (Err refusal) b left

@@ -1,9 +1,10 @@
-use Rattle.std.specs.Prelude.{◌≡◌, ℕ, false, List, [], map, filter, None}
+use Rattle.std.specs.Prelude.{◌≡◌, ℕ, ◌≤◌, false, List, [], map, filter, None}
 use Rattle.modes_core.specs.Tag.{is_strong_on}
 use Rattle.local_locks.specs.declared.records.Entry.{Entry}
 use Rattle.local_locks.specs.Owned.{has_entry}
 use Rattle.lock_world.specs.Account.{Account}
 use Rattle.lock_world.specs.Counted.{Counted}
+use Rattle.lock_world.specs.SlotHolds.{slot_count, used}
 use Rattle.lock_world.specs.World.{TraceEntry}
 
 -- What a session has between two of its calls.
@@ -14,10 +15,11 @@ counted_for limit entries =
     map (λ entry. record { tag = entry.tag; mode = entry.mode; position = limit })
     (filter (λ entry. is_strong_on entry.tag entry.mode) entries)
 
--- The account of a session that has these entries and is in no call: it holds what it has entries for, has counted the strong
--- locks of these, waits for nothing, and has no word in hand.
-abbrev pub account_at_rest : ℕ → List Entry → List TraceEntry → Account
-account_at_rest limit entries trace = record {
+-- The account of a session of this database that has these entries and is in no call: it holds what it has entries
+-- for, in its slots or in the table, has counted the strong locks of these, remembers its slots so, waits for
+-- nothing, and has no word in hand.
+abbrev pub account_at_rest : ℕ → ℕ → (ℕ → ℕ) → List Entry → List TraceEntry → Account
+account_at_rest limit database remembered entries trace = record {
   own = has_entry entries;
   awaited = None;
   seen = false;
@@ -26,7 +28,8 @@ account_at_rest limit entries trace = record {
   fast = record {
     slots = λ _. None;
     shared_slots = λ _. None;
-    database = 0;
+    database = database;
+    remembered = remembered;
     zero = None;
     counted = counted_for limit entries;
   };
@@ -34,15 +37,22 @@ account_at_rest limit entries trace = record {
   trace = trace;
 }
 
-pub record IsAtRest (limit : ℕ) (a : Account) (stack : List ℕ) (entries : List Entry) : Type 0 where
-  pub account : a ≡ account_at_rest limit entries a.trace
+-- The use count is not below the number of slots in use, as the session remembers them, and not above how many there
+-- are.
+pub record IsUseCount (a : Account) (uses : ℕ) : Type 0 where
+  pub enough : used a.fast.remembered ≤ uses
+  pub within : uses ≤ slot_count
+
+pub record IsAtRest (limit database uses : ℕ) (a : Account) (stack : List ℕ) (entries : List Entry) : Type 0 where
+  pub account : a ≡ account_at_rest limit database a.fast.remembered entries a.trace
+  pub use_count : IsUseCount a uses
   pub no_partition : stack ≡ []
 
--- What of it a step in the middle of a call may count on: it has no word in hand and no wait, and its database isn't stored.
+-- What of it a step in the middle of a call may count on: it has no word in hand, has read no counter as 0, and has
+-- no wait.
 pub record IsIdle (a : Account) (stack : List ℕ) : Type 0 where
   pub no_wait : a.awaited ≡ None
   pub no_content : a.hand ≡ (λ _. None)
   pub no_slots : a.fast.slots ≡ (λ _. None)
   pub no_zero : a.fast.zero ≡ None
-  pub no_database : a.fast.database ≡ 0
   pub no_partition : stack ≡ []

@@ -8,10 +8,11 @@ use Rattle.lock_world.specs.Account.{Account}
 use Rattle.shared_rule.specs.Boards.{Seated}
 use Rattle.lock_manager.specs.Rest.{IsAtRest}
 
--- What contracts see of a session: its board, its database, and what it owns.
+-- What contracts see of a session: its board, its database, its use count of its fast-path slots, and what it owns.
 pub record SessionView (B : Type 0) : Type 0 where
   pub board : B
   pub database : ℕ
+  pub uses : ℕ
   pub owned : Owned
 
 -- No entry of the one is of a mode that conflicts with the mode of an entry of the other on the same object.
@@ -24,7 +25,9 @@ DontConflict entries its_entries =
 module _ {B : Type 0} (seat : B → Seated) (view : B → Account) (stack : B → List ℕ) where
   -- The session is in no call.
   abbrev pub IsResting : SessionView B → Type 0
-  IsResting session = IsAtRest (seat session.board).limit (view session.board) (stack session.board) session.owned.entries
+  IsResting session =
+      IsAtRest (seat session.board).limit session.database session.uses
+      (view session.board) (stack session.board) session.owned.entries
 
   -- It is the same session after a call, and in no other.
   pub record IsSame (old new : SessionView B) : Type 0 where
@@ -39,4 +42,5 @@ module _ {B : Type 0} (seat : B → Seated) (view : B → Account) (stack : B �
     pub view_ : view new.board ≡ view old.board
     pub stack_ : stack new.board ≡ stack old.board
     pub database : new.database ≡ old.database
+    pub uses : new.uses ≡ old.uses
     pub owned : new.owned ≡ old.owned

@@ -29,40 +29,48 @@ use Rattle.lock_manager.specs.declared.waiting.Polled.{Polled}
 use Rattle.lock_manager.specs.declared.waiting.Polled.TheVariants as polled
 use Rattle.lock_manager.specs.declared.waiting.Cancelled.{Cancelled}
 use Rattle.lock_manager.specs.declared.waiting.Cancelled.TheVariants as cancelled
-use Rattle.lock_manager.specs.Rest.{counted_for, account_at_rest}
-use Rattle.lock_manager.specs.Requests.{Decides, counted_granted}
+use Rattle.lock_manager.specs.Rest.{counted_for, account_at_rest, IsUseCount}
+use Rattle.lock_manager.specs.Requests.{Requests, counted_granted}
 
 -- Waits of a session, as its account and its trace have them.
 
 -- ---- a session that waits
 
 -- The account of a session that waits for the mode on the object, and is in no call: it is as one at rest, but for
--- its wait, which was joined with the modes of the object that it has, and for the count of a strong mode.
-abbrev pub account_in_wait : ℕ → List Entry → Tag → Mode → List TraceEntry → Account
-account_in_wait limit entries tag mode trace = record (account_at_rest limit entries trace) {
-  awaited = Some (record { tag = tag; mode = mode; held = has_entry entries tag });
-  fast = record ((account_at_rest limit entries trace).fast) {
-    counted = counted_granted limit (counted_for limit entries) tag mode;
-  };
-}
+-- its wait, which was joined with the modes of the object that it has in the table, and for the count of a strong mode.
+abbrev pub account_in_wait : ℕ → ℕ → (ℕ → ℕ) → List Entry → Tag → Mode → (Mode → Bool) → List TraceEntry → Account
+account_in_wait limit database remembered entries tag mode held trace =
+    record (account_at_rest limit database remembered entries trace) {
+      awaited = Some (record { tag = tag; mode = mode; held = held });
+      fast = record ((account_at_rest limit database remembered entries trace).fast) {
+        counted = counted_granted limit (counted_for limit entries) tag mode;
+      };
+    }
 
-pub record IsWaiting (limit : ℕ) (a : Account) (stack : List ℕ) (entries : List Entry) (tag : Tag) (mode : Mode) :
-    Type 0 where
-  pub account : a ≡ account_in_wait limit entries tag mode a.trace
+pub record IsWaiting (limit database uses : ℕ) (a : Account) (stack : List ℕ) (entries : List Entry) (tag : Tag)
+    (mode : Mode) : Type 0 where
+  pub held : Mode → Bool
+  pub account : a ≡ account_in_wait limit database a.fast.remembered entries tag mode held a.trace
+  pub use_count : IsUseCount a uses
   pub no_entry : has_entry entries tag mode ≡ false
   pub no_partition : stack ≡ []
 
 -- The same once it has loaded its wait word, which showed this: it has seen whether it was granted.
-pub record HasLooked (limit : ℕ) (a : Account) (stack : List ℕ) (entries : List Entry) (tag : Tag) (mode : Mode)
-    (shown : ℕ) : Type 0 where
-  pub account : a ≡ record (account_in_wait limit entries tag mode a.trace) { seen = wait_state shown == 2 }
+pub record HasLooked (limit database uses : ℕ) (a : Account) (stack : List ℕ) (entries : List Entry) (tag : Tag)
+    (mode : Mode) (shown : ℕ) : Type 0 where
+  pub held : Mode → Bool
+  pub account : a ≡ record (account_in_wait limit database a.fast.remembered entries tag mode held a.trace) {
+    seen = wait_state shown == 2;
+  }
+  pub use_count : IsUseCount a uses
   pub no_entry : has_entry entries tag mode ≡ false
   pub no_partition : stack ≡ []
 
 -- What of it a step in the middle of a call may count on: it has this wait, has not seen it granted, and has no word
 -- in hand.
 pub record IsInWait (a : Account) (stack : List ℕ) (tag : Tag) (mode : Mode) : Type 0 where
-  pub waits : a.awaited ≡ Some (record { tag = tag; mode = mode; held = a.own tag })
+  pub held : Mode → Bool
+  pub waits : a.awaited ≡ Some (record { tag = tag; mode = mode; held = held })
   pub unseen : a.seen ≡ false
   pub no_content : a.hand ≡ (λ _. None)
   pub no_partition : stack ≡ []
@@ -76,20 +84,20 @@ entries_started AlreadyHeld entries tag mode owner = with_one_more entries tag m
 entries_started Queued entries tag mode owner = entries
 
 -- What joins the trace of an acquire that may wait, by its answer. One of a mode with an entry makes no step, nor
--- does one that its own limits refuse, or want of memory for its entry. Every other one is decided.
-abbrev pub Starts : Seated → Owned → List TraceEntry → Tag → Mode → Result Started Refusal → List TraceEntry → Type 0
-Starts seat owned before tag mode (Ok AlreadyHeld) after = after ≡ before
-Starts seat owned before tag mode (Ok Granted) after =
-    Decides kind.Waiting seat before tag mode (Ok decision.Granted) after
-Starts seat owned before tag mode (Ok Queued) after =
-    Decides kind.Waiting seat before tag mode (Ok decision.Queued) after
-Starts seat owned before tag mode (Err CountFull) after = after ≡ before
-Starts seat owned before tag mode (Err LocalFull) after = after ≡ before
-Starts seat owned before tag mode (Err NoMemory) after =
-    ((has_entry owned.entries tag mode ≡ false) × (owned.room ≡ 0) × (after ≡ before))
-    ⊎ Decides kind.Waiting seat before tag mode (Err NoMemory) after
-Starts seat owned before tag mode (Err refusal) after =
-    Decides kind.Waiting seat before tag mode (Err refusal) after
+-- does one that its own limits refuse, or want of memory for its entry. Every other one is a request.
+abbrev pub Starts : Seated → Owned → Account → ℕ → Tag → Mode → Result Started Refusal → Account → ℕ → Type 0
+Starts seat owned a uses tag mode (Ok AlreadyHeld) b left = (b ≡ a) × (left ≡ uses)
+Starts seat owned a uses tag mode (Ok Granted) b left =
+    Requests kind.Waiting seat a uses tag mode (Ok decision.Granted) b left
+Starts seat owned a uses tag mode (Ok Queued) b left =
+    Requests kind.Waiting seat a uses tag mode (Ok decision.Queued) b left
+Starts seat owned a uses tag mode (Err CountFull) b left = (b ≡ a) × (left ≡ uses)
+Starts seat owned a uses tag mode (Err LocalFull) b left = (b ≡ a) × (left ≡ uses)
+Starts seat owned a uses tag mode (Err NoMemory) b left =
+    ((has_entry owned.entries tag mode ≡ false) × (owned.room ≡ 0) × (b ≡ a) × (left ≡ uses))
+    ⊎ Requests kind.Waiting seat a uses tag mode (Err NoMemory) b left
+Starts seat owned a uses tag mode (Err refusal) b left =
+    Requests kind.Waiting seat a uses tag mode (Err refusal) b left
 
 -- ---- asking and looking
 

@@ -6,7 +6,6 @@ use Rattle.modes_core.specs.declared.refusals.Refusal.{Refusal}
 use Rattle.local_locks.specs.declared.answers.Acquired.{Acquired}
 use Rattle.local_locks.specs.declared.answers.Acquired.TheVariants as acquired
 use Rattle.local_locks.specs.Owned.{Owned}
-use Rattle.lock_world.specs.World.{TraceEntry}
 use Rattle.lock_world.specs.Account.{Account}
 use Rattle.shared_rule.specs.Boards.{Seated}
 use Rattle.lock_manager.specs.declared.waiting.Started.{Started as Began}
@@ -30,10 +29,12 @@ use Rattle.lock_manager.specs.Waiting.{IsWaiting, Starts, Waits}
 
 -- Sessions that wait, and answers with which a session comes back.
 
--- What contracts see of a session that waits: its board, its database, what it owns, and what it waits for.
+-- What contracts see of a session that waits: its board, its database, its use count of its fast-path slots, what it
+-- owns, and what it waits for.
 pub record WaitingView (B : Type 0) : Type 0 where
   pub board : B
   pub database : ℕ
+  pub uses : ℕ
   pub owned : Owned
   pub tag : Tag
   pub mode : Mode
@@ -53,6 +54,12 @@ board_started (started.Granted session) = session.board
 board_started (started.AlreadyHeld session) = session.board
 board_started (started.Queued waiting) = waiting.board
 board_started (started.Refused session refusal) = session.board
+
+abbrev pub uses_started : {B : Type 0} → Started (SessionView B) (WaitingView B) → ℕ
+uses_started (started.Granted session) = session.uses
+uses_started (started.AlreadyHeld session) = session.uses
+uses_started (started.Queued waiting) = waiting.uses
+uses_started (started.Refused session refusal) = session.uses
 
 abbrev pub owned_started : {B : Type 0} → Started (SessionView B) (WaitingView B) → Owned
 owned_started (started.Granted session) = session.owned
@@ -129,20 +136,22 @@ session_locked (locked.AlreadyHeld session) = session
 session_locked (locked.Refused session refusal) = session
 
 -- The request was queued, and its wait ended so.
-pub record QueuesAndWaits (seat : Seated) (owned : Owned) (before : List TraceEntry) (tag : Tag) (mode : Mode)
-    (result : Result (Unit {0}) Refusal) (after : List TraceEntry) : Type 0 where
-  pub queued : List TraceEntry
-  pub starts : Starts seat owned before tag mode (Ok began.Queued) queued
-  pub waits : Waits seat.number queued tag mode result after
+pub record QueuesAndWaits (seat : Seated) (owned : Owned) (a : Account) (uses : ℕ) (tag : Tag) (mode : Mode)
+    (result : Result (Unit {0}) Refusal) (b : Account) (left : ℕ) : Type 0 where
+  pub queued : Account
+  pub starts : Starts seat owned a uses tag mode (Ok began.Queued) queued left
+  pub waits : Waits seat.number queued.trace tag mode result b.trace
 
 -- What joins its trace, by its answer: it is answered at once as one that may wait, or after its wait.
-abbrev pub Locks : Seated → Owned → List TraceEntry → Tag → Mode → Result Acquired Refusal → List TraceEntry → Type 0
-Locks seat owned before tag mode (Ok acquired.AlreadyHeld) after =
-    Starts seat owned before tag mode (Ok began.AlreadyHeld) after
-Locks seat owned before tag mode (Ok acquired.Granted) after =
-    Starts seat owned before tag mode (Ok began.Granted) after ⊎ QueuesAndWaits seat owned before tag mode (Ok tt) after
-Locks seat owned before tag mode (Err refusal) after =
-    Starts seat owned before tag mode (Err refusal) after ⊎ QueuesAndWaits seat owned before tag mode (Err refusal) after
+abbrev pub Locks : Seated → Owned → Account → ℕ → Tag → Mode → Result Acquired Refusal → Account → ℕ → Type 0
+Locks seat owned a uses tag mode (Ok acquired.AlreadyHeld) b left =
+    Starts seat owned a uses tag mode (Ok began.AlreadyHeld) b left
+Locks seat owned a uses tag mode (Ok acquired.Granted) b left =
+    Starts seat owned a uses tag mode (Ok began.Granted) b left
+    ⊎ QueuesAndWaits seat owned a uses tag mode (Ok tt) b left
+Locks seat owned a uses tag mode (Err refusal) b left =
+    Starts seat owned a uses tag mode (Err refusal) b left
+    ⊎ QueuesAndWaits seat owned a uses tag mode (Err refusal) b left
 
 -- ---- sessions by what their boards show
 
@@ -150,8 +159,8 @@ module _ {B : Type 0} (seat : B → Seated) (view : B → Account) (stack : B �
   -- The session waits, and is in no call.
   abbrev pub IsInQueue : WaitingView B → Type 0
   IsInQueue waiting =
-      IsWaiting (seat waiting.board).limit (view waiting.board) (stack waiting.board)
-      waiting.owned.entries waiting.tag waiting.mode
+      IsWaiting (seat waiting.board).limit waiting.database waiting.uses
+      (view waiting.board) (stack waiting.board) waiting.owned.entries waiting.tag waiting.mode
 
   -- It is the same session, which has begun to wait for this.
   pub record HasBegun (old : SessionView B) (tag : Tag) (mode : Mode) (owner : Owner) (new : WaitingView B) :
@@ -168,6 +177,7 @@ module _ {B : Type 0} (seat : B → Seated) (view : B → Account) (stack : B �
   pub record WaitsOn (old new : WaitingView B) : Type 0 where
     pub seat_ : seat new.board ≡ seat old.board
     pub database : new.database ≡ old.database
+    pub uses : new.uses ≡ old.uses
     pub owned : new.owned ≡ old.owned
     pub tag_ : new.tag ≡ old.tag
     pub mode_ : new.mode ≡ old.mode
@@ -178,5 +188,6 @@ module _ {B : Type 0} (seat : B → Seated) (view : B → Account) (stack : B �
   pub record HasEnded (old : WaitingView B) (new : SessionView B) : Type 0 where
     pub seat_ : seat new.board ≡ seat old.board
     pub database : new.database ≡ old.database
+    pub uses : new.uses ≡ old.uses
     pub max_local : new.owned.max_local ≡ old.owned.max_local
     pub rest : IsResting seat view stack new

@@ -19,6 +19,3 @@ pub use modes_core::{How, Mode, ModeSet, Owner, Refusal, SessionId, Tag};
 pub use sessions::{OwnSession, Session};
 pub use waiting::Asked;
 pub use waits::{Cancelled, Locked, OwnWaiting, Polled, Started, Waited, Waiting};
-
-#[cfg(test)]
-mod tests;

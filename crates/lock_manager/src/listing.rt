@@ -1,47 +1,71 @@
 //! Listings of all that is held and awaited, over any board.
 
-ghost use Rattle.std.specs.Prelude.{◌≡◌, ◌≤◌, ℕ, [], None, IfOk, IsOkUnless};
-ghost use Rattle.lock_manager.specs.Listings.{Lists, ListsFrom};
+ghost use Rattle.std.specs.Prelude.{◌≡◌, ◌≤◌, ℕ, [], None, IsOkUnless};
+ghost use Rattle.lock_manager.specs.Rest.{IsAtRest};
+ghost use Rattle.lock_manager.specs.Listings.{Lists, ListsTable, ListsFrom};
 
+use crate::sessions::Own;
+use fast_path::slot_rows;
 use lock_table::rows::sort_rows;
 use lock_table::{Move, NoMemory, PartTable, SlotRow, TableRow};
 use modes_core::Refusal;
 use modes_core::tags::PARTITIONS;
 use shared_rule::board::Board;
-use std::alloc::Global;
 use std::sync::Wait;
 
-/// What is held and awaited: the fast-path slots, which no session has any of yet, and the lock table.
+/// What is held and awaited: in the sessions' fast-path slots, and in the lock table.
 #[derive(Debug, Drop)]
 pub struct Listing {
     pub fast: Vec<SlotRow>,
     pub table: Vec<TableRow>,
 }
 
-/// All that is held and awaited at one moment, at which the session has all partitions in hand (`GetLockStatusData` in
-/// lock.c). Only the lists of the answer take memory.
+/// All that is held and awaited (`GetLockStatusData` in lock.c): first what the slots show, read session by session under
+/// the lock of each one's slots, and then the lock table at one moment, at which the session has all partitions in hand. So a
+/// hold that is moved from a slot to the table meanwhile may be listed in both. Only the lists of the answer take memory.
 pub fn list<T: PartTable, B: Board<T>, R: Wait>(
     rt: &R,
     board: &mut B,
-    alloc: Global,
+    own: &Own,
 ) -> Result<Listing, Refusal>
-    requires none_in_hand { (partition : ℕ) → (B.view board.old).hand partition ≡ None }
-    ensures listed { Lists (B.view board.old).trace result (B.view board.new).trace }
-    ensures no_slots { IfOk result (λ listing. listing.fast.items ≡ []) }
+    requires few { (B.seat board.old).limit ≤ 64 }
+    requires rest { IsAtRest (B.seat board.old).limit own.now.database own.now.uses
+        (B.view board.old) (B.stack board.old) own.now.locals.entries }
+    ensures listed { Lists (B.seat board.old).limit (B.view board.old).trace result (B.view board.new).trace }
     ensures no_memory { IsOkUnless result Refusal.NoMemory }
+    ensures rest { IsAtRest (B.seat board.old).limit own.now.database own.now.uses
+        (B.view board.new) (B.stack board.new) own.now.locals.entries }
+    ensures seat { B.seat board.new ≡ B.seat board.old }
+{
+    let mut fast = Vec::new(own.alloc);
+    if slot_rows(rt, board, &mut fast).is_err() {
+        return Err(Refusal::NoMemory);
+    }
+    let mut table = Vec::new(own.alloc);
+    match list_table(rt, board, &mut table) {
+        Ok(()) => Ok(Listing { fast, table }),
+        Err(NoMemory) => Err(Refusal::NoMemory),
+    }
+}
+
+/// The rows of the lock table at one moment, at which the session has all partitions in hand.
+fn list_table<T: PartTable, B: Board<T>, R: Wait>(
+    rt: &R,
+    board: &mut B,
+    rows: &mut Vec<TableRow>,
+) -> Result<(), NoMemory>
+    requires none_in_hand { (partition : ℕ) → (B.view board.old).hand partition ≡ None }
+    requires empty { rows.old.items ≡ [] }
+    ensures listed { ListsTable (B.view board.old).trace result rows.new.items (B.view board.new).trace }
     ensures account { B.view board.new ≡ record (B.view board.old) { trace = (B.view board.new).trace } }
     ensures stack { B.stack board.new ≡ B.stack board.old }
     ensures seat { B.seat board.new ≡ B.seat board.old }
 {
-    let mut table = Vec::new(alloc);
-    if list_from(rt, board, 0, &mut table).is_err() {
-        return Err(Refusal::NoMemory);
+    if list_from(rt, board, 0, rows).is_err() {
+        return Err(NoMemory);
     }
-    sort_rows(&mut table);
-    Ok(Listing {
-        fast: Vec::new(alloc),
-        table,
-    })
+    sort_rows(rows);
+    Ok(())
 }
 
 /// Appends the rows of the partitions from this one on, which are all taken before the first of them is put back.

@@ -134,9 +134,9 @@ impl Opener {
         u32::from(self.live)
     }
 
-    /// A new session of this database, with room for one local entry (`InitProcess` in proc.c). Numbers are given in rising
-    /// order and never again. It is refused where all are given out, and then where memory is wanting; the opener is then
-    /// as before.
+    /// A new session of this database, with room for one local entry (`InitProcess` in proc.c, with `databaseId`
+    /// stored as `InitPostgres` in postinit.c does). Numbers are given in rising order and never again. It is refused
+    /// where all are given out, and then where memory is wanting; the opener is then as before.
     pub fn session<'a>(
         &mut self,
         manager: &'a Manager,
@@ -158,12 +158,14 @@ impl Opener {
         let own = Own {
             locals,
             database,
+            uses: 0,
             alloc: manager.alloc,
         };
         let Ok(own) = Box::new(manager.alloc, own) else {
             return Err(Refusal::NoMemory);
         };
-        let board = self.numbers.session(&manager.table.shared).unwrap();
+        let mut board = self.numbers.session(&manager.table.shared).unwrap();
+        board.store_database(database);
         self.issued += 1;
         self.live += 1;
         Ok(OwnSession::of(board, own))

@@ -1,49 +1,82 @@
 //! Releases, over any board.
 
-ghost use Rattle.std.specs.Prelude.{◌≡◌, ◌<◌, ℕ, true, List, [], ◌∷◌, None};
+ghost use Rattle.std.specs.Prelude.{◌≡◌, ◌<◌, ℕ, true, false, List, [], ◌∷◌, None};
 ghost use Rattle.modes_core.specs.Tag.{is_strong_on};
+ghost use Rattle.lock_world.specs.SlotHolds.{slot_holds};
 ghost use Rattle.local_locks.specs.Owned.{ended_by, left_by, IsWellOwned};
 ghost use Rattle.lock_world.specs.AccountSteps.{account_putting};
 ghost use Rattle.lock_world.specs.Counted.{is_counted};
 ghost use Rattle.lock_world.specs.Happens.Partitions.{WaitIsOver};
 ghost use Rattle.shared_rule.specs.History.{taken_of};
 ghost use Rattle.shared_rule.specs.Lawful.{IsGrantingIn};
-ghost use Rattle.lock_manager.specs.Rest.{IsIdle, IsAtRest};
-ghost use Rattle.lock_manager.specs.Releases.{Tells, ReleasesInPart, Releases, ReleasesAll, account_released};
+ghost use Rattle.lock_manager.specs.Rest.{IsIdle, IsUseCount, IsAtRest};
+ghost use Rattle.lock_manager.specs.Releases.{Tells, ReleasesInPart, ReleasesHold, Releases, ReleasesAll};
+ghost use Rattle.lock_manager.specs.Releases.{account_released};
 
-use local_locks::{End, LocalTable};
+use crate::sessions::Own;
+use fast_path::ungrant;
+use local_locks::End;
 use lock_table::{Move, PartTable, Woken};
-use modes_core::{Mode, Tag, is_strong};
+use modes_core::{Mode, Tag, is_eligible, is_strong};
 use shared_rule::board::Board;
 use std::sync::Wait;
 use wait_queue::release;
 
 /// Releases all that the end of a transaction or of the session takes away, in the order of making (`LockReleaseAll` in
 /// lock.c).
-pub fn end_all<T: PartTable, B: Board<T>, R: Wait>(
-    rt: &R,
-    board: &mut B,
-    locals: &mut LocalTable,
-    end: End,
-)
-    requires rest { IsAtRest (B.seat board.old).limit (B.view board.old) (B.stack board.old) locals.old.entries }
-    requires well_owned { IsWellOwned locals.old }
-    ensures rest { IsAtRest (B.seat board.old).limit (B.view board.new) (B.stack board.new) locals.new.entries }
+pub fn end_all<T: PartTable, B: Board<T>, R: Wait>(rt: &R, board: &mut B, own: &mut Own, end: End)
+    requires rest { IsAtRest (B.seat board.old).limit own.old.database own.old.uses
+        (B.view board.old) (B.stack board.old) own.old.locals.entries }
+    requires well_owned { IsWellOwned own.old.locals }
+    ensures rest { IsAtRest (B.seat board.old).limit own.old.database own.new.uses
+        (B.view board.new) (B.stack board.new) own.new.locals.entries }
     ensures seat { B.seat board.new ≡ B.seat board.old }
-    ensures steps { ReleasesAll (B.seat board.old).number (B.view board.old).trace (ended_by end locals.old.entries)
-        (B.view board.new).trace }
-    ensures entries { locals.new.entries ≡ left_by end locals.old.entries }
-    ensures max_local { locals.new.max_local ≡ locals.old.max_local }
-    ensures well_owned { IsWellOwned locals.new }
+    ensures steps { ReleasesAll (B.seat board.old).number (B.view board.old) own.old.uses
+        (ended_by end own.old.locals.entries) (B.view board.new) own.new.uses }
+    ensures entries { own.new.locals.entries ≡ left_by end own.old.locals.entries }
+    ensures database { own.new.database ≡ own.old.database }
+    ensures max_local { own.new.locals.max_local ≡ own.old.locals.max_local }
+    ensures well_owned { IsWellOwned own.new.locals }
 {
-    'entries: while let Some((tag, mode)) = locals.end_next(end) {
-        release_hold(rt, board, &tag, mode);
+    'entries: while let Some((tag, mode)) = own.locals.end_next(end) {
+        release_hold(rt, board, own.database, &mut own.uses, &tag, mode);
     }
 }
 
-/// Releases a hold, tells those whom that lets go, and takes the count of a strong lock back (`LockRelease` in lock.c, past
-/// the local lock).
+/// Releases a hold: in the slot that has it, or else from the table (`LockRelease` in lock.c, past the local lock).
 pub fn release_hold<T: PartTable, B: Board<T>, R: Wait>(
+    rt: &R,
+    board: &mut B,
+    database: u32,
+    uses: &mut u8,
+    tag: &Tag,
+    mode: Mode,
+)
+    requires idle { IsIdle (B.view board.old) (B.stack board.old) }
+    requires use_count { IsUseCount (B.view board.old) uses.old }
+    requires database { (B.view board.old).fast.database ≡ database }
+    requires held { (B.view board.old).own tag.now mode ≡ true }
+    requires counted { is_strong_on tag.now mode ≡ true →
+        is_counted (B.view board.old).fast.counted tag.now mode ≡ true }
+    ensures steps { Releases (B.seat board.old).number (B.view board.old) uses.old tag.now mode
+        (B.view board.new) uses.new }
+    ensures account { B.view board.new ≡ account_released (B.view board.old) tag.now mode
+        (B.view board.new).fast.remembered (B.view board.new).trace }
+    ensures use_count { IsUseCount (B.view board.new) uses.new }
+    ensures stack { B.stack board.new ≡ B.stack board.old }
+    ensures seat { B.seat board.new ≡ B.seat board.old }
+{
+    if !is_eligible(database, *tag, mode) {
+        release_in_table(rt, board, tag, mode);
+        return;
+    }
+    if !ungrant(rt, board, uses, tag, mode) {
+        release_in_table(rt, board, tag, mode);
+    }
+}
+
+/// Releases a hold that stands in the table, tells those whom that lets go, and takes the count of a strong lock back.
+fn release_in_table<T: PartTable, B: Board<T>, R: Wait>(
     rt: &R,
     board: &mut B,
     tag: &Tag,
@@ -51,9 +84,11 @@ pub fn release_hold<T: PartTable, B: Board<T>, R: Wait>(
 )
     requires idle { IsIdle (B.view board.old) (B.stack board.old) }
     requires held { (B.view board.old).own tag.now mode ≡ true }
-    requires counted { is_strong_on tag.now mode ≡ true → is_counted (B.view board.old).fast.counted tag.now mode ≡ true }
-    ensures steps { Releases (B.seat board.old).number (B.view board.old).trace tag.now mode (B.view board.new).trace }
-    ensures account { B.view board.new ≡ account_released (B.view board.old) tag.now mode (B.view board.new).trace }
+    requires in_no_slot { slot_holds (B.view board.old).fast.database (B.view board.old).fast.remembered tag.now mode
+        ≡ false }
+    requires counted { is_strong_on tag.now mode ≡ true →
+        is_counted (B.view board.old).fast.counted tag.now mode ≡ true }
+    ensures released { ReleasesHold (B.seat board.old).number (B.view board.old) tag.now mode (B.view board.new) }
     ensures stack { B.stack board.new ≡ B.stack board.old }
     ensures seat { B.seat board.new ≡ B.seat board.old }
 {
@@ -68,6 +103,8 @@ pub fn release_hold<T: PartTable, B: Board<T>, R: Wait>(
 fn release_in_part<T: PartTable, B: Board<T>, R: Wait>(rt: &R, board: &mut B, tag: &Tag, mode: Mode)
     requires idle { IsIdle (B.view board.old) (B.stack board.old) }
     requires held { (B.view board.old).own tag.now mode ≡ true }
+    requires in_no_slot { slot_holds (B.view board.old).fast.database (B.view board.old).fast.remembered tag.now mode
+        ≡ false }
     ensures released { ReleasesInPart (B.seat board.old).number (B.view board.old) tag.now mode (B.view board.new) }
     ensures stack { B.stack board.new ≡ B.stack board.old }
     ensures seat { B.seat board.new ≡ B.seat board.old }

@@ -1,61 +1,161 @@
 //! Acquires without waiting, and requests of either kind, over any board.
 
-ghost use Rattle.std.specs.Prelude.{◌≡◌, ◌<◌, ◌≤◌, ◌↔◌, false, true, length, IsErrOf, OnOk, OnErr};
-ghost use Rattle.modes_core.specs.Tag.{is_strong_on};
+ghost use Rattle.std.specs.Prelude.{◌≡◌, ◌<◌, ◌≤◌, ◌↔◌, ℕ, false, true, length, IsErrOf, OnOk, OnErr};
+ghost use Rattle.modes_core.specs.Tag.{is_strong_on, is_eligible_for};
 ghost use Rattle.local_locks.specs.Owned.{has_entry, owner_count_of, max_count, with_one_more, IsWellOwned};
-ghost use Rattle.lock_world.specs.Counted.{is_counted, is_at, is_done};
+ghost use Rattle.lock_world.specs.Counted.{is_counted, is_done};
 ghost use Rattle.lock_world.specs.Happens.Counters.{most_counted};
-ghost use Rattle.lock_manager.specs.Rest.{IsIdle, IsAtRest};
-ghost use Rattle.lock_manager.specs.Requests.{Passes, Scans, DecidesInPart, Decides, Acquires, account_requested};
+ghost use Rattle.lock_manager.specs.Rest.{IsIdle, IsUseCount, IsAtRest};
+ghost use Rattle.lock_manager.specs.Requests.{DecidesInPart, Requests, Acquires, AcquiresBySlot, IsRequested};
 
-use local_locks::{Acquired, LocalTable};
+use crate::sessions::Own;
+use fast_path::{grant, transfer, try_grant};
+use local_locks::Acquired;
 use lock_table::{Move, PartTable};
-use modes_core::{Mode, Owner, Refusal, SessionId, Tag, is_strong};
+use modes_core::{Mode, Owner, Refusal, Tag, is_eligible, is_strong};
 use shared_rule::board::Board;
 use std::sync::Wait;
 use wait_queue::{Decision, Kind, decide};
 
 /// Acquires a mode on an object for an owner, or refuses at once (`LockAcquire` in lock.c with `dontWait`). What the
-/// session has already is counted once more, with no step on shared state; a new mode is decided in the object's
-/// partition.
+/// session has already is counted once more, with no step on shared state; a new mode is granted in a slot, or
+/// decided in the object's partition.
 pub fn acquire<T: PartTable, B: Board<T>, R: Wait>(
     rt: &R,
     board: &mut B,
-    locals: &mut LocalTable,
+    own: &mut Own,
     tag: Tag,
     mode: Mode,
     owner: Owner,
 ) -> Result<Acquired, Refusal>
     requires few { (B.seat board.old).limit ≤ 64 }
-    requires few_entries { locals.old.max_local ≤ 65536 }
-    requires rest { IsAtRest (B.seat board.old).limit (B.view board.old) (B.stack board.old) locals.old.entries }
-    ensures already_held { (result ≡ Ok Acquired.AlreadyHeld) ↔ ((has_entry locals.old.entries tag mode ≡ true)
-        × (owner_count_of locals.old.entries tag mode owner < max_count)) }
-    ensures count_full { IsErrOf result Refusal.CountFull ↔ (owner_count_of locals.old.entries tag mode owner ≡ max_count) }
+    requires few_entries { own.old.locals.max_local ≤ 65536 }
+    requires rest { IsAtRest (B.seat board.old).limit own.old.database own.old.uses
+        (B.view board.old) (B.stack board.old) own.old.locals.entries }
+    ensures already_held { (result ≡ Ok Acquired.AlreadyHeld) ↔ ((has_entry own.old.locals.entries tag mode ≡ true)
+        × (owner_count_of own.old.locals.entries tag mode owner < max_count)) }
+    ensures count_full { IsErrOf result Refusal.CountFull
+        ↔ (owner_count_of own.old.locals.entries tag mode owner ≡ max_count) }
     ensures local_full { IsErrOf result Refusal.LocalFull
-        ↔ ((has_entry locals.old.entries tag mode ≡ false) × (length locals.old.entries ≡ locals.old.max_local)) }
-    ensures steps { Acquires (B.seat board.old) locals.old (B.view board.old).trace tag mode result
-        (B.view board.new).trace }
-    ensures entries { OnOk result (locals.new.entries ≡ with_one_more locals.old.entries tag mode owner) }
-    ensures same_entries { OnErr result (locals.new.entries ≡ locals.old.entries) }
-    ensures rest { IsAtRest (B.seat board.old).limit (B.view board.new) (B.stack board.new) locals.new.entries }
+        ↔ ((has_entry own.old.locals.entries tag mode ≡ false)
+        × (length own.old.locals.entries ≡ own.old.locals.max_local)) }
+    ensures steps { Acquires (B.seat board.old) own.old.locals (B.view board.old) own.old.uses tag mode result
+        (B.view board.new) own.new.uses }
+    ensures entries { OnOk result (own.new.locals.entries ≡ with_one_more own.old.locals.entries tag mode owner) }
+    ensures same_entries { OnErr result (own.new.locals.entries ≡ own.old.locals.entries) }
+    ensures rest { IsAtRest (B.seat board.old).limit own.old.database own.new.uses
+        (B.view board.new) (B.stack board.new) own.new.locals.entries }
     ensures seat { B.seat board.new ≡ B.seat board.old }
-    ensures max_local { locals.new.max_local ≡ locals.old.max_local }
-    ensures well_owned { IsWellOwned locals.new }
+    ensures database { own.new.database ≡ own.old.database }
+    ensures max_local { own.new.locals.max_local ≡ own.old.locals.max_local }
+    ensures well_owned { IsWellOwned own.new.locals }
 {
-    locals.reserve(tag, mode, owner)?;
-    if locals.total(tag, mode) != 0 {
-        return Ok(locals.add(tag, mode, owner));
+    own.locals.reserve(tag, mode, owner)?;
+    if own.locals.total(tag, mode) != 0 {
+        return Ok(own.locals.add(tag, mode, owner));
     }
-    match request(rt, board, &tag, mode, Kind::Conditional) {
-        Ok(_) => Ok(locals.add(tag, mode, owner)),
+    match request(
+        rt,
+        board,
+        own.database,
+        &mut own.uses,
+        &tag,
+        mode,
+        Kind::Conditional,
+    ) {
+        Ok(_) => Ok(own.locals.add(tag, mode, owner)),
         Err(refusal) => Err(refusal),
     }
 }
 
-/// Decides a request for a mode that the session hasn't, in the object's partition (`LockAcquireExtended` in lock.c). A
-/// strong mode is counted before that, and its count goes back where it is refused.
+/// Acquires a mode on an object for an owner by the fast path alone, waiting for nobody (`FastPathGrantRelationLock`
+/// in lock.c, with the own slots' lock taken conditionally). What the session has already is counted once more, with
+/// no step on shared state.
+pub fn acquire_by_slot<T: PartTable, B: Board<T>>(
+    board: &mut B,
+    own: &mut Own,
+    tag: Tag,
+    mode: Mode,
+    owner: Owner,
+) -> Result<Acquired, Refusal>
+    requires rest { IsAtRest (B.seat board.old).limit own.old.database own.old.uses
+        (B.view board.old) (B.stack board.old) own.old.locals.entries }
+    ensures already_held { (result ≡ Ok Acquired.AlreadyHeld) ↔ ((has_entry own.old.locals.entries tag mode ≡ true)
+        × (owner_count_of own.old.locals.entries tag mode owner < max_count)) }
+    ensures count_full { IsErrOf result Refusal.CountFull
+        ↔ (owner_count_of own.old.locals.entries tag mode owner ≡ max_count) }
+    ensures not_eligible { IsErrOf result Refusal.NotEligible ↔ ((has_entry own.old.locals.entries tag mode ≡ false)
+        × (is_eligible_for own.old.database tag mode ≡ false)) }
+    ensures local_full { IsErrOf result Refusal.LocalFull ↔ ((has_entry own.old.locals.entries tag mode ≡ false)
+        × (is_eligible_for own.old.database tag mode ≡ true)
+        × (length own.old.locals.entries ≡ own.old.locals.max_local)) }
+    ensures steps { AcquiresBySlot (B.seat board.old).number own.old.locals (B.view board.old) own.old.uses
+        tag mode result (B.view board.new) own.new.uses }
+    ensures entries { OnOk result (own.new.locals.entries ≡ with_one_more own.old.locals.entries tag mode owner) }
+    ensures same_entries { OnErr result (own.new.locals.entries ≡ own.old.locals.entries) }
+    ensures rest { IsAtRest (B.seat board.old).limit own.old.database own.new.uses
+        (B.view board.new) (B.stack board.new) own.new.locals.entries }
+    ensures seat { B.seat board.new ≡ B.seat board.old }
+    ensures database { own.new.database ≡ own.old.database }
+    ensures max_local { own.new.locals.max_local ≡ own.old.locals.max_local }
+    ensures well_owned { IsWellOwned own.new.locals }
+{
+    if own.locals.total(tag, mode) != 0 {
+        own.locals.reserve(tag, mode, owner)?;
+        return Ok(own.locals.add(tag, mode, owner));
+    }
+    if !is_eligible(own.database, tag, mode) {
+        return Err(Refusal::NotEligible);
+    }
+    own.locals.reserve(tag, mode, owner)?;
+    match try_grant(board, &mut own.uses, &tag, mode) {
+        Ok(()) => Ok(own.locals.add(tag, mode, owner)),
+        Err(refusal) => Err(refusal),
+    }
+}
+
+/// Answers a request for a mode that the session hasn't (`LockAcquireExtended` in lock.c): a strong one once it has
+/// moved what stands in its way, another one in one of the session's slots, where it may go by these, and else in the
+/// object's partition.
 pub fn request<T: PartTable, B: Board<T>, R: Wait>(
+    rt: &R,
+    board: &mut B,
+    database: u32,
+    uses: &mut u8,
+    tag: &Tag,
+    mode: Mode,
+    kind: Kind,
+) -> Result<Decision, Refusal>
+    requires few { (B.seat board.old).limit ≤ 64 }
+    requires idle { IsIdle (B.view board.old) (B.stack board.old) }
+    requires use_count { IsUseCount (B.view board.old) uses.old }
+    requires database { (B.view board.old).fast.database ≡ database }
+    requires new { (B.view board.old).own tag.now mode ≡ false }
+    requires not_counted { is_counted (B.view board.old).fast.counted tag.now mode ≡ false }
+    requires countable { length (B.view board.old).fast.counted < most_counted }
+    ensures steps { Requests kind (B.seat board.old) (B.view board.old) uses.old tag.now mode result
+        (B.view board.new) uses.new }
+    ensures account { IsRequested (B.seat board.old).limit (B.view board.old) tag.now mode result (B.view board.new) }
+    ensures use_count { IsUseCount (B.view board.new) uses.new }
+    ensures stack { B.stack board.new ≡ B.stack board.old }
+    ensures seat { B.seat board.new ≡ B.seat board.old }
+{
+    if is_strong(*tag, mode) {
+        return request_strong(rt, board, tag, mode, kind);
+    }
+    if !is_eligible(database, *tag, mode) {
+        return decide_in_part(rt, board, tag, mode, kind);
+    }
+    match grant(rt, board, uses, tag, mode) {
+        Ok(()) => Ok(Decision::Granted),
+        Err(_) => decide_in_part(rt, board, tag, mode, kind),
+    }
+}
+
+/// Answers a request for a strong mode: it is counted, and what stands in its way in fast-path slots is moved to the
+/// table, before it is decided there. Its count goes back where it is refused (`BeginStrongLockAcquire`,
+/// `FastPathTransferRelationLocks` and `AbortStrongLockAcquire` in lock.c).
+fn request_strong<T: PartTable, B: Board<T>, R: Wait>(
     rt: &R,
     board: &mut B,
     tag: &Tag,
@@ -63,21 +163,21 @@ pub fn request<T: PartTable, B: Board<T>, R: Wait>(
     kind: Kind,
 ) -> Result<Decision, Refusal>
     requires few { (B.seat board.old).limit ≤ 64 }
+    requires strong { is_strong_on tag.now mode ≡ true }
     requires idle { IsIdle (B.view board.old) (B.stack board.old) }
     requires new { (B.view board.old).own tag.now mode ≡ false }
     requires not_counted { is_counted (B.view board.old).fast.counted tag.now mode ≡ false }
     requires countable { length (B.view board.old).fast.counted < most_counted }
-    ensures steps { Decides kind (B.seat board.old) (B.view board.old).trace tag.now mode result
-        (B.view board.new).trace }
-    ensures account { B.view board.new ≡ account_requested (B.seat board.old).limit (B.view board.old) tag.now mode
-        result (B.view board.new).trace }
+    ensures steps { (uses : ℕ) →
+        Requests kind (B.seat board.old) (B.view board.old) uses tag.now mode result (B.view board.new) uses }
+    ensures account { IsRequested (B.seat board.old).limit (B.view board.old) tag.now mode result (B.view board.new) }
+    ensures use_count { (uses : ℕ) → IsUseCount (B.view board.old) uses → IsUseCount (B.view board.new) uses }
     ensures stack { B.stack board.new ≡ B.stack board.old }
     ensures seat { B.seat board.new ≡ B.seat board.old }
 {
-    if !is_strong(*tag, mode) {
-        return decide_in_part(rt, board, tag, mode, kind);
+    if transfer(rt, board, tag, mode).is_err() {
+        return Err(Refusal::NoMemory);
     }
-    count(rt, board, tag, mode);
     match decide_in_part(rt, board, tag, mode, kind) {
         Ok(decision) => Ok(decision),
         Err(refusal) => {
@@ -123,43 +223,4 @@ fn decide_in_part<T: PartTable, B: Board<T>, R: Wait>(
             Err(refusal)
         }
     }
-}
-
-/// Counts a strong lock, and goes past every session, issued or not, once that has no fast-path lock on the object
-/// (`BeginStrongLockAcquire` and `FastPathTransferRelationLocks` in lock.c).
-fn count<T: PartTable, B: Board<T>, R: Wait>(rt: &R, board: &mut B, tag: &Tag, mode: Mode)
-    requires few { (B.seat board.old).limit ≤ 64 }
-    requires strong { is_strong_on tag.now mode ≡ true }
-    requires idle { IsIdle (B.view board.old) (B.stack board.old) }
-    requires not_counted { is_counted (B.view board.old).fast.counted tag.now mode ≡ false }
-    requires countable { length (B.view board.old).fast.counted < most_counted }
-    ensures scanned { Scans (B.seat board.old).limit (B.view board.old) tag.now mode (B.view board.new) }
-    ensures stack { B.stack board.new ≡ B.stack board.old }
-    ensures seat { B.seat board.new ≡ B.seat board.old }
-{
-    board.add_strong(tag, mode);
-    for number in 0..board.sessions() {
-        let owner = SessionId::new(number).unwrap();
-        pass(rt, board, owner, tag, mode);
-    }
-}
-
-/// Goes past one session. No session has a fast-path lock yet, so there is none to be moved to the table.
-fn pass<T: PartTable, B: Board<T>, R: Wait>(
-    rt: &R,
-    board: &mut B,
-    owner: SessionId,
-    tag: &Tag,
-    mode: Mode,
-)
-    requires exists { owner < (B.seat board.old).limit }
-    requires idle { IsIdle (B.view board.old) (B.stack board.old) }
-    requires next { is_at owner (B.view board.old).fast.counted tag.now mode ≡ true }
-    ensures passed { Passes (B.view board.old) owner tag.now mode (B.view board.new) }
-    ensures stack { B.stack board.new ≡ B.stack board.old }
-    ensures seat { B.seat board.new ≡ B.seat board.old }
-{
-    board.take_fast(rt, owner);
-    board.load_database(owner);
-    board.pass_fast(owner, tag, mode);
 }

@@ -1,18 +1,23 @@
 //! Sessions: the calls that a server's thread makes.
 
-ghost use Rattle.std.specs.Prelude.{◌≡◌, ◌≢◌, ◌<◌, ◌≤◌, ◌-◌, ◌↔◌, [], length, true, false, IsErrOf, IsOkUnless, IfOk, OnOk, OnErr};
+ghost use Rattle.std.specs.Prelude.{◌≡◌, ◌≢◌, ◌<◌, ◌≤◌, ◌-◌, ◌↔◌, [], ◌∷◌, ◌++◌, length, true, false};
+ghost use Rattle.std.specs.Prelude.{IsErrOf, IsOkUnless, IfOk, OnOk, OnErr};
 ghost use Rattle.modes_core.specs.ModeSet.{set_has};
+ghost use Rattle.modes_core.specs.Tag.{is_eligible_for};
 ghost use Rattle.local_locks.specs.Owned.{has_entry, owner_count_of, total_of, max_count, with_one_more, with_one_less, ended_by, left_by, IsWellOwned};
+ghost use Rattle.lock_world.specs.declared.events.Word.TheVariants.{Strong};
+ghost use Rattle.lock_world.specs.AccountSteps.{account_storing};
+ghost use Rattle.lock_world.specs.World.{Loaded};
 ghost use Rattle.shared_rule.specs.History.{blank_account};
 ghost use Rattle.lock_manager.specs.Sessions.{IsSame, IsUnchanged, DontConflict};
 ghost use Rattle.lock_manager.specs.Listings.{Lists};
-ghost use Rattle.lock_manager.specs.Requests.{Acquires};
+ghost use Rattle.lock_manager.specs.Requests.{Acquires, AcquiresBySlot};
 ghost use Rattle.lock_manager.specs.Releases.{Releases, ReleasesAll};
 
 use crate::listing::{Listing, list};
 use crate::manager::Opener;
 use crate::releases::{end_all, release_hold};
-use crate::requests::acquire;
+use crate::requests::{acquire, acquire_by_slot};
 use local_locks::{Acquired, End, LocalTable, Unlocked};
 use lock_table::{PartTable, PlainPart};
 use modes_core::{Mode, ModeSet, Owner, Refusal, SessionId, Tag};
@@ -27,13 +32,17 @@ pub type Session<'a> = OwnSession<PlainPart, SeatBoard<'a, PlainPart>>;
 
 // What a session has of its own, which no other session sees.
 #[derive(Drop)]
-pub(crate) struct Own {
+pub struct Own {
     pub(crate) locals: LocalTable,
+    // Its database (`MyDatabaseId` in globals.c).
     pub(crate) database: u32,
+    // No less than how many of its fast-path slots are in use (`FastPathLocalUseCount` in lock.c).
+    pub(crate) uses: u8,
     pub(crate) alloc: Global,
 }
 
-/// A session, over any board and any keeper of the partitions. Contracts see its board, its database, and what it owns. It
+/// A session, over any board and any keeper of the partitions. Contracts see its board, its database, its use
+/// count of its fast-path slots, and what it owns. It
 /// ends by `close`; one that is let go leaves its holds and its number taken for ever.
 #[derive(Drop)]
 pub struct OwnSession<T: PartTable, B: Board<T>> {
@@ -53,11 +62,13 @@ impl<T: PartTable, B: Board<T>> Model for OwnSession<T, B> {
     ghost view = { λ session. record {
       board = session.board;
       database = session.own.value.database;
+      uses = session.own.value.uses;
       owned = session.own.value.locals;
     } };
 
     ghost invariant = { λ session.
-        IsAtRest (B.seat session.board).limit (B.view session.board) (B.stack session.board) session.own.value.locals.entries
+        IsAtRest (B.seat session.board).limit session.own.value.database session.own.value.uses
+        (B.view session.board) (B.stack session.board) session.own.value.locals.entries
         × ((B.seat session.board).limit ≤ 64) × (session.own.value.locals.max_local ≤ 65536)
         × IsWellOwned session.own.value.locals };
 }
@@ -66,12 +77,18 @@ impl<T: PartTable, B: Board<T>> OwnSession<T, B> {
     // A session of a board that has nothing in it yet, with what it has of its own.
     pub(crate) fn of(board: B, own: Box<Own>) -> Self
         requires limit { (B.seat board).limit ≤ 64 }
-        requires blank { B.view board ≡ blank_account }
+        requires blank { B.view board ≡ account_storing blank_account own.value.database }
         requires stack { B.stack board ≡ [] }
+        requires no_slot { own.value.uses ≡ 0 }
         requires nothing { own.value.locals.entries ≡ [] }
         requires max_local { own.value.locals.max_local ≤ 65536 }
         requires well_owned { IsWellOwned own.value.locals }
-        ensures { result ≡ record { board = board; database = own.value.database; owned = own.value.locals } }
+        ensures { result ≡ record {
+          board = board;
+          database = own.value.database;
+          uses = own.value.uses;
+          owned = own.value.locals;
+        } }
     {
         OwnSession {
             board,
@@ -117,9 +134,11 @@ impl<T: PartTable, B: Board<T>> OwnSession<T, B> {
     }
 
     /// Takes a mode on an object for an owner, or refuses at once where it clashes (`LockAcquire` in lock.c with
-    /// `dontWait`). What the session has already is counted once more, with no step on shared state. It is refused, in
-    /// this order, where the owner's count is full, the local table is full, memory is wanting, or the request conflicts
-    /// with a hold or wait of another session. After a refusal the session holds what it held.
+    /// `dontWait`). What the session has already is counted once more, with no step on shared state. A weak mode on a
+    /// relation of the session's database is granted in one of its fast-path slots, unless all are in use or a strong
+    /// lock is counted. It is refused, in this order, where the owner's count is full, the local table is full,
+    /// memory is wanting, or the request conflicts with a hold or wait of another session. After a refusal the
+    /// session holds what it held.
     pub fn try_lock<R: Wait>(
         &mut self,
         rt: &R,
@@ -134,8 +153,8 @@ impl<T: PartTable, B: Board<T>> OwnSession<T, B> {
             ↔ (owner_count_of self.old.owned.entries tag mode owner ≡ max_count) }
         ensures local_full { IsErrOf result Refusal.LocalFull ↔ ((has_entry self.old.owned.entries tag mode ≡ false)
             × (length self.old.owned.entries ≡ self.old.owned.max_local)) }
-        ensures steps { Acquires (B.seat self.old.board) self.old.owned (B.view self.old.board).trace tag mode result
-            (B.view self.new.board).trace }
+        ensures steps { Acquires (B.seat self.old.board) self.old.owned (B.view self.old.board) self.old.uses tag mode
+            result (B.view self.new.board) self.new.uses }
 
         // What stands after it.
         ensures entries { OnOk result (self.new.owned.entries
@@ -143,7 +162,41 @@ impl<T: PartTable, B: Board<T>> OwnSession<T, B> {
         ensures same_entries { OnErr result (self.new.owned.entries ≡ self.old.owned.entries) }
         ensures same { IsSame B.seat B.view B.stack self.old self.new }
     {
-        acquire(rt, &mut self.board, &mut self.own.locals, tag, mode, owner)
+        acquire(rt, &mut self.board, &mut self.own, tag, mode, owner)
+    }
+
+    /// Takes a mode on an object for an owner in one of the session's fast-path slots, or refuses, and waits for
+    /// nobody (`FastPathGrantRelationLock` in lock.c, where the lock of the own slots is free). What the session has
+    /// already is counted once more, wherever it stands, unless the owner's count is full. It is refused, in this
+    /// order, where the mode on the object may not go by a slot, the local table is full, memory is wanting, all
+    /// sixteen slots are in use, somebody has the lock of the own slots, or a strong lock is counted. After a refusal
+    /// the session holds what it held.
+    pub fn try_fast(
+        &mut self,
+        tag: Tag,
+        mode: Mode,
+        owner: Owner,
+    ) -> Result<Acquired, Refusal>
+        // What it is answered.
+        ensures already_held { (result ≡ Ok Acquired.AlreadyHeld) ↔ ((has_entry self.old.owned.entries tag mode ≡ true)
+            × (owner_count_of self.old.owned.entries tag mode owner < max_count)) }
+        ensures count_full { IsErrOf result Refusal.CountFull
+            ↔ (owner_count_of self.old.owned.entries tag mode owner ≡ max_count) }
+        ensures not_eligible { IsErrOf result Refusal.NotEligible ↔ ((has_entry self.old.owned.entries tag mode ≡ false)
+            × (is_eligible_for self.old.database tag mode ≡ false)) }
+        ensures local_full { IsErrOf result Refusal.LocalFull ↔ ((has_entry self.old.owned.entries tag mode ≡ false)
+            × (is_eligible_for self.old.database tag mode ≡ true)
+            × (length self.old.owned.entries ≡ self.old.owned.max_local)) }
+        ensures steps { AcquiresBySlot (B.seat self.old.board).number self.old.owned (B.view self.old.board)
+            self.old.uses tag mode result (B.view self.new.board) self.new.uses }
+
+        // What stands after it.
+        ensures entries { OnOk result (self.new.owned.entries
+            ≡ with_one_more self.old.owned.entries tag mode owner) }
+        ensures same_entries { OnErr result (self.new.owned.entries ≡ self.old.owned.entries) }
+        ensures same { IsSame B.seat B.view B.stack self.old self.new }
+    {
+        acquire_by_slot(&mut self.board, &mut self.own, tag, mode, owner)
     }
 
     /// Gives one count of an owner back, and with the last one the hold (`LockRelease` in lock.c). Refused where the owner
@@ -163,7 +216,7 @@ impl<T: PartTable, B: Board<T>> OwnSession<T, B> {
             ↔ ((0 < owner_count_of self.old.owned.entries tag mode owner)
             × (0 < total_of self.new.owned.entries tag mode)) }
         ensures released { result ≡ Ok Unlocked.Released → Releases (B.seat self.old.board).number
-            (B.view self.old.board).trace tag mode (B.view self.new.board).trace }
+            (B.view self.old.board) self.old.uses tag mode (B.view self.new.board) self.new.uses }
         ensures no_step { result ≢ Ok Unlocked.Released →
             (B.view self.new.board).trace ≡ (B.view self.old.board).trace }
 
@@ -173,10 +226,11 @@ impl<T: PartTable, B: Board<T>> OwnSession<T, B> {
         ensures same_entries { OnErr result (self.new.owned.entries ≡ self.old.owned.entries) }
         ensures same { IsSame B.seat B.view B.stack self.old self.new }
     {
-        match self.own.locals.drop_one(tag, mode, owner)? {
+        let own: &mut Own = &mut self.own;
+        match own.locals.drop_one(tag, mode, owner)? {
             Unlocked::StillHeld => Ok(Unlocked::StillHeld),
             Unlocked::Released => {
-                release_hold(rt, &mut self.board, &tag, mode);
+                release_hold(rt, &mut self.board, own.database, &mut own.uses, &tag, mode);
                 Ok(Unlocked::Released)
             }
         }
@@ -186,33 +240,48 @@ impl<T: PartTable, B: Board<T>> OwnSession<T, B> {
     /// without `allLocks`). Holds are released in the order of making.
     pub fn commit<R: Wait>(&mut self, rt: &R)
         ensures entries { self.new.owned.entries ≡ left_by End.Commit self.old.owned.entries }
-        ensures released { ReleasesAll (B.seat self.old.board).number (B.view self.old.board).trace
-            (ended_by End.Commit self.old.owned.entries) (B.view self.new.board).trace }
+        ensures released { ReleasesAll (B.seat self.old.board).number (B.view self.old.board) self.old.uses
+            (ended_by End.Commit self.old.owned.entries) (B.view self.new.board) self.new.uses }
         ensures same { IsSame B.seat B.view B.stack self.old self.new }
     {
-        end_all(rt, &mut self.board, &mut self.own.locals, End::Commit);
+        end_all(rt, &mut self.board, &mut self.own, End::Commit);
     }
 
     /// Ends a transaction that failed: all that it and the session own goes (`LockReleaseAll` in lock.c with `allLocks`).
     pub fn abort<R: Wait>(&mut self, rt: &R)
         ensures entries { self.new.owned.entries ≡ left_by End.Abort self.old.owned.entries }
-        ensures released { ReleasesAll (B.seat self.old.board).number (B.view self.old.board).trace
-            (ended_by End.Abort self.old.owned.entries) (B.view self.new.board).trace }
+        ensures released { ReleasesAll (B.seat self.old.board).number (B.view self.old.board) self.old.uses
+            (ended_by End.Abort self.old.owned.entries) (B.view self.new.board) self.new.uses }
         ensures same { IsSame B.seat B.view B.stack self.old self.new }
     {
-        end_all(rt, &mut self.board, &mut self.own.locals, End::Abort);
+        end_all(rt, &mut self.board, &mut self.own, End::Abort);
     }
 
-    /// All that is held and awaited at one moment, at which the session has all partitions in hand (`GetLockStatusData` in
-    /// lock.c). Only the lists of the answer take memory; where that is wanting it is refused.
+    /// All that is held and awaited (`GetLockStatusData` in lock.c): first what the slots show, session by session, then the
+    /// lock table at one moment, at which the session has all partitions in hand. A hold that is moved from a slot to the table
+    /// meanwhile may be in both. Only the lists of the answer take memory; where that is wanting it is refused.
     pub fn list<R: Wait>(&mut self, rt: &R) -> Result<Listing, Refusal>
-        ensures listed { Lists (B.view self.old.board).trace result (B.view self.new.board).trace }
-        ensures no_slots { IfOk result (λ listing. listing.fast.items ≡ []) }
+        ensures listed { Lists (B.seat self.old.board).limit (B.view self.old.board).trace result
+            (B.view self.new.board).trace }
         ensures no_memory { IsOkUnless result Refusal.NoMemory }
         ensures entries { self.new.owned.entries ≡ self.old.owned.entries }
+        ensures uses { self.new.uses ≡ self.old.uses }
         ensures same { IsSame B.seat B.view B.stack self.old self.new }
     {
-        list(rt, &mut self.board, self.own.alloc)
+        list(rt, &mut self.board, &self.own)
+    }
+
+    /// What the strong lock counter with this index shows, by one load: how many strong locks are counted there
+    /// (`FastPathStrongRelationLocks` in lock.c).
+    pub fn strong_count(&mut self, index: u16) -> u64
+        requires exists { index < 1024 }
+        ensures loaded { (B.view self.new.board).trace
+            ≡ (B.view self.old.board).trace ++ Loaded (Strong index) result ∷ [] }
+        ensures owned { self.new.owned ≡ self.old.owned }
+        ensures uses { self.new.uses ≡ self.old.uses }
+        ensures same { IsSame B.seat B.view B.stack self.old self.new }
+    {
+        self.board.load_strong(index)
     }
 }
 
@@ -244,7 +313,7 @@ impl<'a> OwnSession<PlainPart, SeatBoard<'a, PlainPart>> {
             mut own,
             parts: _,
         } = self;
-        end_all(rt, &mut board, &mut own.locals, End::Close);
+        end_all(rt, &mut board, &mut own, End::Close);
         opener.take_back(board);
     }
 }

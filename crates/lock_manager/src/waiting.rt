@@ -9,7 +9,7 @@ ghost use Rattle.lock_manager.specs.Waiting.{IsInWait, polled_as, Polls, Cancels
 
 use crate::releases::put_with_woken;
 use crate::requests::request;
-use local_locks::LocalTable;
+use crate::sessions::Own;
 use lock_table::{Move, PartTable};
 use modes_core::{Mode, Owner, Refusal, SessionId, Tag, is_strong};
 use shared_rule::board::Board;
@@ -57,47 +57,58 @@ pub enum Cancelled {
 }
 
 /// Acquires a mode on an object for an owner, or begins to wait for it (`LockAcquire` in lock.c, up to `WaitOnLock`).
-/// What the session has already is counted once more, with no step on shared state; a new mode is decided in the
-/// object's partition. While the session waits room is reserved for the entry.
+/// What the session has already is counted once more, with no step on shared state; a new mode is granted in a slot, or
+/// decided in the object's partition. While the session waits room is reserved for the entry.
 pub fn start<T: PartTable, B: Board<T>, R: Wait>(
     rt: &R,
     board: &mut B,
-    locals: &mut LocalTable,
+    own: &mut Own,
     tag: Tag,
     mode: Mode,
     owner: Owner,
 ) -> Result<Started, Refusal>
     requires few { (B.seat board.old).limit ≤ 64 }
-    requires few_entries { locals.old.max_local ≤ 65536 }
-    requires rest { IsAtRest (B.seat board.old).limit (B.view board.old) (B.stack board.old) locals.old.entries }
-    ensures already_held { (result ≡ Ok Started.AlreadyHeld) ↔ ((has_entry locals.old.entries tag mode ≡ true)
-        × (owner_count_of locals.old.entries tag mode owner < max_count)) }
+    requires few_entries { own.old.locals.max_local ≤ 65536 }
+    requires rest { IsAtRest (B.seat board.old).limit own.old.database own.old.uses
+        (B.view board.old) (B.stack board.old) own.old.locals.entries }
+    ensures already_held { (result ≡ Ok Started.AlreadyHeld) ↔ ((has_entry own.old.locals.entries tag mode ≡ true)
+        × (owner_count_of own.old.locals.entries tag mode owner < max_count)) }
     ensures count_full { IsErrOf result Refusal.CountFull
-        ↔ (owner_count_of locals.old.entries tag mode owner ≡ max_count) }
+        ↔ (owner_count_of own.old.locals.entries tag mode owner ≡ max_count) }
     ensures local_full { IsErrOf result Refusal.LocalFull
-        ↔ ((has_entry locals.old.entries tag mode ≡ false) × (length locals.old.entries ≡ locals.old.max_local)) }
-    ensures steps { Starts (B.seat board.old) locals.old (B.view board.old).trace tag mode result
-        (B.view board.new).trace }
+        ↔ ((has_entry own.old.locals.entries tag mode ≡ false)
+        × (length own.old.locals.entries ≡ own.old.locals.max_local)) }
+    ensures steps { Starts (B.seat board.old) own.old.locals (B.view board.old) own.old.uses tag mode result
+        (B.view board.new) own.new.uses }
     ensures entries { IfOk result (λ started.
-        locals.new.entries ≡ entries_started started locals.old.entries tag mode owner) }
-    ensures same_entries { OnErr result (locals.new.entries ≡ locals.old.entries) }
-    ensures rest { result ≢ Ok Started.Queued →
-        IsAtRest (B.seat board.old).limit (B.view board.new) (B.stack board.new) locals.new.entries }
-    ensures waiting { result ≡ Ok Started.Queued →
-        IsWaiting (B.seat board.old).limit (B.view board.new) (B.stack board.new) locals.new.entries tag mode }
-    ensures reserved { result ≡ Ok Started.Queued → IsReserved locals.new tag mode owner }
+        own.new.locals.entries ≡ entries_started started own.old.locals.entries tag mode owner) }
+    ensures same_entries { OnErr result (own.new.locals.entries ≡ own.old.locals.entries) }
+    ensures rest { result ≢ Ok Started.Queued → IsAtRest (B.seat board.old).limit own.old.database own.new.uses
+        (B.view board.new) (B.stack board.new) own.new.locals.entries }
+    ensures waiting { result ≡ Ok Started.Queued → IsWaiting (B.seat board.old).limit own.old.database own.new.uses
+        (B.view board.new) (B.stack board.new) own.new.locals.entries tag mode }
+    ensures reserved { result ≡ Ok Started.Queued → IsReserved own.new.locals tag mode owner }
     ensures seat { B.seat board.new ≡ B.seat board.old }
-    ensures max_local { locals.new.max_local ≡ locals.old.max_local }
-    ensures well_owned { IsWellOwned locals.new }
+    ensures max_local { own.new.locals.max_local ≡ own.old.locals.max_local }
+    ensures well_owned { IsWellOwned own.new.locals }
+    ensures database { own.new.database ≡ own.old.database }
 {
-    locals.reserve(tag, mode, owner)?;
-    if locals.total(tag, mode) != 0 {
-        locals.add(tag, mode, owner);
+    own.locals.reserve(tag, mode, owner)?;
+    if own.locals.total(tag, mode) != 0 {
+        own.locals.add(tag, mode, owner);
         return Ok(Started::AlreadyHeld);
     }
-    match request(rt, board, &tag, mode, Kind::Waiting) {
+    match request(
+        rt,
+        board,
+        own.database,
+        &mut own.uses,
+        &tag,
+        mode,
+        Kind::Waiting,
+    ) {
         Ok(Decision::Granted) => {
-            locals.add(tag, mode, owner);
+            own.locals.add(tag, mode, owner);
             Ok(Started::Granted)
         }
         Ok(Decision::Queued) => Ok(Started::Queued),
@@ -124,20 +135,22 @@ pub fn ask_cancel<T: PartTable, B: Board<T>>(board: &mut B, other: SessionId) ->
 pub fn has_waiters<T: PartTable, B: Board<T>, R: Wait>(
     rt: &R,
     board: &mut B,
-    locals: &LocalTable,
+    own: &Own,
     tag: Tag,
     mode: Mode,
 ) -> Result<bool, Refusal>
-    requires rest { IsAtRest (B.seat board.old).limit (B.view board.old) (B.stack board.old) locals.now.entries }
-    ensures not_held { IsErrOf result Refusal.NotHeld ↔ (has_entry locals.now.entries tag mode ≡ false) }
+    requires rest { IsAtRest (B.seat board.old).limit own.now.database own.now.uses
+        (B.view board.old) (B.stack board.old) own.now.locals.entries }
+    ensures not_held { IsErrOf result Refusal.NotHeld ↔ (has_entry own.now.locals.entries tag mode ≡ false) }
     ensures no_other { IsOkUnless result Refusal.NotHeld }
     ensures no_step { OnErr result (B.view board.new ≡ B.view board.old) }
     ensures looked { IfOk result (λ is_awaited.
         LooksForWaiters (B.view board.old).trace tag mode is_awaited (B.view board.new).trace) }
-    ensures rest { IsAtRest (B.seat board.old).limit (B.view board.new) (B.stack board.new) locals.now.entries }
+    ensures rest { IsAtRest (B.seat board.old).limit own.now.database own.now.uses
+        (B.view board.new) (B.stack board.new) own.now.locals.entries }
     ensures seat { B.seat board.new ≡ B.seat board.old }
 {
-    if locals.total(tag, mode) == 0 {
+    if own.locals.total(tag, mode) == 0 {
         return Err(Refusal::NotHeld);
     }
     let part = tag.partition();
@@ -151,56 +164,66 @@ pub fn has_waiters<T: PartTable, B: Board<T>, R: Wait>(
 /// session has (`ProcSleep` in proc.c where it reads `waitStatus`, and `GrantLockLocal` in lock.c).
 pub fn poll<T: PartTable, B: Board<T>>(
     board: &mut B,
-    locals: &mut LocalTable,
+    own: &mut Own,
     tag: Tag,
     mode: Mode,
     owner: Owner,
 ) -> Polled
-    requires waiting { IsWaiting (B.seat board.old).limit (B.view board.old) (B.stack board.old) locals.old.entries
-        tag mode }
-    requires reserved { IsReserved locals.old tag mode owner }
+    requires waiting { IsWaiting (B.seat board.old).limit own.old.database own.old.uses
+        (B.view board.old) (B.stack board.old) own.old.locals.entries tag mode }
+    requires reserved { IsReserved own.old.locals tag mode owner }
     ensures polled { Polls (B.seat board.old).number (B.view board.old).trace result (B.view board.new).trace }
     ensures rest { result ≡ Polled.Granted →
-        IsAtRest (B.seat board.old).limit (B.view board.new) (B.stack board.new) locals.new.entries }
-    ensures entries { result ≡ Polled.Granted → locals.new.entries ≡ with_one_more locals.old.entries tag mode owner }
-    ensures max_local { result ≡ Polled.Granted → locals.new.max_local ≡ locals.old.max_local }
-    ensures well_owned { result ≡ Polled.Granted → IsWellOwned locals.new }
+        IsAtRest (B.seat board.old).limit own.old.database own.old.uses
+        (B.view board.new) (B.stack board.new) own.new.locals.entries }
+    ensures entries { result ≡ Polled.Granted →
+        own.new.locals.entries ≡ with_one_more own.old.locals.entries tag mode owner }
+    ensures max_local { result ≡ Polled.Granted → own.new.locals.max_local ≡ own.old.locals.max_local }
+    ensures well_owned { result ≡ Polled.Granted → IsWellOwned own.new.locals }
     ensures waiting { result ≢ Polled.Granted →
-        IsWaiting (B.seat board.old).limit (B.view board.new) (B.stack board.new) locals.new.entries tag mode }
-    ensures same_locals { result ≢ Polled.Granted → locals.new ≡ locals.old }
+        IsWaiting (B.seat board.old).limit own.old.database own.old.uses
+        (B.view board.new) (B.stack board.new) own.new.locals.entries tag mode }
+    ensures same_own { result ≢ Polled.Granted → own.new ≡ own.old }
     ensures seat { B.seat board.new ≡ B.seat board.old }
+    ensures database { own.new.database ≡ own.old.database }
+    ensures uses { own.new.uses ≡ own.old.uses }
 {
     let shown = board.load_wait();
-    take_up(board, locals, tag, mode, owner, shown)
+    take_up(board, own, tag, mode, owner, shown)
 }
 
 /// Takes up what the own wait word showed: ends the wait where that was granted.
 fn take_up<T: PartTable, B: Board<T>>(
     board: &mut B,
-    locals: &mut LocalTable,
+    own: &mut Own,
     tag: Tag,
     mode: Mode,
     owner: Owner,
     shown: u64,
 ) -> Polled
-    requires looked { HasLooked (B.seat board.old).limit (B.view board.old) (B.stack board.old) locals.old.entries
-        tag mode shown }
-    requires reserved { IsReserved locals.old tag mode owner }
+    requires looked { HasLooked (B.seat board.old).limit own.old.database own.old.uses
+        (B.view board.old) (B.stack board.old) own.old.locals.entries tag mode shown }
+    requires reserved { IsReserved own.old.locals tag mode owner }
     ensures answer { result ≡ polled_as shown }
     ensures no_step { (B.view board.new).trace ≡ (B.view board.old).trace }
     ensures rest { result ≡ Polled.Granted →
-        IsAtRest (B.seat board.old).limit (B.view board.new) (B.stack board.new) locals.new.entries }
-    ensures entries { result ≡ Polled.Granted → locals.new.entries ≡ with_one_more locals.old.entries tag mode owner }
-    ensures max_local { result ≡ Polled.Granted → locals.new.max_local ≡ locals.old.max_local }
-    ensures well_owned { result ≡ Polled.Granted → IsWellOwned locals.new }
+        IsAtRest (B.seat board.old).limit own.old.database own.old.uses
+        (B.view board.new) (B.stack board.new) own.new.locals.entries }
+    ensures entries { result ≡ Polled.Granted →
+        own.new.locals.entries ≡ with_one_more own.old.locals.entries tag mode owner }
+    ensures max_local { result ≡ Polled.Granted → own.new.locals.max_local ≡ own.old.locals.max_local }
+    ensures well_owned { result ≡ Polled.Granted → IsWellOwned own.new.locals }
     ensures waiting { result ≢ Polled.Granted →
-        IsWaiting (B.seat board.old).limit (B.view board.new) (B.stack board.new) locals.new.entries tag mode }
-    ensures same_locals { result ≢ Polled.Granted → locals.new ≡ locals.old }
+        IsWaiting (B.seat board.old).limit own.old.database own.old.uses
+        (B.view board.new) (B.stack board.new) own.new.locals.entries tag mode }
+    ensures same_own { result ≢ Polled.Granted → own.new ≡ own.old }
     ensures seat { B.seat board.new ≡ B.seat board.old }
+    ensures database { own.new.database ≡ own.old.database }
+    ensures uses { own.new.uses ≡ own.old.uses }
 {
     if wait_state(shown) == 2 {
         board.clear_wait();
-        locals.add(tag, mode, owner);
+        own.locals.add(tag, mode, owner);
         return Polled::Granted;
     }
     if is_asked(shown) {
@@ -215,27 +238,30 @@ fn take_up<T: PartTable, B: Board<T>>(
 pub fn cancel<T: PartTable, B: Board<T>, R: Wait>(
     rt: &R,
     board: &mut B,
-    locals: &mut LocalTable,
+    own: &mut Own,
     tag: Tag,
     mode: Mode,
     owner: Owner,
 ) -> Cancelled
-    requires waiting { IsWaiting (B.seat board.old).limit (B.view board.old) (B.stack board.old) locals.old.entries
-        tag mode }
-    requires reserved { IsReserved locals.old tag mode owner }
+    requires waiting { IsWaiting (B.seat board.old).limit own.old.database own.old.uses
+        (B.view board.old) (B.stack board.old) own.old.locals.entries tag mode }
+    requires reserved { IsReserved own.old.locals tag mode owner }
     ensures steps { Cancels (B.seat board.old).number (B.view board.old).trace tag mode result
         (B.view board.new).trace }
-    ensures rest { IsAtRest (B.seat board.old).limit (B.view board.new) (B.stack board.new) locals.new.entries }
+    ensures rest { IsAtRest (B.seat board.old).limit own.old.database own.old.uses
+        (B.view board.new) (B.stack board.new) own.new.locals.entries }
     ensures entries { result ≡ Cancelled.WasGranted →
-        locals.new.entries ≡ with_one_more locals.old.entries tag mode owner }
-    ensures max_local { result ≡ Cancelled.WasGranted → locals.new.max_local ≡ locals.old.max_local }
-    ensures well_owned { result ≡ Cancelled.WasGranted → IsWellOwned locals.new }
-    ensures same_locals { result ≡ Cancelled.Removed → locals.new ≡ locals.old }
+        own.new.locals.entries ≡ with_one_more own.old.locals.entries tag mode owner }
+    ensures max_local { result ≡ Cancelled.WasGranted → own.new.locals.max_local ≡ own.old.locals.max_local }
+    ensures well_owned { result ≡ Cancelled.WasGranted → IsWellOwned own.new.locals }
+    ensures same_own { result ≡ Cancelled.Removed → own.new ≡ own.old }
     ensures seat { B.seat board.new ≡ B.seat board.old }
+    ensures database { own.new.database ≡ own.old.database }
+    ensures uses { own.new.uses ≡ own.old.uses }
 {
     match leave_in_part(rt, board, &tag, mode) {
         Cancelled::WasGranted => {
-            locals.add(tag, mode, owner);
+            own.locals.add(tag, mode, owner);
             Cancelled::WasGranted
         }
         Cancelled::Removed => {
@@ -254,28 +280,31 @@ pub fn cancel<T: PartTable, B: Board<T>, R: Wait>(
 pub fn wait<T: PartTable, B: Board<T>, R: Wait>(
     rt: &R,
     board: &mut B,
-    locals: &mut LocalTable,
+    own: &mut Own,
     tag: Tag,
     mode: Mode,
     owner: Owner,
 ) -> Result<(), Refusal>
-    requires waiting { IsWaiting (B.seat board.old).limit (B.view board.old) (B.stack board.old) locals.old.entries
-        tag mode }
-    requires reserved { IsReserved locals.old tag mode owner }
+    requires waiting { IsWaiting (B.seat board.old).limit own.old.database own.old.uses
+        (B.view board.old) (B.stack board.old) own.old.locals.entries tag mode }
+    requires reserved { IsReserved own.old.locals tag mode owner }
     ensures cancelled { IsOkUnless result Refusal.Cancelled }
     ensures steps { Waits (B.seat board.old).number (B.view board.old).trace tag mode result (B.view board.new).trace }
-    ensures rest { IsAtRest (B.seat board.old).limit (B.view board.new) (B.stack board.new) locals.new.entries }
-    ensures entries { OnOk result (locals.new.entries ≡ with_one_more locals.old.entries tag mode owner) }
-    ensures max_local { OnOk result (locals.new.max_local ≡ locals.old.max_local) }
-    ensures well_owned { OnOk result (IsWellOwned locals.new) }
-    ensures same_locals { OnErr result (locals.new ≡ locals.old) }
+    ensures rest { IsAtRest (B.seat board.old).limit own.old.database own.old.uses
+        (B.view board.new) (B.stack board.new) own.new.locals.entries }
+    ensures entries { OnOk result (own.new.locals.entries ≡ with_one_more own.old.locals.entries tag mode owner) }
+    ensures max_local { OnOk result (own.new.locals.max_local ≡ own.old.locals.max_local) }
+    ensures well_owned { OnOk result (IsWellOwned own.new.locals) }
+    ensures same_own { OnErr result (own.new ≡ own.old) }
     ensures seat { B.seat board.new ≡ B.seat board.old }
+    ensures database { own.new.database ≡ own.old.database }
+    ensures uses { own.new.uses ≡ own.old.uses }
 {
     for _ in rt.forever() {
         let shown = board.load_wait();
-        match take_up(board, locals, tag, mode, owner, shown) {
+        match take_up(board, own, tag, mode, owner, shown) {
             Polled::Granted => return Ok(()),
-            Polled::CancelAsked => match cancel(rt, board, locals, tag, mode, owner) {
+            Polled::CancelAsked => match cancel(rt, board, own, tag, mode, owner) {
                 Cancelled::WasGranted => return Ok(()),
                 Cancelled::Removed => return Err(Refusal::Cancelled),
             },

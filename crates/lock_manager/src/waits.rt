@@ -6,7 +6,8 @@ ghost use Rattle.lock_manager.specs.declared.waiting.Started.TheVariants as bega
 ghost use Rattle.lock_manager.specs.declared.waiting.Cancelled.TheVariants as ended;
 ghost use Rattle.lock_manager.specs.Sessions.{IsSame};
 ghost use Rattle.lock_manager.specs.Waiting.{entries_started, Starts, Asks, LooksForWaiters, Polls, Cancels, Waits};
-ghost use Rattle.lock_manager.specs.Waits.{answer_started, board_started, owned_started, UnlessQueued, IfQueued};
+ghost use Rattle.lock_manager.specs.Waits.{answer_started, board_started, uses_started, owned_started};
+ghost use Rattle.lock_manager.specs.Waits.{UnlessQueued, IfQueued};
 ghost use Rattle.lock_manager.specs.Waits.{answer_polled, board_polled, IfGranted, UnlessGranted};
 ghost use Rattle.lock_manager.specs.Waits.{answer_cancelled, session_cancelled, answer_waited, session_waited};
 ghost use Rattle.lock_manager.specs.Waits.{answer_locked, session_locked, Locks, HasBegun, WaitsOn, HasEnded};
@@ -48,6 +49,7 @@ impl<T: PartTable, B: Board<T>> Model for OwnWaiting<T, B> {
     ghost view = { λ waiting. record {
       board = waiting.board;
       database = waiting.own.value.database;
+      uses = waiting.own.value.uses;
       owned = waiting.own.value.locals;
       tag = waiting.tag;
       mode = waiting.mode;
@@ -55,8 +57,8 @@ impl<T: PartTable, B: Board<T>> Model for OwnWaiting<T, B> {
     } };
 
     ghost invariant = { λ waiting.
-        IsWaiting (B.seat waiting.board).limit (B.view waiting.board) (B.stack waiting.board)
-        waiting.own.value.locals.entries waiting.tag waiting.mode
+        IsWaiting (B.seat waiting.board).limit waiting.own.value.database waiting.own.value.uses
+        (B.view waiting.board) (B.stack waiting.board) waiting.own.value.locals.entries waiting.tag waiting.mode
         × ((B.seat waiting.board).limit ≤ 64) × (waiting.own.value.locals.max_local ≤ 65536)
         × IsWellOwned waiting.own.value.locals
         × IsReserved waiting.own.value.locals waiting.tag waiting.mode waiting.owner };
@@ -138,8 +140,8 @@ impl<T: PartTable, B: Board<T>> OwnSession<T, B> {
         ensures local_full { IsErrOf (answer_started result) Refusal.LocalFull
             ↔ ((has_entry self.owned.entries tag mode ≡ false)
             × (length self.owned.entries ≡ self.owned.max_local)) }
-        ensures steps { Starts (B.seat self.board) self.owned (B.view self.board).trace tag mode
-            (answer_started result) (B.view (board_started result)).trace }
+        ensures steps { Starts (B.seat self.board) self.owned (B.view self.board) self.uses tag mode
+            (answer_started result) (B.view (board_started result)) (uses_started result) }
 
         // What stands after it.
         ensures entries { IfOk (answer_started result) (λ answer. (owned_started result).entries
@@ -155,7 +157,7 @@ impl<T: PartTable, B: Board<T>> OwnSession<T, B> {
             mut own,
             parts,
         } = self;
-        match waiting::start(rt, &mut board, &mut own.locals, tag, mode, owner) {
+        match waiting::start(rt, &mut board, &mut own, tag, mode, owner) {
             Ok(waiting::Started::Granted) => Started::Granted(OwnSession { board, own, parts }),
             Ok(waiting::Started::AlreadyHeld) => {
                 Started::AlreadyHeld(OwnSession { board, own, parts })
@@ -185,8 +187,8 @@ impl<T: PartTable, B: Board<T>> OwnSession<T, B> {
         ensures local_full { IsErrOf (answer_locked result) Refusal.LocalFull
             ↔ ((has_entry self.owned.entries tag mode ≡ false)
             × (length self.owned.entries ≡ self.owned.max_local)) }
-        ensures steps { Locks (B.seat self.board) self.owned (B.view self.board).trace tag mode
-            (answer_locked result) (B.view (session_locked result).board).trace }
+        ensures steps { Locks (B.seat self.board) self.owned (B.view self.board) self.uses tag mode
+            (answer_locked result) (B.view (session_locked result).board) (session_locked result).uses }
 
         // What stands after it.
         ensures entries { OnOk (answer_locked result) ((session_locked result).owned.entries
@@ -218,9 +220,10 @@ impl<T: PartTable, B: Board<T>> OwnSession<T, B> {
         // What stands after it.
         ensures no_step { OnErr result (B.view self.new.board ≡ B.view self.old.board) }
         ensures owned { self.new.owned ≡ self.old.owned }
+        ensures uses { self.new.uses ≡ self.old.uses }
         ensures same { IsSame B.seat B.view B.stack self.old self.new }
     {
-        waiting::has_waiters(rt, &mut self.board, &self.own.locals, tag, mode)
+        waiting::has_waiters(rt, &mut self.board, &self.own, tag, mode)
     }
 
     /// Asks a session to cancel its wait, and wakes it where it waits (`pg_cancel_backend` in signalfuncs.c). Where it
@@ -228,6 +231,7 @@ impl<T: PartTable, B: Board<T>> OwnSession<T, B> {
     pub fn ask_cancel(&mut self, other: SessionId) -> Asked
         ensures asked { Asks (B.view self.old.board) other result (B.view self.new.board) }
         ensures owned { self.new.owned ≡ self.old.owned }
+        ensures uses { self.new.uses ≡ self.old.uses }
         ensures same { IsSame B.seat B.view B.stack self.old self.new }
     {
         waiting::ask_cancel(&mut self.board, other)
@@ -263,7 +267,7 @@ impl<T: PartTable, B: Board<T>> OwnWaiting<T, B> {
             owner,
             parts,
         } = self;
-        match waiting::poll(&mut board, &mut own.locals, tag, mode, owner) {
+        match waiting::poll(&mut board, &mut own, tag, mode, owner) {
             waiting::Polled::Granted => Polled::Granted(OwnSession { board, own, parts }),
             waiting::Polled::Still => Polled::Still(OwnWaiting {
                 board,
@@ -306,7 +310,7 @@ impl<T: PartTable, B: Board<T>> OwnWaiting<T, B> {
             owner,
             parts,
         } = self;
-        match waiting::cancel(rt, &mut board, &mut own.locals, tag, mode, owner) {
+        match waiting::cancel(rt, &mut board, &mut own, tag, mode, owner) {
             waiting::Cancelled::Removed => Cancelled::Removed(OwnSession { board, own, parts }),
             waiting::Cancelled::WasGranted => {
                 Cancelled::WasGranted(OwnSession { board, own, parts })
@@ -338,7 +342,7 @@ impl<T: PartTable, B: Board<T>> OwnWaiting<T, B> {
             owner,
             parts,
         } = self;
-        match waiting::wait(rt, &mut board, &mut own.locals, tag, mode, owner) {
+        match waiting::wait(rt, &mut board, &mut own, tag, mode, owner) {
             Ok(()) => Waited::Granted(OwnSession { board, own, parts }),
             Err(refusal) => Waited::Refused(OwnSession { board, own, parts }, refusal),
         }

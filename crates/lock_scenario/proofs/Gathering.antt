@@ -1,7 +1,7 @@
 -- A line that is gathered byte after byte.
 use Rattle.std.proofs.Common.{◌≡◌, ◌≢◌, ℕ, ◌≤◌, ◌∙◌, refl, arith, suc, ap, sym, List, [], ◌∷◌, ◌++◌, length, append_assoc, length-append, length-take, Option, None, Some}
 use Rattle.std.specs.Option.{option_to_list}
-use Rattle.std.specs.Io.KnownBytes.{Consumes, IsAtEnd, prepend_known}
+use Rattle.std.specs.Io.KnownBytes.{Consumes, IsAtEnd}
 use Rattle.std.specs.Prelude.{◌==◌, false}
 use Rattle.std.proofs.lemmas.Bool.Decides.{nat_tests}
 use Rattle.std.proofs.lemmas.Grind.{common_steps}

@@ -1,16 +1,7 @@
-mod Agreement
-mod AloneLemmas
-mod AskLemmas
-mod CancelLemmas
-mod DeskLemmas
-mod EndLemmas
+mod CrewLemmas
 mod Gathering
-mod JoinLemmas
 mod Known
-mod Marking
 mod NameOrder
 mod NameLemmas
-mod StartLemmas
 mod TextBytes
-mod WhoWaits
 mod WordLemmas

@@ -1,57 +1,60 @@
-use Rattle.std.specs.Prelude.{◌≡◌, ◌≢◌, ℕ, ◌<◌, true, false, List, length, None, IsSome, All, Contains}
+use Rattle.std.specs.Prelude.{◌≡◌, ◌≢◌, ℕ, true, false, List, None, IsSome}
 use Rattle.modes_core.specs.declared.modes.Mode.{Mode}
 use Rattle.modes_core.specs.Mode.{name_of}
-use Rattle.lock_scenario.specs.Names.{NamesView, waits_of}
+use Rattle.lock_scenario.specs.Names.{IsCalled}
+use Rattle.lock_scenario.specs.Crew.{IsAt, IsUnknown, MayAct, IsThere}
 use Rattle.lock_scenario.specs.Words.{is_name, tag_of}
-use Rattle.lock_scenario.specs.declared.names.Speaker.{Speaker}
+use Rattle.lock_scenario.specs.declared.crew.Crew.{Crew}
+use Rattle.lock_scenario.specs.declared.crew.Speaker.{Speaker}
+use Rattle.lock_scenario.specs.declared.crew.Opened.{Opened}
 use Rattle.lock_scenario.specs.declared.faults.Defect.{Defect}
 use Rattle.lock_scenario.specs.declared.faults.Defect.TheVariants.{BadName, NoSuchSession, SessionWaits, BadObject, BadMode}
 use Rattle.lock_scenario.specs.declared.command.Command.{Command}
 use Rattle.lock_scenario.specs.declared.command.Command.TheVariants.{Session, Try, Lock, Unlock, Commit, Abort, Owned, Waiters, Cancel, Hash, Close}
 use Rattle.lock_scenario.specs.declared.command.Command.TheVariants as command
 
--- the session was opened, and does not wait
-abbrev pub MayAct : NamesView → ℕ → Type 0
-MayAct names session = (session < length names.issued) × (waits_of names session ≡ false)
+module _ {S W : Type 0} where
+  -- The session that a command addresses stands among those that don't wait; the one that a cancel asks is open.
+  abbrev pub Addresses : Crew S W → Command → Type 0
+  Addresses crew (Session name database) = Unit {0}
+  Addresses crew (Try target owner) = MayAct crew target.speaker.place
+  Addresses crew (Lock target owner) = MayAct crew target.speaker.place
+  Addresses crew (Unlock target owner) = MayAct crew target.speaker.place
+  Addresses crew (Commit speaker) = MayAct crew speaker.place
+  Addresses crew (Abort speaker) = MayAct crew speaker.place
+  Addresses crew (Owned target) = MayAct crew target.speaker.place
+  Addresses crew (Waiters target) = MayAct crew target.speaker.place
+  Addresses crew (Cancel by other) = MayAct crew by.place × IsThere crew other.place
+  Addresses crew (command.List speaker) = MayAct crew speaker.place
+  Addresses crew (Hash tag) = Unit {0}
+  Addresses crew (Close speaker) = MayAct crew speaker.place
 
--- the session that a command addresses may act; of a cancel the one that asks may, and the one that is asked was opened
-abbrev pub Addresses : NamesView → Command → Type 0
-Addresses names (Session name database) = Unit {0}
-Addresses names (Try target owner) = MayAct names target.speaker.session
-Addresses names (Lock target owner) = MayAct names target.speaker.session
-Addresses names (Unlock target owner) = MayAct names target.speaker.session
-Addresses names (Commit speaker) = MayAct names speaker.session
-Addresses names (Abort speaker) = MayAct names speaker.session
-Addresses names (Owned target) = MayAct names target.speaker.session
-Addresses names (Waiters target) = MayAct names target.speaker.session
-Addresses names (Cancel by other) = MayAct names by.session × (other.session < length names.issued)
-Addresses names (command.List speaker) = MayAct names speaker.session
-Addresses names (Hash tag) = Unit {0}
-Addresses names (Close speaker) = MayAct names speaker.session
+  -- The word is the name of an open session, which stands there.
+  abbrev pub NamesOpen : Crew S W → List ℕ → Opened → Type 0
+  NamesOpen crew word opened = IsAt crew word opened.place × (opened.name.bytes ≡ word)
 
--- The word is the name of the session, which is open.
-abbrev pub IsNamed : NamesView → List ℕ → Speaker → Type 0
-IsNamed names word speaker = Contains names.by_name speaker × (speaker.name.bytes ≡ word)
+  -- The word is the name of a session that doesn't wait, and this is it.
+  abbrev pub NamesSpeaker : Crew S W → List ℕ → Speaker → Type 0
+  NamesSpeaker crew word speaker = IsCalled crew.resting word speaker.place × (speaker.name.bytes ≡ word)
 
--- why a word names no open session
-abbrev pub IsUnnamed : NamesView → List ℕ → Defect → Type 0
-IsUnnamed names word BadName = is_name word ≡ false
-IsUnnamed names word NoSuchSession = (is_name word ≡ true) × All (λ other. other.name.bytes ≢ word) names.by_name
-IsUnnamed names word _ = ⊥
+  -- The word is the name of a session that doesn't wait.
+  abbrev pub NamesOneThatMayAct : Crew S W → List ℕ → Type 0
+  NamesOneThatMayAct crew word = (speaker : Speaker) × NamesSpeaker crew word speaker
 
--- The word is the name of a session that may act.
-abbrev pub NamesOneThatMayAct : NamesView → List ℕ → Type 0
-NamesOneThatMayAct names word = (speaker : Speaker) × IsNamed names word speaker × MayAct names speaker.session
+  -- why a word names no open session
+  abbrev pub IsUnnamed : Crew S W → List ℕ → Defect → Type 0
+  IsUnnamed crew word BadName = is_name word ≡ false
+  IsUnnamed crew word NoSuchSession = (is_name word ≡ true) × IsUnknown crew word
+  IsUnnamed crew word _ = ⊥
 
--- why a word names no session that may act
-abbrev pub IsBarred : NamesView → List ℕ → Defect → Type 0
-IsBarred names word SessionWaits =
-    (speaker : Speaker) × IsNamed names word speaker × (waits_of names speaker.session ≡ true)
-IsBarred names word defect = IsUnnamed names word defect
+  -- why a word names no session that may act
+  abbrev pub IsBarred : Crew S W → List ℕ → Defect → Type 0
+  IsBarred crew word SessionWaits = (place : ℕ) × IsCalled crew.waiting word place
+  IsBarred crew word defect = IsUnnamed crew word defect
 
--- why three words are no lock and whose: by the first of them that is wrong
-abbrev pub IsNoTarget : NamesView → List ℕ → List ℕ → List ℕ → Defect → Type 0
-IsNoTarget names name tag mode BadObject = NamesOneThatMayAct names name × (tag_of tag ≡ None)
-IsNoTarget names name tag mode BadMode =
-    NamesOneThatMayAct names name × IsSome (tag_of tag) × ((its : Mode) → name_of its ≢ mode)
-IsNoTarget names name tag mode defect = IsBarred names name defect
+  -- why three words are no lock and whose: by the first of them that is wrong
+  abbrev pub IsNoTarget : Crew S W → List ℕ → List ℕ → List ℕ → Defect → Type 0
+  IsNoTarget crew name tag mode BadObject = NamesOneThatMayAct crew name × (tag_of tag ≡ None)
+  IsNoTarget crew name tag mode BadMode =
+      NamesOneThatMayAct crew name × IsSome (tag_of tag) × ((its : Mode) → name_of its ≢ mode)
+  IsNoTarget crew name tag mode defect = IsBarred crew name defect

@@ -1,11 +1,8 @@
 pub mod Bytes
 pub mod Command
-pub mod Desk
+pub mod Crew
 pub mod Fault
 pub mod Lines
 pub mod Names
-pub mod Scene
-pub mod Sessions
-pub mod Started
-pub mod Waiting
+pub mod Stage
 pub mod Words

@@ -1,8 +1,8 @@
 //! The words of the command line.
 ghost use Rattle.std.specs.Prelude.{◌≤◌, IfOk};
 
-use crate::desk::{Config, MOST_LOCAL, MOST_SESSIONS};
 use clap::{Arg, ArgMatches, Command, Error, value_parser};
+use lock_manager::{Config, MOST_LOCAL, MOST_SESSIONS};
 use std::alloc::{AllocError, Global};
 
 /// How many sessions a script may open, where the command line doesn't say, and as `--help` shows it.

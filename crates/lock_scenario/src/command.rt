@@ -1,12 +1,14 @@
 //! The commands of the script language, and the parse of their words.
-ghost use Rattle.std.specs.Prelude.{◌≡◌, ◌≢◌, ◌<◌, ◌↔◌, ◌⊎◌, length, Some, IfOk, IfErr, IfSome, IsErrOf, All};
+ghost use Rattle.std.specs.Prelude.{◌≡◌, ◌≢◌, ◌↔◌, ◌⊎◌, length, Some, IfOk, IfErr, IfSome, IsErrOf};
 ghost use Rattle.std.specs.List.{HoldsAt};
 ghost use Rattle.modes_core.specs.Mode.{name_of};
-ghost use Rattle.lock_scenario.specs.Command.{Addresses, IsBarred, IsNamed, IsNoTarget, IsUnnamed, MayAct, NamesOneThatMayAct};
+ghost use Rattle.lock_scenario.specs.Command.{Addresses, IsBarred, IsNoTarget, IsUnnamed, NamesOneThatMayAct, NamesOpen, NamesSpeaker};
+ghost use Rattle.lock_scenario.specs.Crew.{IsThere, IsUnknown, MayAct};
 ghost use Rattle.lock_scenario.specs.Words.{tag_of};
 
+use crate::crew::{Crew, Opened, Place, Speaker};
 use crate::faults::Defect;
-use crate::names::{Name, Names, Speaker};
+use crate::names::Name;
 use crate::words::{parse_name, parse_number, parse_owner, parse_tag, split_words};
 use modes_core::{Mode, Owner, Tag};
 
@@ -38,7 +40,7 @@ pub enum Command {
     /// `waiters NAME TAG MODE`
     Waiters(Target),
     /// `cancel BY NAME`
-    Cancel(Speaker, Speaker),
+    Cancel(Speaker, Opened),
     /// `list NAME`
     List(Speaker),
     /// `hash TAG`
@@ -48,8 +50,8 @@ pub enum Command {
 }
 
 /// What the line asks for, or `None` of a line with no word and of a comment.
-pub fn parse(line: &str, names: &Names) -> Result<Option<Command>, Defect>
-    ensures { IfOk result (λ command. IfSome command (Addresses names.now)) }
+pub fn parse<S: Drop, W: Drop>(line: &str, crew: &Crew<S, W>) -> Result<Option<Command>, Defect>
+    ensures { IfOk result (λ command. IfSome command (Addresses crew.now)) }
 {
     let words = split_words(line);
     let Some((verb, words)) = words.as_slice().split_first() else {
@@ -58,54 +60,58 @@ pub fn parse(line: &str, names: &Names) -> Result<Option<Command>, Defect>
     if verb.starts_with('#') {
         return Ok(None);
     }
-    parse_command(*verb, words, names).map(Some)
+    parse_command(*verb, words, crew).map(Some)
 }
 
 /// The command of this first word and the words behind it.
-fn parse_command(verb: &str, words: &[&str], names: &Names) -> Result<Command, Defect>
-    ensures { IfOk result (Addresses names.now) }
+fn parse_command<S: Drop, W: Drop>(
+    verb: &str,
+    words: &[&str],
+    crew: &Crew<S, W>,
+) -> Result<Command, Defect>
+    ensures { IfOk result (Addresses crew.now) }
 {
     match verb {
         "session" => {
-            let (name, database) = parse_session(words, names)?;
+            let (name, database) = parse_session(words, crew)?;
             Ok(Command::Session { name, database })
         }
         "try" => {
-            let (target, owner) = parse_owned_target(words, names)?;
+            let (target, owner) = parse_owned_target(words, crew)?;
             Ok(Command::Try(target, owner))
         }
         "lock" => {
-            let (target, owner) = parse_owned_target(words, names)?;
+            let (target, owner) = parse_owned_target(words, crew)?;
             Ok(Command::Lock(target, owner))
         }
         "unlock" => {
-            let (target, owner) = parse_owned_target(words, names)?;
+            let (target, owner) = parse_owned_target(words, crew)?;
             Ok(Command::Unlock(target, owner))
         }
         "cancel" => {
-            let (by, other) = parse_cancel(words, names)?;
+            let (by, other) = parse_cancel(words, crew)?;
             Ok(Command::Cancel(by, other))
         }
-        "commit" => Ok(Command::Commit(parse_lone_speaker(words, names)?)),
-        "abort" => Ok(Command::Abort(parse_lone_speaker(words, names)?)),
-        "owned" => Ok(Command::Owned(parse_lone_target(words, names)?)),
-        "waiters" => Ok(Command::Waiters(parse_lone_target(words, names)?)),
-        "list" => Ok(Command::List(parse_lone_speaker(words, names)?)),
+        "commit" => Ok(Command::Commit(parse_lone_speaker(words, crew)?)),
+        "abort" => Ok(Command::Abort(parse_lone_speaker(words, crew)?)),
+        "owned" => Ok(Command::Owned(parse_lone_target(words, crew)?)),
+        "waiters" => Ok(Command::Waiters(parse_lone_target(words, crew)?)),
+        "list" => Ok(Command::List(parse_lone_speaker(words, crew)?)),
         "hash" => Ok(Command::Hash(parse_hash(words)?)),
-        "close" => Ok(Command::Close(parse_lone_speaker(words, names)?)),
+        "close" => Ok(Command::Close(parse_lone_speaker(words, crew)?)),
         _ => Err(Defect::UnknownCommand),
     }
 }
 
 /// The words behind `session`: a name that no open session has, and a number.
-fn parse_session(words: &[&str], names: &Names) -> Result<(Name, u32), Defect>
-    ensures free { IfOk result (λ parsed. All (λ other. other.name.bytes ≢ parsed.0.bytes) names.now.by_name) }
+fn parse_session<S: Drop, W: Drop>(words: &[&str], crew: &Crew<S, W>) -> Result<(Name, u32), Defect>
+    ensures free { IfOk result (λ parsed. IsUnknown crew.now parsed.0.bytes) }
 {
     let [name, database] = words else {
         return Err(Defect::WrongNumberOfWords);
     };
     let name = parse_name(name).ok_or(Defect::BadName)?;
-    if names.speaker(&name).is_some() {
+    if crew.place_called(&name).is_some() {
         return Err(Defect::SessionExists);
     }
     let database = parse_number(database).ok_or(Defect::BadNumber)?;
@@ -113,16 +119,19 @@ fn parse_session(words: &[&str], names: &Names) -> Result<(Name, u32), Defect>
 }
 
 /// The words behind `try`, `lock` and `unlock`. Where there is no fourth one the owner is the transaction.
-fn parse_owned_target(words: &[&str], names: &Names) -> Result<(Target, Owner), Defect>
-    ensures { IfOk result (λ parsed. MayAct names.now parsed.0.speaker.session) }
+fn parse_owned_target<S: Drop, W: Drop>(
+    words: &[&str],
+    crew: &Crew<S, W>,
+) -> Result<(Target, Owner), Defect>
+    ensures { IfOk result (λ parsed. MayAct crew.now parsed.0.speaker.place) }
 {
     match words {
         [name, tag, mode] => {
-            let target = parse_target(name, tag, mode, names)?;
+            let target = parse_target(name, tag, mode, crew)?;
             Ok((target, Owner::Transaction))
         }
         [name, tag, mode, owner] => {
-            let target = parse_target(name, tag, mode, names)?;
+            let target = parse_target(name, tag, mode, crew)?;
             let owner = parse_owner(owner).ok_or(Defect::BadOwner)?;
             Ok((target, owner))
         }
@@ -131,37 +140,45 @@ fn parse_owned_target(words: &[&str], names: &Names) -> Result<(Target, Owner), 
 }
 
 /// The words behind `owned` and `waiters`.
-fn parse_lone_target(words: &[&str], names: &Names) -> Result<Target, Defect>
-    ensures { IfOk result (λ target. MayAct names.now target.speaker.session) }
+fn parse_lone_target<S: Drop, W: Drop>(words: &[&str], crew: &Crew<S, W>) -> Result<Target, Defect>
+    ensures { IfOk result (λ target. MayAct crew.now target.speaker.place) }
 {
     let [name, tag, mode] = words else {
         return Err(Defect::WrongNumberOfWords);
     };
-    parse_target(name, tag, mode, names)
+    parse_target(name, tag, mode, crew)
 }
 
 /// Which lock three words are about, and whose.
-fn parse_target(name: &str, tag: &str, mode: &str, names: &Names) -> Result<Target, Defect>
-    ensures may_act { IfOk result (λ target. MayAct names.now target.speaker.session) }
-    ensures named { IfOk result (λ target. IsNamed names.now name.now target.speaker) }
+fn parse_target<S: Drop, W: Drop>(
+    name: &str,
+    tag: &str,
+    mode: &str,
+    crew: &Crew<S, W>,
+) -> Result<Target, Defect>
+    ensures may_act { IfOk result (λ target. MayAct crew.now target.speaker.place) }
+    ensures named { IfOk result (λ target. NamesSpeaker crew.now name.now target.speaker) }
     ensures tag { IfOk result (λ target. tag_of tag.now ≡ Some target.tag) }
     ensures mode { IfOk result (λ target. name_of target.mode ≡ mode.now) }
-    ensures refused { IfErr result (IsNoTarget names.now name.now tag.now mode.now) }
+    ensures refused { IfErr result (IsNoTarget crew.now name.now tag.now mode.now) }
 {
-    let speaker = parse_speaker(name, names)?;
+    let speaker = parse_speaker(name, crew)?;
     let tag = parse_tag(tag).ok_or(Defect::BadObject)?;
     let mode = Mode::from_name(mode).ok_or(Defect::BadMode)?;
     Ok(Target { speaker, tag, mode })
 }
 
 /// The word behind a command that takes a session's name alone.
-fn parse_lone_speaker(words: &[&str], names: &Names) -> Result<Speaker, Defect>
-    ensures { IfOk result (λ speaker. MayAct names.now speaker.session) }
+fn parse_lone_speaker<S: Drop, W: Drop>(
+    words: &[&str],
+    crew: &Crew<S, W>,
+) -> Result<Speaker, Defect>
+    ensures { IfOk result (λ speaker. MayAct crew.now speaker.place) }
 {
     let [name] = words else {
         return Err(Defect::WrongNumberOfWords);
     };
-    parse_speaker(name, names)
+    parse_speaker(name, crew)
 }
 
 /// The word behind `hash`.
@@ -173,44 +190,50 @@ fn parse_hash(words: &[&str]) -> Result<Tag, Defect> {
 }
 
 /// The words behind `cancel`: who asks, and the session that is asked, which may wait.
-fn parse_cancel(words: &[&str], names: &Names) -> Result<(Speaker, Speaker), Defect>
+fn parse_cancel<S: Drop, W: Drop>(
+    words: &[&str],
+    crew: &Crew<S, W>,
+) -> Result<(Speaker, Opened), Defect>
     ensures addressed { IfOk result (λ parsed.
-        MayAct names.now parsed.0.session × (parsed.1.session < length names.now.issued)) }
-    ensures by { IfOk result (λ parsed. HoldsAt (λ word. IsNamed names.now word.now parsed.0) words.now 0) }
-    ensures other { IfOk result (λ parsed. HoldsAt (λ word. IsNamed names.now word.now parsed.1) words.now 1) }
+        MayAct crew.now parsed.0.place × IsThere crew.now parsed.1.place) }
+    ensures by { IfOk result (λ parsed. HoldsAt (λ word. NamesSpeaker crew.now word.now parsed.0) words.now 0) }
+    ensures other { IfOk result (λ parsed. HoldsAt (λ word. NamesOpen crew.now word.now parsed.1) words.now 1) }
     ensures wrong_number { IsErrOf result Defect.WrongNumberOfWords ↔ (length words.now ≢ 2) }
     ensures refused { IfErr result (λ defect. defect ≢ Defect.WrongNumberOfWords →
-        HoldsAt (λ word. IsBarred names.now word.now defect) words.now 0
-        ⊎ (HoldsAt (λ word. NamesOneThatMayAct names.now word.now) words.now 0
-        × HoldsAt (λ word. IsUnnamed names.now word.now defect) words.now 1)) }
+        HoldsAt (λ word. IsBarred crew.now word.now defect) words.now 0
+        ⊎ (HoldsAt (λ word. NamesOneThatMayAct crew.now word.now) words.now 0
+        × HoldsAt (λ word. IsUnnamed crew.now word.now defect) words.now 1)) }
 {
     let [by, other] = words else {
         return Err(Defect::WrongNumberOfWords);
     };
-    let by = parse_speaker(by, names)?;
-    let other = parse_opened(other, names)?;
+    let by = parse_speaker(by, crew)?;
+    let other = parse_opened(other, crew)?;
     Ok((by, other))
 }
 
 /// The session that a word names. It may not wait.
-fn parse_speaker(name: &str, names: &Names) -> Result<Speaker, Defect>
-    ensures may_act { IfOk result (λ speaker. MayAct names.now speaker.session) }
-    ensures named { IfOk result (IsNamed names.now name.now) }
-    ensures refused { IfErr result (IsBarred names.now name.now) }
+fn parse_speaker<S: Drop, W: Drop>(name: &str, crew: &Crew<S, W>) -> Result<Speaker, Defect>
+    ensures may_act { IfOk result (λ speaker. MayAct crew.now speaker.place) }
+    ensures named { IfOk result (NamesSpeaker crew.now name.now) }
+    ensures refused { IfErr result (IsBarred crew.now name.now) }
 {
-    let speaker = parse_opened(name, names)?;
-    if names.is_waiting(speaker.session) {
-        return Err(Defect::SessionWaits);
+    let Opened { name, place } = parse_opened(name, crew)?;
+    match place {
+        Place::Resting(place) => Ok(Speaker { name, place }),
+        Place::Waiting(_) => Err(Defect::SessionWaits),
     }
-    Ok(speaker)
 }
 
 /// The session that a word names, whether it waits or not.
-fn parse_opened(name: &str, names: &Names) -> Result<Speaker, Defect>
-    ensures named { IfOk result (IsNamed names.now name.now) }
-    ensures issued { IfOk result (λ speaker. speaker.session < length names.now.issued) }
-    ensures refused { IfErr result (IsUnnamed names.now name.now) }
+fn parse_opened<S: Drop, W: Drop>(name: &str, crew: &Crew<S, W>) -> Result<Opened, Defect>
+    ensures named { IfOk result (NamesOpen crew.now name.now) }
+    ensures there { IfOk result (λ opened. IsThere crew.now opened.place) }
+    ensures refused { IfErr result (IsUnnamed crew.now name.now) }
 {
     let name = parse_name(name).ok_or(Defect::BadName)?;
-    names.speaker(&name).ok_or(Defect::NoSuchSession)
+    match crew.place_called(&name) {
+        Some(place) => Ok(Opened { name, place }),
+        None => Err(Defect::NoSuchSession),
+    }
 }

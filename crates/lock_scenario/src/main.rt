@@ -1,19 +1,17 @@
 //! `lock_scenario`: runs scripts against the lock manager.
 #![tactic(auto)]
 
-mod acquire;
 pub mod arguments;
 pub mod bytes;
 pub mod command;
-pub mod desk;
+pub mod crew;
 pub mod faults;
 pub mod lines;
 pub mod names;
 pub mod output;
 pub mod program;
 pub mod script;
-pub mod sessions;
-mod taking_out;
+pub mod stage;
 pub mod words;
 
 use program::run_program;

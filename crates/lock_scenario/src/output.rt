@@ -1,10 +1,9 @@
 //! What the lines of a script print.
-use crate::desk::{Asked, Cancelled, Listing, Started};
 use crate::faults::Fault;
 use crate::names::{Name, Names};
-use local_locks::{End, Unlocked};
-use lock_table::{SlotRow, TableRow};
-use modes_core::{How, Mode, Refusal, SessionId, Tag};
+use lock_manager::{
+    Acquired, Asked, How, Listing, Mode, Refusal, SessionId, SlotRow, TableRow, Tag, Unlocked,
+};
 use std::io::{self, Write};
 
 /// The printed answers of a script. Each line goes to the writer at once, and `flush` passes them on.
@@ -66,14 +65,18 @@ impl<W: Write + Drop> Output<W> {
         written(writeln!(self.writer, "{name}: session {session} database {database}"))
     }
 
-    /// A lock was asked for, and not refused.
-    pub fn started(&mut self, name: &Name, started: Started) -> Result<(), Fault> {
-        let text = match started {
-            Started::Granted => "granted",
-            Started::AlreadyHeld => "already held",
-            Started::Queued => "waits",
+    /// A lock was asked for, and the session has it.
+    pub fn acquired(&mut self, name: &Name, acquired: Acquired) -> Result<(), Fault> {
+        let text = match acquired {
+            Acquired::Granted => "granted",
+            Acquired::AlreadyHeld => "already held",
         };
         written(writeln!(self.writer, "{name}: {text}"))
+    }
+
+    /// A lock was asked for, and the session waits for it.
+    pub fn waits(&mut self, name: &Name) -> Result<(), Fault> {
+        written(writeln!(self.writer, "{name}: waits"))
     }
 
     /// A session that waited has its lock.
@@ -81,12 +84,9 @@ impl<W: Write + Drop> Output<W> {
         written(writeln!(self.writer, "{name}: granted after waiting"))
     }
 
-    /// A wait was cancelled. One that had been granted has its lock.
-    pub fn cancelled(&mut self, name: &Name, cancelled: Cancelled) -> Result<(), Fault> {
-        match cancelled {
-            Cancelled::Removed => written(writeln!(self.writer, "{name}: cancelled")),
-            Cancelled::WasGranted => self.granted_after_waiting(name),
-        }
+    /// A session that waited was cancelled.
+    pub fn cancelled(&mut self, name: &Name) -> Result<(), Fault> {
+        written(writeln!(self.writer, "{name}: cancelled"))
     }
 
     /// A session asked another one to stop waiting.
@@ -112,14 +112,19 @@ impl<W: Write + Drop> Output<W> {
         written(writeln!(self.writer, "{name}: {text}"))
     }
 
-    /// A transaction or a session ended in this way.
-    pub fn ended(&mut self, name: &Name, end: End) -> Result<(), Fault> {
-        let text = match end {
-            End::Commit => "committed",
-            End::Abort => "aborted",
-            End::Close => "closed",
-        };
-        written(writeln!(self.writer, "{name}: {text}"))
+    /// A transaction ended with success.
+    pub fn committed(&mut self, name: &Name) -> Result<(), Fault> {
+        written(writeln!(self.writer, "{name}: committed"))
+    }
+
+    /// A transaction ended with failure.
+    pub fn aborted(&mut self, name: &Name) -> Result<(), Fault> {
+        written(writeln!(self.writer, "{name}: aborted"))
+    }
+
+    /// A session was closed.
+    pub fn closed(&mut self, name: &Name) -> Result<(), Fault> {
+        written(writeln!(self.writer, "{name}: closed"))
     }
 
     /// How often a lock is held for each owner.

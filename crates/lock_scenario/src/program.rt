@@ -6,6 +6,7 @@ use crate::faults::Fault;
 use crate::script::run_script;
 use clap::error::ErrorKind;
 use std::io::{self, BufWriter, Read, Write};
+use std::sync::Wait;
 
 /// The status of a script that ran to its end, and of a text that was asked for.
 const SUCCESS: u8 = 0;
@@ -17,7 +18,7 @@ const REFUSED_WORDS: u8 = 2;
 /// comes from `input`, what it prints goes to `output`, as the texts do that are asked for, and why the
 /// program ends early to `errors`. Answers the status: 0, 3 for a bad line of the script, 2 for refused
 /// words, and 1 for any other fault.
-pub fn run_program<H: AllocGlobal, R: Read + Drop, W: Write + Drop, E: Write>(
+pub fn run_program<H: AllocGlobal + Wait, R: Read + Drop, W: Write + Drop, E: Write>(
     rt: &H,
     words: io::Result<Vec<String>>,
     input: R,
@@ -38,7 +39,7 @@ pub fn run_program<H: AllocGlobal, R: Read + Drop, W: Write + Drop, E: Write>(
 }
 
 /// Runs the script, where the words ask for that.
-fn run_words<H: AllocGlobal, R: Read + Drop, W: Write + Drop, E: Write>(
+fn run_words<H: AllocGlobal + Wait, R: Read + Drop, W: Write + Drop, E: Write>(
     rt: &H,
     words: &[String],
     input: R,

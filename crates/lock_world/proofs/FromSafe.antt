@@ -11,7 +11,7 @@ use Rattle.modes_core.specs.Mode.{mode_eq}
 use Rattle.modes_core.proofs.Laws.{tag_eq-refl, tag_eq-same, mode_eq-refl}
 use Rattle.lock_table.specs.Content.{Wait}
 use Rattle.lock_table.specs.OwnWait.{OwnWait, Stage, InQueue, WasGranted, HasLeft, entry_of, is_for, is_pending, queued_by}
-use Rattle.lock_table.specs.Queue.{waits_there}
+use Rattle.lock_table.specs.Queue.{waits_there, awaits_mode}
 use Rattle.lock_world.specs.WaitWord.{wait_state}
 use Rattle.lock_world.specs.World.{World, Hand, is_unmarked, recorded_in}
 use Rattle.lock_world.specs.Safe.{SafeButSlots, stage_of, stage_by_hand, stages, is_hand_of, is_leave_of}
@@ -222,6 +222,22 @@ module _ (w : World) (safe : SafeButSlots w) where
       let entry : Wait = at.1 in
       let found = entry-stands p at.0 t entry at.2 in
       (found.0, (entry, subst (λ (k : ℕ). Stands k (w.sessions.awaited k) (stages w k) t entry) (eqb-true entry.session s at.3) found.1))
+
+  -- Who is awaited for a mode in a queue awaits it by its own account.
+  pub awaits-for : (p s : ℕ) (t : Tag) (m : Mode) → awaits_mode ((w.contents.now p).waits t) s m ≡ true
+      → is_for (w.sessions.awaited s) t m ≡ true
+  awaits-for p s t m awaits =
+      let at = placed (λ wait. (wait.session == s) && mode_eq wait.mode m) ((w.contents.now p).waits t) awaits in
+      let entry : Wait = at.1 in
+      let its = and_parts (entry.session == s) (mode_eq entry.mode m) at.3 in
+      let found = entry-stands p at.0 t entry at.2 in
+      let whose : entry.session ≡ s = eqb-true entry.session s its.0 in
+      let stands_there : Stands entry.session (w.sessions.awaited entry.session) (stages w entry.session) t entry = found.1 in
+      ap (λ (k : ℕ). is_for (w.sessions.awaited k) t m) (sym whose)
+      ∙ ap (λ (a : Option OwnWait). is_for a t m) stands_there.is_wait
+      ∙ and_from (tag_eq stands_there.wait.tag t) (mode_eq stands_there.wait.mode m)
+      (ap (λ (o : Tag). tag_eq o t) stands_there.on ∙ tag_eq-refl t)
+      (ap (λ (e : Wait). mode_eq e.mode m) (sym stands_there.is_entry) ∙ its.1)
 
   -- A session stands at most once in a queue, and in one queue.
   pub stands-once : (p s : ℕ) (t : Tag) → count_by (λ wait. wait.session == s) ((w.contents.now p).waits t) ≤ 1

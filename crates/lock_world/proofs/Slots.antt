@@ -3,3 +3,5 @@ pub mod Eligible
 pub mod Setting
 pub mod Clearing
 pub mod Databases
+pub mod Remembered
+pub mod Used

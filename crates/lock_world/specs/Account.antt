@@ -34,6 +34,8 @@ pub record FastAccount : Type 0 where
   pub shared_slots : ℕ → Option SlotsInHand
   -- its own database
   pub database : ℕ
+  -- the words of its own slots as it last saw or stored them; others may have cleared modes there since
+  pub remembered : ℕ → ℕ
   -- the index of the strong lock counter that it has read as 0, for as long as that lets it set a slot
   pub zero : Option ℕ
   -- the strong locks that it has counted
@@ -90,6 +92,7 @@ fast_account w session = record {
   slots = slots_in_hand (w.sessions.holds_fast session) w.words.database w.words.slot;
   shared_slots = slots_in_hand (w.sessions.shares_fast session) w.words.database w.words.slot;
   database = w.words.database session;
+  remembered = w.sessions.remembered session;
   zero = w.sessions.zero session;
   counted = w.sessions.counted session;
 }

@@ -1,10 +1,11 @@
 use Rattle.std.specs.Prelude.{◌≡◌, ◌⊎◌, ℕ, ◌≤◌, ◌==◌, true, false, count_by, Some, None}
 use Rattle.modes_core.specs.declared.modes.Mode.{Mode}
 use Rattle.modes_core.specs.declared.tags.Tag.{Tag}
-use Rattle.modes_core.specs.Tag.{partition_of, is_eligible_for}
+use Rattle.modes_core.specs.Tag.{partition_of}
 use Rattle.lock_table.specs.Content.{Content}
 use Rattle.lock_table.specs.OwnWait.{OwnWait, is_for}
-use Rattle.lock_table.specs.Queue.{waits_there}
+use Rattle.lock_table.specs.Queue.{waits_there, awaits_mode}
+use Rattle.lock_world.specs.SlotHolds.{slot_holds, ShowsNoMore, OneSlotEach, InUseHasDatabase}
 use Rattle.lock_world.specs.Account.{Account, SlotsInHand}
 
 -- What the session of this number knows of the content of a partition, by its own account: whoever takes a partition is told so of the
@@ -19,10 +20,14 @@ pub record KnowsContent (number : ℕ) (a : Account) (p : ℕ) (content : Conten
   pub own_holds :
       (mine : SlotsInHand) (tag : Tag) (mode : Mode) → a.fast.slots number ≡ Some mine → partition_of tag ≡ p
       → a.own tag mode ≡ true → mine.holds tag mode ≡ false → content.holds number tag mode ≡ true
-  -- and there where no slot can have them
+  -- and there where its slots, as it remembers them, don't show them: so is each that no slot can have
   pub tabled_holds :
-      (tag : Tag) (mode : Mode) → is_eligible_for a.fast.database tag mode ≡ false → partition_of tag ≡ p
+      (tag : Tag) (mode : Mode) → slot_holds a.fast.database a.fast.remembered tag mode ≡ false → partition_of tag ≡ p
       → a.own tag mode ≡ true → content.holds number tag mode ≡ true
+  -- what shows in slots that it has in hand is not there, nor awaited there
+  pub in_slots :
+      (owner : ℕ) (slots : SlotsInHand) (tag : Tag) (mode : Mode) → a.fast.slots owner ≡ Some slots → slots.holds tag mode ≡ true
+      → (content.holds owner tag mode ≡ false) × (awaits_mode (content.waits tag) owner mode ≡ false)
   -- where it has no wait it stands in no queue, and nobody stands twice in one
   pub no_wait : (tag : Tag) → a.awaited ≡ None → waits_there (content.waits tag) number ≡ false
   pub once : (session : ℕ) (tag : Tag) → count_by (λ wait. wait.session == session) (content.waits tag) ≤ 1
@@ -30,3 +35,16 @@ pub record KnowsContent (number : ℕ) (a : Account) (p : ℕ) (content : Conten
   pub granted_hold :
       (wait : OwnWait) → a.awaited ≡ Some wait → partition_of wait.tag ≡ p → waits_there (content.waits wait.tag) number ≡ false
       → content.holds number wait.tag wait.mode ≡ true
+
+-- What the session of this number knows of the slots of a session, by its own account: whoever takes the lock of a
+-- session's slots is told so of what they show.
+pub record KnowsSlots (number : ℕ) (a : Account) (owner : ℕ) (slots : SlotsInHand) : Type 0 where
+  -- they show holds of the owner's database, one slot at most is for each relation, and who has one in use has a database
+  pub database : ℕ
+  pub holds : slots.holds ≡ slot_holds database slots.word
+  pub one_each : OneSlotEach slots.word
+  pub in_use : InUseHasDatabase database slots.word
+  -- of its own slots it knows the database, they show own holds alone, and no mode that it does not remember there
+  pub own_database : owner ≡ number → database ≡ a.fast.database
+  pub own : owner ≡ number → (tag : Tag) (mode : Mode) → slots.holds tag mode ≡ true → a.own tag mode ≡ true
+  pub as_remembered : owner ≡ number → ShowsNoMore slots.word a.fast.remembered

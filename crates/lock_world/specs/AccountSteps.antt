@@ -92,9 +92,14 @@ account_leaving a mine wait content unmarked = record a {
 
 -- Slots and counters.
 
--- taking the lock of a session's slots, which show this
-abbrev pub account_taking_fast : Account → ℕ → SlotsInHand → Account
-account_taking_fast a owner slots = record a { fast = record (a.fast) { slots = set_at a.fast.slots owner (Some slots) } }
+-- taking the lock of a session's slots, which show this, by the session of this number, which remembers its own so
+abbrev pub account_taking_fast : ℕ → Account → ℕ → SlotsInHand → Account
+account_taking_fast number a owner slots = record a {
+  fast = record (a.fast) {
+    slots = set_at a.fast.slots owner (Some slots);
+    remembered = if owner == number then slots.word else a.fast.remembered;
+  };
+}
 
 -- putting it, by the session of this number
 abbrev pub account_putting_fast : ℕ → Account → ℕ → Account
@@ -142,6 +147,7 @@ account_setting number a mine place tag mode = record a {
       word = set_at mine.word place (word_with (mine.word place) (relation_of tag) mode);
       holds = own_with mine.holds tag mode true;
     }));
+    remembered = set_at mine.word place (word_with (mine.word place) (relation_of tag) mode);
   };
 }
 
@@ -153,6 +159,7 @@ account_unsetting number a mine place tag mode = record a {
       word = set_at mine.word place (word_without (mine.word place) mode);
       holds = own_with mine.holds tag mode false;
     }));
+    remembered = set_at mine.word place (word_without (mine.word place) mode);
   };
 }
 

@@ -4,7 +4,7 @@ use Rattle.modes_core.specs.declared.tags.Tag.{Tag}
 use Rattle.modes_core.specs.Tag.{index_of}
 use Rattle.lock_table.specs.Content.{Holds}
 use Rattle.lock_table.specs.OwnWait.{OwnWait, is_for}
-use Rattle.lock_world.specs.SlotHolds.{slot_holds, OneSlotEach, InUseHasDatabase}
+use Rattle.lock_world.specs.SlotHolds.{slot_holds, ShowsNoMore, OneSlotEach, InUseHasDatabase}
 use Rattle.lock_world.specs.Counted.{Counted, AtMostOnce, counter, is_past, PastHasNoSlot, StrongIsDone}
 use Rattle.lock_world.specs.World.{World}
 use Rattle.lock_world.specs.WaitLists.{ListsAreSafe}
@@ -57,6 +57,11 @@ pub record ZeroIsAPermission (zero : ℕ → Option ℕ) (holds_fast : ℕ → �
   pub nobody_is_past :
       (session other : ℕ) (tag : Tag) → zero session ≡ Some (index_of tag) → is_past (counted other) tag session ≡ false
 
+-- A mode that a slot shows is one that its session remembers there: only the session itself sets modes in its slots, and
+-- it remembers each. What it remembers there may be gone since, where others moved it to the lock table.
+abbrev pub SlotsAreRemembered : (ℕ → ℕ → ℕ) → (ℕ → ℕ → ℕ) → Type 0
+SlotsAreRemembered slot remembered = (session : ℕ) → ShowsNoMore (slot session) (remembered session)
+
 pub record SafeWorld (w : World) : Type 0 where
   pub but_slots : SafeButSlots (tabled w)
   pub lists : ListsAreSafe w.words.partition w.words.fast (sleepers w) w.sessions.has_list w.numbers.live
@@ -66,3 +71,4 @@ pub record SafeWorld (w : World) : Type 0 where
   pub past : PastHasNoSlot w.sessions.counted (slots_of w.words.database w.words.slot)
   pub done : StrongIsDone w.numbers.limit w.sessions.counted w.sessions.own w.sessions.awaited
   pub zero : ZeroIsAPermission w.sessions.zero w.sessions.holds_fast w.sessions.counted
+  pub remembered : SlotsAreRemembered w.words.slot w.sessions.remembered

@@ -4,6 +4,7 @@ use Rattle.modes_core.specs.declared.tags.Tag.{Tag}
 use Rattle.modes_core.specs.declared.tags.Tag.TheVariants.{Relation, Object}
 use Rattle.modes_core.specs.Tag.{is_eligible_for}
 use Rattle.lw_word.specs.SlotWord.{relation_in, in_use, shows}
+use Rattle.lock_world.specs.Total.{how_many}
 
 -- Which holds a session's fast-path slots show, with the word of its database (`fpRelId`, `fpLockBits` and `databaseId` of a
 -- PGPROC).
@@ -30,6 +31,16 @@ relation_of (Object database class object sub_object) = 0
 abbrev pub slot_holds : ℕ → (ℕ → ℕ) → Tag → Mode → Bool
 slot_holds database slot tag mode =
     is_eligible_for database tag mode && any_below slot_count (λ place. shows (slot place) (relation_of tag) mode)
+
+-- Each mode that the one slots show, the others show at the same place.
+abbrev pub ShowsNoMore : (ℕ → ℕ) → (ℕ → ℕ) → Type 0
+ShowsNoMore slot before =
+    (place relation : ℕ) (mode : Mode) → place < slot_count
+    → shows (slot place) relation mode ≡ true → shows (before place) relation mode ≡ true
+
+-- how many of a session's slots are in use (of slots as their session remembers them, FastPathLocalUseCount in lock.c)
+abbrev pub used : (ℕ → ℕ) → ℕ
+used slot = how_many slot_count (λ place. in_use (slot place))
 
 -- The hold is in this slot, where it is found and cleared (FastPathUnGrantRelationLock in lock.c).
 pub record IsHeldIn (database : ℕ) (slot : ℕ → ℕ) (tag : Tag) (mode : Mode) (place : ℕ) : Type 0 where

@@ -76,6 +76,8 @@ pub record Sessions : Type 0 where
   pub counted : ℕ → List Counted
   -- the index of the strong lock counter that it has read as 0, for as long as that lets it set a slot
   pub zero : ℕ → Option ℕ
+  -- the words of its own slots as it last saw or stored them; others may have cleared modes there since
+  pub remembered : ℕ → ℕ → ℕ
   -- the lightweight lock whose wait list it has in hand, and the one in whose list it stands, by their numbers
   pub has_list : ℕ → Option ℕ
   pub stands : ℕ → Option ℕ
@@ -139,6 +141,7 @@ opening limit = record {
     seen = λ _. false;
     counted = λ _. [];
     zero = λ _. None;
+    remembered = λ _ _. 0;
     has_list = λ _. None;
     stands = λ _. None;
     off = λ _ _. false;

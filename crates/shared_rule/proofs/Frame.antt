@@ -22,7 +22,7 @@ use Rattle.shared_rule.specs.declared.history.History.{History}
 use Rattle.shared_rule.specs.declared.history.View.{View}
 use Rattle.shared_rule.specs.Shown.{WordsAreShown}
 use Rattle.shared_rule.specs.History.{noted, told, noting_first, noting, keeper}
-use Rattle.shared_rule.specs.Ruled.{SlotsAreUnused, ContentsAreHome, HistoryIsShown, IsBehind, SeatsAreShown, Ruled}
+use Rattle.shared_rule.specs.Ruled.{NoneBeyondSlots, ContentsAreHome, HistoryIsShown, IsBehind, SeatsAreShown, Ruled}
 
 -- A step of the session that goes on by itself at a seat, noted there, keeps the rule.
 
@@ -176,7 +176,7 @@ pub record Stepper (limit : ℕ) (w : World) (number : ℕ) (a : Account) : Type
   pub few : limit ≤ 64
   pub makes : MakesSteps w.numbers number
   pub account : a ≡ account w number
-  pub unused : SlotsAreUnused w.words
+  pub none_beyond : NoneBeyondSlots w.words
   pub few_counted : (session : ℕ) → length (w.sessions.counted session) ≤ most_counted
 
 -- A step of it, and what it makes of the World.
@@ -187,7 +187,7 @@ pub record IsNoted {T : Type 0} (content : T → Content) (w : World) (number : 
   pub numbers : after.numbers ≡ w.numbers
   pub account : noted content number a mark ≡ account after number
   pub words : after.words ≡ next
-  pub unused : SlotsAreUnused next
+  pub none_beyond : NoneBeyondSlots next
   pub few_counted : length (after.sessions.counted number) ≤ most_counted
 
 module _ {T : Type 0} (content : T → Content) (begun : T → Option Request) (limit : ℕ) (s : State (Option T) (View T)) (r : Ruled content begun limit s)
@@ -202,7 +202,7 @@ module _ {T : Type 0} (content : T → Content) (begun : T → Option Request) (
     few = r.few;
     makes = record { live = history_of.live; by_itself = history_of.kept_by ∙ ap (λ sessions. keeper sessions 0) is };
     account = history_of.account;
-    unused = r.unused;
+    none_beyond = r.none_beyond;
     few_counted = r.few_counted;
   }
 
@@ -219,7 +219,7 @@ module _ {T : Type 0} (content : T → Content) (begun : T → Option Request) (
         is_limit = ap (λ (n : Numbers). n.limit) noted.numbers ∙ r.is_limit;
         few = r.few;
         words = subst (WordsAreShown table) (sym noted.words) shown;
-        unused = subst SlotsAreUnused (sym noted.words) noted.unused;
+        none_beyond = subst NoneBeyondSlots (sym noted.words) noted.none_beyond;
         few_counted = λ k. elim (cases_eq k x.number) [
           | inl same ↦ subst (λ n. length (noted.after.sessions.counted n) ≤ most_counted) (sym same) noted.few_counted
           | inr other ↦ subst (λ (a : Account). length a.fast.counted ≤ most_counted) (sym (left k other)) (r.few_counted k)

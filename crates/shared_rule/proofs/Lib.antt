@@ -5,4 +5,7 @@ pub mod Meetings
 pub mod Opening
 pub mod Events
 pub mod Sides
+pub mod Taken
+pub mod SlotWords
+pub mod FirstSlot
 pub mod Episodes

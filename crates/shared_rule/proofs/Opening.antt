@@ -69,7 +69,7 @@ module _ {T : Type 0} (content : T → Content) (begun : T → Option Request) (
     is_limit = refl;
     few = few;
     words = shown;
-    unused = record { database = refl; slot = refl };
+    none_beyond = λ _ _ _. refl;
     few_counted = λ session. omega arith;
     contents = λ p exists.
         let part = new.new p exists in

@@ -1,4 +1,4 @@
-use Rattle.std.proofs.Common.{◌≡◌, ◌≢◌, ◌⊎◌, ℕ, zero, suc, true, ◌+◌, ◌<◌, ◌≤◌, List, [], ◌∷◌, ◌++◌, length, Option, Some, None, refl, sym, ap, ◌∙◌, subst, inl, inr, arith, length-set}
+use Rattle.std.proofs.Common.{◌≡◌, ◌≢◌, ◌⊎◌, ℕ, zero, suc, true, false, ◌+◌, ◌<◌, ◌≤◌, List, [], ◌∷◌, ◌++◌, length, Option, Some, None, refl, sym, ap, ◌∙◌, subst, inl, inr, arith, length-set}
 use Rattle.std.specs.Prelude.{slice_get, slice_set}
 use Rattle.std.proofs.lemmas.Bool.{cases_eq}
 use mathlib.Core.Option.{some, some-injective, some-ne-none}
@@ -12,11 +12,12 @@ use Rattle.lock_table.proofs.PutLemmas.{set_at-here, set_at-else}
 use Rattle.lock_world.specs.World.{World, Numbers}
 use Rattle.lock_world.specs.Safe.{NumbersAreInOrder}
 use Rattle.lock_world.specs.SafeWorld.{SafeWorld}
+use Rattle.lock_world.specs.Account.{Account, fast_account, account}
 use Rattle.lock_world.specs.Happens.Seats.{after_issuing, after_closing}
 use Rattle.shared_rule.specs.declared.history.Mark.{Mark}
 use Rattle.shared_rule.specs.declared.history.History.{History}
 use Rattle.shared_rule.specs.declared.history.View.{View}
-use Rattle.shared_rule.specs.History.{keeper, lone, spent_view}
+use Rattle.shared_rule.specs.History.{blank_account, keeper, lone, spent_view}
 use Rattle.shared_rule.specs.Ruled.{HistoryIsShown, IsBehind, SeatsAreShown, Ruled}
 use Rattle.shared_rule.proofs.Frame.{there-within, there-one}
 
@@ -197,6 +198,23 @@ module _ {T : Type 0} (content : T → Content) (w : World) (views : List (View 
   pub keeps-nobody : (j : ℕ) → w.numbers.kept_by j ≢ Some k
   keeps-nobody j kept = nobody-behind j k kept history-alone.seat
 
+  -- The accounts of others are as they were, and a blank one is blank still.
+  closed-else : (j : ℕ) → j ≢ k → account (after_closing w k) j ≡ account w j
+  closed-else j other = λ i. record (account w j) {
+    fast = record (fast_account w j) { remembered = set_at-else w.sessions.remembered k (λ _. 0) j other i };
+  }
+
+  closed-blank : (j : ℕ) → account w j ≡ blank_account → account (after_closing w k) j ≡ blank_account
+  closed-blank j blank =
+      elim (cases_eq j k) [
+        | inl same ↦
+            (λ i. record (account w j) {
+              fast = record (fast_account w j) { remembered = set_at-here w.sessions.remembered k (λ _. 0) j same i };
+            })
+            ∙ ap (λ (a : Account). record a { fast = record (a.fast) { remembered = λ _. 0 } }) blank
+        | inr other ↦ closed-else j other ∙ blank
+      ]
+
   closed-shown : (i j : ℕ) (u : View T) (y : History T) → get_elem? (slice_set views other spent_view) i ≡ some u → slice_get u.sessions j ≡ Some y
       → HistoryIsShown content (after_closing w k) seats.seat_of seats.place_in i j u.sessions y
   closed-shown i j u y there get =
@@ -204,8 +222,14 @@ module _ {T : Type 0} (content : T → Content) (w : World) (views : List (View 
         | inl here ↦ let never : ◌≡◌ {A = Option (History T)} None (Some y) = ap (λ (z : View T). slice_get z.sessions j) here.1 ∙ get in absurd (cc (never))
         | inr else ↦
             let old = seats.history i j u y else.1 get in
-            still-shown content w (after_closing w k).numbers seats.seat_of seats.place_in seats.seat_of seats.place_in i j u.sessions u.sessions y
-            (set_at-else w.numbers.live k Rattle.std.proofs.Common.false y.number (λ e. else.0 (sym old.seat ∙ ap seats.seat_of e ∙ history-alone.seat))) refl refl refl refl old
+            let another : y.number ≢ k = λ e. else.0 (sym old.seat ∙ ap seats.seat_of e ∙ history-alone.seat) in
+            record {
+              account = old.account ∙ sym (closed-else y.number another);
+              live = set_at-else w.numbers.live k false y.number another ∙ old.live;
+              kept_by = old.kept_by;
+              seat = old.seat;
+              place = old.place;
+            }
       ]
 
   pub seats-closed : SeatsAreShown content (slice_set views other spent_view) (after_closing w k)
@@ -230,11 +254,11 @@ module _ {T : Type 0} (content : T → Content) (w : World) (views : List (View 
           | inl here ↦ let never : ◌≡◌ {A = Option ℕ} None (Some m) = ap (λ (z : View T). z.next) here.1 ∙ says in absurd (cc (never))
           | inr else ↦ seats.next i u m else.1 says
         ];
-    not_issued = seats.not_issued;
+    not_issued = λ m not_yet. closed-blank m (seats.not_issued m not_yet);
   }
 
 module _ {T : Type 0} (content : T → Content) (begun : T → Option Request) (limit : ℕ) (s : State (Option T) (View T)) (r : Ruled content begun limit s) where
-  -- The rule holds in the World with other numbers.
+  -- The rule holds in the World with other numbers,
   pub ruled-numbered : (numbers : Numbers) (views : List (View T)) → numbers.limit ≡ r.world.numbers.limit → SafeWorld (with_numbers r.world numbers) → SeatsAreShown content views (with_numbers r.world numbers)
       → Ruled content begun limit (record { words = s.words; homes = s.homes; views = views })
   ruled-numbered numbers views same safe seats = record {
@@ -243,7 +267,23 @@ module _ {T : Type 0} (content : T → Content) (begun : T → Option Request) (
     is_limit = same ∙ r.is_limit;
     few = r.few;
     words = r.words;
-    unused = r.unused;
+    none_beyond = r.none_beyond;
+    few_counted = r.few_counted;
+    contents = r.contents;
+    seats = seats;
+  }
+
+  -- and in the World in which a session has closed.
+  pub ruled-closed :
+      (k : ℕ) (views : List (View T)) → SafeWorld (after_closing r.world k) → SeatsAreShown content views (after_closing r.world k)
+      → Ruled content begun limit (record { words = s.words; homes = s.homes; views = views })
+  ruled-closed k views safe seats = record {
+    world = after_closing r.world k;
+    safe = safe;
+    is_limit = r.is_limit;
+    few = r.few;
+    words = r.words;
+    none_beyond = r.none_beyond;
     few_counted = r.few_counted;
     contents = r.contents;
     seats = seats;

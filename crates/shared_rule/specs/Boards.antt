@@ -1,8 +1,10 @@
-use Rattle.std.specs.Prelude.{ℕ, ◌/◌, List, [], ◌∷◌, map, Option, None}
+use Rattle.std.specs.Prelude.{◌≡◌, ℕ, ◌/◌, List, [], ◌∷◌, map, Option, None}
 use Rattle.atomic_table.specs.Seated.{TableId}
 use Rattle.shared_rule.specs.declared.history.History.{History}
 use Rattle.shared_rule.specs.declared.history.Mark.{Mark}
+use Rattle.shared_rule.specs.declared.history.View.{View}
 use Rattle.shared_rule.specs.Layout.{content_slot_of}
+use Rattle.shared_rule.specs.History.{lone}
 
 -- What a board is: shared state as one session sees it.
 
@@ -24,3 +26,8 @@ slots_out parts = map (λ part. (content_slot_of part, None)) parts
 abbrev pub first_marks : {T : Type 0} → List (History T) → List (Mark T)
 first_marks [] = []
 first_marks (history ∷ others) = history.marks
+
+-- The view is one session's still, if it was.
+abbrev pub StaysLone : {T : Type 0} → View T → View T → Type 0
+StaysLone before after =
+    (number : ℕ) → before ≡ lone number (first_marks before.sessions) → after ≡ lone number (first_marks after.sessions)

@@ -1,4 +1,5 @@
 use Rattle.std.specs.Prelude.{ℕ, zero, suc, Bool, false, ◌||◌, ◌==◌, List, [], ◌∷◌, map, Option, Some, None}
+use Rattle.std.specs.Prelude.{slice_index_or}
 use Rattle.std.specs.List.{list_any}
 use Rattle.modes_core.specs.declared.modes.Mode.{Mode}
 use Rattle.modes_core.specs.Tag.{partition_of}
@@ -6,7 +7,7 @@ use Rattle.lock_table.specs.declared.moves.Move.{Move}
 use Rattle.lock_table.specs.declared.moves.Move.TheVariants.{Keep}
 use Rattle.lock_table.specs.Content.{Content, empty_content}
 use Rattle.lock_table.specs.OwnWait.{OwnWait}
-use Rattle.lock_world.specs.declared.events.Word.TheVariants.{Database, Wait}
+use Rattle.lock_world.specs.declared.events.Word.TheVariants.{Database, Fast, Slot, Wait}
 use Rattle.lock_world.specs.SlotHolds.{slot_holds}
 use Rattle.lock_world.specs.WaitWord.{wait_state}
 use Rattle.lock_world.specs.World.{Loaded, AskedToCancel}
@@ -15,11 +16,15 @@ use Rattle.lock_world.specs.Account.{Account, InHand, SlotsInHand}
 use Rattle.lock_world.specs.AccountSteps.{account_taking, account_putting, account_taking_fast, account_putting_fast}
 use Rattle.lock_world.specs.AccountSteps.{account_passing, account_counting, account_uncounting, account_tracing}
 use Rattle.lock_world.specs.AccountSteps.{account_waiting, account_marking, account_clearing, account_leaving}
+use Rattle.lock_world.specs.AccountSteps.{account_reading, account_setting, account_unsetting, account_transferring}
+use Rattle.lock_world.specs.AccountSteps.{account_storing}
 use Rattle.shared_rule.specs.declared.history.Mark.{Mark}
 use Rattle.shared_rule.specs.declared.history.Mark.TheVariants.{TookPart, PutPart, TookFast, PutFast, Passed}
 use Rattle.shared_rule.specs.declared.history.Mark.TheVariants.{Counted, Uncounted, LoadedDatabase}
 use Rattle.shared_rule.specs.declared.history.Mark.TheVariants.{SetWaiting, MarkedGranted, LoadedWait, Asked}
 use Rattle.shared_rule.specs.declared.history.Mark.TheVariants.{ClearedWait, LeftQueue}
+use Rattle.shared_rule.specs.declared.history.Mark.TheVariants.{LoadedSlot, LoadedFast, LoadedStrong, StoredDatabase}
+use Rattle.shared_rule.specs.declared.history.Mark.TheVariants.{SetSlot, ClearedSlot, TransferredSlot}
 use Rattle.shared_rule.specs.declared.history.History.{History}
 use Rattle.shared_rule.specs.declared.history.View.{View}
 
@@ -33,7 +38,14 @@ blank_account = record {
   seen = false;
   hand = λ _. None;
   shares = λ _. false;
-  fast = record { slots = λ _. None; shared_slots = λ _. None; database = 0; zero = None; counted = [] };
+  fast = record {
+    slots = λ _. None;
+    shared_slots = λ _. None;
+    database = 0;
+    remembered = λ _. 0;
+    zero = None;
+    counted = [];
+  };
   lists = record { in_hand = None; stands = None; off = λ _. false };
   trace = [];
 }
@@ -85,12 +97,24 @@ account_left a (Some wait) now woken =
 abbrev pub no_slots : SlotsInHand
 no_slots = record { word = λ _. 0; holds = slot_holds 0 (λ _. 0) }
 
+-- slots in hand; where they are not, slots that show nothing
+abbrev pub slots_here : Option SlotsInHand → SlotsInHand
+slots_here None = no_slots
+slots_here (Some slots) = slots
+
+-- the slots of a session with this database whose words are these, place by place
+abbrev pub slots_shown : ℕ → List ℕ → SlotsInHand
+slots_shown database words = record {
+  word = λ place. slice_index_or words place 0;
+  holds = slot_holds database (λ place. slice_index_or words place 0);
+}
+
 module _ {T : Type 0} (content : T → Content) where
   -- what a step makes of the account of the session of this number
   abbrev pub noted : ℕ → Account → Mark T → Account
   noted number a (TookPart part taken) = account_taking a part (content taken)
   noted number a (PutPart part done put) = account_putting a part (taken_of (a.hand part)) (content put) done
-  noted number a (TookFast owner) = account_taking_fast a owner no_slots
+  noted number a (TookFast owner database words) = account_taking_fast number a owner (slots_shown database words)
   noted number a (PutFast owner) = account_putting_fast number a owner
   noted number a (Passed owner tag mode) = account_passing number a owner tag mode
   noted number a (Counted tag mode) = account_counting a tag mode
@@ -106,6 +130,17 @@ module _ {T : Type 0} (content : T → Content) where
   noted number a ClearedWait = account_cleared number a a.awaited
   noted number a (LeftQueue woken now) = account_left a a.awaited (content now) woken
   noted number a (LoadedDatabase owner shown) = account_tracing a (Loaded (Database owner) shown)
+  noted number a (LoadedSlot owner place shown) = account_tracing a (Loaded (Slot owner place) shown)
+  noted number a (LoadedFast shown) = account_tracing a (Loaded (Fast number) shown)
+  noted number a (LoadedStrong index shown) = account_reading number a index shown
+  noted number a (SetSlot place tag mode) =
+      account_setting number a (slots_here (a.fast.slots number)) place tag mode
+  noted number a (ClearedSlot place tag mode) =
+      account_unsetting number a (slots_here (a.fast.slots number)) place tag mode
+  noted number a (TransferredSlot owner place tag mode) =
+      account_transferring a owner place (slots_here (a.fast.slots owner))
+      (in_hand (a.hand (partition_of tag))) tag mode
+  noted number a (StoredDatabase database) = account_storing a database
 
   -- the account that these steps tell, the last one first
   abbrev pub told : ℕ → List (Mark T) → Account

@@ -3,17 +3,19 @@ use Rattle.atomic_table.specs.Table.{Me, Step, rest}
 use Rattle.atomic_table.specs.Seated.{TableId}
 use Rattle.lock_table.specs.declared.request.Request.{Request}
 use Rattle.lock_table.specs.Content.{Content}
-use Rattle.lock_world.specs.declared.events.Word.TheVariants.{Partition}
+use Rattle.lock_world.specs.declared.events.Word.{Word}
+use Rattle.lock_world.specs.declared.events.Word.TheVariants.{Partition, Fast}
 use Rattle.lock_world.specs.Account.{Account}
-use Rattle.lock_world.specs.AccountFacts.{KnowsContent}
+use Rattle.lock_world.specs.AccountFacts.{KnowsContent, KnowsSlots}
 use Rattle.atomic_table.specs.declared.shared.Seat.{Seat}
 use Rattle.shared_rule.specs.declared.history.History.{History}
 use Rattle.shared_rule.specs.declared.history.Mark.{Mark}
-use Rattle.shared_rule.specs.declared.history.Mark.TheVariants.{TookPart}
+use Rattle.shared_rule.specs.declared.history.Mark.TheVariants.{TookPart, TookFast, LoadedFast}
 use Rattle.shared_rule.specs.declared.history.View.{View}
 use Rattle.shared_rule.specs.declared.layout.TheConstants.{TABLE_WORDS, CONTENT_SLOTS}
-use Rattle.shared_rule.specs.Layout.{index_of_word, content_slot_of}
-use Rattle.shared_rule.specs.History.{noting, first_account, first_number}
+use Rattle.shared_rule.specs.Layout.{index_of_word, content_slot_of, IsInTable}
+use Rattle.shared_rule.specs.History.{noting, first_account, first_number, slots_shown}
+use Rattle.shared_rule.specs.Slots.{KnowsWord}
 
 -- What each step tells. A session's side of a step: its view, and the contents that it has in hand, each with its slot.
 
@@ -53,13 +55,42 @@ module _ {T : Type 0} where
   abbrev pub Marked : (ℕ → Mark T) → Step (Option T) → Side T → ℕ → Side T → Type 0
   Marked mark step before found after = after ≡ (noting before.0 (mark found), before.1)
 
-  abbrev pub Won : (ℕ → Mark T) → Step (Option T) → Side T → ℕ → Side T → Type 0
-  Won mark step before found after =
-      (found ≡ step.first → after ≡ (noting before.0 (mark found), before.1)) × (found ≢ step.first → after ≡ before)
-
   -- it was noted, and the content that came last went home
   abbrev pub WentHome : (ℕ → Mark T) → Step (Option T) → Side T → ℕ → Side T → Type 0
   WentHome mark step before found after = after ≡ (noting before.0 (mark found), rest before.1)
+
+module _ {T : Type 0} (content : T → Content) where
+  -- It was noted, and of the number found the session learns what its account knows of the word.
+  abbrev pub Looked : (ℕ → Mark T) → Step (Option T) → Side T → ℕ → Side T → Type 0
+  Looked mark step before found after =
+      Marked mark step before found after
+      × ((word : Word) → IsInTable word → step.word ≡ index_of_word word
+      → KnowsWord (first_number before.0.sessions) (first_account content before.0.sessions) word found)
+
+  -- The lock of a session's slots came into hand, what they show was noted, and the session knows of it what its
+  -- account tells.
+  pub record TookSlots (owner : ℕ) (before after : Side T) : Type 0 where
+    pub database : ℕ
+    pub words : List ℕ
+    pub side : after ≡ (noting before.0 (TookFast owner database words), before.1)
+    pub knows :
+        KnowsSlots (first_number before.0.sessions) (first_account content before.0.sessions) owner
+        (slots_shown database words)
+
+  -- An exchange takes it where it finds the number that it expects, and else leaves the view so.
+  abbrev pub TookSlotsOr : (ℕ → View T → View T) → Step (Option T) → Side T → ℕ → Side T → Type 0
+  TookSlotsOr lost step before found after =
+      (found ≡ step.first → (owner : ℕ) → owner < 64 → step.word ≡ index_of_word (Fast owner)
+      → TookSlots owner before after)
+      × (found ≢ step.first → after ≡ (lost found before.0, before.1))
+
+module _ {T : Type 0} where
+  -- A lost exchange is not noted, or is noted as a load of the own word.
+  abbrev pub unnoted : ℕ → View T → View T
+  unnoted found view = view
+
+  abbrev pub noted_load : ℕ → View T → View T
+  noted_load found view = noting view (LoadedFast found)
 
 module _ {T : Type 0} (content : T → Content) (begun : T → Option Request) where
   -- A partition came into hand with its content, of which the session knows what its account tells, and in which no

@@ -7,6 +7,7 @@ use Rattle.lock_table.specs.declared.request.Request.{Request}
 use Rattle.lock_table.specs.Content.{Content}
 use Rattle.lock_world.specs.World.{World, Words, Contents, Hand}
 use Rattle.lock_world.specs.SafeWorld.{SafeWorld}
+use Rattle.lock_world.specs.SlotHolds.{slot_count}
 use Rattle.lock_world.specs.Account.{account}
 use Rattle.lock_world.specs.Happens.Counters.{most_counted}
 use Rattle.shared_rule.specs.declared.history.History.{History}
@@ -18,10 +19,9 @@ use Rattle.shared_rule.specs.History.{blank_account, told, keeper}
 -- The rule of the table: there is a World which its words, its contents at home and the histories of all sessions show,
 -- and which is safe.
 
--- No session has a database or a fast-path slot: no step stores one yet.
-pub record SlotsAreUnused (words : Words) : Type 0 where
-  pub database : words.database ≡ (λ _. 0)
-  pub slot : words.slot ≡ (λ _ _. 0)
+-- A session has sixteen slots: whatever stands beyond them shows 0.
+abbrev pub NoneBeyondSlots : Words → Type 0
+NoneBeyondSlots words = (session place : ℕ) → slot_count ≤ place → words.slot session place ≡ 0
 
 -- What the slots of contents show.
 module _ {T : Type 0} (content : T → Content) (begun : T → Option Request) where
@@ -89,7 +89,7 @@ module _ {T : Type 0} (content : T → Content) (begun : T → Option Request) w
     pub is_limit : world.numbers.limit ≡ limit
     pub few : limit ≤ 64
     pub words : WordsAreShown state.words world.words
-    pub unused : SlotsAreUnused world.words
+    pub none_beyond : NoneBeyondSlots world.words
     pub few_counted : (session : ℕ) → length (world.sessions.counted session) ≤ most_counted
     pub contents : ContentsAreHome content begun state.homes world.contents
     pub seats : SeatsAreShown content state.views world

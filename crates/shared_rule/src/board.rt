@@ -6,23 +6,31 @@ ghost use Rattle.std.specs.Prelude.{◌≡◌, ◌<◌, ◌||◌, ◌==◌, ℕ,
 ghost use Rattle.modes_core.specs.Tag.{partition_of};
 ghost use Rattle.lock_table.specs.declared.moves.Move.TheVariants.{Join};
 ghost use Rattle.lock_table.specs.Content as contents;
+ghost use Rattle.lock_table.specs.Content.{add_hold};
 ghost use Rattle.lock_table.specs.OwnWait.{OwnWait};
 ghost use Rattle.lock_table.specs.Waiter.{whose_and_mode};
-ghost use Rattle.lock_world.specs.declared.events.Word.TheVariants.{Database, Wait};
+ghost use Rattle.lock_world.specs.declared.events.Word.TheVariants.{Database, Slot, Wait};
 ghost use Rattle.lock_world.specs.WaitWord.{wait_state};
 ghost use Rattle.lock_world.specs.World.{Loaded, AskedToCancel};
 ghost use Rattle.lock_world.specs.Account.{Account, InHand, SlotsInHand};
-ghost use Rattle.lock_world.specs.AccountSteps.{account_taking, account_putting, account_taking_fast};
+ghost use Rattle.lock_world.specs.SlotHolds.{slot_holds};
+ghost use Rattle.lock_world.specs.AccountSteps.{account_taking, account_putting};
 ghost use Rattle.lock_world.specs.AccountSteps.{account_putting_fast, account_passing, account_counting};
 ghost use Rattle.lock_world.specs.AccountSteps.{account_uncounting, account_tracing, account_waiting};
+ghost use Rattle.lock_world.specs.AccountSteps.{account_reading, account_storing, account_setting};
+ghost use Rattle.lock_world.specs.AccountSteps.{account_unsetting, account_transferring};
 ghost use Rattle.lock_world.specs.AccountFacts.{KnowsContent};
 ghost use Rattle.lock_world.specs.AccountLaw.{MayMoveBy, MayLeaveBy, MayPutFastBy, MayPassBy, MayCountBy, MayUncountBy};
-ghost use Rattle.shared_rule.specs.History.{taken_of, no_slots, in_hand, sessions_told};
+ghost use Rattle.lock_world.specs.AccountLaw.{MaySetSlotBy, MayClearSlotBy, MayTransferBy};
+ghost use Rattle.shared_rule.specs.History.{taken_of, slots_here, in_hand, sessions_told};
 ghost use Rattle.shared_rule.specs.History.{account_granting, account_cleared, account_left};
+ghost use Rattle.shared_rule.specs.Slots.{TakesFast, TriesFast};
 ghost use Rattle.shared_rule.specs.Boards.{Seated};
 ghost use Rattle.shared_rule.specs.Lawful.{MayPutPart, IsGrantingIn, MayMarkBy, MayClearBy};
 
+use crate::busy::Busy;
 use lock_table::{Move, PartTable, Woken};
+use lw_word::SlotWord;
 use modes_core::{Mode, SessionId, Tag};
 use std::sync::Wait;
 
@@ -38,9 +46,10 @@ pub trait Board<T: PartTable> {
     // The partitions in hand, the last one taken first.
     ghost stack: { Self → List ℕ };
 
-    /// The session's number.
+    /// The session's number, one of those that there can be.
     fn number(&self) -> SessionId
-        ensures { result ≡ (seat self.now).number };
+        ensures value { result ≡ (seat self.now).number }
+        ensures exists { result < (seat self.now).limit };
 
     /// How many sessions there can be.
     fn sessions(&self) -> u8
@@ -73,7 +82,15 @@ pub trait Board<T: PartTable> {
     fn take_fast<R: Wait>(&mut self, rt: &R, owner: SessionId)
         requires exists { owner < (seat self.old).limit }
         ensures seat { seat self.new ≡ seat self.old }
-        ensures view { view self.new ≡ account_taking_fast (view self.old) owner no_slots }
+        ensures taken { TakesFast (seat self.old).number (view self.old) owner (view self.new) }
+        ensures stack { stack self.new ≡ stack self.old };
+
+    /// Takes the lock of the own slots if nobody holds it: a load of its word and, where bits 0 to 24 are all 0, one
+    /// exchange that expects the very number loaded (`LWLockConditionalAcquire` in lwlock.c). `Busy` where somebody
+    /// holds it, or changed it meanwhile.
+    fn try_take_fast(&mut self) -> Result<(), Busy>
+        ensures seat { seat self.new ≡ seat self.old }
+        ensures tried { TriesFast (seat self.old).number (view self.old) result (view self.new) }
         ensures stack { stack self.new ≡ stack self.old };
 
     /// Puts that lock.
@@ -111,6 +128,76 @@ pub trait Board<T: PartTable> {
     fn load_database(&mut self, owner: SessionId) -> u64
         ensures seat { seat self.new ≡ seat self.old }
         ensures view { view self.new ≡ account_tracing (view self.old) (Loaded (Database owner) result) }
+        ensures stack { stack self.new ≡ stack self.old }
+        ensures of_slots { (slots : SlotsInHand) → (view self.old).fast.slots owner ≡ Some slots
+            → slots.holds ≡ slot_holds result slots.word }
+        ensures own { owner ≡ (seat self.old).number → result ≡ (view self.old).fast.database };
+
+    /// Stores the own database, once (`InitPostgres` in postinit.c).
+    fn store_database(&mut self, database: u32)
+        requires unset { (view self.old).fast.database ≡ 0 }
+        ensures seat { seat self.new ≡ seat self.old }
+        ensures view { view self.new ≡ account_storing (view self.old) database }
+        ensures stack { stack self.new ≡ stack self.old };
+
+    /// Loads a fast-path slot of a session, 0 to 15 (`fpRelId` and `fpLockBits` in proc.h).
+    fn load_slot(&mut self, owner: SessionId, place: u8) -> SlotWord
+        requires within { place < 16 }
+        ensures seat { seat self.new ≡ seat self.old }
+        ensures view { view self.new ≡ account_tracing (view self.old) (Loaded (Slot owner place) result) }
+        ensures stack { stack self.new ≡ stack self.old }
+        ensures of_slots { (slots : SlotsInHand) → (view self.old).fast.slots owner ≡ Some slots
+            → result ≡ slots.word place };
+
+    /// Loads a strong lock counter. Where it is 0, and the own slots are in hand, slots may be set for objects of its
+    /// index until they are put (`FastPathStrongRelationLocks->count` in `LockAcquireExtended` of lock.c).
+    fn load_strong(&mut self, index: u16) -> u64
+        requires within { index < 1024 }
+        ensures seat { seat self.new ≡ seat self.old }
+        ensures view { view self.new ≡ account_reading (seat self.old).number (view self.old) index result }
+        ensures stack { stack self.new ≡ stack self.old };
+
+    /// Sets a mode in the own slot that shows this (`FastPathGrantRelationLock` in lock.c).
+    fn set_slot(&mut self, place: u8, shown: SlotWord, tag: &Tag, mode: Mode)
+        requires lawful { (mine : SlotsInHand)
+            × MaySetSlotBy (seat self.old).number (view self.old) mine place tag.now mode
+            × (shown ≡ mine.word place) }
+        ensures seat { seat self.new ≡ seat self.old }
+        ensures view { view self.new ≡ account_setting (seat self.old).number (view self.old)
+            (slots_here ((view self.old).fast.slots (seat self.old).number)) place tag.now mode }
+        ensures stack { stack self.new ≡ stack self.old };
+
+    /// Clears a mode in the own slot that shows this (`FastPathUnGrantRelationLock` in lock.c).
+    fn clear_slot(&mut self, place: u8, shown: SlotWord, tag: &Tag, mode: Mode)
+        requires lawful { (mine : SlotsInHand)
+            × MayClearSlotBy (seat self.old).number (view self.old) mine place tag.now mode
+            × (shown ≡ mine.word place) }
+        ensures seat { seat self.new ≡ seat self.old }
+        ensures view { view self.new ≡ account_unsetting (seat self.old).number (view self.old)
+            (slots_here ((view self.old).fast.slots (seat self.old).number)) place tag.now mode }
+        ensures stack { stack self.new ≡ stack self.old };
+
+    /// Moves a mode from the slot of a session that shows this to the content in hand, which has it already, with a
+    /// strong lock counted that is to go past that session next (a mode of the inner loop of
+    /// `FastPathTransferRelationLocks` in lock.c).
+    fn transfer_slot(
+        &mut self,
+        owner: SessionId,
+        place: u8,
+        shown: SlotWord,
+        tag: &Tag,
+        mode: Mode,
+        strong: Mode,
+        content: &T,
+    )
+        requires exists { owner < (seat self.old).limit }
+        requires lawful { (its : SlotsInHand) × (mine : InHand)
+            × MayTransferBy (seat self.old).limit (view self.old) owner place its mine tag.now mode strong
+            × (shown ≡ its.word place) × (T.content content.now ≡ add_hold mine.now owner tag.now mode) }
+        ensures seat { seat self.new ≡ seat self.old }
+        ensures view { view self.new ≡ account_transferring (view self.old) owner place
+            (slots_here ((view self.old).fast.slots owner))
+            (in_hand ((view self.old).hand (partition_of tag.now))) tag.now mode }
         ensures stack { stack self.new ≡ stack self.old };
 
     /// Stores in the own wait word that the session waits, with its join made in the content in hand (`ProcSleep` in

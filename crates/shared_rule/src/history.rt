@@ -19,9 +19,11 @@ pub enum Mark<T> {
         done: Move,
         put: T,
     },
-    /// It took the lock of a session's fast-path slots.
+    /// It took the lock of a session's fast-path slots, which show these numbers with this database.
     TookFast {
         owner: u8,
+        database: u64,
+        words: [u64; 0],
     },
     /// It put that lock.
     PutFast {
@@ -79,6 +81,44 @@ pub enum Mark<T> {
     LoadedDatabase {
         owner: u8,
         shown: u64,
+    },
+    /// It loaded a slot of a session, which showed this.
+    LoadedSlot {
+        owner: u8,
+        place: u8,
+        shown: u64,
+    },
+    /// It loaded the word of the lock of its own slots, which showed this.
+    LoadedFast {
+        shown: u64,
+    },
+    /// It loaded a strong lock counter, which showed this.
+    LoadedStrong {
+        index: u16,
+        shown: u64,
+    },
+    /// It set a mode in an own slot.
+    SetSlot {
+        place: u8,
+        tag: Tag,
+        mode: Mode,
+    },
+    /// It cleared a mode in an own slot.
+    ClearedSlot {
+        place: u8,
+        tag: Tag,
+        mode: Mode,
+    },
+    /// It moved a mode from a session's slot to the content in hand of the object's partition.
+    TransferredSlot {
+        owner: u8,
+        place: u8,
+        tag: Tag,
+        mode: Mode,
+    },
+    /// It stored its own database.
+    StoredDatabase {
+        database: u32,
     },
 }
 

@@ -3,6 +3,7 @@
 #![tactic(auto)]
 
 pub mod board;
+pub mod busy;
 pub mod history;
 pub mod laws;
 pub mod layout;
@@ -12,6 +13,7 @@ mod plays;
 pub mod rule;
 pub mod seat_board;
 mod seats;
+mod slots;
 mod steps;
 pub mod table;
 #[cfg(test)]

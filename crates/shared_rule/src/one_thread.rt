@@ -7,12 +7,14 @@ ghost use Rattle.shared_rule.specs.Opening.{AreNew};
 ghost use Rattle.shared_rule.specs.Boards.{Seated, parts_in_hand, slots_out, first_marks};
 
 use crate::board::Board;
+use crate::busy::Busy;
 use crate::layout::wait_word;
 use crate::rule::Place;
 use crate::table::{SharedTable, open};
-use crate::{steps, waits};
+use crate::{slots, steps, waits};
 use atomic_table::Refused;
 use lock_table::{Move, PartTable, Woken};
+use lw_word::SlotWord;
 use modes_core::{Mode, SessionId, Tag};
 use std::alloc::Global;
 use std::marker::Brand;
@@ -29,6 +31,7 @@ pub struct OneThread<T: PartTable> {
     ghost words: { table.shared.table_id.words ≡ TABLE_WORDS },
     ghost slots: { table.shared.table_id.slots ≡ CONTENT_SLOTS },
     ghost limit: { sessions ≡ table.shared.key },
+    ghost exists: { number < sessions },
     ghost lone: { place.me.0 ≡ lone number (first_marks place.me.0.sessions) },
     ghost out: { place.me.1 ≡ slots_out (parts_in_hand place.me.1) },
 }
@@ -89,7 +92,12 @@ impl<T: PartTable> Board<T> for OneThread<T> {
 
     fn take_fast<R: Wait>(&mut self, rt: &R, owner: SessionId) {
         let table = &self.table;
-        steps::take_fast::<T, Brand, R>(rt, &table.shared, &mut self.place, owner);
+        slots::take_fast(rt, &table.shared, &mut self.place, owner);
+    }
+
+    fn try_take_fast(&mut self) -> Result<(), Busy> {
+        let table = &self.table;
+        slots::try_take_fast(&table.shared, &mut self.place, self.number)
     }
 
     fn put_fast(&mut self, owner: SessionId) {
@@ -114,7 +122,72 @@ impl<T: PartTable> Board<T> for OneThread<T> {
 
     fn load_database(&mut self, owner: SessionId) -> u64 {
         let table = &self.table;
-        steps::load_database::<T, Brand>(&table.shared, &mut self.place, owner)
+        slots::load_database::<T, Brand>(&table.shared, &mut self.place, owner)
+    }
+
+    fn store_database(&mut self, database: u32) {
+        let table = &self.table;
+        slots::store_database::<T, Brand>(&table.shared, &mut self.place, self.number, database);
+    }
+
+    fn load_slot(&mut self, owner: SessionId, place: u8) -> SlotWord {
+        let table = &self.table;
+        slots::load_slot::<T, Brand>(&table.shared, &mut self.place, owner, place)
+    }
+
+    fn load_strong(&mut self, index: u16) -> u64 {
+        let table = &self.table;
+        slots::load_strong::<T, Brand>(&table.shared, &mut self.place, index)
+    }
+
+    fn set_slot(&mut self, place: u8, shown: SlotWord, tag: &Tag, mode: Mode) {
+        let table = &self.table;
+        slots::set_slot::<T, Brand>(
+            &table.shared,
+            &mut self.place,
+            self.number,
+            place,
+            shown,
+            tag,
+            mode,
+        );
+    }
+
+    fn clear_slot(&mut self, place: u8, shown: SlotWord, tag: &Tag, mode: Mode) {
+        let table = &self.table;
+        slots::clear_slot::<T, Brand>(
+            &table.shared,
+            &mut self.place,
+            self.number,
+            place,
+            shown,
+            tag,
+            mode,
+        );
+    }
+
+    fn transfer_slot(
+        &mut self,
+        owner: SessionId,
+        place: u8,
+        shown: SlotWord,
+        tag: &Tag,
+        mode: Mode,
+        strong: Mode,
+        content: &T,
+    ) {
+        let table = &self.table;
+        slots::transfer_slot::<T, Brand>(
+            &table.shared,
+            &mut self.place,
+            owner,
+            place,
+            shown,
+            tag,
+            mode,
+            strong,
+            content,
+        );
     }
 
     fn set_waiting(&mut self, tag: &Tag, mode: Mode, content: &T) {

@@ -30,17 +30,6 @@ impl<T, M: Marking<T>> Play<Option<T>, View<T>> for Marks<M> {
     ghost then = { Marked M.mark };
 }
 
-/// An exchange that leaves its mark where it finds the number that it expects, and else changes nothing.
-pub struct Wins<M> {
-    of: PhantomData<M>,
-}
-
-impl<T, M: Marking<T>> Play<Option<T>, View<T>> for Wins<M> {
-    ghost use Rattle.shared_rule.specs.Plays.{Won};
-
-    ghost then = { Won M.mark };
-}
-
 /// A step that leaves its mark and puts home the content in hand.
 pub struct PutsHome<M> {
     of: PhantomData<M>,
@@ -59,6 +48,36 @@ impl<T: PartTable> Play<Option<T>, View<T>> for TakesPart {
     ghost use Rattle.shared_rule.specs.Plays.{TookPartition};
 
     ghost then = { TookPartition T.content T.begun };
+}
+
+/// A load that leaves its mark, and tells what the account knows of the number found.
+pub struct Looks<M> {
+    of: PhantomData<M>,
+}
+
+impl<T: PartTable, M: Marking<T>> Play<Option<T>, View<T>> for Looks<M> {
+    ghost use Rattle.shared_rule.specs.Plays.{Looked};
+
+    ghost then = { Looked T.content M.mark };
+}
+
+/// An exchange that takes the lock of a session's slots where it finds the number that it expects, and else changes
+/// nothing.
+pub struct TakesSlots;
+
+impl<T: PartTable> Play<Option<T>, View<T>> for TakesSlots {
+    ghost use Rattle.shared_rule.specs.Plays.{TookSlotsOr, unnoted};
+
+    ghost then = { TookSlotsOr T.content unnoted };
+}
+
+/// The same of the own slots, where a lost exchange is noted as a load of the word.
+pub struct TriesSlots;
+
+impl<T: PartTable> Play<Option<T>, View<T>> for TriesSlots {
+    ghost use Rattle.shared_rule.specs.Plays.{TookSlotsOr, noted_load};
+
+    ghost then = { TookSlotsOr T.content noted_load };
 }
 
 /// A load that changes nothing, and tells that no hold of the first session conflicts with one of the next.

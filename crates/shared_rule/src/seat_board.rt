@@ -8,10 +8,12 @@ ghost use Rattle.shared_rule.specs.Seats.{DoNotConflict, MayBeKeptApartBy};
 ghost use Rattle.shared_rule.specs.Boards.{Seated, parts_in_hand, slots_out, first_marks};
 
 use crate::board::Board;
+use crate::busy::Busy;
 use crate::layout::wait_word;
 use crate::rule::{Place, Top};
-use crate::{seats, steps, waits};
+use crate::{seats, slots, steps, waits};
 use lock_table::{Move, PartTable, Woken};
+use lw_word::SlotWord;
 use modes_core::{Mode, SessionId, Tag};
 use std::marker::Brand;
 use std::sync::Wait;
@@ -27,6 +29,7 @@ pub struct SeatBoard<'a, T: PartTable> {
     ghost words: { table.now.table_id.words ≡ TABLE_WORDS },
     ghost slots: { table.now.table_id.slots ≡ CONTENT_SLOTS },
     ghost limit: { sessions ≡ table.now.key },
+    ghost exists: { number < sessions },
     ghost lone: { place.me.0 ≡ lone number (first_marks place.me.0.sessions) },
     ghost out: { place.me.1 ≡ slots_out (parts_in_hand place.me.1) },
 }
@@ -41,6 +44,7 @@ impl<'a, T: PartTable> SeatBoard<'a, T> {
     ) -> SeatBoard<'a, T>
         requires table { FitsTable place table.now.table_id }
         requires limit { sessions ≡ table.now.key }
+        requires exists { number < sessions }
         requires lone { place.me.0 ≡ lone number (first_marks place.me.0.sessions) }
         requires out { place.me.1 ≡ [] }
         ensures { (result.table.now ≡ table.now) × (result.place ≡ place) × (result.number ≡ number)
@@ -131,7 +135,11 @@ impl<'a, T: PartTable> Board<T> for SeatBoard<'a, T> {
     }
 
     fn take_fast<R: Wait>(&mut self, rt: &R, owner: SessionId) {
-        steps::take_fast::<T, Brand, R>(rt, self.table, &mut self.place, owner);
+        slots::take_fast(rt, self.table, &mut self.place, owner);
+    }
+
+    fn try_take_fast(&mut self) -> Result<(), Busy> {
+        slots::try_take_fast(self.table, &mut self.place, self.number)
     }
 
     fn put_fast(&mut self, owner: SessionId) {
@@ -151,7 +159,66 @@ impl<'a, T: PartTable> Board<T> for SeatBoard<'a, T> {
     }
 
     fn load_database(&mut self, owner: SessionId) -> u64 {
-        steps::load_database::<T, Brand>(self.table, &mut self.place, owner)
+        slots::load_database::<T, Brand>(self.table, &mut self.place, owner)
+    }
+
+    fn store_database(&mut self, database: u32) {
+        slots::store_database::<T, Brand>(self.table, &mut self.place, self.number, database);
+    }
+
+    fn load_slot(&mut self, owner: SessionId, place: u8) -> SlotWord {
+        slots::load_slot::<T, Brand>(self.table, &mut self.place, owner, place)
+    }
+
+    fn load_strong(&mut self, index: u16) -> u64 {
+        slots::load_strong::<T, Brand>(self.table, &mut self.place, index)
+    }
+
+    fn set_slot(&mut self, place: u8, shown: SlotWord, tag: &Tag, mode: Mode) {
+        slots::set_slot::<T, Brand>(
+            self.table,
+            &mut self.place,
+            self.number,
+            place,
+            shown,
+            tag,
+            mode,
+        );
+    }
+
+    fn clear_slot(&mut self, place: u8, shown: SlotWord, tag: &Tag, mode: Mode) {
+        slots::clear_slot::<T, Brand>(
+            self.table,
+            &mut self.place,
+            self.number,
+            place,
+            shown,
+            tag,
+            mode,
+        );
+    }
+
+    fn transfer_slot(
+        &mut self,
+        owner: SessionId,
+        place: u8,
+        shown: SlotWord,
+        tag: &Tag,
+        mode: Mode,
+        strong: Mode,
+        content: &T,
+    ) {
+        slots::transfer_slot::<T, Brand>(
+            self.table,
+            &mut self.place,
+            owner,
+            place,
+            shown,
+            tag,
+            mode,
+            strong,
+            content,
+        );
     }
 
     fn set_waiting(&mut self, tag: &Tag, mode: Mode, content: &T) {

@@ -2,39 +2,42 @@
 //! session's history first in its view; what each does to the view is in its clauses, and what that does to the
 //! session's account is in `noted` of specs/History.
 
-ghost use Rattle.std.specs.Bool.{OnTrue, OnFalse};
-ghost use Rattle.std.specs.Prelude.{ℕ, ◌≡◌, ◌<◌, ◌+◌, ◌-◌, ◌^◌, ◌%◌, ◌∷◌, ◌==◌, None, IfSome, IfNone};
-ghost use prog.Atomic.{either};
+ghost use Rattle.std.specs.Prelude.{ℕ, ◌≡◌, ◌<◌, ◌+◌, ◌-◌, ◌^◌, ◌%◌, ◌∷◌, None, IfSome, IfNone, SomeIff};
 ghost use mathlib.Core.Option.{none};
 ghost use Rattle.atomic_table.specs.Table.{Allows, step, rest};
 ghost use Rattle.lw_word.specs.LightweightWord.{IsHeldByNobody, taken_word};
 ghost use Rattle.lock_world.specs.Account.{InHand, SlotsInHand};
 ghost use Rattle.lock_world.specs.AccountFacts.{KnowsContent};
 ghost use Rattle.lock_world.specs.AccountLaw.{MayPutFastBy, MayPassBy, MayCountBy, MayUncountBy};
-ghost use Rattle.shared_rule.specs.declared.history.Mark.TheVariants.{TookPart, PutPart, TookFast, PutFast, Passed};
-ghost use Rattle.shared_rule.specs.declared.history.Mark.TheVariants.{Counted, Uncounted, LoadedDatabase};
+ghost use Rattle.shared_rule.specs.declared.history.Mark.TheVariants.{TookPart, PutPart, PutFast, Passed};
+ghost use Rattle.shared_rule.specs.declared.history.Mark.TheVariants.{Counted, Uncounted};
 ghost use Rattle.shared_rule.specs.Layout.{content_slot_of};
 ghost use Rattle.shared_rule.specs.History.{noting};
 ghost use Rattle.shared_rule.specs.Ruled.{Ruled};
 ghost use Rattle.shared_rule.specs.Lawful.{MayPutPart};
 ghost use Rattle.shared_rule.specs.Plays.{account_at, number_at, FitsTable, HasSession, IsSameSeat};
-ghost use Rattle.shared_rule.specs.Plays.{Marked, Won, WentHome};
+ghost use Rattle.shared_rule.specs.Plays.{Marked, WentHome};
 
-use crate::layout::{content_slot, database_word, fast_word, partition_word, strong_word};
-use crate::plays::{Marking, Marks, PutsHome, TakesPart, Wins};
+use crate::layout::{content_slot, fast_word, partition_word, strong_word};
+use crate::plays::{Marking, Marks, PutsHome, TakesPart};
 use crate::rule::{Place, Top};
 use crossbeam_utils::Backoff;
 use lock_table::{Move, PartTable};
-use lw_word::{LwMode, LwWord};
+use lw_word::LwMode;
 use modes_core::{Mode, SessionId, Tag};
 use std::sync::Wait;
 
-/// What one who takes the lock exclusively makes of its word, or `None` where it isn't free, or no word of a lock.
+/// What one who takes the lock exclusively makes of its word, or `None` where bits 0 to 24 say that somebody holds it
+/// (`LWLockAttemptLock` in lwlock.c).
 pub(crate) fn taken(shown: u64) -> Option<u64>
-    ensures { IfSome result (λ after. IsHeldByNobody shown × (after ≡ taken_word shown)) }
+    ensures { SomeIff result (IsHeldByNobody shown) (taken_word shown) }
 {
-    let word = LwWord::from_number(shown)?;
-    Some(word.attempt(LwMode::Exclusive)?.number())
+    let amount = LwMode::Exclusive.amount();
+    if shown % (2 * amount) == 0 {
+        Some(shown + amount)
+    } else {
+        None
+    }
 }
 
 pub(crate) fn load_as<T: PartTable, M: Marking<T>>(
@@ -95,24 +98,6 @@ fn put_home_as<T: PartTable, M: Marking<T>>(top: &Top<T>, place: &mut Place<T>, 
     ensures side { (n : ℕ) × (place.new.me ≡ (noting place.old.me.0 (M.mark n), rest place.old.me.1)) }
 {
     top.fetch_sub::<PutsHome<M>>(place, word, LwMode::Exclusive.amount());
-}
-
-fn exchange_as<T: PartTable, M: Marking<T>>(
-    top: &Top<T>,
-    place: &mut Place<T>,
-    word: usize,
-    old: u64,
-    new: u64,
-) -> bool
-    requires table { FitsTable place.old top.now.table_id × (word < top.now.table_id.words) }
-    requires allowed { Allows (Ruled T.content T.begun top.now.key) top.now.table_id.slots
-        place.old.id place.old.me word
-        (λ n. either (n == old) new n) (Won M.mark (step top.now.table_id.slots word old new none) place.old.me) }
-    ensures seat { IsSameSeat place.old place.new }
-    ensures won { OnTrue result (place.new.me ≡ (noting place.old.me.0 (M.mark old), place.old.me.1)) }
-    ensures lost { OnFalse result (place.new.me ≡ place.old.me) }
-{
-    top.compare_exchange::<Wins<M>>(place, word, old, new) == old
 }
 
 // One attempt to take a partition in hand, by the number that its word may show.
@@ -196,36 +181,7 @@ pub(crate) fn put_part<T: PartTable, M: Marking<T>>(
     }
 }
 
-/// Takes the lock of a session's fast-path slots exclusively, issued or not (`LWLockAcquire` of `fpInfoLock`). It
-/// waits until the lock is free.
-pub(crate) fn take_fast<T: PartTable, M: Marking<T>, R: Wait>(
-    rt: &R,
-    top: &Top<T>,
-    place: &mut Place<T>,
-    owner: SessionId,
-)
-    requires table { FitsTable place.old top.now.table_id }
-    requires exists { owner < top.now.key }
-    requires session { HasSession place.old.me.0 }
-    requires mark { M.mark ≡ (λ _. TookFast owner) }
-    ensures seat { IsSameSeat place.old place.new }
-    ensures side { place.new.me ≡ (noting place.old.me.0 (TookFast owner), place.old.me.1) }
-{
-    let word = fast_word(owner);
-    let backoff = Backoff::new();
-    for _ in rt.forever() {
-        let shown = top.peek(word);
-        if let Some(taken) = taken(shown) {
-            if exchange_as::<T, M>(top, place, word, shown, taken) {
-                return;
-            }
-        }
-        backoff.snooze();
-    }
-    unreachable!()
-}
-
-/// Puts that lock.
+/// Puts the lock of a session's fast-path slots.
 pub(crate) fn put_fast<T: PartTable, M: Marking<T>>(
     top: &Top<T>,
     place: &mut Place<T>,
@@ -294,19 +250,4 @@ pub(crate) fn sub_strong<T: PartTable, M: Marking<T>>(
     ensures side { place.new.me ≡ (noting place.old.me.0 (Uncounted tag.now mode), place.old.me.1) }
 {
     fetch_sub_as::<T, M>(top, place, strong_word(tag.strong_index()), 1);
-}
-
-/// Loads a session's database, 0 where it has none (`databaseId` in proc.h).
-pub(crate) fn load_database<T: PartTable, M: Marking<T>>(
-    top: &Top<T>,
-    place: &mut Place<T>,
-    owner: SessionId,
-) -> u64
-    requires table { FitsTable place.old top.now.table_id }
-    requires session { HasSession place.old.me.0 }
-    requires mark { M.mark ≡ LoadedDatabase owner }
-    ensures seat { IsSameSeat place.old place.new }
-    ensures side { place.new.me ≡ (noting place.old.me.0 (LoadedDatabase owner result), place.old.me.1) }
-{
-    load_as::<T, M>(top, place, database_word(owner))
 }

@@ -25,7 +25,12 @@ use crate::steps::{fetch_add_as, load_as};
 use lock_table::{Move, PartTable, Woken};
 use modes_core::{Mode, SessionId, Tag};
 
-fn store_as<T: PartTable, M: Marking<T>>(top: &Top<T>, place: &mut Place<T>, word: usize, new: u64)
+pub(crate) fn store_as<T: PartTable, M: Marking<T>>(
+    top: &Top<T>,
+    place: &mut Place<T>,
+    word: usize,
+    new: u64,
+)
     requires table { FitsTable place.old top.now.table_id × (word < top.now.table_id.words) }
     requires allowed { Allows (Ruled T.content T.begun top.now.key) top.now.table_id.slots
         place.old.id place.old.me word

@@ -1,11 +1,10 @@
 //! Every text that a script can print or end with, by variant.
-use crate::desk::{Asked, Cancelled, Listing, Started};
 use crate::faults::{Defect, Fault};
 use crate::names::{Name, Names};
 use crate::output::Output;
-use local_locks::{End, Unlocked};
-use lock_table::{SlotRow, TableRow};
-use modes_core::{How, Mode, Refusal, SessionId, Tag};
+use lock_manager::{
+    Acquired, Asked, How, Listing, Mode, Refusal, SessionId, SlotRow, TableRow, Tag, Unlocked,
+};
 use std::process::Abort;
 use std::test::Fail;
 
@@ -112,13 +111,12 @@ fn a_refusal_has_its_number_and_text(rt: HostRuntime) -> Result<(), Fail> {
 /// Prints an answer of each variant.
 fn print_answers(rt: &impl Abort, output: &mut Output<&mut Vec<u8>>) -> Result<(), Fault> {
     let (a, b) = (name(rt, "a"), name(rt, "b"));
-    for started in [Started::Granted, Started::AlreadyHeld, Started::Queued] {
-        output.started(&b, started)?;
+    for acquired in [Acquired::Granted, Acquired::AlreadyHeld] {
+        output.acquired(&b, acquired)?;
     }
+    output.waits(&b)?;
     output.granted_after_waiting(&b)?;
-    for cancelled in [Cancelled::Removed, Cancelled::WasGranted] {
-        output.cancelled(&b, cancelled)?;
-    }
+    output.cancelled(&b)?;
     for asked in [Asked::Waiting, Asked::NotWaiting] {
         output.asked(&a, &b, asked)?;
     }
@@ -128,9 +126,9 @@ fn print_answers(rt: &impl Abort, output: &mut Output<&mut Vec<u8>>) -> Result<(
     for unlocked in [Unlocked::Released, Unlocked::StillHeld] {
         output.unlocked(&a, unlocked)?;
     }
-    for end in [End::Commit, End::Abort, End::Close] {
-        output.ended(&a, end)?;
-    }
+    output.committed(&a)?;
+    output.aborted(&a)?;
+    output.closed(&a)?;
     output.owned(&a, 12, 65_535)?;
     output.not_owned(&a, Mode::ShareRowExclusive)?;
     output.flush()
@@ -143,7 +141,7 @@ fn an_answer_has_its_text(rt: HostRuntime) -> Result<(), Fail> {
     assert!(rt; print_answers(&rt, &mut output) == Ok(()));
     drop(output);
     let text = "b: granted\nb: already held\nb: waits\n\
-                b: granted after waiting\nb: cancelled\nb: granted after waiting\na: asked b\nb isn't waiting\n\
+                b: granted after waiting\nb: cancelled\na: asked b\nb isn't waiting\n\
                 a: waiters yes\na: waiters no\na: released\na: still held\na: committed\na: aborted\n\
                 a: closed\na: transaction 12 session 65535\n\
                 a: you don't own a lock of type ShareRowExclusiveLock\n";

@@ -1,21 +1,23 @@
-use Rattle.std.proofs.Common.{◌≡◌, ◌⊎◌, ℕ, true, false, Some, None, sym, ap, ◌∙◌, inl, inr}
-use Rattle.std.proofs.lemmas.Bool.{false_from_ne_true, both_ways, and_left}
+use Rattle.std.proofs.Common.{◌≡◌, ◌⊎◌, ℕ, true, false, Some, None, refl, sym, ap, ◌∙◌, inl, inr}
+use Rattle.std.proofs.lemmas.Bool.{false_from_ne_true, both_ways}
 use Rattle.modes_core.specs.declared.modes.Mode.{Mode}
 use Rattle.modes_core.specs.declared.tags.Tag.{Tag}
-use Rattle.modes_core.specs.Tag.{partition_of, is_eligible_for}
+use Rattle.modes_core.specs.Tag.{partition_of}
 use Rattle.lock_table.specs.OwnWait.{OwnWait, is_for}
-use Rattle.lock_table.specs.Queue.{waits_there}
+use Rattle.lock_table.specs.Queue.{waits_there, awaits_mode}
 use Rattle.lock_world.specs.Account.{SlotsInHand, account}
-use Rattle.lock_world.specs.AccountFacts.{KnowsContent}
+use Rattle.lock_world.specs.AccountFacts.{KnowsContent, KnowsSlots}
 use Rattle.lw_word.specs.SlotWord.{shows}
-use Rattle.lock_world.specs.SlotHolds.{slot_count, any_below, relation_of, slot_holds}
+use Rattle.lock_world.specs.SlotHolds.{slot_holds}
 use Rattle.lock_world.specs.WaitWord.{wait_state}
 use Rattle.lock_world.specs.World.{World}
 use Rattle.lock_world.specs.SafeWorld.{SafeWorld, tabled}
-use Rattle.lock_world.proofs.FromSafe.{session-stands, stands-once, waiting-stands}
-use Rattle.lock_world.proofs.FromSafeWorld.{held-in_table}
+use Rattle.lock_world.proofs.Slots.Remembered.{slot_holds-fewer}
+use Rattle.lock_world.proofs.FromSafe.{session-stands, stands-once, awaits-for, waiting-stands}
+use Rattle.lock_world.proofs.FromSafeWorld.{held-in_table, shown-in_no_content}
 use Rattle.lock_world.proofs.SafeWorld.OneSession.{is_for-itself}
 use Rattle.lock_world.proofs.Accounts.Lawful.{slots-known}
+use Rattle.lock_world.proofs.Accounts.Slots.{slots_now}
 
 -- What a session knows of a content that nobody has in hand is so.
 module _ (w : World) (safe : SafeWorld w) (s p : ℕ) where
@@ -32,12 +34,29 @@ module _ (w : World) (safe : SafeWorld w) (s p : ℕ) where
       (held-in_table w safe p s t m).1 (home, inl (has, ap (λ slots. slots.holds t m) (sym is) ∙ not_shown))
 
   tabled_own :
-      (t : Tag) (m : Mode) → is_eligible_for (w.words.database s) t m ≡ false → partition_of t ≡ p
+      (t : Tag) (m : Mode) → slot_holds (w.words.database s) (w.sessions.remembered s) t m ≡ false → partition_of t ≡ p
       → w.sessions.own s t m ≡ true → (w.contents.now p).holds s t m ≡ true
-  tabled_own t m not_eligible home has =
+  tabled_own t m not_remembered home has =
       let no_slot : slot_holds (w.words.database s) (w.words.slot s) t m ≡ false =
-      and_left (is_eligible_for (w.words.database s) t m) (any_below slot_count (λ place. shows (w.words.slot s place) (relation_of t) m)) not_eligible in
+      slot_holds-fewer (w.words.database s) (w.words.slot s) (w.sessions.remembered s) t m (safe.remembered s)
+      not_remembered in
       (held-in_table w safe p s t m).1 (home, inl (has, no_slot))
+
+  -- What shows in a slot is an own hold of its session, so it is nowhere else.
+  shown_elsewhere :
+      (o : ℕ) (slots : SlotsInHand) (t : Tag) (m : Mode) → (account w s).fast.slots o ≡ Some slots → slots.holds t m ≡ true
+      → ((w.contents.now p).holds o t m ≡ false) × (awaits_mode ((w.contents.now p).waits t) o m ≡ false)
+  shown_elsewhere o slots t m known shown = (
+    shown-in_no_content w safe p o t m is,
+    false_from_ne_true (awaits_mode ((w.contents.now p).waits t) o m) (λ awaits.
+        let awaited = awaits-for (tabled w) safe.but_slots p o t m awaits in
+        both_ways (w.sessions.own o t m) (safe.order.awaited_is_not_own o t m awaited) (safe.slots.are_own o t m is)),
+  ) where
+    is : slot_holds (w.words.database o) (w.words.slot o) t m ≡ true
+    is =
+        ap (λ (s : SlotsInHand). s.holds t m)
+        (sym (slots-known (w.sessions.holds_fast s o) (w.words.database o) (w.words.slot o) slots known).1)
+        ∙ shown
 
   -- A wait that stands in no queue while nobody has the partition in hand was granted.
   granted :
@@ -60,9 +79,24 @@ module _ (w : World) (safe : SafeWorld w) (s p : ℕ) where
     its_holds = its;
     own_holds = own;
     tabled_holds = tabled_own;
+    in_slots = shown_elsewhere;
     no_wait = λ t none. false_from_ne_true (waits_there ((w.contents.now p).waits t) s) (λ there.
         let stands = session-stands (tabled w) safe.but_slots p s t there in
         let some : w.sessions.awaited s ≡ Some stands.1.1.wait = stands.1.1.is_wait in cc);
     once = λ k t. stands-once (tabled w) safe.but_slots p k t;
     granted_hold = granted free;
   }
+
+-- What a session knows of the slots of any session, its own too, is so.
+pub slots-told : (w : World) → SafeWorld w → (s o : ℕ) → KnowsSlots s (account w s) o (slots_now w o)
+slots-told w safe s o = record {
+  database = w.words.database o;
+  holds = refl;
+  one_each = safe.slots.one_each o;
+  in_use = safe.slots.has_database o;
+  own_database = λ its. ap w.words.database its;
+  own = λ its t m shown. ap (λ k. w.sessions.own k t m) (sym its) ∙ safe.slots.are_own o t m shown;
+  as_remembered = λ its place relation mode within shown.
+      ap (λ k. shows (w.sessions.remembered k place) relation mode) (sym its)
+      ∙ safe.remembered o place relation mode within shown;
+}

@@ -16,7 +16,7 @@ use Rattle.lock_world.specs.Counted.{counting, uncounting, passing}
 use Rattle.lock_world.specs.World.{World, Hand, Loaded, is_unmarked}
 use Rattle.lock_world.specs.Account.{FastAccount, SlotsInHand, Account, known_slots, slots_in_hand, own_hands, fast_account, account}
 use Rattle.lock_world.specs.AccountSteps.{account_tracing, account_taking_fast, account_putting_fast, account_passing, account_counting, account_uncounting, account_storing, account_reading, account_setting, account_unsetting, account_transferring}
-use Rattle.lock_world.specs.Happens.Slots.{after_taking_fast, zero_after_putting, after_putting_fast, after_loading, after_reading_counter, MaySetSlot, after_setting_slot, MayClearSlot, after_clearing_slot, MayStoreDatabase, after_storing_database}
+use Rattle.lock_world.specs.Happens.Slots.{remembered_after_taking, after_taking_fast, zero_after_putting, after_putting_fast, after_loading, after_reading_counter, MaySetSlot, after_setting_slot, MayClearSlot, after_clearing_slot, MayStoreDatabase, after_storing_database}
 use Rattle.lock_world.specs.Happens.Counters.{after_counting, after_uncounting, after_passing}
 use Rattle.lock_world.specs.Happens.Waits.{recording}
 use Rattle.lock_world.specs.Happens.Transfers.{MayTransfer, after_transferring}
@@ -29,10 +29,19 @@ use Rattle.lock_world.proofs.Accounts.Parts.{account-by, own-set, mine, hands-mo
 -- What a session knows of slots and counters is this part by part.
 fast-by :
     (w : World) (s : ℕ) (f : FastAccount) → slots_in_hand (w.sessions.holds_fast s) w.words.database w.words.slot ≡ f.slots
-    → slots_in_hand (w.sessions.shares_fast s) w.words.database w.words.slot ≡ f.shared_slots → w.words.database s ≡ f.database → w.sessions.zero s ≡ f.zero
+    → slots_in_hand (w.sessions.shares_fast s) w.words.database w.words.slot ≡ f.shared_slots
+    → w.words.database s ≡ f.database → w.sessions.remembered s ≡ f.remembered
+    → w.sessions.zero s ≡ f.zero
     → w.sessions.counted s ≡ f.counted → fast_account w s ≡ f
-fast-by w s f slots shared database zero counted =
-    λ i. record { slots = slots i; shared_slots = shared i; database = database i; zero = zero i; counted = counted i }
+fast-by w s f slots shared database remembered zero counted =
+    λ i. record {
+      slots = slots i;
+      shared_slots = shared i;
+      database = database i;
+      remembered = remembered i;
+      zero = zero i;
+      counted = counted i;
+    }
 
 -- One lock more is held, or one less.
 slots-had :
@@ -59,13 +68,23 @@ holds-had w s o b =
     ap (λ has. slots_in_hand has w.words.database w.words.slot) (set_at-here w.sessions.holds_fast s (set_at (w.sessions.holds_fast s) o b) s refl)
     ∙ slots-had (w.sessions.holds_fast s) w.words.database w.words.slot o b
 
--- Taking the lock of a session's slots, and putting it.
+-- Taking the lock of a session's slots, and putting it: its own the session remembers as they show.
+remembered-taken :
+    (remembered slot : ℕ → ℕ → ℕ) (s o : ℕ)
+    → remembered_after_taking remembered slot s o s ≡ (if o == s then slot o else remembered s)
+remembered-taken remembered slot s o = go (o == s) where
+  go : (b : Bool) → (if b then set_at remembered s (slot o) else remembered) s ≡ (if b then slot o else remembered s)
+  go true = set_at-here remembered s (slot o) s refl
+  go false = refl
+
 pub account-taking_fast :
     (w : World) (s o : ℕ)
-    → account (after_taking_fast w s o) s ≡ account_taking_fast (account w s) o (record { word = w.words.slot o; holds = slot_holds (w.words.database o) (w.words.slot o) })
+    → account (after_taking_fast w s o) s
+    ≡ account_taking_fast s (account w s) o (record { word = w.words.slot o; holds = slot_holds (w.words.database o) (w.words.slot o) })
 account-taking_fast w s o =
-    account-by (after_taking_fast w s o) s (account_taking_fast (account w s) o slots) refl refl refl refl refl refl
-    (fast-by (after_taking_fast w s o) s (account_taking_fast (account w s) o slots).fast (holds-had w s o true) refl refl refl refl) refl where
+    account-by (after_taking_fast w s o) s (account_taking_fast s (account w s) o slots) refl refl refl refl refl refl
+    (fast-by (after_taking_fast w s o) s (account_taking_fast s (account w s) o slots).fast (holds-had w s o true)
+    refl refl (remembered-taken w.sessions.remembered w.words.slot s o) refl refl) refl where
       slots : SlotsInHand
       slots = record { word = w.words.slot o; holds = slot_holds (w.words.database o) (w.words.slot o) }
 
@@ -78,25 +97,25 @@ zero-put zero s o = go (o == s) where
 pub account-putting_fast : (w : World) (s o : ℕ) → account (after_putting_fast w s o) s ≡ account_putting_fast s (account w s) o
 account-putting_fast w s o =
     account-by (after_putting_fast w s o) s (account_putting_fast s (account w s) o) refl refl refl refl refl refl
-    (fast-by (after_putting_fast w s o) s (account_putting_fast s (account w s) o).fast (holds-had w s o false) refl refl (zero-put w.sessions.zero s o) refl) refl
+    (fast-by (after_putting_fast w s o) s (account_putting_fast s (account w s) o).fast (holds-had w s o false) refl refl refl (zero-put w.sessions.zero s o) refl) refl
 
 -- Counting, counting no more, and going past a session.
 pub account-counting : (w : World) (s : ℕ) (t : Tag) (m : Mode) → account (after_counting w s t m) s ≡ account_counting (account w s) t m
 account-counting w s t m =
     account-by (after_counting w s t m) s (account_counting (account w s) t m) refl refl refl refl refl refl
-    (fast-by (after_counting w s t m) s (account_counting (account w s) t m).fast refl refl refl refl
+    (fast-by (after_counting w s t m) s (account_counting (account w s) t m).fast refl refl refl refl refl
     (set_at-here w.sessions.counted s (counting (w.sessions.counted s) t m) s refl)) refl
 
 pub account-uncounting : (w : World) (s : ℕ) (t : Tag) (m : Mode) → account (after_uncounting w s t m) s ≡ account_uncounting (account w s) t m
 account-uncounting w s t m =
     account-by (after_uncounting w s t m) s (account_uncounting (account w s) t m) refl refl refl refl refl refl
-    (fast-by (after_uncounting w s t m) s (account_uncounting (account w s) t m).fast refl refl refl refl
+    (fast-by (after_uncounting w s t m) s (account_uncounting (account w s) t m).fast refl refl refl refl refl
     (set_at-here w.sessions.counted s (uncounting (w.sessions.counted s) t m) s refl)) refl
 
 pub account-passing : (w : World) (s o : ℕ) (t : Tag) (m : Mode) → account (after_passing w s o t m) s ≡ account_passing s (account w s) o t m
 account-passing w s o t m =
     account-by (after_passing w s o t m) s (account_passing s (account w s) o t m) refl refl refl refl refl refl
-    (fast-by (after_passing w s o t m) s (account_passing s (account w s) o t m).fast (holds-had w s o false) refl refl (zero-put w.sessions.zero s o)
+    (fast-by (after_passing w s o t m) s (account_passing s (account w s) o t m).fast (holds-had w s o false) refl refl refl (zero-put w.sessions.zero s o)
     (set_at-here w.sessions.counted s (passing (w.sessions.counted s) t m o) s refl)) refl
 
 -- Loading a word, and a counter.
@@ -108,7 +127,7 @@ account-loading w s word n =
 pub account-reading : (w : World) (s index n : ℕ) → account (after_reading_counter w s index n) s ≡ account_reading s (account w s) index n
 account-reading w s index n =
     account-by (after_reading_counter w s index n) s (account_reading s (account w s) index n) refl refl refl refl refl refl
-    (fast-by (after_reading_counter w s index n) s (account_reading s (account w s) index n).fast refl refl refl
+    (fast-by (after_reading_counter w s index n) s (account_reading s (account w s) index n).fast refl refl refl refl
     (set (n == 0) (w.sessions.holds_fast s s)) refl)
     (set_at-here w.sessions.trace s (w.sessions.trace s ++ Loaded (Strong index) n ∷ []) s refl) where
       set : (none has : Bool)
@@ -153,7 +172,8 @@ account-setting w s i t m safe may =
     (slots-written (w.sessions.holds_fast s) w.words.database w.words.slot s after may.holding
     ∙ ap (λ holds. set_at (slots_in_hand (w.sessions.holds_fast s) w.words.database w.words.slot) s (Some (record { word = after; holds = holds })))
     (slot_holds-set (w.words.database s) (w.words.slot s) t m i may.eligible may.fits may.takes))
-    (slots_in_hand-set (w.sessions.shares_fast s) w.words.database w.words.slot s after ((safe.but_slots.locks.fast_words s).never_both s s may.holding)) refl refl refl)
+    (slots_in_hand-set (w.sessions.shares_fast s) w.words.database w.words.slot s after ((safe.but_slots.locks.fast_words s).never_both s s may.holding)) refl
+    (set_at-here w.sessions.remembered s after s refl) refl refl)
     refl where
       after : ℕ → ℕ
       after = set_at (w.words.slot s) i (word_with (w.words.slot s i) (relation_of t) m)
@@ -167,7 +187,8 @@ account-unsetting w s i t m safe may =
     (slots-written (w.sessions.holds_fast s) w.words.database w.words.slot s after may.holding
     ∙ ap (λ holds. set_at (slots_in_hand (w.sessions.holds_fast s) w.words.database w.words.slot) s (Some (record { word = after; holds = holds })))
     (slot_holds-clear (w.words.database s) (w.words.slot s) t m i (safe.slots.one_each s) may.held_in))
-    (slots_in_hand-set (w.sessions.shares_fast s) w.words.database w.words.slot s after ((safe.but_slots.locks.fast_words s).never_both s s may.holding)) refl refl refl)
+    (slots_in_hand-set (w.sessions.shares_fast s) w.words.database w.words.slot s after ((safe.but_slots.locks.fast_words s).never_both s s may.holding)) refl
+    (set_at-here w.sessions.remembered s after s refl) refl refl)
     refl where
       after : ℕ → ℕ
       after = set_at (w.words.slot s) i (word_without (w.words.slot s i) m)
@@ -178,7 +199,7 @@ account-storing w s d may =
     account-by (after_storing_database w s d) s (account_storing (account w s) d) refl refl refl refl refl refl
     (fast-by (after_storing_database w s d) s (account_storing (account w s) d).fast
     (slots_in_hand-stored (w.sessions.holds_fast s) w.words.database w.words.slot s d may.unused)
-    (slots_in_hand-stored (w.sessions.shares_fast s) w.words.database w.words.slot s d may.unused) (set_at-here w.words.database s d s refl) refl refl) refl
+    (slots_in_hand-stored (w.sessions.shares_fast s) w.words.database w.words.slot s d may.unused) (set_at-here w.words.database s d s refl) refl refl refl) refl
 
 -- Moving a mode from a slot to the content in hand.
 pub account-transferring :
@@ -192,7 +213,7 @@ account-transferring w s o i t m strong old safe may is whose =
     (slots-written (w.sessions.holds_fast s) w.words.database w.words.slot o words may.holding_slots
     ∙ ap (λ holds. set_at (slots_in_hand (w.sessions.holds_fast s) w.words.database w.words.slot) o (Some (record { word = words; holds = holds })))
     (slot_holds-clear (w.words.database o) (w.words.slot o) t m i (safe.slots.one_each o) may.held_in))
-    (slots_in_hand-set (w.sessions.shares_fast s) w.words.database w.words.slot o words ((safe.but_slots.locks.fast_words o).never_both s s may.holding_slots)) refl refl refl)
+    (slots_in_hand-set (w.sessions.shares_fast s) w.words.database w.words.slot o words ((safe.but_slots.locks.fast_words o).never_both s s may.holding_slots)) refl refl refl refl)
     refl where
       p : ℕ
       p = partition_of t

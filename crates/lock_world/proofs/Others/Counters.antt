@@ -13,15 +13,15 @@ use Rattle.lock_world.proofs.Others.Slots.{zero-put_others}
 pub counting-others : (w : World) (s : ℕ) (t : Tag) (m : Mode) (k : ℕ) → k ≢ s → IsLeftAlone w (after_counting w s t m) k
 counting-others w s t m k other =
     IsLeftAlone-by w (after_counting w s t m) k refl refl refl refl refl refl
-    (fast_account-by w (after_counting w s t m) k refl refl refl refl (set_at-else w.sessions.counted s (counting (w.sessions.counted s) t m) k other)) refl refl refl
+    (fast_account-by w (after_counting w s t m) k refl refl refl refl refl (set_at-else w.sessions.counted s (counting (w.sessions.counted s) t m) k other)) refl refl refl
 
 pub uncounting-others : (w : World) (s : ℕ) (t : Tag) (m : Mode) (k : ℕ) → k ≢ s → IsLeftAlone w (after_uncounting w s t m) k
 uncounting-others w s t m k other =
     IsLeftAlone-by w (after_uncounting w s t m) k refl refl refl refl refl refl
-    (fast_account-by w (after_uncounting w s t m) k refl refl refl refl (set_at-else w.sessions.counted s (uncounting (w.sessions.counted s) t m) k other)) refl refl refl
+    (fast_account-by w (after_uncounting w s t m) k refl refl refl refl refl (set_at-else w.sessions.counted s (uncounting (w.sessions.counted s) t m) k other)) refl refl refl
 
 pub passing-others : (w : World) (s o : ℕ) (t : Tag) (m : Mode) (k : ℕ) → k ≢ s → IsLeftAlone w (after_passing w s o t m) k
 passing-others w s o t m k other =
     IsLeftAlone-by w (after_passing w s o t m) k refl refl refl refl refl refl
-    (fast_account-by w (after_passing w s o t m) k (ap (λ has. slots_in_hand has w.words.database w.words.slot) (set_at-else w.sessions.holds_fast s (set_at (w.sessions.holds_fast s) o false) k other)) refl refl
+    (fast_account-by w (after_passing w s o t m) k (ap (λ has. slots_in_hand has w.words.database w.words.slot) (set_at-else w.sessions.holds_fast s (set_at (w.sessions.holds_fast s) o false) k other)) refl refl refl
     (zero-put_others w.sessions.zero s o k other) (set_at-else w.sessions.counted s (passing (w.sessions.counted s) t m o) k other)) refl refl refl

@@ -48,6 +48,15 @@ IsLeftAlone-by w v k lists own awaited seen hand shares fast trace live kept_by 
 pub fast_account-by :
     (w v : World) (k : ℕ) → slots_in_hand (v.sessions.holds_fast k) v.words.database v.words.slot ≡ slots_in_hand (w.sessions.holds_fast k) w.words.database w.words.slot
     → slots_in_hand (v.sessions.shares_fast k) v.words.database v.words.slot ≡ slots_in_hand (w.sessions.shares_fast k) w.words.database w.words.slot
-    → v.words.database k ≡ w.words.database k → v.sessions.zero k ≡ w.sessions.zero k → v.sessions.counted k ≡ w.sessions.counted k
+    → v.words.database k ≡ w.words.database k → v.sessions.remembered k ≡ w.sessions.remembered k
+    → v.sessions.zero k ≡ w.sessions.zero k → v.sessions.counted k ≡ w.sessions.counted k
     → fast_account v k ≡ fast_account w k
-fast_account-by w v k slots shared_slots database zero counted = λ i. record { slots = slots i; shared_slots = shared_slots i; database = database i; zero = zero i; counted = counted i }
+fast_account-by w v k slots shared_slots database remembered zero counted =
+    λ i. record {
+      slots = slots i;
+      shared_slots = shared_slots i;
+      database = database i;
+      remembered = remembered i;
+      zero = zero i;
+      counted = counted i;
+    }

@@ -1,9 +1,9 @@
 use Rattle.std.proofs.Common.{◌≢◌, ℕ, true, false, Option, Some, None, refl, inl, inr}
 use Rattle.lock_world.specs.World.{World}
 use Rattle.lock_world.specs.Account.{IsLeftAlone}
-use Rattle.lock_world.specs.Happens.Seats.{HappensSplitting, HappensJoining}
+use Rattle.lock_world.specs.Happens.Seats.{HappensSplitting, HappensJoining, after_closing}
 use Rattle.lock_table.proofs.PutLemmas.{set_at-else}
-use Rattle.lock_world.proofs.Others.Hands.{IsLeftAlone-same, IsLeftAlone-by}
+use Rattle.lock_world.proofs.Others.Hands.{IsLeftAlone-same, IsLeftAlone-by, fast_account-by}
 
 pub splitting-others : (w : World) (s : ℕ) (v : World) (k : ℕ) → k ≢ s → HappensSplitting w s v → IsLeftAlone w v k
 splitting-others w s v k other (inl h) = IsLeftAlone-same k w _ v h.1 (IsLeftAlone-by w _ k refl refl refl refl refl refl refl refl (set_at-else w.numbers.live s true k other) refl)
@@ -12,4 +12,9 @@ splitting-others w s v k other (inr h) = IsLeftAlone-same k w _ v h.1 (IsLeftAlo
 pub joining-others : (w : World) (s : ℕ) (joiner : Option ℕ) (v : World) (k : ℕ) → k ≢ s → HappensJoining w s joiner v → IsLeftAlone w v k
 joining-others w s (Some j) v k other h =
     IsLeftAlone-same k w _ v h.1 (IsLeftAlone-by w _ k refl refl refl refl refl refl refl refl refl (set_at-else w.numbers.kept_by s (Some j) k other))
-joining-others w s None v k other h = IsLeftAlone-same k w _ v h.1 (IsLeftAlone-by w _ k refl refl refl refl refl refl refl refl (set_at-else w.numbers.live s false k other) refl)
+joining-others w s None v k other h =
+    IsLeftAlone-same k w _ v h.1
+    (IsLeftAlone-by w (after_closing w s) k refl refl refl refl refl refl
+    (fast_account-by w (after_closing w s) k refl refl refl (set_at-else w.sessions.remembered s (λ _. 0) k other)
+    refl refl) refl
+    (set_at-else w.numbers.live s false k other) refl)

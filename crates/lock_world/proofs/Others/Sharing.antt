@@ -19,9 +19,9 @@ unsharing_partition-others w s p v k other h =
 pub sharing_fast-others : (w : World) (s o : ℕ) (v : World) (k : ℕ) → k ≢ s → HappensSharingFast w s o v → IsLeftAlone w v k
 sharing_fast-others w s o v k other h =
     IsLeftAlone-same k w _ v h.2
-    (IsLeftAlone-by w (after_sharing_fast w s o) k refl refl refl refl refl refl (fast_account-by w (after_sharing_fast w s o) k refl (ap (λ has. slots_in_hand has w.words.database w.words.slot) (set_at-else w.sessions.shares_fast s (set_at (w.sessions.shares_fast s) o true) k other)) refl refl refl) refl refl refl)
+    (IsLeftAlone-by w (after_sharing_fast w s o) k refl refl refl refl refl refl (fast_account-by w (after_sharing_fast w s o) k refl (ap (λ has. slots_in_hand has w.words.database w.words.slot) (set_at-else w.sessions.shares_fast s (set_at (w.sessions.shares_fast s) o true) k other)) refl refl refl refl) refl refl refl)
 
 pub unsharing_fast-others : (w : World) (s o : ℕ) (v : World) (k : ℕ) → k ≢ s → HappensUnsharingFast w s o v → IsLeftAlone w v k
 unsharing_fast-others w s o v k other h =
     IsLeftAlone-same k w _ v h.1
-    (IsLeftAlone-by w (after_unsharing_fast w s o) k refl refl refl refl refl refl (fast_account-by w (after_unsharing_fast w s o) k refl (ap (λ has. slots_in_hand has w.words.database w.words.slot) (set_at-else w.sessions.shares_fast s (set_at (w.sessions.shares_fast s) o false) k other)) refl refl refl) refl refl refl)
+    (IsLeftAlone-by w (after_unsharing_fast w s o) k refl refl refl refl refl refl (fast_account-by w (after_unsharing_fast w s o) k refl (ap (λ has. slots_in_hand has w.words.database w.words.slot) (set_at-else w.sessions.shares_fast s (set_at (w.sessions.shares_fast s) o false) k other)) refl refl refl refl) refl refl refl)

@@ -13,7 +13,7 @@ use Rattle.lw_word.specs.SlotWord.{word_with, word_without}
 use Rattle.lock_world.specs.SlotHolds.{slot_holds, relation_of, NoSlotInUse}
 use Rattle.lock_world.specs.World.{World, is_unmarked}
 use Rattle.lock_world.specs.Account.{known_slots, slots_in_hand, IsLeftAlone}
-use Rattle.lock_world.specs.Happens.Slots.{HappensTakingFast, after_taking_fast, HappensPuttingFast, after_putting_fast, zero_after_putting, after_loading, zero_after_reading, after_reading_counter, MaySetSlot, after_setting_slot, MayClearSlot, after_clearing_slot, MayStoreDatabase, after_storing_database}
+use Rattle.lock_world.specs.Happens.Slots.{HappensTakingFast, remembered_after_taking, after_taking_fast, HappensPuttingFast, after_putting_fast, zero_after_putting, after_loading, zero_after_reading, after_reading_counter, MaySetSlot, after_setting_slot, MayClearSlot, after_clearing_slot, MayStoreDatabase, after_storing_database}
 use Rattle.lock_world.specs.Happens.Transfers.{MayTransfer, after_transferring}
 use Rattle.lock_world.specs.SafeWorld.{SafeWorld}
 use Rattle.lock_world.proofs.Slots.Databases.{slot_holds-stored}
@@ -33,18 +33,27 @@ zero-read_others zero holds_fast s index shown k other = go ((shown == 0) && hol
   go true = set_at-else zero s (Some index) k other
   go false = refl
 
+-- What another session remembers of its slots is as it was.
+remembered-taken_others :
+    (remembered slot : ℕ → ℕ → ℕ) (s o k : ℕ) → k ≢ s → remembered_after_taking remembered slot s o k ≡ remembered k
+remembered-taken_others remembered slot s o k other = go (o == s) where
+  go : (b : Bool) → (if b then set_at remembered s (slot o) else remembered) k ≡ remembered k
+  go true = set_at-else remembered s (slot o) k other
+  go false = refl
+
 -- Taking and putting the lock of slots.
 pub taking_fast-others : (w : World) (s o : ℕ) (v : World) (k : ℕ) → k ≢ s → HappensTakingFast w s o v → IsLeftAlone w v k
 taking_fast-others w s o v k other h =
     IsLeftAlone-same k w _ v h.1
     (IsLeftAlone-by w (after_taking_fast w s o) k refl refl refl refl refl refl
-    (fast_account-by w (after_taking_fast w s o) k (ap (λ has. slots_in_hand has w.words.database w.words.slot) (set_at-else w.sessions.holds_fast s (set_at (w.sessions.holds_fast s) o true) k other)) refl refl refl refl) refl refl refl)
+    (fast_account-by w (after_taking_fast w s o) k (ap (λ has. slots_in_hand has w.words.database w.words.slot) (set_at-else w.sessions.holds_fast s (set_at (w.sessions.holds_fast s) o true) k other)) refl refl
+    (remembered-taken_others w.sessions.remembered w.words.slot s o k other) refl refl) refl refl refl)
 
 pub putting_fast-others : (w : World) (s o : ℕ) (v : World) (k : ℕ) → k ≢ s → HappensPuttingFast w s o v → IsLeftAlone w v k
 putting_fast-others w s o v k other h =
     IsLeftAlone-same k w _ v h.1
     (IsLeftAlone-by w (after_putting_fast w s o) k refl refl refl refl refl refl
-    (fast_account-by w (after_putting_fast w s o) k (ap (λ has. slots_in_hand has w.words.database w.words.slot) (set_at-else w.sessions.holds_fast s (set_at (w.sessions.holds_fast s) o false) k other)) refl refl
+    (fast_account-by w (after_putting_fast w s o) k (ap (λ has. slots_in_hand has w.words.database w.words.slot) (set_at-else w.sessions.holds_fast s (set_at (w.sessions.holds_fast s) o false) k other)) refl refl refl
     (zero-put_others w.sessions.zero s o k other) refl) refl refl refl)
 
 -- Loading words, and counters.
@@ -54,7 +63,7 @@ loading-others w s word n k other = IsLeftAlone-by w (after_loading w s word n) 
 pub reading_counter-others : (w : World) (s i n k : ℕ) → k ≢ s → IsLeftAlone w (after_reading_counter w s i n) k
 reading_counter-others w s i n k other =
     IsLeftAlone-by w (after_reading_counter w s i n) k refl refl refl refl refl refl
-    (fast_account-by w (after_reading_counter w s i n) k refl refl refl (zero-read_others w.sessions.zero w.sessions.holds_fast s i n k other) refl) (set_at-else w.sessions.trace s _ k other) refl refl
+    (fast_account-by w (after_reading_counter w s i n) k refl refl refl refl (zero-read_others w.sessions.zero w.sessions.holds_fast s i n k other) refl) (set_at-else w.sessions.trace s _ k other) refl refl
 
 -- The slots of one session change: whoever has not their lock knows no more of them than before.
 pub slots_in_hand-set :
@@ -80,14 +89,16 @@ pub setting_slot-others : (w : World) (s i : ℕ) (t : Tag) (m : Mode) (k : ℕ)
 setting_slot-others w s i t m k safe other may =
     IsLeftAlone-by w (after_setting_slot w s i t m) k refl (λ x o n. set_hold-other_session w.sessions.own s t m true k o n other x) refl refl refl refl
     (fast_account-by w (after_setting_slot w s i t m) k (slots_in_hand-set (w.sessions.holds_fast k) w.words.database w.words.slot s (set_at (w.words.slot s) i (word_with (w.words.slot s i) (relation_of t) m)) (not_held w s s k safe other may.holding))
-    (slots_in_hand-set (w.sessions.shares_fast k) w.words.database w.words.slot s (set_at (w.words.slot s) i (word_with (w.words.slot s i) (relation_of t) m)) ((safe.but_slots.locks.fast_words s).never_both s k may.holding)) refl refl refl)
+    (slots_in_hand-set (w.sessions.shares_fast k) w.words.database w.words.slot s (set_at (w.words.slot s) i (word_with (w.words.slot s i) (relation_of t) m)) ((safe.but_slots.locks.fast_words s).never_both s k may.holding)) refl
+    (set_at-else w.sessions.remembered s _ k other) refl refl)
     refl refl refl
 
 pub clearing_slot-others : (w : World) (s i : ℕ) (t : Tag) (m : Mode) (k : ℕ) → SafeWorld w → k ≢ s → MayClearSlot w s i t m → IsLeftAlone w (after_clearing_slot w s i t m) k
 clearing_slot-others w s i t m k safe other may =
     IsLeftAlone-by w (after_clearing_slot w s i t m) k refl (λ x o n. set_hold-other_session w.sessions.own s t m false k o n other x) refl refl refl refl
     (fast_account-by w (after_clearing_slot w s i t m) k (slots_in_hand-set (w.sessions.holds_fast k) w.words.database w.words.slot s (set_at (w.words.slot s) i (word_without (w.words.slot s i) m)) (not_held w s s k safe other may.holding))
-    (slots_in_hand-set (w.sessions.shares_fast k) w.words.database w.words.slot s (set_at (w.words.slot s) i (word_without (w.words.slot s i) m)) ((safe.but_slots.locks.fast_words s).never_both s k may.holding)) refl refl refl)
+    (slots_in_hand-set (w.sessions.shares_fast k) w.words.database w.words.slot s (set_at (w.words.slot s) i (word_without (w.words.slot s i) m)) ((safe.but_slots.locks.fast_words s).never_both s k may.holding)) refl
+    (set_at-else w.sessions.remembered s _ k other) refl refl)
     refl refl refl
 
 -- Moving a mode from a slot to the table.
@@ -96,7 +107,7 @@ transferring-others w s o i t m strong k safe other may =
     IsLeftAlone-by w (after_transferring w o i t m) k refl refl refl refl
     (recorded-others w s (partition_of t) (Adopt o i) (is_unmarked (w.contents.hand (partition_of t))) _ k safe other may.holding (set_at-else w.contents.now (partition_of t) _)) refl
     (fast_account-by w (after_transferring w o i t m) k (slots_in_hand-set (w.sessions.holds_fast k) w.words.database w.words.slot o (set_at (w.words.slot o) i (word_without (w.words.slot o i) m)) (not_held w s o k safe other may.holding_slots))
-    (slots_in_hand-set (w.sessions.shares_fast k) w.words.database w.words.slot o (set_at (w.words.slot o) i (word_without (w.words.slot o i) m)) ((safe.but_slots.locks.fast_words o).never_both s k may.holding_slots)) refl refl refl)
+    (slots_in_hand-set (w.sessions.shares_fast k) w.words.database w.words.slot o (set_at (w.words.slot o) i (word_without (w.words.slot o i) m)) ((safe.but_slots.locks.fast_words o).never_both s k may.holding_slots)) refl refl refl refl)
     refl refl refl
 
 -- Storing a database: slots of which none is in use show nothing before and after.
@@ -122,5 +133,5 @@ pub storing_database-others : (w : World) (s d k : ℕ) → k ≢ s → MayStore
 storing_database-others w s d k other may =
     IsLeftAlone-by w (after_storing_database w s d) k refl refl refl refl refl refl
     (fast_account-by w (after_storing_database w s d) k (slots_in_hand-stored (w.sessions.holds_fast k) w.words.database w.words.slot s d may.unused)
-    (slots_in_hand-stored (w.sessions.shares_fast k) w.words.database w.words.slot s d may.unused) (set_at-else w.words.database s d k other) refl refl)
+    (slots_in_hand-stored (w.sessions.shares_fast k) w.words.database w.words.slot s d may.unused) (set_at-else w.words.database s d k other) refl refl refl)
     refl refl refl

@@ -59,7 +59,7 @@ unsharing_partition-safe w s p safe may = record {
 -- Sharing the word of a session's fast-path lock is safe, and so is giving it back.
 pub sharing_fast-safe : (w : World) (s o : ℕ) → SafeButSlots w → MayShare w.numbers (w.words.fast o) w.sessions.shares_fast s o → SafeButSlots (after_sharing_fast w s o)
 sharing_fast-safe w s o safe may = record {
-  table = with_fast_words-table w _ w.sessions.holds_fast _ _ safe.table;
+  table = with_fast_words-table w _ w.sessions.holds_fast _ _ _ safe.table;
   locks = record {
     fast_words = WordsShowHolders-share w.numbers.limit w.words.fast w.sessions.holds_fast w.sessions.shares_fast s o true (shared_word (w.words.fast o))
         (ShowsHolders-shared w.numbers.limit (w.words.fast o) (λ k. w.sessions.holds_fast k o) (λ k. w.sessions.shares_fast k o) s safe.table.carriers.numbers.few
@@ -73,7 +73,7 @@ sharing_fast-safe w s o safe may = record {
 
 pub unsharing_fast-safe : (w : World) (s o : ℕ) → SafeButSlots w → MayUnshare w.numbers w.sessions.shares_fast s o → SafeButSlots (after_unsharing_fast w s o)
 unsharing_fast-safe w s o safe may = record {
-  table = with_fast_words-table w _ w.sessions.holds_fast _ _ safe.table;
+  table = with_fast_words-table w _ w.sessions.holds_fast _ _ _ safe.table;
   locks = record {
     fast_words = WordsShowHolders-share w.numbers.limit w.words.fast w.sessions.holds_fast w.sessions.shares_fast s o false (unshared_word (w.words.fast o))
         (ShowsHolders-unshared w.numbers.limit (w.words.fast o) (λ k. w.sessions.holds_fast k o) (λ k. w.sessions.shares_fast k o) s (safe.locks.fast_words o) may.sharing) safe.locks.fast_words;

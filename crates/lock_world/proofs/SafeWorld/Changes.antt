@@ -16,19 +16,22 @@ use Rattle.lock_world.specs.SafeWorld.{slots_of, own_but}
 
 -- What steps on slots and counters change, and what stays.
 
--- A World of which slots, databases and counters, what sessions know of these, and traces alone have changed.
-abbrev pub with_fast_path : World → (ℕ → ℕ) → (ℕ → ℕ → ℕ) → (ℕ → ℕ) → (ℕ → List Counted) → (ℕ → Option ℕ) → (ℕ → List TraceEntry) → World
-with_fast_path w database slot strong counted zero trace = record {
+-- A World of which slots, databases and counters, what sessions know and remember of these, and traces alone have changed.
+abbrev pub with_fast_path :
+    World → (ℕ → ℕ) → (ℕ → ℕ → ℕ) → (ℕ → ℕ) → (ℕ → List Counted) → (ℕ → Option ℕ) → (ℕ → ℕ → ℕ) → (ℕ → List TraceEntry)
+    → World
+with_fast_path w database slot strong counted zero remembered trace = record {
   words = record (w.words) { database = database; slot = slot; strong = strong };
   contents = w.contents;
-  sessions = record (w.sessions) { counted = counted; zero = zero; trace = trace };
+  sessions = record (w.sessions) { counted = counted; zero = zero; remembered = remembered; trace = trace };
   numbers = w.numbers;
 }
 
 with_fast_path-table :
-    (w : World) (database : ℕ → ℕ) (slot : ℕ → ℕ → ℕ) (strong : ℕ → ℕ) (counted : ℕ → List Counted) (zero : ℕ → Option ℕ) (trace : ℕ → List TraceEntry) → TableIsSafe w
-    → TableIsSafe (with_fast_path w database slot strong counted zero trace)
-with_fast_path-table w database slot strong counted zero trace safe = record {
+    (w : World) (database : ℕ → ℕ) (slot : ℕ → ℕ → ℕ) (strong : ℕ → ℕ) (counted : ℕ → List Counted)
+    (zero : ℕ → Option ℕ) (remembered : ℕ → ℕ → ℕ) (trace : ℕ → List TraceEntry) → TableIsSafe w
+    → TableIsSafe (with_fast_path w database slot strong counted zero remembered trace)
+with_fast_path-table w database slot strong counted zero remembered trace safe = record {
   promise = record {
     no_conflict = safe.promise.no_conflict;
     one_place = safe.promise.one_place;
@@ -45,10 +48,11 @@ with_fast_path-table w database slot strong counted zero trace safe = record {
 }
 
 pub with_fast_path-safe :
-    (w : World) (database : ℕ → ℕ) (slot : ℕ → ℕ → ℕ) (strong : ℕ → ℕ) (counted : ℕ → List Counted) (zero : ℕ → Option ℕ) (trace : ℕ → List TraceEntry) → SafeButSlots w
-    → TracesTell w.contents trace w.numbers.issued → SafeButSlots (with_fast_path w database slot strong counted zero trace)
-with_fast_path-safe w database slot strong counted zero trace safe traces = record {
-  table = with_fast_path-table w database slot strong counted zero trace safe.table;
+    (w : World) (database : ℕ → ℕ) (slot : ℕ → ℕ → ℕ) (strong : ℕ → ℕ) (counted : ℕ → List Counted)
+    (zero : ℕ → Option ℕ) (remembered : ℕ → ℕ → ℕ) (trace : ℕ → List TraceEntry) → SafeButSlots w
+    → TracesTell w.contents trace w.numbers.issued → SafeButSlots (with_fast_path w database slot strong counted zero remembered trace)
+with_fast_path-safe w database slot strong counted zero remembered trace safe traces = record {
+  table = with_fast_path-table w database slot strong counted zero remembered trace safe.table;
   locks = safe.locks;
   traces = traces;
 }

@@ -62,7 +62,7 @@ module _ (counted : ℕ → List Counted) (s : ℕ) (list : List Counted) where
 -- Counting a strong lock is safe: it is past nobody yet.
 pub counting-safe_world : (w : World) (s : ℕ) (t : Tag) (m : Mode) → SafeWorld w → MayCount w s t m → SafeWorld (after_counting w s t m)
 counting-safe_world w s t m safe may = record {
-  but_slots = with_fast_path-safe (tabled w) w.words.database w.words.slot _ _ w.sessions.zero w.sessions.trace safe.but_slots safe.but_slots.traces;
+  but_slots = with_fast_path-safe (tabled w) w.words.database w.words.slot _ _ w.sessions.zero w.sessions.remembered w.sessions.trace safe.but_slots safe.but_slots.traces;
   lists = safe.lists;
   slots = safe.slots;
   order = OwnIsInOrder-counted w.sessions.counted s list w.numbers.live w.sessions.own w.sessions.awaited may.steps.live safe.order;
@@ -77,6 +77,7 @@ counting-safe_world w s t m safe may = record {
       (λ o n strong awaits. is_at-counting_stays (w.sessions.counted s) t m w.numbers.limit o n (safe.done.awaits s o n strong awaits));
   zero = ZeroIsAPermission-counted w.sessions.counted s list w.sessions.zero w.sessions.holds_fast safe.zero
       (λ k o read. is_past-counting (w.sessions.counted s) t m o k ∙ safe.zero.nobody_is_past k s o read);
+  remembered = safe.remembered;
 } where
   list : List Counted
   list = counting (w.sessions.counted s) t m
@@ -92,7 +93,7 @@ counting-safe_world w s t m safe may = record {
 -- Counting it no more is safe, where the session neither has it nor awaits it.
 pub uncounting-safe_world : (w : World) (s : ℕ) (t : Tag) (m : Mode) → SafeWorld w → MayUncount w s t m → SafeWorld (after_uncounting w s t m)
 uncounting-safe_world w s t m safe may = record {
-  but_slots = with_fast_path-safe (tabled w) w.words.database w.words.slot _ _ w.sessions.zero w.sessions.trace safe.but_slots safe.but_slots.traces;
+  but_slots = with_fast_path-safe (tabled w) w.words.database w.words.slot _ _ w.sessions.zero w.sessions.remembered w.sessions.trace safe.but_slots safe.but_slots.traces;
   lists = safe.lists;
   slots = safe.slots;
   order = OwnIsInOrder-counted w.sessions.counted s list w.numbers.live w.sessions.own w.sessions.awaited may.steps.live safe.order;
@@ -108,6 +109,7 @@ uncounting-safe_world w s t m safe may = record {
   zero = ZeroIsAPermission-counted w.sessions.counted s list w.sessions.zero w.sessions.holds_fast safe.zero
       (λ k o read. false_from_ne_true (is_past list o k) (λ gone.
       both_ways (is_past (w.sessions.counted s) o k) (safe.zero.nobody_is_past k s o read) (is_past-uncounting (w.sessions.counted s) t m o k gone)));
+  remembered = safe.remembered;
 } where
   list : List Counted
   list = uncounting (w.sessions.counted s) t m
@@ -130,7 +132,7 @@ uncounting-safe_world w s t m safe may = record {
 -- own lock was not its own to hold.
 pub passing-safe_world : (w : World) (s k : ℕ) (t : Tag) (m : Mode) → SafeWorld w → MayPass w s k t m → SafeWorld (after_passing w s k t m)
 passing-safe_world w s k t m safe may = record {
-  but_slots = with_fast_path-safe (tabled put) w.words.database w.words.slot w.words.strong _ put.sessions.zero w.sessions.trace whole.but_slots whole.but_slots.traces;
+  but_slots = with_fast_path-safe (tabled put) w.words.database w.words.slot w.words.strong _ put.sessions.zero w.sessions.remembered w.sessions.trace whole.but_slots whole.but_slots.traces;
   lists = whole.lists;
   slots = safe.slots;
   order = OwnIsInOrder-counted w.sessions.counted s list w.numbers.live w.sessions.own w.sessions.awaited may.steps.live safe.order;
@@ -152,6 +154,7 @@ passing-safe_world w s k t m safe may = record {
         | inl was ↦ both_ways (is_past (w.sessions.counted s) o j) (whole.zero.nobody_is_past j s o read) was
         | inr it ↦ not_its_own j (index_of o) read it.1
       ]));
+  remembered = safe.remembered;
 } where
   list : List Counted
   list = passing (w.sessions.counted s) t m k

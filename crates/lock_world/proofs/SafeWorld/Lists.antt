@@ -57,6 +57,7 @@ with_lists-safe_world w partition fast s has safe partitions_stay fast_stay list
   past = safe.past;
   done = safe.done;
   zero = safe.zero;
+  remembered = safe.remembered;
 }
 
 -- One word has changed and not who holds it.

@@ -112,4 +112,5 @@ opening-safe limit few = record {
   past = λ k j t m gone. absurd (false≢true gone);
   done = record { held = λ k t m strong has. absurd (false≢true has); awaits = λ k t m strong waits. absurd (false≢true waits) };
   zero = record { holds = λ k index read. absurd (cc); nobody_is_past = λ k j t read. absurd (cc) };
+  remembered = λ k place relation mode within shown. shown;
 }

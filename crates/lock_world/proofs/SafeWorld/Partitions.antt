@@ -26,6 +26,7 @@ taking_partition-safe_world w s p safe may = record {
   past = safe.past;
   done = safe.done;
   zero = safe.zero;
+  remembered = safe.remembered;
 }
 
 -- What own holds are after a move of a session.
@@ -65,6 +66,7 @@ putting_partition-safe_world w s p done content safe may = record {
   past = safe.past;
   done = done-moved w safe s p done [] content may.may_move;
   zero = safe.zero;
+  remembered = safe.remembered;
 }
 
 -- Putting a partition with a move recorded is safe.
@@ -85,4 +87,5 @@ putting_recorded-safe_world w s p done safe may = record {
   past = safe.past;
   done = safe.done;
   zero = safe.zero;
+  remembered = safe.remembered;
 }

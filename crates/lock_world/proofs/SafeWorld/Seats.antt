@@ -1,11 +1,13 @@
 use Rattle.std.proofs.Common.{◌≡◌, ℕ, true, false, [], None, sym}
-use Rattle.std.proofs.lemmas.Bool.{false≢true}
+use Rattle.std.proofs.lemmas.Bool.{false≢true, both_ways, false_from_ne_true}
 use Rattle.lock_table.specs.Put.{set_at}
 use Rattle.lock_table.proofs.PutLemmas.{set_at-each}
 use Rattle.lock_world.specs.World.{World}
+use Rattle.lock_world.specs.SlotHolds.{NoSlotInUse}
 use Rattle.lock_world.specs.Happens.Seats.{MayBeIssued, after_issuing, MayGoOn, after_going_on, MayBeKeptApart, after_keeping_apart, MayClose, after_closing}
 use Rattle.lock_world.specs.SafeWorld.{SafeWorld, tabled, slots_of}
 use Rattle.lock_world.proofs.Safe.Seats.{issuing-safe, going_on-safe, keeping_apart-safe, closing-safe}
+use Rattle.lock_world.proofs.Slots.Remembered.{no_hold-no_slot, remembered-closed}
 use Rattle.lock_world.proofs.SafeWorld.Tabled.{own_but-false}
 
 -- Issuing a number is safe.
@@ -28,6 +30,7 @@ issuing-safe_world w s safe may = record {
   past = safe.past;
   done = safe.done;
   zero = safe.zero;
+  remembered = safe.remembered;
 } where
   was_dead : (k : ℕ) → set_at w.numbers.live s true k ≡ false → w.numbers.live k ≡ false
   was_dead = set_at-each (λ k b. b ≡ false → w.numbers.live k ≡ false) w.numbers.live s true (λ e. absurd (false≢true (sym e))) (λ _ _ e. e)
@@ -43,6 +46,7 @@ going_on-safe_world w s safe may = record {
   past = safe.past;
   done = safe.done;
   zero = safe.zero;
+  remembered = safe.remembered;
 }
 
 -- Being kept apart is safe.
@@ -62,6 +66,7 @@ keeping_apart-safe_world w s joiner safe may = record {
   past = safe.past;
   done = safe.done;
   zero = safe.zero;
+  remembered = safe.remembered;
 }
 
 -- Closing is safe.
@@ -96,4 +101,9 @@ closing-safe_world w s safe may = record {
   past = safe.past;
   done = safe.done;
   zero = safe.zero;
-}
+  remembered = remembered-closed w.words.slot w.sessions.remembered s none_used safe.remembered;
+} where
+  none_used : NoSlotInUse (w.words.slot s)
+  none_used = no_hold-no_slot (w.words.database s) (w.words.slot s) (safe.slots.has_database s)
+      (λ o n. false_from_ne_true (slots_of w.words.database w.words.slot s o n) (λ shown.
+      both_ways (w.sessions.own s o n) (may.no_hold o n) (safe.slots.are_own s o n shown)))

@@ -23,6 +23,7 @@ sharing_partition-safe_world w s p safe may = record {
   past = safe.past;
   done = safe.done;
   zero = safe.zero;
+  remembered = safe.remembered;
 }
 
 pub unsharing_partition-safe_world : (w : World) (s p : ℕ) → SafeWorld w → MayUnshare w.numbers w.sessions.shares_partition s p → SafeWorld (after_unsharing_partition w s p)
@@ -37,6 +38,7 @@ unsharing_partition-safe_world w s p safe may = record {
   past = safe.past;
   done = safe.done;
   zero = safe.zero;
+  remembered = safe.remembered;
 }
 
 pub sharing_fast-safe_world : (w : World) (s o : ℕ) → SafeWorld w → MayShare w.numbers (w.words.fast o) w.sessions.shares_fast s o → SafeWorld (after_sharing_fast w s o)
@@ -51,6 +53,7 @@ sharing_fast-safe_world w s o safe may = record {
   past = safe.past;
   done = safe.done;
   zero = safe.zero;
+  remembered = safe.remembered;
 }
 
 pub unsharing_fast-safe_world : (w : World) (s o : ℕ) → SafeWorld w → MayUnshare w.numbers w.sessions.shares_fast s o → SafeWorld (after_unsharing_fast w s o)
@@ -65,4 +68,5 @@ unsharing_fast-safe_world w s o safe may = record {
   past = safe.past;
   done = safe.done;
   zero = safe.zero;
+  remembered = safe.remembered;
 }

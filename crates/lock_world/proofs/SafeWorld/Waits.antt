@@ -34,6 +34,7 @@ asking-safe_world w s k safe steps = record {
   past = safe.past;
   done = safe.done;
   zero = safe.zero;
+  remembered = safe.remembered;
 }
 
 -- Loading the own wait word is safe.
@@ -47,6 +48,7 @@ loading_wait-safe_world w s n safe steps = record {
   past = safe.past;
   done = safe.done;
   zero = safe.zero;
+  remembered = safe.remembered;
 }
 
 -- Setting the own wait word to waiting is safe.
@@ -66,6 +68,7 @@ setting_waiting-safe_world w s t m content safe may = record {
       (λ o n strong awaits. let it = its o n awaits in
       (λ i. is_done w.numbers.limit (w.sessions.counted s) (sym it.0 i) (sym it.1 i)) ∙ may.counted ((λ i. is_strong_on (it.0 i) (it.1 i)) ∙ strong));
   zero = safe.zero;
+  remembered = safe.remembered;
 } where
   wait : OwnWait
   wait = record { tag = t; mode = m; held = (w.contents.now (partition_of t)).holds s t }
@@ -91,6 +94,7 @@ marking_first-safe_world w s k p done granted content grants safe may = record {
   past = safe.past;
   done = done-moved w safe s p done granted content may.may_move;
   zero = safe.zero;
+  remembered = safe.remembered;
 }
 
 pub marking_next-safe_world : (w : World) (s k p : ℕ) (done : Move) → SafeWorld w → MayMarkNext w s k p done → SafeWorld (after_marking_next w k p done)
@@ -109,6 +113,7 @@ marking_next-safe_world w s k p done safe may = record {
   past = safe.past;
   done = safe.done;
   zero = safe.zero;
+  remembered = safe.remembered;
 }
 
 -- What was granted becomes own where the wait ends.
@@ -172,6 +177,7 @@ module _ (w : World) (safe : SafeWorld w) (s : ℕ) (wait : OwnWait) (alive : w.
     done = StrongIsDone-one own (over granted) w.sessions.awaited awaited' s (over-else granted) (set_at-else w.sessions.awaited s None)
         w.numbers.limit w.sessions.counted safe.done (over-done granted) (λ o n strong awaits. absurd (none_awaited o n awaits));
     zero = safe.zero;
+    remembered = safe.remembered;
   }
 
   -- Nothing becomes own where the wait leaves the queue.
@@ -187,6 +193,7 @@ module _ (w : World) (safe : SafeWorld w) (s : ℕ) (wait : OwnWait) (alive : w.
     done = StrongIsDone-one own own w.sessions.awaited awaited' s (λ _ _ _ _. refl) (set_at-else w.sessions.awaited s None)
         w.numbers.limit w.sessions.counted safe.done (safe.done.held s) (λ o n strong awaits. absurd (none_awaited o n awaits));
     zero = safe.zero;
+    remembered = safe.remembered;
   }
 
 -- Clearing the own wait word is safe.

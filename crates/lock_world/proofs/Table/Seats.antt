@@ -5,6 +5,7 @@ use Rattle.lock_table.specs.Put.{set_at}
 use Rattle.lock_world.specs.Happens.Seats.{MayBeIssued, after_issuing, MayGoOn, after_going_on, MayBeKeptApart, after_keeping_apart, MayClose, after_closing}
 use Rattle.lock_world.specs.Safe.{TableIsSafe, NumbersAreInOrder, SpentHaveNothing, WordsShowHolders}
 use Rattle.lock_table.proofs.PutLemmas.{set_at-else, set_at-each}
+use Rattle.lock_world.proofs.Table.Sharing.{with_fast_words-table}
 
 -- A World of which the session numbers alone have changed.
 abbrev pub with_numbers : World → Numbers → World
@@ -66,19 +67,9 @@ keeping_apart-table w s joiner safe may = with_numbers-table w _ safe safe.promi
 
 -- Closing is safe.
 pub closing-table : (w : World) (s : ℕ) → TableIsSafe w → MayClose w s → TableIsSafe (after_closing w s)
-closing-table w s safe may = with_numbers-table w _ safe safe.promise.words
-    (record {
-      no_hold = λ k o n. set_at-each (λ k b. b ≡ false → w.sessions.own k o n ≡ false) w.numbers.live s false (λ _. may.no_hold o n) (λ k _ dead. safe.promise.spent.no_hold k o n dead) k;
-      no_wait = set_at-each (λ k b. b ≡ false → w.sessions.awaited k ≡ None) w.numbers.live s false (λ _. may.no_wait) (λ k _ dead. safe.promise.spent.no_wait k dead);
-      no_word = λ k p. set_at-each (λ k b. b ≡ false → w.sessions.holds_partition k p ≡ false) w.numbers.live s false (λ _. may.no_word p) (λ k _ dead. safe.promise.spent.no_word k p dead) k;
-    })
-    (record {
-      live_is_issued = set_at-each (λ k b. b ≡ true → k < w.numbers.issued) w.numbers.live s false (λ e. absurd (cc)) (λ k _. safe.carriers.numbers.live_is_issued k);
-      within = safe.carriers.numbers.within;
-      few = safe.carriers.numbers.few;
-      kept_is_live = λ k j kept. still_live k j kept;
-      joiner_is_live = λ k j kept. still_joiner k j kept;
-    }) where
+closing-table w s safe may =
+    with_fast_words-table (with_numbers w (after_closing w s).numbers) w.words.fast w.sessions.holds_fast
+    w.sessions.shares_fast w.sessions.zero _ closed where
       still_joiner : (k j : ℕ) → w.numbers.kept_by k ≡ Some j → set_at w.numbers.live s false j ≡ true
       still_joiner k j kept =
           elim (cases_eq j s) [
@@ -92,3 +83,18 @@ closing-table w s safe may = with_numbers-table w _ safe safe.promise.words
             | inl same ↦ let by_itself : w.numbers.kept_by s ≡ None = may.steps.by_itself in let kept_s : w.numbers.kept_by s ≡ Some j = ap w.numbers.kept_by (sym same) ∙ kept in absurd (cc)
             | inr other ↦ set_at-else w.numbers.live s false k other ∙ safe.carriers.numbers.kept_is_live k j kept
           ]
+
+      closed : TableIsSafe (with_numbers w (after_closing w s).numbers)
+      closed = with_numbers-table w _ safe safe.promise.words
+          (record {
+            no_hold = λ k o n. set_at-each (λ k b. b ≡ false → w.sessions.own k o n ≡ false) w.numbers.live s false (λ _. may.no_hold o n) (λ k _ dead. safe.promise.spent.no_hold k o n dead) k;
+            no_wait = set_at-each (λ k b. b ≡ false → w.sessions.awaited k ≡ None) w.numbers.live s false (λ _. may.no_wait) (λ k _ dead. safe.promise.spent.no_wait k dead);
+            no_word = λ k p. set_at-each (λ k b. b ≡ false → w.sessions.holds_partition k p ≡ false) w.numbers.live s false (λ _. may.no_word p) (λ k _ dead. safe.promise.spent.no_word k p dead) k;
+          })
+          (record {
+            live_is_issued = set_at-each (λ k b. b ≡ true → k < w.numbers.issued) w.numbers.live s false (λ e. absurd (cc)) (λ k _. safe.carriers.numbers.live_is_issued k);
+            within = safe.carriers.numbers.within;
+            few = safe.carriers.numbers.few;
+            kept_is_live = λ k j kept. still_live k j kept;
+            joiner_is_live = λ k j kept. still_joiner k j kept;
+          })

@@ -29,17 +29,21 @@ with_partition_words-table w word shares safe words = record {
   };
 }
 
--- The same of the words of sessions' fast-path locks and of counters read as 0: no fact of partitions, waits and numbers speaks of them.
-abbrev pub with_fast_words : World → (ℕ → ℕ) → (ℕ → ℕ → Bool) → (ℕ → ℕ → Bool) → (ℕ → Option ℕ) → World
-with_fast_words w word holds shares zero = record {
+-- The same of the words of sessions' fast-path locks, of counters read as 0 and of slots as remembered: no fact of
+-- partitions, waits and numbers speaks of them.
+abbrev pub with_fast_words :
+    World → (ℕ → ℕ) → (ℕ → ℕ → Bool) → (ℕ → ℕ → Bool) → (ℕ → Option ℕ) → (ℕ → ℕ → ℕ) → World
+with_fast_words w word holds shares zero remembered = record {
   words = record (w.words) { fast = word };
   contents = w.contents;
-  sessions = record (w.sessions) { holds_fast = holds; shares_fast = shares; zero = zero };
+  sessions = record (w.sessions) { holds_fast = holds; shares_fast = shares; zero = zero; remembered = remembered };
   numbers = w.numbers;
 }
 
-pub with_fast_words-table : (w : World) (word : ℕ → ℕ) (holds shares : ℕ → ℕ → Bool) (zero : ℕ → Option ℕ) → TableIsSafe w → TableIsSafe (with_fast_words w word holds shares zero)
-with_fast_words-table w word holds shares zero safe = record {
+pub with_fast_words-table :
+    (w : World) (word : ℕ → ℕ) (holds shares : ℕ → ℕ → Bool) (zero : ℕ → Option ℕ) (remembered : ℕ → ℕ → ℕ)
+    → TableIsSafe w → TableIsSafe (with_fast_words w word holds shares zero remembered)
+with_fast_words-table w word holds shares zero remembered safe = record {
   promise = record {
     no_conflict = safe.promise.no_conflict;
     one_place = safe.promise.one_place;

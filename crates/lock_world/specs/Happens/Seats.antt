@@ -66,11 +66,12 @@ pub record MayClose (w : World) (session : ℕ) : Type 0 where
   pub no_stand : w.sessions.stands session ≡ None
   pub keeps_nobody : (other : ℕ) → w.numbers.kept_by other ≢ Some session
 
+-- A closed session remembers nothing of its slots, of which none is in use.
 abbrev pub after_closing : World → ℕ → World
 after_closing w session = record {
   words = w.words;
   contents = w.contents;
-  sessions = w.sessions;
+  sessions = record (w.sessions) { remembered = set_at w.sessions.remembered session (λ _. 0) };
   numbers = record (w.numbers) { live = set_at w.numbers.live session false };
 }
 

@@ -20,11 +20,19 @@ pub record MayTakeFast (w : World) (session owner : ℕ) : Type 0 where
   pub exists : owner < w.numbers.limit
   pub free : IsHeldByNobody (w.words.fast owner)
 
+-- Whoever takes the lock of its own slots remembers them from then on as they show.
+abbrev pub remembered_after_taking : (ℕ → ℕ → ℕ) → (ℕ → ℕ → ℕ) → ℕ → ℕ → ℕ → ℕ → ℕ
+remembered_after_taking remembered slot session owner =
+    if owner == session then set_at remembered session (slot owner) else remembered
+
 abbrev pub after_taking_fast : World → ℕ → ℕ → World
 after_taking_fast w session owner = record {
   words = record (w.words) { fast = set_at w.words.fast owner (taken_word (w.words.fast owner)) };
   contents = w.contents;
-  sessions = record (w.sessions) { holds_fast = set_at w.sessions.holds_fast session (set_at (w.sessions.holds_fast session) owner true) };
+  sessions = record (w.sessions) {
+    holds_fast = set_at w.sessions.holds_fast session (set_at (w.sessions.holds_fast session) owner true);
+    remembered = remembered_after_taking w.sessions.remembered w.words.slot session owner;
+  };
   numbers = w.numbers;
 }
 
@@ -103,7 +111,11 @@ after_setting_slot w session place tag mode = record {
         (set_at (w.words.slot session) place (word_with (w.words.slot session place) (relation_of tag) mode));
   };
   contents = w.contents;
-  sessions = record (w.sessions) { own = set_hold w.sessions.own session tag mode true };
+  sessions = record (w.sessions) {
+    own = set_hold w.sessions.own session tag mode true;
+    remembered = set_at w.sessions.remembered session
+        (set_at (w.words.slot session) place (word_with (w.words.slot session place) (relation_of tag) mode));
+  };
   numbers = w.numbers;
 }
 
@@ -120,7 +132,11 @@ after_clearing_slot w session place tag mode = record {
         (set_at (w.words.slot session) place (word_without (w.words.slot session place) mode));
   };
   contents = w.contents;
-  sessions = record (w.sessions) { own = set_hold w.sessions.own session tag mode false };
+  sessions = record (w.sessions) {
+    own = set_hold w.sessions.own session tag mode false;
+    remembered = set_at w.sessions.remembered session
+        (set_at (w.words.slot session) place (word_without (w.words.slot session place) mode));
+  };
   numbers = w.numbers;
 }
 

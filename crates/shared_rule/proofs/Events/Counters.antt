@@ -72,7 +72,7 @@ module _ {T : Type 0} (content : T → Content) (limit : ℕ) (x : History T) (t
           numbers = refl;
           account = ap (λ a. account_counting a tag mode) steps.account ∙ sym (account-counting w x.number tag mode);
           words = ap (set_word w.words (Strong index)) next;
-          unused = record { database = steps.unused.database; slot = steps.unused.slot };
+          none_beyond = steps.none_beyond;
           few_counted = subst (λ list. length list ≤ most_counted) (sym (set_at-here w.sessions.counted x.number (counting (w.sessions.counted x.number) tag mode) x.number refl))
               (let few = may'.few in
               let longer : length (counting (w.sessions.counted x.number) tag mode) ≡ length (w.sessions.counted x.number) + 1 = length-append (w.sessions.counted x.number) _ in
@@ -102,7 +102,7 @@ module _ {T : Type 0} (content : T → Content) (limit : ℕ) (x : History T) (t
           numbers = refl;
           account = ap (λ a. account_uncounting a tag mode) steps.account ∙ sym (account-uncounting w x.number tag mode);
           words = ap (set_word w.words (Strong index)) next;
-          unused = record { database = steps.unused.database; slot = steps.unused.slot };
+          none_beyond = steps.none_beyond;
           few_counted = subst (λ list. length list ≤ most_counted) (sym (set_at-here w.sessions.counted x.number (uncounting (w.sessions.counted x.number) tag mode) x.number refl))
               (let few = steps.few_counted x.number in
               let as_many = length-filter (λ (c : Counted). not (is_of tag mode c)) (w.sessions.counted x.number) in

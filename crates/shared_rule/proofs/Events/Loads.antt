@@ -1,34 +1,96 @@
-use Rattle.std.proofs.Common.{◌≡◌, ℕ, refl, sym, ap, ◌∙◌, subst}
+use Rattle.std.proofs.Common.{◌≡◌, ℕ, ◌<◌, refl, sym, ap, ◌∙◌, subst}
 use Rattle.lock_table.specs.Content.{Content}
+use Rattle.lock_table.specs.Put.{set_at}
 use Rattle.lock_table.proofs.PutLemmas.{set_at-same}
-use Rattle.lock_world.specs.declared.events.Word.TheVariants.{Database}
-use Rattle.lock_world.specs.declared.events.Step.TheVariants.{LoadWord}
-use Rattle.lock_world.specs.World.{Loaded}
-use Rattle.lock_world.specs.Happens.Slots.{after_loading}
-use Rattle.lock_world.specs.AccountSteps.{account_tracing}
-use Rattle.lock_world.proofs.Accounts.Slots.{account-loading}
+use Rattle.lock_world.specs.declared.events.Word.TheVariants.{Database, Fast, Slot, Strong}
+use Rattle.lock_world.specs.declared.events.Step.TheVariants.{LoadWord, LoadStrong}
+use Rattle.lock_world.specs.World.{Words, Loaded}
+use Rattle.lock_world.specs.Happens.Slots.{after_loading, after_reading_counter}
+use Rattle.lock_world.specs.AccountSteps.{account_tracing, account_reading}
+use Rattle.lock_world.proofs.Accounts.Slots.{account-loading, account-reading}
 use Rattle.shared_rule.specs.declared.history.Mark.TheVariants as mark
 use Rattle.shared_rule.specs.declared.history.History.{History}
 use Rattle.shared_rule.specs.Shown.{set_word}
-use Rattle.shared_rule.specs.Ruled.{SlotsAreUnused}
+use Rattle.shared_rule.specs.Ruled.{NoneBeyondSlots}
 use Rattle.shared_rule.proofs.Events.Marks.{IsAlwaysLawful}
 
--- Loading a session's database.
-pub loading_database-lawful :
-    {T : Type 0} (content : T → Content) (limit : ℕ) (x : History T) (owner : ℕ)
-    → IsAlwaysLawful content limit x (Database owner) (λ _. Unit {0}) (λ n. n) (mark.LoadedDatabase owner)
-loading_database-lawful {T} content limit x owner w steps n below shown _ =
-    let same : w.words ≡ set_word w.words (Database owner) n = ap (λ f. record (w.words) { database = f }) (sym (set_at-same w.words.database owner n shown)) in
-    record {
-      noted = record {
-        step = LoadWord (Database owner) n;
-        after = after_loading w x.number (Database owner) n;
-        happens = (record { steps = steps.makes; exists = tt; is_shown = shown }, refl);
-        numbers = refl;
-        account = ap (λ a. account_tracing a (Loaded (Database owner) n)) steps.account ∙ sym (account-loading w x.number (Database owner) n);
-        words = same;
-        unused = subst SlotsAreUnused same steps.unused;
-        few_counted = steps.few_counted x.number;
-      };
-      home = λ p none. (none, refl);
-    }
+-- Loading a session's database, a slot of it, the lock of the own slots, and a strong lock counter.
+
+-- A slot that is stored as it was stays so.
+pub slot-same : (words : Words) (session place n : ℕ) → n ≡ words.slot session place
+    → words ≡ set_word words (Slot session place) n
+slot-same words session place n shown =
+    let row : set_at (words.slot session) place n ≡ words.slot session = set_at-same (words.slot session) place n
+    shown in
+    let all : set_at words.slot session (set_at (words.slot session) place n) ≡ words.slot =
+    set_at-same words.slot session (set_at (words.slot session) place n) row in
+    ap (λ f. record words { slot = f }) (sym all)
+
+module _ {T : Type 0} (content : T → Content) (limit : ℕ) (x : History T) where
+  pub loading_database-lawful : (owner : ℕ) → IsAlwaysLawful content limit x (Database owner) (λ _. Unit {0}) (λ n. n)
+      (mark.LoadedDatabase owner)
+  loading_database-lawful owner w steps n below shown _ = record {
+    noted = record {
+      step = LoadWord (Database owner) n;
+      after = after_loading w x.number (Database owner) n;
+      happens = (record { steps = steps.makes; exists = tt; is_shown = shown }, refl);
+      numbers = refl;
+      account = ap (λ a. account_tracing a (Loaded (Database owner) n)) steps.account
+          ∙ sym (account-loading w x.number (Database owner) n);
+      words = ap (λ f. record (w.words) { database = f }) (sym (set_at-same w.words.database owner n shown));
+      none_beyond = steps.none_beyond;
+      few_counted = steps.few_counted x.number;
+    };
+    home = λ p none. (none, refl);
+  }
+
+  pub loading_slot-lawful : (owner place : ℕ) → place < 16 → IsAlwaysLawful content limit x (Slot owner place)
+      (λ _. Unit {0}) (λ n. n) (mark.LoadedSlot owner place)
+  loading_slot-lawful owner place within w steps n below shown _ = record {
+    noted = record {
+      step = LoadWord (Slot owner place) n;
+      after = after_loading w x.number (Slot owner place) n;
+      happens = (record { steps = steps.makes; exists = within; is_shown = shown }, refl);
+      numbers = refl;
+      account = ap (λ a. account_tracing a (Loaded (Slot owner place) n)) steps.account
+          ∙ sym (account-loading w x.number (Slot owner place) n);
+      words = slot-same w.words owner place n shown;
+      none_beyond = subst NoneBeyondSlots (slot-same w.words owner place n shown) steps.none_beyond;
+      few_counted = steps.few_counted x.number;
+    };
+    home = λ p none. (none, refl);
+  }
+
+  -- Also where an exchange finds another number than the one expected.
+  pub loading_fast-lawful : (expected : ℕ → Type 0) → IsAlwaysLawful content limit x (Fast x.number) expected (λ n. n)
+      mark.LoadedFast
+  loading_fast-lawful expected w steps n below shown _ = record {
+    noted = record {
+      step = LoadWord (Fast x.number) n;
+      after = after_loading w x.number (Fast x.number) n;
+      happens = (refl, record { steps = steps.makes; exists = tt; is_shown = shown }, refl);
+      numbers = refl;
+      account = ap (λ a. account_tracing a (Loaded (Fast x.number) n)) steps.account
+          ∙ sym (account-loading w x.number (Fast x.number) n);
+      words = ap (λ f. record (w.words) { fast = f }) (sym (set_at-same w.words.fast x.number n shown));
+      none_beyond = steps.none_beyond;
+      few_counted = steps.few_counted x.number;
+    };
+    home = λ p none. (none, refl);
+  }
+
+  pub loading_strong-lawful : (index : ℕ) → index < 1024 → IsAlwaysLawful content limit x (Strong index)
+      (λ _. Unit {0}) (λ n. n) (mark.LoadedStrong index)
+  loading_strong-lawful index within w steps n below shown _ = record {
+    noted = record {
+      step = LoadStrong index n;
+      after = after_reading_counter w x.number index n;
+      happens = (record { steps = steps.makes; exists = within; is_shown = shown }, refl);
+      numbers = refl;
+      account = ap (λ a. account_reading x.number a index n) steps.account ∙ sym (account-reading w x.number index n);
+      words = ap (λ f. record (w.words) { strong = f }) (sym (set_at-same w.words.strong index n shown));
+      none_beyond = steps.none_beyond;
+      few_counted = steps.few_counted x.number;
+    };
+    home = λ p none. (none, refl);
+  }

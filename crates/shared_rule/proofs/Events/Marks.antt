@@ -1,14 +1,17 @@
-use Rattle.std.proofs.Common.{◌≡◌, ℕ, ◌<◌, ◌^◌, ◌==◌, List, ◌∷◌, Option, Some, None, refl, sym, ◌∙◌, subst}
+use Rattle.std.proofs.Common.{◌≡◌, ℕ, ◌<◌, ◌^◌, List, ◌∷◌, Option, Some, None, refl, sym, ap, ◌∙◌, subst}
 use Rattle.std.specs.Prelude.{slice_set, slice_index}
 use mathlib.Core.Option.{some, none}
 use lib.ListN.{get_elem?}
 use lib.Seq.{set-get_or}
-use prog.Atomic.{either}
-use Rattle.atomic_table.specs.Table.{State, Step, step, Me, keeps, Allows}
-use Rattle.atomic_table.proofs.Lists.{set_again, exchanged}
+use Rattle.atomic_table.specs.Table.{State, Step, step, keeps, Allows}
+use Rattle.atomic_table.proofs.Lists.{set_again}
 use Rattle.lock_table.specs.declared.request.Request.{Request}
 use Rattle.lock_table.specs.Content.{Content}
 use Rattle.lock_world.specs.declared.events.Word.{Word}
+use Rattle.lock_world.specs.declared.events.Word.TheVariants.{Partition, Fast, Database, Slot, Wait, Strong, Sleep}
+use Rattle.lock_world.specs.SlotHolds.{slot_holds}
+use Rattle.lock_world.specs.Account.{SlotsInHand, account}
+use Rattle.lock_world.proofs.Accounts.Lawful.{slots-known}
 use mathlib.Core.Option as maybe
 use Rattle.lock_world.specs.World.{World, Contents, Hand, word_in}
 use Rattle.shared_rule.specs.declared.history.Mark.{Mark}
@@ -16,9 +19,10 @@ use Rattle.shared_rule.specs.declared.history.History.{History}
 use Rattle.shared_rule.specs.declared.history.View.{View}
 use Rattle.shared_rule.specs.Layout.{index_of_word, content_slot_of, IsInTable}
 use Rattle.shared_rule.specs.Shown.{set_word}
-use Rattle.shared_rule.specs.History.{told, noting}
+use Rattle.shared_rule.specs.History.{told, noting, first_account, first_number}
 use Rattle.shared_rule.specs.Ruled.{IsHomeUnlessInHand, ContentsAreHome, Ruled}
-use Rattle.shared_rule.specs.Plays.{Side, Marked, Won}
+use Rattle.shared_rule.specs.Slots.{KnowsWord}
+use Rattle.shared_rule.specs.Plays.{Side, Marked, Looked}
 use Rattle.shared_rule.proofs.Shown.{words-set}
 use Rattle.shared_rule.proofs.Frame.{Stepper, IsNoted, ruled-steps, ruled-noted}
 
@@ -39,6 +43,24 @@ home-kept {T} content begun homes before after kept home p within = go (after.ha
       (subst (λ h. IsHomeUnlessInHand content begun h (before.now p) (get_elem? homes (content_slot_of p))) was.0 (home p within))
   go (Some hand) away = tt
 
+-- What a session knows of a word is so.
+word-known : (w : World) (s : ℕ) (word : Word) → KnowsWord s (account w s) word (word_in w.words word)
+word-known w s (Partition p) = tt
+word-known w s (Fast k) = tt
+word-known w s (Database k) = (
+  λ slots known.
+      let is = (slots-known (w.sessions.holds_fast s k) (w.words.database k) (w.words.slot k) slots known).1 in
+      ap (λ (its : SlotsInHand). its.holds) is
+      ∙ ap (slot_holds (w.words.database k)) (sym (ap (λ (its : SlotsInHand). its.word) is)),
+  λ own. ap w.words.database own,
+)
+word-known w s (Slot k place) = λ slots known.
+    let is = (slots-known (w.sessions.holds_fast s k) (w.words.database k) (w.words.slot k) slots known).1 in
+    sym (ap (λ (its : SlotsInHand). its.word place) is)
+word-known w s (Wait k) = tt
+word-known w s (Strong index) = tt
+word-known w s (Sleep k) = tt
+
 module _ {T : Type 0} (content : T → Content) where
   -- Whatever the World is, the step on a word that shows this is noted so, and leaves the contents alone.
   pub record IsLawful (limit : ℕ) (x : History T) (word : Word) (shown next : ℕ) (mark : Mark T) (w : World) : Type 0 where
@@ -54,12 +76,12 @@ module _ {T : Type 0} (content : T → Content) where
 module _ {T : Type 0} (content : T → Content) (begun : T → Option Request) (limit slots id : ℕ) (me : Side T) (x : History T) (others : List (History T)) (is : me.0.sessions ≡ x ∷ others)
     (word : Word) (exists : IsInTable word) (next : ℕ → ℕ) (mark : ℕ → Mark T) where
   -- After it the rule holds.
-  after :
+  pub rule-after :
       (expected : ℕ → Type 0) → IsAlwaysLawful content limit x word expected next mark
       → (s : State (Option T) (View T)) → Ruled content begun limit s → get_elem? s.views id ≡ some me.0
       → (n : ℕ) → n < 2 ^ 64 → n ≡ slice_index s.words (index_of_word word) → expected n
       → Ruled content begun limit (record { words = slice_set s.words (index_of_word word) (next n); homes = s.homes; views = slice_set s.views id (noting me.0 (mark n)) })
-  after expected lawful s r at n below shows is_so =
+  rule-after expected lawful s r at n below shows is_so =
       let steps = ruled-steps content begun limit s r id me.0 x others at is in
       let now = lawful r.world steps n below (shows ∙ r.words.word word exists) is_so in
       ruled-noted content begun limit s r id me.0 x others at is (mark n) (set_word r.world.words word (next n)) (slice_set s.words (index_of_word word) (next n)) s.homes
@@ -69,8 +91,14 @@ module _ {T : Type 0} (content : T → Content) (begun : T → Option Request) (
   -- A fetch-and-add, a fetch-and-subtract, or with `next` as it is a load.
   pub marks : (step : Step (Option T)) → IsAlwaysLawful content limit x word (λ _. Unit {0}) next mark
       → Allows (Ruled content begun limit) slots id me (index_of_word word) next (Marked mark step me)
-  marks step lawful s r many at below =
-      (noting me.0 (mark (slice_index s.words (index_of_word word))), keeps, tt, after (λ _. Unit {0}) lawful s r at (slice_index s.words (index_of_word word)) below refl tt, refl)
+  marks step lawful s r many at below = (
+    noting me.0 (mark (slice_index s.words (index_of_word word))),
+    keeps,
+    tt,
+    rule-after (λ _. Unit {0}) lawful s r
+        at (slice_index s.words (index_of_word word)) below refl tt,
+    refl,
+  )
 
 -- A step that changes nothing.
 pub nothing-changes :
@@ -80,28 +108,6 @@ pub nothing-changes :
 nothing-changes {T} content begun limit id i view s r at =
     subst (λ (words : List ℕ). Ruled content begun limit (record { words = words; homes = s.homes; views = slice_set s.views id view })) (sym (set-get_or s.words i 0))
     (subst (λ (views : List (View T)). Ruled content begun limit (record { words = s.words; homes = s.homes; views = views })) (sym (set_again s.views id view at)) r)
-
--- A compare-exchange, which changes nothing where it finds another number than the one expected.
-pub wins :
-    {T : Type 0} (content : T → Content) (begun : T → Option Request) (limit slots id : ℕ) (me : Side T) (x : History T) (others : List (History T)) → me.0.sessions ≡ x ∷ others
-    → (word : Word) → IsInTable word → (old new : ℕ) (mark : ℕ → Mark T) (step : Step (Option T)) → step.first ≡ old
-    → IsAlwaysLawful content limit x word (λ n. n ≡ old) (λ _. new) mark
-    → Allows (Ruled content begun limit) slots id me (index_of_word word) (λ n. either (n == old) new n) (Won mark step me)
-wins {T} content begun limit slots id me x others is word exists old new mark step first lawful s r many at below =
-    exchanged n old new (λ m. (view : View T) × (act : Rattle.atomic_table.specs.Table.Act (Option T)) × Rattle.atomic_table.specs.Table.Valid s.homes me.1 act
-    × Ruled content begun limit (Rattle.atomic_table.specs.Table.stepped s (index_of_word word) m id me.1 view act)
-    × Won mark step me n (view, Rattle.atomic_table.specs.Table.carried_after me.1 act))
-    (λ hit. (
-      noting me.0 (mark n),
-      keeps,
-      tt,
-      after content begun limit slots id me x others is word exists (λ _. new) mark (λ n. n ≡ old) lawful s r at n below refl hit,
-      ((λ _. refl), (λ miss. absurd (miss (hit ∙ sym first)))),
-    ))
-    (λ miss. (me.0, keeps, tt, nothing-changes content begun limit id (index_of_word word) me.0 s r at, ((λ hit. absurd (miss (hit ∙ first))), λ _. refl)))
-  where
-    n : ℕ
-    n = slice_index s.words (index_of_word word)
 
 -- The same of the word at an index: a play of a mark reads nothing else of its step.
 pub marks_at :
@@ -113,14 +119,37 @@ marks_at {T} content begun limit slots id me x others is word exists i at next m
     subst (λ k. Allows (Ruled content begun limit) slots id me k next (Marked mark (step 0 0 0 0 none) me)) (sym at)
     (marks content begun limit slots id me x others is word exists next mark (step 0 0 0 0 none) lawful)
 
-pub wins_at :
+-- A load that tells what the account knows of the number found.
+pub looks_at :
     {T : Type 0} (content : T → Content) (begun : T → Option Request) (limit slots id : ℕ) (me : Side T) (x : History T) (others : List (History T)) → me.0.sessions ≡ x ∷ others
-    → (word : Word) → IsInTable word → (i : ℕ) → i ≡ index_of_word word → (old new : ℕ) (mark : ℕ → Mark T)
-    → IsAlwaysLawful content limit x word (λ n. n ≡ old) (λ _. new) mark
-    → Allows (Ruled content begun limit) slots id me i (λ n. either (n == old) new n) (Won mark (step 0 0 old 0 none) me)
-wins_at {T} content begun limit slots id me x others is word exists i at old new mark lawful =
-    subst (λ k. Allows (Ruled content begun limit) slots id me k (λ n. either (n == old) new n) (Won mark (step 0 0 old 0 none) me)) (sym at)
-    (wins content begun limit slots id me x others is word exists old new mark (step 0 0 old 0 none) refl lawful)
+    → (word : Word) → IsInTable word → (i : ℕ) → i ≡ index_of_word word → (mark : ℕ → Mark T)
+    → IsAlwaysLawful content limit x word (λ _. Unit {0}) (λ n. n) mark
+    → Allows (Ruled content begun limit) slots id me i (λ n. n) (Looked content mark (step slots i 0 0 none) me)
+looks_at {T} content begun limit slots id me x others is word exists i at mark lawful =
+    subst (λ k. Allows (Ruled content begun limit) slots id me k (λ n. n) (Looked content mark (step slots k 0 0 none)
+    me)) (sym at) here where
+      here : Allows (Ruled content begun limit) slots id me (index_of_word word) (λ n. n)
+          (Looked content mark (step slots (index_of_word word) 0 0 none) me)
+      here s r many at_view below =
+          let n : ℕ = slice_index s.words (index_of_word word) in
+          let steps = ruled-steps content begun limit s r id me.0 x others at_view is in (
+            noting me.0 (mark n),
+            keeps,
+            tt,
+            rule-after content begun limit slots id me x others is word exists (λ k. k) mark (λ _. Unit {0}) lawful s
+                r at_view n below refl tt,
+            (
+              refl,
+              (λ other there same.
+                  let shown : word_in r.world.words other ≡ n = sym (ap (slice_index s.words) same
+                  ∙ r.words.word other there) in
+                  subst (λ (sessions : List (History T)). KnowsWord (first_number sessions)
+                  (first_account content sessions) other n) (sym is)
+                  (subst (λ a. KnowsWord x.number a other n) (sym steps.account)
+                  (subst (KnowsWord x.number (account r.world x.number) other) shown
+                  (word-known r.world x.number other)))),
+            ),
+          )
 
 -- A store, which leaves the same mark whatever it found.
 pub stores_at :

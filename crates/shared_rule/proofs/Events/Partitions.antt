@@ -116,7 +116,7 @@ module _ {T : Type 0} (content : T → Content) (begun : T → Option Request) (
     numbers = refl;
     account = (λ i. account_taking (steps.account i) p (is_content i)) ∙ sym (account-taking w x.number p);
     words = refl;
-    unused = record { database = steps.unused.database; slot = steps.unused.slot };
+    none_beyond = steps.none_beyond;
     few_counted = steps.few_counted x.number;
   }
 
@@ -200,7 +200,7 @@ module _ {T : Type 0} (content : T → Content) (begun : T → Option Request) (
         numbers = refl;
         account = (λ i. account_putting (steps.account i) p (taken i) (content part) done) ∙ sym (account-putting w x.number p done (content part));
         words = refl;
-        unused = record { database = steps.unused.database; slot = steps.unused.slot };
+        none_beyond = steps.none_beyond;
         few_counted = steps.few_counted x.number;
       }
 

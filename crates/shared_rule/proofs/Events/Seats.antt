@@ -11,7 +11,7 @@ use Rattle.lock_world.specs.World.{World, Hand, MakesSteps}
 use Rattle.lock_world.specs.Safe.{is_hand_of}
 use Rattle.lock_world.specs.SafeWorld.{SafeWorld}
 use Rattle.lock_world.specs.Account.{Account, account, own_hand, list_in_hand}
-use Rattle.lock_world.specs.Happens.Seats.{MayBeIssued, after_issuing, MayBeKeptApart, after_keeping_apart, after_going_on, MayClose, after_closing}
+use Rattle.lock_world.specs.Happens.Seats.{MayBeIssued, after_issuing, MayBeKeptApart, after_keeping_apart, after_going_on, MayClose}
 use Rattle.lock_world.proofs.SafeWorld.Seats.{issuing-safe_world, going_on-safe_world, keeping_apart-safe_world, closing-safe_world}
 use Rattle.lock_world.proofs.FromSafeWorld.{no_conflict-own_world}
 use Rattle.shared_rule.specs.declared.history.View.{View}
@@ -19,7 +19,7 @@ use Rattle.shared_rule.specs.History.{lone, spent_view, first_account}
 use Rattle.shared_rule.specs.Ruled.{Ruled}
 use Rattle.shared_rule.specs.Plays.{Side}
 use Rattle.shared_rule.specs.Seats.{MayCloseBy, MayBeKeptApartBy, DoNotConflict, HasNumber, IsForOne, IsForTwo, number_in, number_after, behind_of, opened, newcomer, met, parted, handed_back, ToldApart}
-use Rattle.shared_rule.proofs.Views.{ruled-numbered, seats-opened, seats-closed, history-alone, keeps-nobody}
+use Rattle.shared_rule.proofs.Views.{ruled-numbered, ruled-closed, seats-opened, seats-closed, history-alone, keeps-nobody}
 use Rattle.shared_rule.proofs.Meetings.{first-shown, second-shown, are-two, seats-met, one-shown, two-shown, are-two_behind, seats-parted}
 use Rattle.shared_rule.proofs.Events.Marks.{nothing-changes}
 
@@ -78,7 +78,7 @@ module _ {T : Type 0} (content : T → Content) (begun : T → Option Request) (
       let may_by : MayCloseBy (account r.world k) = subst MayCloseBy (ap (λ (z : View T). first_account content z.sessions) one.one ∙ shown.account) may in
       let may_close = closing-lawful r.world r.safe k (record { live = shown.live; by_itself = shown.kept_by }) (keeps-nobody content r.world s.views other k one.marks stands r.seats) may_by in
       subst (λ (views : List (View T)). Ruled content begun limit (record { words = s.words; homes = s.homes; views = slice_set views other spent_view })) (sym same)
-      (ruled-numbered content begun limit s r (after_closing r.world k).numbers (slice_set s.views other spent_view) refl (closing-safe_world r.world k r.safe may_close)
+      (ruled-closed content begun limit s r k (slice_set s.views other spent_view) (closing-safe_world r.world k r.safe may_close)
       (seats-closed content r.world s.views other k one.marks stands r.seats))
 
   -- A session is kept apart.

@@ -37,7 +37,8 @@ use Rattle.shared_rule.proofs.Events.Marks.{IsAlwaysLawful, KeepsHome}
 -- Steps on wait words.
 
 -- A partition in a session's own hand is not at home, before a step that records a move there nor after it.
-home-recorded : (contents : Contents) (p s : ℕ) (its : InHand) (own : IsMine (contents.hand p) (contents.now p) s its) (now : ℕ → Content) (done : Move) (unmarked : ℕ → Bool)
+pub home-recorded : (contents : Contents) (p s : ℕ) (its : InHand) (own : IsMine (contents.hand p) (contents.now p) s
+    its) (now : ℕ → Content) (done : Move) (unmarked : ℕ → Bool)
     → ((q : ℕ) → q ≢ p → now q ≡ contents.now q)
     → KeepsHome contents (record { now = now; hand = set_at contents.hand p (recording (contents.hand p) done unmarked) })
 home-recorded contents p s its own now done unmarked elsewhere q none =
@@ -62,7 +63,7 @@ module _ {T : Type 0} (content : T → Content) (limit : ℕ) (x : History T) wh
           account = (λ i. record (account_tracing (steps.account i) (Loaded (word.Wait x.number) n)) { seen = (steps.account i).seen || (wait_state (shown i) == 2) })
               ∙ sym (account-loading_wait w x.number n);
           words = same;
-          unused = record { database = steps.unused.database; slot = steps.unused.slot };
+          none_beyond = steps.none_beyond;
           few_counted = steps.few_counted x.number;
         };
         home = λ p none. (none, refl);
@@ -78,7 +79,7 @@ module _ {T : Type 0} (content : T → Content) (limit : ℕ) (x : History T) wh
       numbers = refl;
       account = (λ i. account_tracing (steps.account i) (AskedToCancel other (shown i))) ∙ sym (account-asking w x.number other);
       words = ap (λ k. set_word w.words (word.Wait other) (asked_word k)) (sym shown);
-      unused = record { database = steps.unused.database; slot = steps.unused.slot };
+      none_beyond = steps.none_beyond;
       few_counted = steps.few_counted x.number;
     };
     home = λ p none. (none, refl);
@@ -103,7 +104,7 @@ module _ {T : Type 0} (content : T → Content) (limit : ℕ) (x : History T) wh
           account = (λ i. account_waiting (steps.account i) (known i) tag mode (content now) ((known i).now.holds x.number tag))
               ∙ sym (account-waiting w x.number tag mode (content now) own.hand_of own.is_hand own.whose);
           words = refl;
-          unused = record { database = steps.unused.database; slot = steps.unused.slot };
+          none_beyond = steps.none_beyond;
           few_counted = steps.few_counted x.number;
         };
         home = home-recorded w.contents p x.number its own (set_at w.contents.now p (content now)) (Join tag mode) (λ _. false) (set_at-else w.contents.now p (content now));
@@ -164,7 +165,7 @@ module _ {T : Type 0} (content : T → Content) (limit : ℕ) (x : History T) (p
               ∙ ((λ i. account_marking (account w x.number) p (mine own.hand_of (w.contents.now p)) (content now) done done (unmarked_but (among-granted granted i) other))
               ∙ sym (account-marking_first w x.number other p done granted (content now) own.hand_of own.is_hand own.whose)));
           words = ap (λ k. set_word w.words (word.Wait other) (granted_word k)) (sym shown) ∙ ap (set_word w.words (word.Wait other)) (granted_word-wraps n below waits);
-          unused = record { database = steps.unused.database; slot = steps.unused.slot };
+          none_beyond = steps.none_beyond;
           few_counted = steps.few_counted x.number;
         };
         home = home-recorded w.contents p x.number its own (set_at w.contents.now p (content now)) done (unmarked_but (waits_there granted) other) (set_at-else w.contents.now p (content now));
@@ -191,7 +192,7 @@ module _ {T : Type 0} (content : T → Content) (limit : ℕ) (x : History T) (p
               ∙ ((λ i. account_marking (account w x.number) p (mine own.hand_of (w.contents.now p)) (w.contents.now p) Keep done (unmarked_but (unmarked i) other))
               ∙ sym (account-marking_next w x.number other p done own.hand_of own.is_hand own.whose)));
           words = ap (λ k. set_word w.words (word.Wait other) (granted_word k)) (sym shown) ∙ ap (set_word w.words (word.Wait other)) (granted_word-wraps n below waits);
-          unused = record { database = steps.unused.database; slot = steps.unused.slot };
+          none_beyond = steps.none_beyond;
           few_counted = steps.few_counted x.number;
         };
         home = home-recorded w.contents p x.number its own w.contents.now done (unmarked_but (is_unmarked (w.contents.hand p)) other) (λ q _. refl);
@@ -240,7 +241,7 @@ module _ {T : Type 0} (content : T → Content) (limit : ℕ) (x : History T) (w
               ∙ (ap (account_clearing (account w x.number) wait) (granted-known w x.number wait may')
               ∙ sym (account-clearing w x.number wait)));
           words = refl;
-          unused = record { database = steps.unused.database; slot = steps.unused.slot };
+          none_beyond = steps.none_beyond;
           few_counted = steps.few_counted x.number;
         };
         home = λ p none. (none, refl);
@@ -268,7 +269,7 @@ module _ {T : Type 0} (content : T → Content) (limit : ℕ) (x : History T) (w
               ∙ ((λ i. account_leaving (account w x.number) (known i) wait (content now) (among-granted granted i))
               ∙ sym (account-leaving w x.number wait granted (content now) own.hand_of own.is_hand own.whose)));
           words = refl;
-          unused = record { database = steps.unused.database; slot = steps.unused.slot };
+          none_beyond = steps.none_beyond;
           few_counted = steps.few_counted x.number;
         };
         home = home-recorded w.contents p x.number its own (set_at w.contents.now p (content now)) (Leave wait.tag) (waits_there granted) (set_at-else w.contents.now p (content now));

@@ -1,30 +1,37 @@
-use Rattle.std.proofs.Common.{◌≡◌, ◌++◌, ◌∙◌, List, [], arith, ap, sym, subst, take, drop, length}
-use Rattle.std.proofs.Math.Seq.{take-append_seam}
-use Rattle.std.proofs.lemmas.List.Sorted.{length_permutation}
-use Rattle.lock_table.specs.declared.rows.TableRow.{TableRow}
-use Rattle.lock_table.specs.Listing.{IsListing}
-use Rattle.lock_table.specs.WholeContent.{whole_of}
-use Rattle.lock_manager.specs.Listings.{content_at}
-use Rattle.lock_manager.proofs.Listed.{RowsMore, IsListing-all, rows-ok}
+use Rattle.std.proofs.Common.{refl}
+use Rattle.lock_manager.proofs.Reading.{rest-read_slots, rest-read}
 use Rattle.lock_manager.proofs.listing.list.Goals as goal
 
-pub returns-clause-listed : goal.returns-clause-listed
-returns-clause-listed g c =
-    let listed = c.list_from.ensures.listed in
-    let sorted = c.sort_rows.new.rows in
-    let rest = drop (length sorted) c.list_from.new.rows.items in
-    let moved = rw c.deref_mut.ensures.value at c.sort_rows.ensures.same_rows in
-    let same_length : c.list_from.new.rows.len ≡ length sorted =
-    sym c.deref_mut.ensures.len ∙ sym (length_permutation c.deref_mut.result.now sorted c.sort_rows.ensures.same_rows) in
-    let whole : take c.list_from.new.rows.len (sorted ++ rest) ≡ sorted = rw same_length (take-append_seam sorted rest) in
-    let all : RowsMore listed.contents [] c.list_from.new.rows.items =
-    subst (λ (none : List TableRow). RowsMore listed.contents none c.list_from.new.rows.items) c.new-table.ensures.items
-    (rows-ok c.list_from.result (RowsMore listed.contents c.new-table.result.items c.list_from.new.rows.items) (sym c.if-is_err.ensures.value) listed.rows) in
-    record {
-      contents = listed.contents;
-      sixteen = omega (arith, listed.last);
-      trace = ap (λ a. a.trace) listed.account;
-      table =
-          subst (λ (rows : List TableRow). IsListing (whole_of (content_at listed.contents)) rows) (sym whole)
-          (IsListing-all listed.contents c.list_from.new.rows.items sorted (omega (arith, listed.last)) listed.of_partitions all c.sort_rows.ensures.in_order moved);
-    }
+pub returns-then-is_err-clause-rest : goal.returns-then-is_err-clause-rest
+returns-then-is_err-clause-rest g c =
+    let listed = c.slot_rows.ensures.listed in
+    rest-read_slots (g.B.Board.seat c.args.board.now).limit c.args.own.now.database c.args.own.now.uses
+    (g.B.Board.view c.args.board.now) (g.B.Board.view c.slot_rows.new.board)
+    (g.B.Board.stack c.args.board.now) (g.B.Board.stack c.slot_rows.new.board) c.args.own.now.locals.entries
+    c.slot_rows.ensures.stack c.requires.rest _ listed.no_more listed.account
+
+pub returns-in-Ok-clause-rest : goal.returns-in-Ok-clause-rest
+returns-in-Ok-clause-rest g c =
+    let listed = c.slot_rows.ensures.listed in
+    rest-read (g.B.Board.seat c.args.board.now).limit c.args.own.now.database c.args.own.now.uses
+    (g.B.Board.view c.slot_rows.new.board) (g.B.Board.view c.list_table.new.board)
+    (g.B.Board.stack c.slot_rows.new.board) (g.B.Board.stack c.list_table.new.board) c.args.own.now.locals.entries
+    c.list_table.ensures.stack
+    (rest-read_slots (g.B.Board.seat c.args.board.now).limit c.args.own.now.database c.args.own.now.uses
+    (g.B.Board.view c.args.board.now) (g.B.Board.view c.slot_rows.new.board)
+    (g.B.Board.stack c.args.board.now) (g.B.Board.stack c.slot_rows.new.board) c.args.own.now.locals.entries
+    c.slot_rows.ensures.stack c.requires.rest _ listed.no_more listed.account)
+    c.list_table.ensures.account
+
+pub returns-in-Err-clause-rest : goal.returns-in-Err-clause-rest
+returns-in-Err-clause-rest g c =
+    let listed = c.slot_rows.ensures.listed in
+    rest-read (g.B.Board.seat c.args.board.now).limit c.args.own.now.database c.args.own.now.uses
+    (g.B.Board.view c.slot_rows.new.board) (g.B.Board.view c.list_table.new.board)
+    (g.B.Board.stack c.slot_rows.new.board) (g.B.Board.stack c.list_table.new.board) c.args.own.now.locals.entries
+    c.list_table.ensures.stack
+    (rest-read_slots (g.B.Board.seat c.args.board.now).limit c.args.own.now.database c.args.own.now.uses
+    (g.B.Board.view c.args.board.now) (g.B.Board.view c.slot_rows.new.board)
+    (g.B.Board.stack c.args.board.now) (g.B.Board.stack c.slot_rows.new.board) c.args.own.now.locals.entries
+    c.slot_rows.ensures.stack c.requires.rest _ listed.no_more listed.account)
+    c.list_table.ensures.account

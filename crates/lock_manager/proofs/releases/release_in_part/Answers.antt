@@ -11,7 +11,7 @@ put_part-requires-clause-lawful g c =
     let put = g.T.PartTable.content c.release-woken.new.part in
     let woken = c.release-woken.ensures.woken in
     let none = eqb-true (length c.release-woken.result.items) 0 (sym c.is_empty.ensures ∙ c.if-is_empty.true) in
-    let moved = subst (λ number. Moves taken number (Release c.args.tag.now c.args.mode) woken.0 put) c.number-number.ensures woken.1 in
+    let moved = subst (λ number. Moves taken number (Release c.args.tag.now c.args.mode) woken.0 put) c.number-number.ensures.value woken.1 in
     may_put_released (g.B.Board.seat c.args.board.now) (g.B.Board.view c.args.board.now) c.partition-part.result c.args.tag.now c.args.mode
     taken put woken.0 c.release-woken.result.items (sym c.partition-part.ensures.value) c.requires.held moved woken.2
     (g.B.Board.seat c.take_part-content.new.self) (g.B.Board.view c.take_part-content.new.self)
@@ -22,7 +22,7 @@ put_with_woken-requires-clause-lawful g c =
     let taken = g.T.PartTable.content c.take_part-content.result in
     let put = g.T.PartTable.content c.release-woken.new.part in
     let woken = c.release-woken.ensures.woken in
-    let moved = subst (λ number. Moves taken number (Release c.args.tag.now c.args.mode) woken.0 put) c.number-number.ensures woken.1 in
+    let moved = subst (λ number. Moves taken number (Release c.args.tag.now c.args.mode) woken.0 put) c.number-number.ensures.value woken.1 in
     release-tells (g.B.Board.seat c.args.board.now) (g.B.Board.view c.args.board.now) c.partition-part.result c.args.tag.now c.args.mode
     taken put woken.0 c.release-woken.result.items (sym c.partition-part.ensures.value) c.requires.held moved woken.2
     (g.B.Board.seat c.take_part-content.new.self) (g.B.Board.view c.take_part-content.new.self)

@@ -15,7 +15,7 @@ put_part-requires-clause-lawful g c =
     let seat = g.B.Board.seat c.args.board.now in
     let taken = g.T.PartTable.content c.take_part-content.result in
     let put = g.T.PartTable.content c.decide.new.part in
-    let moved = subst (λ number. Moves taken number (Grant c.args.tag.now c.args.mode) [] put) c.number-number.ensures
+    let moved = subst (λ number. Moves taken number (Grant c.args.tag.now c.args.mode) [] put) c.number-number.ensures.value
     (granted-moves c.args.kind taken put c.number-number.result c.args.tag.now c.args.mode (subst (λ d. IsDecided c.args.kind taken c.number-number.result c.args.tag.now c.args.mode d put) c.in-Ok-Granted.field-0-is c.in-Ok-Granted.ensures.decided)) in
     subst (λ (s : Seated). (mine : InHand) × MayPutPart s.limit s.number (g.B.Board.view c.take_part-content.new.self) c.partition-part.result mine (Grant c.args.tag.now c.args.mode) put)
     (sym c.take_part-content.ensures.seat)
@@ -27,7 +27,7 @@ set_waiting-requires g c =
     let seat = g.B.Board.seat c.args.board.now in
     let taken = g.T.PartTable.content c.take_part-content.result in
     let put = g.T.PartTable.content c.decide.new.part in
-    let moved = subst (λ number. Moves taken number (Join c.args.tag.now c.args.mode) [] put) c.number-number.ensures
+    let moved = subst (λ number. Moves taken number (Join c.args.tag.now c.args.mode) [] put) c.number-number.ensures.value
     (queued-moves c.args.kind taken put c.number-number.result c.args.tag.now c.args.mode (subst (λ d. IsDecided c.args.kind taken c.number-number.result c.args.tag.now c.args.mode d put) c.in-Ok-Queued.field-0-is c.in-Ok-Queued.ensures.decided)) in
     record {
       lawful = subst (λ (s : Seated). (mine : InHand) × MayMoveBy s.limit s.number (g.B.Board.view c.take_part-content.new.self) (Rattle.modes_core.specs.Tag.partition_of c.args.tag.now) mine (Join c.args.tag.now c.args.mode) [] put)
@@ -57,11 +57,10 @@ returns-in-Ok-Queued-clause-decided g c =
     let before = g.B.Board.view c.args.board.now in
     let taken = g.T.PartTable.content c.take_part-content.result in
     let put = g.T.PartTable.content c.decide.new.part in
-    let number : c.number-number.result ≡ seat.number = c.number-number.ensures ∙ ap (λ (s : Seated). s.number) (sym c.take_part-content.ensures.seat) in
+    let number : c.number-number.result ≡ seat.number = c.number-number.ensures.value ∙ ap (λ (s : Seated). s.number) (sym c.take_part-content.ensures.seat) in
     subst (λ (s : Seated). Rattle.lock_manager.specs.Requests.DecidesInPart c.args.kind s.number before c.args.tag.now c.args.mode (Ok Queued) (g.B.Board.view c.put_part-in-Ok-Queued.new.self)) c.take_part-content.ensures.seat
     (queues-in_part seat.limit seat.number before (g.B.Board.view c.take_part-content.new.self) (g.B.Board.stack c.args.board.now) c.partition-part.result c.args.tag.now c.args.mode
     taken put c.requires.idle c.partition-part.ensures.value c.take_part-content.ensures.view c.args.kind (g.B.Board.view c.set_waiting.new.self) (g.B.Board.view c.put_part-in-Ok-Queued.new.self)
-    (subst (λ (s : Seated). Rattle.lock_world.specs.AccountFacts.KnowsContent s.number before c.partition-part.result taken) (sym c.take_part-content.ensures.seat) c.take_part-content.ensures.knows)
     c.set_waiting.ensures.view c.put_part-in-Ok-Queued.ensures.view
     (subst (λ k. IsDecided c.args.kind taken k c.args.tag.now c.args.mode Queued put) number
     (subst (λ d. IsDecided c.args.kind taken c.number-number.result c.args.tag.now c.args.mode d put) c.in-Ok-Queued.field-0-is c.in-Ok-Queued.ensures.decided)))

@@ -5,7 +5,7 @@ use Rattle.lock_manager.proofs.waiting.has_waiters.Goals as goal
 
 pub returns-then-total-eq0-clause-not_held : goal.returns-then-total-eq0-clause-not_held
 returns-then-total-eq0-clause-not_held g c = (
-  λ is. not_had c.args.locals.now.entries c.args.locals.now.entries c.args.tag c.args.mode c.total.result refl c.total.ensures.well_owned.counted c.total.ensures.total c.if-total-eq0.true,
+  λ is. not_had c.args.own.now.locals.entries c.args.own.now.locals.entries c.args.tag c.args.mode c.total.result refl c.total.ensures.well_owned.counted c.total.ensures.total c.if-total-eq0.true,
   λ none. refl,
 )
 

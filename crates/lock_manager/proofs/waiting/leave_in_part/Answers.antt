@@ -17,7 +17,7 @@ clear_wait-requires g c =
     let seat = g.B.Board.seat c.args.board.now in
     let taken = g.T.PartTable.content c.take_part-content.result in
     let put = g.T.PartTable.content c.remove_waiter-removed.new.part in
-    let found = removal-found taken put c.args.tag.now c.number-number.result seat.number c.remove_waiter-removed.result.was_granted c.number-number.ensures
+    let found = removal-found taken put c.args.tag.now c.number-number.result seat.number c.remove_waiter-removed.result.was_granted c.number-number.ensures.value
     c.remove_waiter-removed.ensures.found c.remove_waiter-removed.ensures.unchanged c.if-removed.true in
     record {
       lawful = subst (λ (s : Seated). (its : OwnWait) × MayClearBy s.number (g.B.Board.view c.take_part-content.new.self) its) (sym c.take_part-content.ensures.seat)
@@ -31,7 +31,7 @@ put_part-requires-clause-lawful g c =
     let seat = g.B.Board.seat c.args.board.now in
     let taken = g.T.PartTable.content c.take_part-content.result in
     let put = g.T.PartTable.content c.remove_waiter-removed.new.part in
-    let found = removal-found taken put c.args.tag.now c.number-number.result seat.number c.remove_waiter-removed.result.was_granted c.number-number.ensures
+    let found = removal-found taken put c.args.tag.now c.number-number.result seat.number c.remove_waiter-removed.result.was_granted c.number-number.ensures.value
     c.remove_waiter-removed.ensures.found c.remove_waiter-removed.ensures.unchanged c.if-removed.true in
     let clears = cleared-same seat (g.B.Board.seat c.take_part-content.new.self) (g.B.Board.view c.take_part-content.new.self) (g.B.Board.view c.clear_wait.new.self)
     c.take_part-content.ensures.seat c.clear_wait.ensures.view in
@@ -45,7 +45,7 @@ returns-then-removed-clause-steps g c =
     let seat = g.B.Board.seat c.args.board.now in
     let taken = g.T.PartTable.content c.take_part-content.result in
     let put = g.T.PartTable.content c.remove_waiter-removed.new.part in
-    let found = removal-found taken put c.args.tag.now c.number-number.result seat.number c.remove_waiter-removed.result.was_granted c.number-number.ensures
+    let found = removal-found taken put c.args.tag.now c.number-number.result seat.number c.remove_waiter-removed.result.was_granted c.number-number.ensures.value
     c.remove_waiter-removed.ensures.found c.remove_waiter-removed.ensures.unchanged c.if-removed.true in
     let clears = cleared-same seat (g.B.Board.seat c.take_part-content.new.self) (g.B.Board.view c.take_part-content.new.self) (g.B.Board.view c.clear_wait.new.self)
     c.take_part-content.ensures.seat c.clear_wait.ensures.view in
@@ -59,7 +59,7 @@ returns-then-removed-clause-account g c =
     let seat = g.B.Board.seat c.args.board.now in
     let taken = g.T.PartTable.content c.take_part-content.result in
     let put = g.T.PartTable.content c.remove_waiter-removed.new.part in
-    let found = removal-found taken put c.args.tag.now c.number-number.result seat.number c.remove_waiter-removed.result.was_granted c.number-number.ensures
+    let found = removal-found taken put c.args.tag.now c.number-number.result seat.number c.remove_waiter-removed.result.was_granted c.number-number.ensures.value
     c.remove_waiter-removed.ensures.found c.remove_waiter-removed.ensures.unchanged c.if-removed.true in
     let clears = cleared-same seat (g.B.Board.seat c.take_part-content.new.self) (g.B.Board.view c.take_part-content.new.self) (g.B.Board.view c.clear_wait.new.self)
     c.take_part-content.ensures.seat c.clear_wait.ensures.view in
@@ -76,7 +76,7 @@ leave_queue-requires g c =
     let taken = g.T.PartTable.content c.take_part-content.result in
     let put = g.T.PartTable.content c.remove_waiter-removed.new.part in
     let woken = c.remove_waiter-removed.result.woken.items in
-    let left = removal-left taken put c.args.tag.now c.number-number.result seat.number c.remove_waiter-removed.result.was_granted woken c.number-number.ensures
+    let left = removal-left taken put c.args.tag.now c.number-number.result seat.number c.remove_waiter-removed.result.was_granted woken c.number-number.ensures.value
     c.remove_waiter-removed.ensures.found c.remove_waiter-removed.ensures.removed c.if-removed.false in
     record {
       lawful = subst (λ (s : Seated). (its : OwnWait) × (mine : InHand) × (others : List Wait) × (woken ≡ map whose_and_mode others)
@@ -92,7 +92,7 @@ put_with_woken-requires-clause-lawful g c =
     let taken = g.T.PartTable.content c.take_part-content.result in
     let put = g.T.PartTable.content c.remove_waiter-removed.new.part in
     let woken = c.remove_waiter-removed.result.woken.items in
-    let left = removal-left taken put c.args.tag.now c.number-number.result seat.number c.remove_waiter-removed.result.was_granted woken c.number-number.ensures
+    let left = removal-left taken put c.args.tag.now c.number-number.result seat.number c.remove_waiter-removed.result.was_granted woken c.number-number.ensures.value
     c.remove_waiter-removed.ensures.found c.remove_waiter-removed.ensures.removed c.if-removed.false in
     leave-tells seat.number (g.B.Board.view c.args.board.now) (g.B.Board.stack c.args.board.now) c.partition-part.result c.args.tag.now c.args.mode taken
     c.requires.waiting c.partition-part.ensures.value put left.0 woken left.1 left.2

@@ -1,9 +1,9 @@
 use Rattle.std.proofs.Common.{◌∙◌, ◌++◌, ◌∷◌, [], ap, subst, sym}
-use Rattle.local_locks.specs.Owned.{Owned}
 use Rattle.lock_world.specs.Account.{Account}
 use Rattle.shared_rule.specs.Boards.{Seated}
 use Rattle.lock_world.specs.declared.events.Word.TheVariants.{Wait}
 use Rattle.lock_world.specs.World.{Loaded}
+use Rattle.lock_manager.specs.declared.sessions.Own.{Own}
 use Rattle.lock_manager.specs.Waiting.{IsWaiting}
 use Rattle.lock_manager.proofs.Watching.{watching-next, still_not_granted}
 use Rattle.lock_manager.proofs.waiting.wait.Goals as goal
@@ -11,16 +11,18 @@ use Rattle.lock_manager.proofs.waiting.wait.Goals as goal
 pub loop-preserved : goal.loop-preserved
 loop-preserved g c =
     let seat = c.load_wait-shown.ensures.seat ∙ c.loop.invariant.seat in
-    let locals = c.in-Still.ensures.same_locals still_not_granted ∙ c.loop.invariant.locals in
+    let own = c.in-Still.ensures.same_own still_not_granted ∙ c.loop.invariant.own in
     record {
-      waiting = subst (λ (s : Seated). IsWaiting s.limit (g.B.Board.view c.take_up.new.board) (g.B.Board.stack c.take_up.new.board) c.args.locals.now.entries c.args.tag c.args.mode) seat
-          (subst (λ (its : Owned). IsWaiting (g.B.Board.seat c.load_wait-shown.new.self).limit (g.B.Board.view c.take_up.new.board) (g.B.Board.stack c.take_up.new.board) its.entries c.args.tag c.args.mode)
-          locals (c.in-Still.ensures.waiting still_not_granted));
+      waiting = subst (λ (s : Seated). IsWaiting s.limit c.args.own.now.database c.args.own.now.uses (g.B.Board.view c.take_up.new.board) (g.B.Board.stack c.take_up.new.board) c.args.own.now.locals.entries c.args.tag c.args.mode) seat
+          (subst (λ (its : Own). IsWaiting (g.B.Board.seat c.load_wait-shown.new.self).limit its.database its.uses (g.B.Board.view c.take_up.new.board) (g.B.Board.stack c.take_up.new.board) c.args.own.now.locals.entries c.args.tag c.args.mode)
+          c.loop.invariant.own
+          (subst (λ (its : Own). IsWaiting (g.B.Board.seat c.load_wait-shown.new.self).limit c.loop.own.database c.loop.own.uses (g.B.Board.view c.take_up.new.board) (g.B.Board.stack c.take_up.new.board) its.locals.entries c.args.tag c.args.mode)
+          own (c.in-Still.ensures.waiting still_not_granted)));
       watching = watching-next (g.B.Board.seat c.args.board.now).number (g.B.Board.view c.args.board.now).trace (g.B.Board.view c.loop.board).trace (g.B.Board.view c.load_wait-shown.new.self).trace
           c.load_wait-shown.result c.loop.invariant.watching
           (ap (λ (a : Account). a.trace) c.load_wait-shown.ensures.view
           ∙ ap (λ (s : Seated). (g.B.Board.view c.loop.board).trace ++ Loaded (Wait s.number) c.load_wait-shown.result ∷ []) c.loop.invariant.seat)
           (g.B.Board.view c.take_up.new.board).trace c.in-Still.ensures.no_step (sym c.in-Still.ensures.answer);
-      locals = locals;
+      own = own;
       seat = c.take_up.ensures.seat ∙ seat;
     }

@@ -15,6 +15,7 @@ use Rattle.lock_world.specs.SafeWorld.{SafeWorld, slots_of, own_but, tabled}
 use Rattle.lock_world.proofs.Slots.Eligible.{eligible-is, is_in-held}
 use Rattle.lock_world.proofs.Slots.Clearing.{slot_holds-clear, OneSlotEach-clear}
 use Rattle.lock_world.proofs.Slots.Databases.{InUseHasDatabase-eligible}
+use Rattle.lock_world.proofs.Slots.Remembered.{remembered-both}
 use Rattle.lock_world.proofs.SafeWorld.Tabled.{with_own-safe}
 use Rattle.lock_world.proofs.SafeWorld.OneSession.{OwnIsInOrder-one, StrongIsDone-one}
 use Rattle.lock_world.proofs.SafeWorld.Changes.{with_fast_path-safe, slots_of-set, own_but-both, are_own-both}
@@ -52,7 +53,7 @@ module _ (w : World) (s i : ℕ) (t : Tag) (m : Mode) (safe : SafeWorld w) (may 
   clearing_slot-safe_world = record {
     but_slots = with_own-safe (after_clearing_slot w s i t m) _ _
         (sym (own_but-both own slots s t m false in_slot) ∙ ap (own_but own') (sym clearing-slots))
-        (with_fast_path-safe (tabled w) w.words.database (set_at w.words.slot s words') w.words.strong w.sessions.counted w.sessions.zero w.sessions.trace safe.but_slots safe.but_slots.traces);
+        (with_fast_path-safe (tabled w) w.words.database (set_at w.words.slot s words') w.words.strong w.sessions.counted w.sessions.zero (set_at w.sessions.remembered s words') w.sessions.trace safe.but_slots safe.but_slots.traces);
     lists = safe.lists;
     slots = record {
       are_own = subst (λ shown. (k : ℕ) (o : Tag) (n : Mode) → shown k o n ≡ true → own' k o n ≡ true) (sym clearing-slots) (are_own-both own slots s t m false safe.slots.are_own);
@@ -68,4 +69,5 @@ module _ (w : World) (s i : ℕ) (t : Tag) (m : Mode) (safe : SafeWorld w) (may 
     done = StrongIsDone-one own own' w.sessions.awaited w.sessions.awaited s own_else (λ _ _. refl) w.numbers.limit w.sessions.counted safe.done
         (λ o n strong has. safe.done.held s o n strong (set_hold-was own s t m o n has)) (safe.done.awaits s);
     zero = safe.zero;
+    remembered = remembered-both w.words.slot w.sessions.remembered s words' safe.remembered;
   }

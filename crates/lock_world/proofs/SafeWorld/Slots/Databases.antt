@@ -34,7 +34,7 @@ storing-slots w s d may = λ i k. at k i where
 pub storing_database-safe_world : (w : World) (s d : ℕ) → SafeWorld w → MayStoreDatabase w s → SafeWorld (after_storing_database w s d)
 storing_database-safe_world w s d safe may = record {
   but_slots = with_own-safe (after_storing_database w s d) _ _ (ap (own_but w.sessions.own) (sym (storing-slots w s d may)))
-      (with_fast_path-safe (tabled w) (set_at w.words.database s d) w.words.slot w.words.strong w.sessions.counted w.sessions.zero w.sessions.trace safe.but_slots safe.but_slots.traces);
+      (with_fast_path-safe (tabled w) (set_at w.words.database s d) w.words.slot w.words.strong w.sessions.counted w.sessions.zero w.sessions.remembered w.sessions.trace safe.but_slots safe.but_slots.traces);
   lists = safe.lists;
   slots = record {
     are_own = subst (λ shown. (k : ℕ) (o : Tag) (n : Mode) → shown k o n ≡ true → w.sessions.own k o n ≡ true) (sym (storing-slots w s d may)) safe.slots.are_own;
@@ -47,4 +47,5 @@ storing_database-safe_world w s d safe may = record {
   past = subst (PastHasNoSlot w.sessions.counted) (sym (storing-slots w s d may)) safe.past;
   done = safe.done;
   zero = safe.zero;
+  remembered = safe.remembered;
 }

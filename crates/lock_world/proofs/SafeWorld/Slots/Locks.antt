@@ -10,6 +10,7 @@ use Rattle.lw_word.specs.LightweightWord.{taken_word, put_word}
 use Rattle.lw_word.proofs.WordLemmas.{taken_word-flags, put_word-flags}
 use Rattle.lock_world.specs.Happens.Lists.{sleepers}
 use Rattle.lock_world.proofs.ListWords.{flags-fast}
+use Rattle.lock_world.proofs.Slots.Remembered.{remembered-seen}
 use Rattle.lock_world.proofs.Safe.Slots.{taking_fast-safe, putting_fast-safe}
 
 -- A session that takes one lock more has those it had.
@@ -37,6 +38,7 @@ taking_fast-safe_world w s o safe may = record {
     holds = λ k index read. holds-taken w.sessions.holds_fast s o k (safe.zero.holds k index read);
     nobody_is_past = safe.zero.nobody_is_past;
   };
+  remembered = remembered-seen w.words.slot w.sessions.remembered s o safe.remembered;
 }
 
 -- A counter read as 0 is what was read before the lock was put, and it was not the reader's own lock.
@@ -77,4 +79,5 @@ putting_fast-safe_world w s o safe may = record {
     holds = λ k index read. let before = zero-after w.sessions.zero s o k index read in holds-put w.sessions.holds_fast s o k before.1 (safe.zero.holds k index before.0);
     nobody_is_past = λ k j t read. safe.zero.nobody_is_past k j t (zero-after w.sessions.zero s o k _ read).0;
   };
+  remembered = safe.remembered;
 }

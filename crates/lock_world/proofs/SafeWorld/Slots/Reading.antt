@@ -24,7 +24,7 @@ loaded-traces w s word n safe alive =
 -- Loading a word is safe.
 pub loading-safe_world : (w : World) (s : ℕ) (word : Word) (n : ℕ) → SafeWorld w → MayLoad w s word n → SafeWorld (after_loading w s word n)
 loading-safe_world w s word n safe may = record {
-  but_slots = with_fast_path-safe (tabled w) w.words.database w.words.slot w.words.strong w.sessions.counted w.sessions.zero (after_loading w s word n).sessions.trace safe.but_slots
+  but_slots = with_fast_path-safe (tabled w) w.words.database w.words.slot w.words.strong w.sessions.counted w.sessions.zero w.sessions.remembered (after_loading w s word n).sessions.trace safe.but_slots
       (loaded-traces w s word n safe may.steps.live);
   lists = safe.lists;
   slots = safe.slots;
@@ -33,6 +33,7 @@ loading-safe_world w s word n safe may = record {
   past = safe.past;
   done = safe.done;
   zero = safe.zero;
+  remembered = safe.remembered;
 }
 
 -- Where a counter is 0 nobody, live or not, has counted anything at its index.
@@ -49,7 +50,7 @@ nothing-counted w safe index k none =
 -- Reading a strong lock counter is safe.
 pub reading_counter-safe_world : (w : World) (s index n : ℕ) → SafeWorld w → MayLoad w s (Strong index) n → SafeWorld (after_reading_counter w s index n)
 reading_counter-safe_world w s index n safe may = record {
-  but_slots = with_fast_path-safe (tabled w) w.words.database w.words.slot w.words.strong w.sessions.counted zero' (after_loading w s (Strong index) n).sessions.trace safe.but_slots
+  but_slots = with_fast_path-safe (tabled w) w.words.database w.words.slot w.words.strong w.sessions.counted zero' w.sessions.remembered (after_loading w s (Strong index) n).sessions.trace safe.but_slots
       (loaded-traces w s (Strong index) n safe may.steps.live);
   lists = safe.lists;
   slots = safe.slots;
@@ -61,6 +62,7 @@ reading_counter-safe_world w s index n safe may = record {
     | inl permits ↦ subst (λ zero. ZeroIsAPermission zero w.sessions.holds_fast w.sessions.counted) (sym (cond-true ((n == 0) && w.sessions.holds_fast s s) set w.sessions.zero permits)) (permitted permits)
     | inr not_permits ↦ subst (λ zero. ZeroIsAPermission zero w.sessions.holds_fast w.sessions.counted) (sym (cond-false ((n == 0) && w.sessions.holds_fast s s) set w.sessions.zero not_permits)) safe.zero
   ];
+  remembered = safe.remembered;
 } where
   set : ℕ → Option ℕ
   set = set_at w.sessions.zero s (Some index)

@@ -19,6 +19,7 @@ use Rattle.lock_world.specs.SafeWorld.{SafeWorld, slots_of, own_but, tabled}
 use Rattle.lock_world.proofs.Slots.Eligible.{eligible-is}
 use Rattle.lock_world.proofs.Slots.Setting.{slot_holds-set, OneSlotEach-set}
 use Rattle.lock_world.proofs.Slots.Databases.{InUseHasDatabase-eligible}
+use Rattle.lock_world.proofs.Slots.Remembered.{remembered-both}
 use Rattle.lock_world.proofs.SafeWorld.Tabled.{with_own-safe, own_but-false}
 use Rattle.lock_world.proofs.SafeWorld.OneSession.{OwnIsInOrder-one, StrongIsDone-one}
 use Rattle.lock_world.proofs.SafeWorld.Changes.{with_fast_path-safe, slots_of-set, own_but-both, are_own-both}
@@ -62,7 +63,7 @@ module _ (w : World) (s i : ℕ) (t : Tag) (m : Mode) (safe : SafeWorld w) (may 
   setting_slot-safe_world = record {
     but_slots = with_own-safe (after_setting_slot w s i t m) _ _
         (sym (own_but-both own slots s t m true (own_but-false own slots s t m may.new)) ∙ ap (own_but own') (sym setting-slots))
-        (with_fast_path-safe (tabled w) w.words.database (set_at w.words.slot s words') w.words.strong w.sessions.counted w.sessions.zero w.sessions.trace safe.but_slots safe.but_slots.traces);
+        (with_fast_path-safe (tabled w) w.words.database (set_at w.words.slot s words') w.words.strong w.sessions.counted w.sessions.zero (set_at w.sessions.remembered s words') w.sessions.trace safe.but_slots safe.but_slots.traces);
     lists = safe.lists;
     slots = record {
       are_own = subst (λ shown. (k : ℕ) (o : Tag) (n : Mode) → shown k o n ≡ true → own' k o n ≡ true) (sym setting-slots) (are_own-both own slots s t m true safe.slots.are_own);
@@ -83,4 +84,5 @@ module _ (w : World) (s i : ℕ) (t : Tag) (m : Mode) (safe : SafeWorld w) (may 
         ])
         (safe.done.awaits s);
     zero = safe.zero;
+    remembered = remembered-both w.words.slot w.sessions.remembered s words' safe.remembered;
   }

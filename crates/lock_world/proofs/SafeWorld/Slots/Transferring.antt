@@ -18,6 +18,7 @@ use Rattle.lock_world.specs.SafeWorld.{SafeWorld, slots_of, own_but, tabled}
 use Rattle.lock_world.proofs.Slots.Eligible.{eligible-is, is_in-held}
 use Rattle.lock_world.proofs.Slots.Clearing.{slot_holds-clear, OneSlotEach-clear}
 use Rattle.lock_world.proofs.Slots.Databases.{InUseHasDatabase-eligible}
+use Rattle.lock_world.proofs.Slots.Remembered.{remembered-cleared}
 use Rattle.lock_world.proofs.FromSafeWorld.{no_conflict-slot_content}
 use Rattle.lock_world.proofs.Safe.Transfers.{with_adopted, adopting-safe}
 use Rattle.lock_world.proofs.SafeWorld.Tabled.{with_own-safe}
@@ -83,7 +84,7 @@ module _ (w : World) (s owner i : ℕ) (t : Tag) (m strong : Mode) (safe : SafeW
   transferring-safe_world = record {
     but_slots = with_own-safe (after_transferring w owner i t m) _ _
         (own_but-moved own slots owner t m is_own ∙ ap (own_but own) (sym transferring-slots))
-        (with_fast_path-safe (with_adopted (tabled w) owner i t m) w.words.database (set_at w.words.slot owner words') w.words.strong w.sessions.counted w.sessions.zero w.sessions.trace
+        (with_fast_path-safe (with_adopted (tabled w) owner i t m) w.words.database (set_at w.words.slot owner words') w.words.strong w.sessions.counted w.sessions.zero w.sessions.remembered w.sessions.trace
         adopted adopted.traces);
     lists = safe.lists;
     slots = record {
@@ -98,6 +99,8 @@ module _ (w : World) (s owner i : ℕ) (t : Tag) (m strong : Mode) (safe : SafeW
     past = subst (PastHasNoSlot w.sessions.counted) (sym transferring-slots) (λ j k o n gone. none_more k o n (safe.past j k o n gone));
     done = safe.done;
     zero = safe.zero;
+    remembered = remembered-cleared w.words.slot w.sessions.remembered owner i m
+        (eligible-is (w.words.database owner) t m may.held_in.eligible).2 safe.remembered;
   } where
     adopted : SafeButSlots (with_adopted (tabled w) owner i t m)
     adopted = adopting-safe (tabled w) s owner i t m safe.but_slots may.holding alive may.may_adopt

@@ -1,0 +1,11 @@
+mod Loading
+mod Words
+mod Granting
+mod Releasing
+pub mod Counting
+pub mod Showing
+pub mod Moving
+pub mod Adopting
+pub mod Passing
+pub mod Transferring
+pub mod SlotRows

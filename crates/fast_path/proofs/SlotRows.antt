@@ -1,0 +1,238 @@
+use Rattle.std.proofs.Common.{◌≡◌, ℕ, zero, suc, ◌+◌, ◌<◌, List, [], ◌∷◌, ◌++◌, length, take}
+use Rattle.std.proofs.Common.{Result, Ok, Err, OnOk, refl, sym, ap, ◌∙◌, subst, arith, append_assoc}
+use Rattle.std.proofs.Common.{append-nil}
+use Rattle.std.proofs.lemmas.List.{take_at}
+use Rattle.lock_table.specs.declared.no_memory.NoMemory.{NoMemory}
+use Rattle.lock_table.specs.declared.rows.SlotRow.{SlotRow}
+use Rattle.lock_table.specs.Put.{set_at}
+use Rattle.lock_table.proofs.PutLemmas.{set_at-here, set_at-else}
+use Rattle.lock_world.specs.declared.events.Word.TheVariants.{Database}
+use Rattle.lock_world.specs.SlotHolds.{slot_count}
+use Rattle.lock_world.specs.World.{TraceEntry, Loaded}
+use Rattle.lock_world.specs.Account.{Account}
+use Rattle.lock_world.specs.AccountSteps.{account_putting_fast}
+use Rattle.shared_rule.specs.History.{slots_here}
+use Rattle.fast_path.specs.Slots.{word_of, AreWords, slot_loads, account_loading}
+use Rattle.fast_path.specs.Rows.{database_in, rows_of_slot, rows_below, rows_of_session, rows_of_all, loads_of_all}
+use Rattle.fast_path.specs.Rows.{ListsSlots, ListsSession, BeginsWith}
+use Rattle.fast_path.specs.Turns.{IsUnlocked}
+use Rattle.fast_path.specs.Transfers.{IsAfterScan}
+use Rattle.fast_path.proofs.Passing.{Looks, slots-looked, looked-loads, after-put}
+
+-- Rows of what sessions' slots show.
+
+-- ---- lists, one behind another
+
+pub rows_below-start : (old : List SlotRow) (rows : ℕ → List SlotRow) → old ≡ old ++ rows_below 0 rows
+unfolding rows_below
+rows_below-start old rows = sym (append-nil old)
+
+pub rows_below-more :
+    (limit : ℕ) (rows : ℕ → List SlotRow) (old before after : List SlotRow) → before ≡ old ++ rows_below limit rows
+    → after ≡ before ++ rows limit
+    → after ≡ old ++ rows_below (limit + 1) rows
+unfolding rows_below
+rows_below-more limit rows old before after so_far more =
+    let one : suc limit ≡ limit + 1 = omega arith in
+    more ∙ ap (λ xs. xs ++ rows limit) so_far ∙ append_assoc old (rows_below limit rows) (rows limit)
+    ∙ ap (λ n. old ++ rows_below n rows) one
+
+rows_below-same : (limit : ℕ) (f g : ℕ → List SlotRow) → ((k : ℕ) → k < limit → f k ≡ g k)
+    → rows_below limit f ≡ rows_below limit g
+unfolding rows_below
+rows_below-same zero f g same = refl
+rows_below-same (suc limit) f g same =
+    let before : rows_below limit f ≡ rows_below limit g = rows_below-same limit f g
+    (λ k below. same k (omega (arith, below))) in
+    let last : f limit ≡ g limit = same limit (omega arith) in
+    (λ i. before i ++ last i)
+
+loads-same :
+    (limit : ℕ) (f g : ℕ → ℕ) (v w : ℕ → ℕ → ℕ) → ((k : ℕ) → k < limit → f k ≡ g k) → ((k : ℕ) → k < limit → v k ≡ w k)
+    → loads_of_all limit f v ≡ loads_of_all limit g w
+unfolding loads_of_all
+loads-same zero f g v w same same_words = refl
+loads-same (suc limit) f g v w same same_words =
+    let before : loads_of_all limit f v ≡ loads_of_all limit g w =
+    loads-same limit f g v w (λ k below. same k (omega (arith, below)))
+    (λ k below. same_words k (omega (arith, below))) in
+    let last : f limit ≡ g limit = same limit (omega arith) in
+    let last_words : v limit ≡ w limit = same_words limit (omega arith) in
+    (λ i. before i ++ Loaded (Database limit) (last i) ∷ slot_loads limit (last_words i) slot_count)
+
+-- One session's more.
+loads-more :
+    (limit : ℕ) (database : ℕ → ℕ) (word : ℕ → ℕ → ℕ) (shown : ℕ) (its : ℕ → ℕ)
+    → loads_of_all limit database word ++ Loaded (Database limit) shown ∷ slot_loads limit its slot_count
+    ≡ loads_of_all (suc limit) (set_at database limit shown) (set_at word limit its)
+unfolding loads_of_all
+loads-more limit database word shown its =
+    let before : loads_of_all limit database word ≡ loads_of_all limit (set_at database limit shown)
+    (set_at word limit its) =
+    loads-same limit database (set_at database limit shown) word (set_at word limit its)
+    (λ k below. sym (set_at-else database limit shown k (λ same. omega (arith, below, same))))
+    (λ k below. sym (set_at-else word limit its k (λ same. omega (arith, below, same)))) in
+    (λ i. before i ++ Loaded (Database limit) (sym (set_at-here database limit shown limit refl) i)
+    ∷ slot_loads limit (sym (set_at-here word limit its limit refl) i) slot_count)
+
+rows-more :
+    (limit : ℕ) (database : ℕ → ℕ) (word : ℕ → ℕ → ℕ) (shown : ℕ) (its : ℕ → ℕ)
+    → rows_of_all limit database word ++ rows_of_session limit (database_in shown) its
+    ≡ rows_of_all (suc limit) (set_at database limit shown) (set_at word limit its)
+unfolding rows_below
+rows-more limit database word shown its =
+    let before : rows_of_all limit database word ≡ rows_of_all limit (set_at database limit shown)
+    (set_at word limit its) =
+    rows_below-same limit (λ k. rows_of_session k (database_in (database k)) (word k))
+    (λ k. rows_of_session k (database_in (set_at database limit shown k)) (set_at word limit its k))
+    (λ k below. (λ i. rows_of_session k
+    (database_in (sym (set_at-else database limit shown k (λ same. omega (arith, below, same))) i))
+    (sym (set_at-else word limit its k (λ same. omega (arith, below, same))) i))) in
+    (λ i. before i ++ rows_of_session limit (database_in (sym (set_at-here database limit shown limit refl) i))
+    (sym (set_at-here word limit its limit refl) i))
+
+-- ---- a list that begins with another
+
+pub behind-itself : (xs : List SlotRow) → BeginsWith xs xs
+behind-itself xs = ([], sym (append-nil xs))
+
+pub behind-more : (xs ys zs : List SlotRow) → BeginsWith xs ys → BeginsWith ys zs → BeginsWith xs zs
+behind-more xs ys zs first second =
+    (first.0 ++ second.0, second.1 ∙ ap (λ its. its ++ second.0) first.1 ∙ append_assoc xs first.0 second.0)
+
+-- Cut to what it had it is what it was.
+pub behind-cut : (xs ys zs : List SlotRow) (n : ℕ) → BeginsWith xs ys → n ≡ length xs → zs ≡ take n ys → zs ≡ xs
+behind-cut xs ys zs n behind is cut = cut ∙ ap (take n) behind.1 ∙ take_at xs behind.0 n (sym is)
+
+-- ---- one session
+
+pub lists-session :
+    (number : ℕ) (a b v c : Account) (owner shown database : ℕ) (words : List ℕ) (old new : List SlotRow)
+    (result : Result (Unit {0}) NoMemory)
+    → IsUnlocked a → Looks a owner shown b → v ≡ account_loading b owner
+    (slots_here (b.fast.slots owner)).word slot_count
+    → AreWords words (slots_here (b.fast.slots owner)).word → c ≡ account_putting_fast number v owner
+    → database ≡ database_in shown
+    → OnOk result (new ≡ old ++ rows_of_session owner database (word_of words)) → ListsSession a owner old result new c
+lists-session number a b v c owner shown database words old new result unlocked looked loaded are put same listed =
+    record {
+      shown = shown;
+      word = looked.slots.word;
+      listed = at result listed;
+      no_more = after.no_more;
+      account = after.account;
+    } where
+      after : IsAfterScan a a.fast.counted (Loaded (Database owner) shown ∷ slot_loads owner looked.slots.word slot_count) c
+      after = after-put number a v c owner looked.slots looked.remembered
+          (Loaded (Database owner) shown ∷ slot_loads owner looked.slots.word slot_count)
+          unlocked looked.no_more (looked-loads a b v owner shown looked loaded) put
+
+      rows : rows_of_session owner database (word_of words) ≡ rows_of_session owner (database_in shown) looked.slots.word
+      rows = rows_below-same slot_count (λ place. rows_of_slot owner database place (word_of words place))
+          (λ place. rows_of_slot owner (database_in shown) place (looked.slots.word place))
+          (λ place within. (λ i. rows_of_slot owner (same i) place
+          ((are place within ∙ (λ j. (slots_here (slots-looked a b owner shown looked j)).word place)) i)))
+
+      at : (r : Result (Unit {0}) NoMemory) → OnOk r (new ≡ old ++ rows_of_session owner database (word_of words))
+          → OnOk r (new ≡ old ++ rows_of_session owner (database_in shown) looked.slots.word)
+      at (Ok done) is = is ∙ (λ i. old ++ rows i)
+      at (Err refusal) is = tt
+
+-- ---- one session after another
+
+pub listing-begun : (a : Account) (old : List SlotRow) → ListsSlots 0 a old (Ok tt) old a
+unfolding loads_of_all
+listing-begun a old = record {
+  database = λ _. 0;
+  word = λ _ _. 0;
+  listed = rows_below-start old (λ session. rows_of_session session 0 (λ _. 0));
+  kept = tt;
+  loaded = 0;
+  within = omega arith;
+  all_loaded = refl;
+  no_more = λ place relation mode within shown. shown;
+  account = (λ i. record a { trace = sym (append-nil a.trace) i });
+}
+
+module _ (k : ℕ) (a b c : Account) (old mid new : List SlotRow) (so_far : ListsSlots k a old (Ok tt) mid b) where
+  -- the account with one session more
+  account-next :
+      (shown : ℕ) (its : ℕ → ℕ)
+      → c ≡ record b {
+        fast = record (b.fast) { remembered = c.fast.remembered };
+        trace =
+            b.trace ++ Loaded (Database k) shown ∷ slot_loads k its slot_count;
+      }
+      → c ≡ record a {
+        fast = record (a.fast) { remembered = c.fast.remembered };
+        trace = a.trace ++ loads_of_all (k + 1) (set_at so_far.database k shown) (set_at so_far.word k its);
+      }
+  account-next shown its is =
+      let one : suc k ≡ k + 1 = omega arith in
+      let loads : List TraceEntry = Loaded (Database k) shown ∷ slot_loads k its slot_count in
+      is
+      ∙ ap (λ (x : Account).
+      record x { fast = record (x.fast) { remembered = c.fast.remembered }; trace = x.trace ++ loads })
+      so_far.account
+      ∙ (λ i. record a {
+        fast = record (a.fast) { remembered = c.fast.remembered };
+        trace = (a.trace ++ loads_of_all (so_far.all_loaded i) so_far.database so_far.word) ++ loads;
+      })
+      ∙ (λ i. record a {
+        fast = record (a.fast) { remembered = c.fast.remembered };
+        trace = append_assoc a.trace (loads_of_all k so_far.database so_far.word) loads i;
+      })
+      ∙ (λ i. record a {
+        fast = record (a.fast) { remembered = c.fast.remembered };
+        trace = a.trace ++ loads-more k so_far.database so_far.word shown its i;
+      })
+      ∙ (λ i. record a {
+        fast = record (a.fast) { remembered = c.fast.remembered };
+        trace = a.trace ++ loads_of_all (one i) (set_at so_far.database k shown) (set_at so_far.word k its);
+      })
+
+  pub listing-next : (done : Unit {0}) → ListsSession b k mid (Ok done) new c → ListsSlots (k + 1) a old (Ok tt) new c
+  listing-next done session =
+      let one : suc k ≡ k + 1 = omega arith in
+      record {
+        database = set_at so_far.database k session.shown;
+        word = set_at so_far.word k session.word;
+        listed = session.listed
+            ∙ ap (λ xs. xs ++ rows_of_session k (database_in session.shown) session.word) so_far.listed
+            ∙ append_assoc old (rows_of_all k so_far.database so_far.word)
+            (rows_of_session k (database_in session.shown) session.word)
+            ∙ ap (λ xs. old ++ xs) (rows-more k so_far.database so_far.word session.shown session.word)
+            ∙ ap (λ n. old ++ rows_of_all n (set_at so_far.database k session.shown)
+            (set_at so_far.word k session.word)) one;
+        kept = tt;
+        loaded = k + 1;
+        within = omega arith;
+        all_loaded = refl;
+        no_more = λ place relation mode within shown.
+            so_far.no_more place relation mode within (session.no_more place relation mode within shown);
+        account = account-next session.shown session.word session.account;
+      }
+
+  pub listing-stops :
+      (limit : ℕ) (refusal : NoMemory) (cut : List SlotRow) → k < limit → ListsSession b k mid (Err refusal) new c
+      → cut ≡ old
+      → ListsSlots limit a old (Err refusal) cut c
+  listing-stops limit refusal cut exists session same = record {
+    database = set_at so_far.database k session.shown;
+    word = set_at so_far.word k session.word;
+    listed = tt;
+    kept = same;
+    loaded = k + 1;
+    within = omega (arith, exists);
+    all_loaded = tt;
+    no_more = λ place relation mode within shown.
+        so_far.no_more place relation mode within (session.no_more place relation mode within shown);
+    account = account-next session.shown session.word session.account;
+  }
+
+  pub listing-unlocked : IsUnlocked a → IsUnlocked b
+  listing-unlocked unlocked = subst (λ (x : Account). IsUnlocked x) (sym so_far.account) (record {
+    no_content = unlocked.no_content;
+    no_slots = unlocked.no_slots;
+    no_zero = unlocked.no_zero;
+  })

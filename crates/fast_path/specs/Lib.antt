@@ -1,0 +1,6 @@
+pub mod Slots
+pub mod Grants
+pub mod Releases
+pub mod Transfers
+pub mod Turns
+pub mod Rows

@@ -1,0 +1,87 @@
+use Rattle.std.specs.Prelude.{◌≡◌, ℕ, ◌≤◌, ◌%◌, ◌^◌, zero, suc, List, [], ◌∷◌, ◌++◌, Result, OnOk, OnErr, if◌then◌else◌}
+use Rattle.modes_core.specs.declared.modes.Mode.{Mode}
+use Rattle.modes_core.specs.declared.modes.Mode.TheVariants.{AccessShare, RowShare, RowExclusive}
+use Rattle.modes_core.specs.declared.tags.Tag.TheVariants.{Relation}
+use Rattle.lw_word.specs.SlotWord.{relation_in, has_mode}
+use Rattle.lock_table.specs.declared.no_memory.NoMemory.{NoMemory}
+use Rattle.lock_table.specs.declared.rows.SlotRow.{SlotRow}
+use Rattle.lock_world.specs.declared.events.Word.TheVariants.{Database}
+use Rattle.lock_world.specs.SlotHolds.{slot_count, ShowsNoMore}
+use Rattle.lock_world.specs.World.{TraceEntry, Loaded}
+use Rattle.lock_world.specs.Account.{Account}
+use Rattle.fast_path.specs.Slots.{slot_loads}
+
+-- What sessions' slots show, as rows of a listing: by session, by slot, by mode.
+
+-- the database that a session's word shows
+abbrev pub database_in : ℕ → ℕ
+database_in shown = shown % 2 ^ 32
+
+-- the row of a mode, if the slot's word has it
+abbrev pub mode_row : ℕ → ℕ → ℕ → ℕ → Mode → List SlotRow
+mode_row session database place word mode =
+    if has_mode word mode
+    then (record { session = session; slot = place; tag = Relation database (relation_in word); mode = mode }) ∷ []
+    else []
+
+-- the rows of a slot: there are bits for three modes
+abbrev pub rows_of_slot : ℕ → ℕ → ℕ → ℕ → List SlotRow
+rows_of_slot session database place word =
+    mode_row session database place word AccessShare
+    ++ (mode_row session database place word RowShare ++ mode_row session database place word RowExclusive)
+
+-- so many lists of rows, one behind another
+unfoldable pub rows_below : ℕ → (ℕ → List SlotRow) → List SlotRow
+rows_below zero rows = []
+rows_below (suc limit) rows = rows_below limit rows ++ rows limit
+
+-- the rows of a session's slots, with this database and these words
+abbrev pub rows_of_session : ℕ → ℕ → (ℕ → ℕ) → List SlotRow
+rows_of_session session database word =
+    rows_below slot_count (λ place. rows_of_slot session database place (word place))
+
+-- the rows of all sessions below the limit, by what their words show
+abbrev pub rows_of_all : ℕ → (ℕ → ℕ) → (ℕ → ℕ → ℕ) → List SlotRow
+rows_of_all limit database word =
+    rows_below limit (λ session. rows_of_session session (database_in (database session)) (word session))
+
+-- the loads by which that is found: of each session below the limit the database, and then the words of its slots
+unfoldable pub loads_of_all : ℕ → (ℕ → ℕ) → (ℕ → ℕ → ℕ) → List TraceEntry
+loads_of_all zero database word = []
+loads_of_all (suc session) database word =
+    loads_of_all session database word
+    ++ Loaded (Database session) (database session) ∷ slot_loads session (word session) slot_count
+
+-- The rows of all sessions stand behind what the list had, and nothing else has changed but the trace, which has the loads
+-- that they tell of, and what the session remembers of its own slots, which is no more than before. Where memory was
+-- wanting the list is as before, and sessions were loaded up to some number.
+pub record ListsSlots (limit : ℕ) (a : Account) (before : List SlotRow) (result : Result (Unit {0}) NoMemory)
+    (after : List SlotRow) (b : Account) : Type 0 where
+  pub database : ℕ → ℕ
+  pub word : ℕ → ℕ → ℕ
+  pub listed : OnOk result (after ≡ before ++ rows_of_all limit database word)
+  pub kept : OnErr result (after ≡ before)
+  pub loaded : ℕ
+  pub within : loaded ≤ limit
+  pub all_loaded : OnOk result (loaded ≡ limit)
+  pub no_more : ShowsNoMore b.fast.remembered a.fast.remembered
+  pub account : b ≡ record a {
+    fast = record (a.fast) { remembered = b.fast.remembered };
+    trace = a.trace ++ loads_of_all loaded database word;
+  }
+
+-- The same of one session: what was loaded joins the list as far as memory goes.
+pub record ListsSession (a : Account) (owner : ℕ) (before : List SlotRow) (result : Result (Unit {0}) NoMemory)
+    (after : List SlotRow) (b : Account) : Type 0 where
+  pub shown : ℕ
+  pub word : ℕ → ℕ
+  pub listed : OnOk result (after ≡ before ++ rows_of_session owner (database_in shown) word)
+  pub no_more : ShowsNoMore b.fast.remembered a.fast.remembered
+  pub account : b ≡ record a {
+    fast = record (a.fast) { remembered = b.fast.remembered };
+    trace = a.trace ++ Loaded (Database owner) shown ∷ slot_loads owner word slot_count;
+  }
+
+-- The one list begins with the other.
+abbrev pub BeginsWith : List SlotRow → List SlotRow → Type 0
+BeginsWith before after = (added : List SlotRow) × (after ≡ before ++ added)

@@ -1,0 +1,101 @@
+//! Grants by the fast path (`FastPathGrantRelationLock` in lock.c).
+
+ghost use Rattle.std.specs.Prelude.{◌≡◌, ◌≢◌, ◌<◌, ◌≤◌, ℕ, List, Some};
+ghost use Rattle.lock_world.specs.SlotHolds.{slot_count};
+ghost use Rattle.lock_world.specs.Account.{SlotsInHand};
+ghost use Rattle.lock_world.specs.World.{TraceEntry};
+ghost use Rattle.fast_path.specs.Slots.{IsReady, MayTry};
+ghost use Rattle.fast_path.specs.Grants.{Grants, TriesGrant, GrantsHeld, HasOwnSlots};
+
+use crate::slot_words::{SLOTS, highest_unused, load_slots, place_of, relation_of};
+use lock_table::PartTable;
+use modes_core::{Mode, Refusal, Tag};
+use shared_rule::board::Board;
+use std::sync::Wait;
+
+/// Grants a mode that the session hasn't, on a relation of its database, in one of its slots
+/// (`FastPathGrantRelationLock` in lock.c, and the look at `FastPathStrongRelationLocks` before it in
+/// `LockAcquireExtended`). It waits until the lock of the own slots is free. Refused with `SlotsFull` where the use count is
+/// sixteen, which costs no step, and with `StrongCounted` where a strong lock is counted at the object's counter.
+pub fn grant<T: PartTable, B: Board<T>, R: Wait>(
+    rt: &R,
+    board: &mut B,
+    uses: &mut u8,
+    tag: &Tag,
+    mode: Mode,
+) -> Result<(), Refusal>
+    requires ready { IsReady (B.view board.old) uses.old }
+    requires may_try { MayTry (B.view board.old) tag.now mode }
+    ensures granted { Grants (B.seat board.old).number (B.view board.old) uses.old tag.now mode result
+        (B.view board.new) uses.new }
+    ensures ready { IsReady (B.view board.new) uses.new }
+    ensures seat { B.seat board.new ≡ B.seat board.old }
+    ensures stack { B.stack board.new ≡ B.stack board.old }
+{
+    if *uses == SLOTS {
+        return Err(Refusal::SlotsFull);
+    }
+    let own = board.number();
+    board.take_fast(rt, own);
+    grant_with_slots(board, uses, tag, mode)
+}
+
+/// The same without waiting: one attempt to take the lock of the own slots, and `Busy` where that fails
+/// (`LWLockConditionalAcquire` in the place of `LWLockAcquire`).
+pub fn try_grant<T: PartTable, B: Board<T>>(
+    board: &mut B,
+    uses: &mut u8,
+    tag: &Tag,
+    mode: Mode,
+) -> Result<(), Refusal>
+    requires ready { IsReady (B.view board.old) uses.old }
+    requires may_try { MayTry (B.view board.old) tag.now mode }
+    ensures granted { TriesGrant (B.seat board.old).number (B.view board.old) uses.old tag.now mode result
+        (B.view board.new) uses.new }
+    ensures ready { IsReady (B.view board.new) uses.new }
+    ensures seat { B.seat board.new ≡ B.seat board.old }
+    ensures stack { B.stack board.new ≡ B.stack board.old }
+{
+    if *uses == SLOTS {
+        return Err(Refusal::SlotsFull);
+    }
+    match board.try_take_fast() {
+        Ok(()) => grant_with_slots(board, uses, tag, mode),
+        Err(_) => Err(Refusal::Busy),
+    }
+}
+
+/// Grants it with the lock of the own slots in hand, and puts that lock.
+fn grant_with_slots<T: PartTable, B: Board<T>>(
+    board: &mut B,
+    uses: &mut u8,
+    tag: &Tag,
+    mode: Mode,
+) -> Result<(), Refusal>
+    requires not_full { uses.old < slot_count }
+    requires may_try { MayTry (B.view board.old) tag.now mode }
+    requires in_hand { HasOwnSlots (B.seat board.old).number (B.view board.old) uses.old }
+    ensures granted { GrantsHeld (B.seat board.old).number (B.view board.old) uses.old tag.now mode result
+        (B.view board.new) uses.new }
+    ensures ready { IsReady (B.view board.new) uses.new }
+    ensures seat { B.seat board.new ≡ B.seat board.old }
+    ensures stack { B.stack board.new ≡ B.stack board.old }
+{
+    let own = board.number();
+    if board.load_strong(tag.strong_index()) != 0 {
+        board.put_fast(own);
+        return Err(Refusal::StrongCounted);
+    }
+    let words = load_slots(board, own);
+    let relation = relation_of(tag);
+    if let Some(place) = place_of(&words, relation) {
+        board.set_slot(place, words[usize::from(place)], tag, mode);
+        board.put_fast(own);
+        return Ok(());
+    }
+    let place = highest_unused(&words).unwrap();
+    board.set_slot(place, words[usize::from(place)], tag, mode);
+    *uses += 1;
+    board.put_fast(own);
+    Ok(())
+}

@@ -1,0 +1,130 @@
+//! What all sessions' slots show (the first part of `GetLockStatusData` in lock.c).
+
+ghost use Rattle.std.specs.Prelude.{◌≡◌, ◌<◌, ◌≤◌, ◌++◌, OnOk};
+ghost use Rattle.fast_path.specs.Slots.{word_of};
+ghost use Rattle.fast_path.specs.Turns.{IsUnlocked};
+ghost use Rattle.fast_path.specs.Rows.{ListsSlots, ListsSession, BeginsWith};
+ghost use Rattle.fast_path.specs.Rows.{mode_row, rows_of_slot, rows_of_session, database_in};
+
+use crate::slot_words::{SLOTS, load_slots};
+use lock_table::{NoMemory, PartTable, SlotRow};
+use lw_word::SlotWord;
+use modes_core::{Mode, SessionId, Tag};
+use shared_rule::board::Board;
+use std::sync::Wait;
+
+/// Appends a row for each mode that a slot of any session shows: by session, by slot, by mode. Each session's slots are
+/// read with their lock in hand, one session after another, so the rows are not of one moment. Only the list takes
+/// memory; where that is wanting it has what it had.
+pub fn slot_rows<T: PartTable, B: Board<T>, R: Wait>(
+    rt: &R,
+    board: &mut B,
+    rows: &mut Vec<SlotRow>,
+) -> Result<(), NoMemory>
+    requires few { (B.seat board.old).limit ≤ 64 }
+    requires unlocked { IsUnlocked (B.view board.old) }
+    ensures listed { ListsSlots (B.seat board.old).limit (B.view board.old) rows.old.items result rows.new.items
+        (B.view board.new) }
+    ensures stack { B.stack board.new ≡ B.stack board.old }
+    ensures seat { B.seat board.new ≡ B.seat board.old }
+{
+    let before = rows.len();
+    for number in 0..board.sessions() {
+        let owner = SessionId::new(number).unwrap();
+        match session_rows(rt, board, owner, rows) {
+            Ok(()) => {}
+            Err(NoMemory) => {
+                rows.truncate(before);
+                return Err(NoMemory);
+            }
+        }
+    }
+    Ok(())
+}
+
+/// Appends the rows of one session.
+fn session_rows<T: PartTable, B: Board<T>, R: Wait>(
+    rt: &R,
+    board: &mut B,
+    owner: SessionId,
+    rows: &mut Vec<SlotRow>,
+) -> Result<(), NoMemory>
+    requires exists { owner < (B.seat board.old).limit }
+    requires unlocked { IsUnlocked (B.view board.old) }
+    ensures listed { ListsSession (B.view board.old) owner rows.old.items result rows.new.items (B.view board.new) }
+    ensures behind { BeginsWith rows.old.items rows.new.items }
+    ensures stack { B.stack board.new ≡ B.stack board.old }
+    ensures seat { B.seat board.new ≡ B.seat board.old }
+{
+    board.take_fast(rt, owner);
+    let shown = board.load_database(owner);
+    let words = load_slots(board, owner);
+    board.put_fast(owner);
+    append_session(owner, database_in(shown), &words, rows)
+}
+
+/// The database that a session's word shows.
+fn database_in(shown: u64) -> u32
+    ensures { result ≡ database_in shown }
+{
+    (shown & 0xFFFF_FFFF) as u32
+}
+
+/// Appends the rows of a session's slots with these words.
+fn append_session(
+    session: SessionId,
+    database: u32,
+    words: &[SlotWord; 16],
+    rows: &mut Vec<SlotRow>,
+) -> Result<(), NoMemory>
+    ensures listed { OnOk result (rows.new.items
+        ≡ rows.old.items ++ rows_of_session session database (word_of words.now)) }
+    ensures behind { BeginsWith rows.old.items rows.new.items }
+{
+    for place in 0..SLOTS {
+        append_slot(session, database, place, words[usize::from(place)], rows)?;
+    }
+    Ok(())
+}
+
+/// Appends the rows of a slot, by mode.
+fn append_slot(
+    session: SessionId,
+    database: u32,
+    place: u8,
+    word: SlotWord,
+    rows: &mut Vec<SlotRow>,
+) -> Result<(), NoMemory>
+    ensures listed { OnOk result (rows.new.items ≡ rows.old.items ++ rows_of_slot session database place word) }
+    ensures behind { BeginsWith rows.old.items rows.new.items }
+{
+    append_mode(session, database, place, word, Mode::AccessShare, rows)?;
+    append_mode(session, database, place, word, Mode::RowShare, rows)?;
+    append_mode(session, database, place, word, Mode::RowExclusive, rows)
+}
+
+/// Appends the row of a mode, if the slot shows it.
+fn append_mode(
+    session: SessionId,
+    database: u32,
+    place: u8,
+    word: SlotWord,
+    mode: Mode,
+    rows: &mut Vec<SlotRow>,
+) -> Result<(), NoMemory>
+    ensures listed { OnOk result (rows.new.items ≡ rows.old.items ++ mode_row session database place word mode) }
+    ensures behind { BeginsWith rows.old.items rows.new.items }
+{
+    if word.has(mode) {
+        rows.push(SlotRow {
+            session,
+            slot: place,
+            tag: Tag::Relation {
+                database,
+                relation: word.relation(),
+            },
+            mode,
+        })?;
+    }
+    Ok(())
+}

@@ -1,0 +1,55 @@
+//! Releases by the fast path (`FastPathUnGrantRelationLock` in lock.c).
+
+ghost use Rattle.std.specs.Prelude.{◌≡◌, false, true};
+ghost use Rattle.modes_core.specs.Tag.{is_eligible_for};
+ghost use Rattle.lock_world.specs.SlotHolds.{slot_holds};
+ghost use Rattle.fast_path.specs.Slots.{IsReady};
+ghost use Rattle.fast_path.specs.Releases.{Ungrants};
+
+use crate::slot_words::{count_used, load_slots, place_of, relation_of};
+use lock_table::PartTable;
+use modes_core::{Mode, Tag};
+use shared_rule::board::Board;
+use std::sync::Wait;
+
+/// Releases a mode on a relation of the session's database, where one of its slots has it, and says whether one did
+/// (`FastPathUnGrantRelationLock` in lock.c). It isn't tried where the use count is 0; where it is tried the use count is
+/// afterwards the number of slots in use. Where no slot has it, it is in the lock table.
+pub fn ungrant<T: PartTable, B: Board<T>, R: Wait>(
+    rt: &R,
+    board: &mut B,
+    uses: &mut u8,
+    tag: &Tag,
+    mode: Mode,
+) -> bool
+    requires ready { IsReady (B.view board.old) uses.old }
+    requires eligible { is_eligible_for (B.view board.old).fast.database tag.now mode ≡ true }
+    ensures ungranted { Ungrants (B.seat board.old).number (B.view board.old) uses.old tag.now mode result
+        (B.view board.new) uses.new }
+    ensures in_no_slot { result ≡ false →
+        slot_holds (B.view board.new).fast.database (B.view board.new).fast.remembered tag.now mode ≡ false }
+    ensures ready { IsReady (B.view board.new) uses.new }
+    ensures seat { B.seat board.new ≡ B.seat board.old }
+    ensures stack { B.stack board.new ≡ B.stack board.old }
+{
+    if *uses == 0 {
+        return false;
+    }
+    let own = board.number();
+    board.take_fast(rt, own);
+    let mut words = load_slots(board, own);
+    let found = place_of(&words, relation_of(tag));
+    if let Some(place) = found {
+        let word = words[usize::from(place)];
+        if word.has(mode) {
+            board.clear_slot(place, word, tag, mode);
+            board.put_fast(own);
+            words[usize::from(place)] = word.without(mode);
+            *uses = count_used(&words);
+            return true;
+        }
+    }
+    board.put_fast(own);
+    *uses = count_used(&words);
+    false
+}

@@ -1,0 +1,178 @@
+//! The transfer of fast-path locks that stand in a strong lock's way (`FastPathTransferRelationLocks` in lock.c).
+
+ghost use Rattle.std.specs.Prelude.{◌≡◌, ◌<◌, ◌≤◌, false, true, None, length};
+ghost use Rattle.modes_core.specs.Tag.{is_strong_on};
+ghost use Rattle.lock_world.specs.Counted.{is_counted, is_at};
+ghost use Rattle.lock_world.specs.Happens.Counters.{most_counted};
+ghost use Rattle.fast_path.specs.Turns.{IsUnlocked, HasSlots, HasSlotsAndPart, MovesOrNot, AdoptsOrNot};
+ghost use Rattle.fast_path.specs.Transfers.{database_of, TransfersOrNot, PassesOrNot};
+
+use crate::slot_words::{load_slots, place_of, relation_of};
+use lock_table::{Move, NoMemory, PartTable};
+use lw_word::SlotWord;
+use modes_core::{Mode, SessionId, Tag};
+use shared_rule::board::Board;
+use std::sync::Wait;
+
+/// The database of a relation's tag, and 0 of any other object's, which no slot has.
+fn database_of(tag: &Tag) -> u32
+    ensures { result ≡ database_of tag.now }
+{
+    match *tag {
+        Tag::Relation {
+            database,
+            relation: _,
+        } => database,
+        Tag::Object {
+            database: _,
+            class: _,
+            object: _,
+            sub_object: _,
+        } => 0,
+    }
+}
+
+/// Counts a strong lock, and goes past every session there can be, issued or not and the own one too, once its locks on
+/// the object are out of its slots and in the lock table (`BeginStrongLockAcquire` and `FastPathTransferRelationLocks` in
+/// lock.c). Where memory for the lock table is wanting it is counted no more; what was moved until then stays moved. Its
+/// cost is two atomic steps and a load for each session, and sixteen loads more for each of the object's database.
+pub fn transfer<T: PartTable, B: Board<T>, R: Wait>(
+    rt: &R,
+    board: &mut B,
+    tag: &Tag,
+    mode: Mode,
+) -> Result<(), NoMemory>
+    requires few { (B.seat board.old).limit ≤ 64 }
+    requires strong { is_strong_on tag.now mode ≡ true }
+    requires unlocked { IsUnlocked (B.view board.old) }
+    requires not_counted { is_counted (B.view board.old).fast.counted tag.now mode ≡ false }
+    requires no_wait { (B.view board.old).awaited ≡ None }
+    requires not_own { (B.view board.old).own tag.now mode ≡ false }
+    requires countable { length (B.view board.old).fast.counted < most_counted }
+    ensures transferred { TransfersOrNot (B.seat board.old).limit (B.view board.old) tag.now mode result
+        (B.view board.new) }
+    ensures stack { B.stack board.new ≡ B.stack board.old }
+    ensures seat { B.seat board.new ≡ B.seat board.old }
+{
+    board.add_strong(tag, mode);
+    for number in 0..board.sessions() {
+        let owner = SessionId::new(number).unwrap();
+        match pass(rt, board, owner, tag, mode) {
+            Ok(()) => {}
+            Err(NoMemory) => {
+                board.sub_strong(tag, mode);
+                return Err(NoMemory);
+            }
+        }
+    }
+    Ok(())
+}
+
+/// Goes past one session (a turn of the loop of `FastPathTransferRelationLocks`). Sessions of other databases, and those
+/// not issued, are gone past without a look at their slots.
+fn pass<T: PartTable, B: Board<T>, R: Wait>(
+    rt: &R,
+    board: &mut B,
+    owner: SessionId,
+    tag: &Tag,
+    mode: Mode,
+) -> Result<(), NoMemory>
+    requires exists { owner < (B.seat board.old).limit }
+    requires strong { is_strong_on tag.now mode ≡ true }
+    requires unlocked { IsUnlocked (B.view board.old) }
+    requires next { is_at owner (B.view board.old).fast.counted tag.now mode ≡ true }
+    ensures passed { PassesOrNot (B.view board.old) owner tag.now mode result (B.view board.new) }
+    ensures stack { B.stack board.new ≡ B.stack board.old }
+    ensures seat { B.seat board.new ≡ B.seat board.old }
+{
+    board.take_fast(rt, owner);
+    if board.load_database(owner) != u64::from(database_of(tag)) {
+        board.pass_fast(owner, tag, mode);
+        return Ok(());
+    }
+    let words = load_slots(board, owner);
+    let Some(place) = place_of(&words, relation_of(tag)) else {
+        board.pass_fast(owner, tag, mode);
+        return Ok(());
+    };
+    match adopt(
+        rt,
+        board,
+        owner,
+        place,
+        words[usize::from(place)],
+        tag,
+        mode,
+    ) {
+        Ok(()) => {
+            board.pass_fast(owner, tag, mode);
+            Ok(())
+        }
+        Err(NoMemory) => {
+            board.put_fast(owner);
+            Err(NoMemory)
+        }
+    }
+}
+
+/// Moves the modes of a slot, one after another in rising order, into the object's partition (the inner loop of
+/// `FastPathTransferRelationLocks`).
+fn adopt<T: PartTable, B: Board<T>, R: Wait>(
+    rt: &R,
+    board: &mut B,
+    owner: SessionId,
+    place: u8,
+    word: SlotWord,
+    tag: &Tag,
+    strong: Mode,
+) -> Result<(), NoMemory>
+    requires exists { owner < (B.seat board.old).limit }
+    requires strong { is_strong_on tag.now strong ≡ true }
+    requires next { is_at owner (B.view board.old).fast.counted tag.now strong ≡ true }
+    requires in_hand { HasSlots (B.view board.old) owner place word tag.now }
+    ensures adopted { AdoptsOrNot (B.view board.old) owner word tag.now result (B.view board.new) }
+    ensures stack { B.stack board.new ≡ B.stack board.old }
+    ensures seat { B.seat board.new ≡ B.seat board.old }
+{
+    let part = tag.partition();
+    let mut content = board.take_part(rt, part);
+    let moved = move_modes(board, &mut content, owner, place, word, tag, strong);
+    board.put_part(part, &Move::Keep, content);
+    moved
+}
+
+/// Moves them with the partition in hand, one a step.
+fn move_modes<T: PartTable, B: Board<T>>(
+    board: &mut B,
+    content: &mut T,
+    owner: SessionId,
+    place: u8,
+    word: SlotWord,
+    tag: &Tag,
+    strong: Mode,
+) -> Result<(), NoMemory>
+    requires exists { owner < (B.seat board.old).limit }
+    requires strong { is_strong_on tag.now strong ≡ true }
+    requires next { is_at owner (B.view board.old).fast.counted tag.now strong ≡ true }
+    requires none_begun { T.begun content.old ≡ None }
+    requires in_hand { HasSlotsAndPart (B.view board.old) owner place word tag.now (T.content content.old) }
+    ensures moved { MovesOrNot (B.view board.old) owner place word tag.now (T.content content.old) result
+        (T.content content.new) (B.view board.new) }
+    ensures none_begun { T.begun content.new ≡ None }
+    ensures stack { B.stack board.new ≡ B.stack board.old }
+    ensures seat { B.seat board.new ≡ B.seat board.old }
+{
+    let mut left = word;
+    for number in 1..4u8 {
+        let mode = Mode::from_number(number).unwrap();
+        if left.has(mode) {
+            if content.begin(owner, tag, mode).is_err() {
+                return Err(NoMemory);
+            }
+            content.grant(owner, tag, mode);
+            board.transfer_slot(owner, place, left, tag, mode, strong, content);
+            left = left.without(mode);
+        }
+    }
+    Ok(())
+}

@@ -1,0 +1,51 @@
+//! Listings of hundreds of rows, of all partitions.
+
+ghost use Rattle.std.specs.Prelude.{◌≡◌};
+
+use super::pair::Pair;
+use lock_manager::{Acquired, Mode, OwnSession, Owner, TableRow, Tag};
+use lock_table::PlainPart;
+use shared_rule::board::Board;
+use std::process::Abort;
+use std::sync::Wait;
+
+pub const MANY: u32 = 200;
+
+/// Shares many objects, which it names neither in rising nor in falling order.
+fn share_many<B: Board<PlainPart>, R: Abort + Wait>(rt: &R, session: &mut OwnSession<PlainPart, B>)
+    ensures seat { B.seat session.new.board ≡ B.seat session.old.board }
+{
+    for number in 0..MANY {
+        let tag = Tag::object(5, 1_259, number * 77 % MANY, 0);
+        let answer = session.try_lock(rt, tag, Mode::Share, Owner::Session);
+        assert!(rt; answer == Ok(Acquired::Granted), "{tag}");
+    }
+}
+
+/// Each row comes after the one before it, and together they are of all sixteen partitions.
+fn expect_order<R: Abort>(rt: &R, rows: &[TableRow]) {
+    let mut partitions = 0;
+    let mut before: Option<TableRow> = None;
+    for row in rows {
+        if let Some(before) = before {
+            assert!(rt; before.order() < row.order(), "{before:?} before {row:?}");
+        }
+        assert!(rt; row.granted);
+        partitions |= 1u16 << row.tag.partition();
+        before = Some(*row);
+    }
+    assert_eq!(rt; partitions, u16::MAX);
+}
+
+/// Two sessions share as many objects, and one of them lists.
+pub fn list_many<B: Board<PlainPart>, R: Abort + Wait>(rt: &R, pair: &mut Pair<B>)
+    ensures first { B.seat pair.new.first.board ≡ B.seat pair.old.first.board }
+    ensures second { B.seat pair.new.second.board ≡ B.seat pair.old.second.board }
+{
+    share_many(rt, &mut pair.first);
+    share_many(rt, &mut pair.second);
+    let listing = pair.first.list(rt).expect(rt, "a listing");
+    assert_eq!(rt; listing.table.len(), 2 * MANY as usize);
+    assert_eq!(rt; listing.fast.len(), 0);
+    expect_order(rt, listing.table.as_slice());
+}

@@ -1,0 +1,199 @@
+//! Lists of turns.
+
+use super::turns::Answer::{
+    AlreadyHeld, Conflict, Ended, Granted, Modes, Refused, Released, StillHeld, Times,
+};
+use super::turns::Call::{Abort, Commit, Count, Held, Try, Unlock};
+use super::turns::Who::{First, Second};
+use super::turns::{Answer, Call, Turn};
+use lock_manager::Mode::{
+    AccessExclusive, AccessShare, Exclusive, RowExclusive, RowShare, Share, ShareRowExclusive,
+    ShareUpdateExclusive,
+};
+use lock_manager::Owner::{Session, Transaction};
+use lock_manager::{Refusal, Tag};
+
+const TABLE: Tag = Tag::Relation {
+    database: 1,
+    relation: 16_384,
+};
+
+const OBJECT: Tag = Tag::Object {
+    database: 5,
+    class: 1_259,
+    object: 16_384,
+    sub_object: 0,
+};
+
+const NOT_HELD: Answer = Refused(Refusal::NotHeld);
+
+const TAKE: Call = Try(TABLE, AccessExclusive, Transaction);
+
+const TAKE_OBJECT: Call = Try(OBJECT, AccessExclusive, Transaction);
+
+const KEEP_OBJECT: Call = Try(OBJECT, AccessExclusive, Session);
+
+const READ_OBJECT: Call = Try(OBJECT, AccessShare, Session);
+
+/// What a session has itself never stands in its way.
+pub const OWN_HOLDS: [Turn; 7] = [
+    (First, 1, Try(TABLE, AccessExclusive, Session), Granted),
+    (First, 1, Try(TABLE, Exclusive, Session), Granted),
+    (First, 1, Try(TABLE, Share, Session), Granted),
+    (First, 1, Try(TABLE, RowExclusive, Transaction), Granted),
+    (First, 1, Try(TABLE, AccessShare, Transaction), Granted),
+    (First, 1, TAKE, AlreadyHeld),
+    (First, 1, Held(TABLE), Modes(0b1_1010_1010)),
+];
+
+/// A commit ends what is the transaction's, and an abort ends all.
+pub const ENDS: [Turn; 14] = [
+    (First, 1, TAKE, Granted),
+    (First, 1, TAKE_OBJECT, Granted),
+    (First, 1, KEEP_OBJECT, AlreadyHeld),
+    (First, 1, Commit, Ended),
+    (Second, 1, TAKE, Granted),
+    (Second, 1, READ_OBJECT, Conflict(0, AccessExclusive)),
+    (
+        First,
+        1,
+        Count(OBJECT, AccessExclusive, Transaction),
+        Times(0),
+    ),
+    (First, 1, Count(OBJECT, AccessExclusive, Session), Times(1)),
+    (First, 1, Abort, Ended),
+    (First, 1, Held(OBJECT), Modes(0)),
+    (Second, 1, KEEP_OBJECT, Granted),
+    (Second, 1, Commit, Ended),
+    (Second, 1, Held(TABLE), Modes(0)),
+    (First, 1, READ_OBJECT, Conflict(1, AccessExclusive)),
+];
+
+const ADD: Call = Try(TABLE, ShareUpdateExclusive, Transaction);
+
+const ADD_FOR_SESSION: Call = Try(TABLE, ShareUpdateExclusive, Session);
+
+const DROP: Call = Unlock(TABLE, ShareUpdateExclusive, Transaction);
+
+const DROP_FOR_SESSION: Call = Unlock(TABLE, ShareUpdateExclusive, Session);
+
+/// The last count of both owners releases.
+pub const LAST_COUNTS: [Turn; 15] = [
+    (First, 1, DROP_FOR_SESSION, NOT_HELD),
+    (First, 1, ADD, Granted),
+    (First, 1, ADD, AlreadyHeld),
+    (First, 1, ADD_FOR_SESSION, AlreadyHeld),
+    (
+        First,
+        1,
+        Unlock(OBJECT, ShareUpdateExclusive, Session),
+        NOT_HELD,
+    ),
+    (First, 1, Unlock(TABLE, Share, Session), NOT_HELD),
+    (Second, 1, DROP, NOT_HELD),
+    (First, 2, DROP, StillHeld),
+    (First, 1, DROP, NOT_HELD),
+    (Second, 1, ADD, Conflict(0, ShareUpdateExclusive)),
+    (First, 1, DROP_FOR_SESSION, Released),
+    (First, 1, DROP_FOR_SESSION, NOT_HELD),
+    (Second, 1, ADD, Granted),
+    (Second, 1, DROP, Released),
+    (Second, 1, Held(TABLE), Modes(0)),
+];
+
+/// A session has no more entries than it was made for, two here; with one gone there is room for another.
+pub const ENTRIES: [Turn; 7] = [
+    (First, 1, Try(TABLE, Share, Transaction), Granted),
+    (First, 1, Try(TABLE, RowShare, Transaction), Granted),
+    (First, 2, TAKE, Refused(Refusal::LocalFull)),
+    (First, 1, Try(TABLE, Share, Transaction), AlreadyHeld),
+    (First, 1, Held(TABLE), Modes(0b10_0100)),
+    (First, 1, Unlock(TABLE, RowShare, Transaction), Released),
+    (First, 1, TAKE, Granted),
+];
+
+const FULL: Answer = Refused(Refusal::CountFull);
+
+/// An owner counts to 65,535 and no further, each for itself.
+pub const COUNTS: [Turn; 11] = [
+    (First, 1, ADD, Granted),
+    (First, 65_534, ADD, AlreadyHeld),
+    (First, 2, ADD, FULL),
+    (
+        First,
+        1,
+        Count(TABLE, ShareUpdateExclusive, Transaction),
+        Times(65_535),
+    ),
+    (First, 1, ADD_FOR_SESSION, AlreadyHeld),
+    (First, 1, DROP, StillHeld),
+    (First, 1, ADD, AlreadyHeld),
+    (First, 1, ADD, FULL),
+    (First, 1, Commit, Ended),
+    (
+        First,
+        1,
+        Count(TABLE, ShareUpdateExclusive, Transaction),
+        Times(0),
+    ),
+    (
+        First,
+        1,
+        Count(TABLE, ShareUpdateExclusive, Session),
+        Times(1),
+    ),
+];
+
+const WRITE: Call = Try(TABLE, RowExclusive, Transaction);
+
+/// Each strong mode comes and goes, and keeps weak and strong modes away meanwhile.
+pub const STRONG: [Turn; 28] = [
+    (First, 1, Try(TABLE, Share, Transaction), Granted),
+    (Second, 1, WRITE, Conflict(0, Share)),
+    (Second, 1, TAKE, Conflict(0, Share)),
+    (First, 1, Unlock(TABLE, Share, Transaction), Released),
+    (Second, 1, WRITE, Granted),
+    (
+        First,
+        1,
+        Try(TABLE, Share, Transaction),
+        Conflict(1, RowExclusive),
+    ),
+    (Second, 1, Commit, Ended),
+    (
+        First,
+        1,
+        Try(TABLE, ShareRowExclusive, Transaction),
+        Granted,
+    ),
+    (Second, 1, WRITE, Conflict(0, ShareRowExclusive)),
+    (Second, 1, TAKE, Conflict(0, ShareRowExclusive)),
+    (First, 1, Commit, Ended),
+    (Second, 1, WRITE, Granted),
+    (
+        First,
+        1,
+        Try(TABLE, ShareRowExclusive, Session),
+        Conflict(1, RowExclusive),
+    ),
+    (Second, 1, Commit, Ended),
+    (Second, 1, Try(TABLE, Exclusive, Transaction), Granted),
+    (First, 1, WRITE, Conflict(1, Exclusive)),
+    (First, 1, TAKE, Conflict(1, Exclusive)),
+    (Second, 1, Unlock(TABLE, Exclusive, Transaction), Released),
+    (First, 1, WRITE, Granted),
+    (
+        Second,
+        1,
+        Try(TABLE, Exclusive, Transaction),
+        Conflict(0, RowExclusive),
+    ),
+    (First, 1, Commit, Ended),
+    (Second, 1, TAKE, Granted),
+    (First, 1, WRITE, Conflict(1, AccessExclusive)),
+    (First, 1, TAKE, Conflict(1, AccessExclusive)),
+    (Second, 1, Abort, Ended),
+    (First, 1, WRITE, Granted),
+    (Second, 1, TAKE, Conflict(0, RowExclusive)),
+    (First, 1, Commit, Ended),
+];

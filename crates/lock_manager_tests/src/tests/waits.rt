@@ -1,0 +1,365 @@
+//! Sessions that wait: how a wait begins, is seen by others, and ends, on one thread and between two.
+
+ghost use Rattle.std.specs.Prelude.{◌≡◌};
+ghost use Rattle.lock_manager.specs.Waits.{session_locked};
+
+use super::pair::Pair;
+use lock_manager::{
+    Acquired, Asked, Cancelled, Locked, Mode, OwnSession, OwnWaiting, Owner, Polled, Refusal,
+    SessionId, Started, Tag, Unlocked, Waited,
+};
+use lock_table::PlainPart;
+use shared_rule::board::Board;
+use std::process::Abort;
+use std::sync::Wait;
+use std::thread;
+use std::thread::{Threads, join};
+
+const TABLE: Tag = Tag::Relation {
+    database: 5,
+    relation: 16_384,
+};
+
+const OWNER: Owner = Owner::Transaction;
+
+/// Takes a mode on the table at once.
+fn take<B: Board<PlainPart> + Drop, R: Abort + Wait>(
+    rt: &R,
+    session: &mut OwnSession<PlainPart, B>,
+    mode: Mode,
+)
+    ensures seat { B.seat session.new.board ≡ B.seat session.old.board }
+{
+    let answer = session.try_lock(rt, TABLE, mode, OWNER);
+    assert!(rt; answer == Ok(Acquired::Granted), "{mode} is taken");
+}
+
+/// Gives it back.
+fn give_back<B: Board<PlainPart> + Drop, R: Abort + Wait>(
+    rt: &R,
+    session: &mut OwnSession<PlainPart, B>,
+    mode: Mode,
+)
+    ensures seat { B.seat session.new.board ≡ B.seat session.old.board }
+{
+    let answer = session.unlock(rt, TABLE, mode, OWNER);
+    assert!(rt; answer == Ok(Unlocked::Released), "{mode} is given back");
+}
+
+/// Begins to wait for a mode on the table.
+fn queue<B: Board<PlainPart> + Drop, R: Abort + Wait>(
+    rt: &R,
+    session: OwnSession<PlainPart, B>,
+    mode: Mode,
+) -> OwnWaiting<PlainPart, B>
+    ensures seat { B.seat result.board ≡ B.seat session.board }
+{
+    match session.start(rt, TABLE, mode, OWNER) {
+        Started::Queued(waiting) => waiting,
+        Started::Granted(_) | Started::AlreadyHeld(_) | Started::Refused(_, _) => {
+            panic!(rt; "{mode} is not queued")
+        }
+    }
+}
+
+/// Finds the wait granted.
+fn find_granted<B: Board<PlainPart> + Drop, R: Abort>(
+    rt: &R,
+    waiting: OwnWaiting<PlainPart, B>,
+) -> OwnSession<PlainPart, B>
+    ensures seat { B.seat result.board ≡ B.seat waiting.board }
+{
+    match waiting.poll() {
+        Polled::Granted(session) => session,
+        Polled::Still(_) | Polled::CancelAsked(_) => panic!(rt; "not granted"),
+    }
+}
+
+/// Finds that the wait goes on, and whether another session asked to cancel it.
+fn find_still<B: Board<PlainPart> + Drop, R: Abort>(
+    rt: &R,
+    waiting: OwnWaiting<PlainPart, B>,
+    is_asked: bool,
+) -> OwnWaiting<PlainPart, B>
+    ensures seat { B.seat result.board ≡ B.seat waiting.board }
+{
+    let (waiting, was_asked) = match waiting.poll() {
+        Polled::Still(waiting) => (waiting, false),
+        Polled::CancelAsked(waiting) => (waiting, true),
+        Polled::Granted(_) => panic!(rt; "granted"),
+    };
+    assert!(rt; was_asked == is_asked);
+    waiting
+}
+
+/// A wait is seen by the holder, asked to cancel, and left; what was asked before it stands for nothing.
+pub fn leave_as_asked<B: Board<PlainPart> + Drop, R: Abort + Wait>(rt: &R, pair: Pair<B>) -> Pair<B>
+    ensures first { B.seat result.first.board ≡ B.seat pair.first.board }
+    ensures second { B.seat result.second.board ≡ B.seat pair.second.board }
+{
+    let Pair { mut first, second } = pair;
+    let number = second.id();
+    take(rt, &mut first, Mode::Exclusive);
+    ask(rt, &mut first, number, Asked::NotWaiting);
+    let waiting = find_still(rt, queue(rt, second, Mode::RowShare), false);
+    see_waiters(rt, &mut first, Mode::Exclusive);
+    ask(rt, &mut first, number, Asked::Waiting);
+    let second = leave(rt, find_still(rt, waiting, true));
+    give_back(rt, &mut first, Mode::Exclusive);
+    Pair { first, second }
+}
+
+/// Asks a session to cancel.
+fn ask<B: Board<PlainPart> + Drop, R: Abort>(
+    rt: &R,
+    session: &mut OwnSession<PlainPart, B>,
+    number: SessionId,
+    asked: Asked,
+)
+    ensures seat { B.seat session.new.board ≡ B.seat session.old.board }
+{
+    assert!(rt; session.ask_cancel(number) == asked);
+}
+
+/// Sees that somebody waits for the table, in a mode that conflicts with the one that the session has.
+fn see_waiters<B: Board<PlainPart> + Drop, R: Abort + Wait>(
+    rt: &R,
+    session: &mut OwnSession<PlainPart, B>,
+    mode: Mode,
+)
+    ensures seat { B.seat session.new.board ≡ B.seat session.old.board }
+{
+    assert!(rt; session.has_waiters(rt, TABLE, mode) == Ok(true));
+    let not_held = session.has_waiters(rt, TABLE, Mode::AccessShare);
+    assert!(rt; not_held == Err(Refusal::NotHeld));
+}
+
+/// Takes the wait out of the queue.
+fn leave<B: Board<PlainPart> + Drop, R: Abort + Wait>(
+    rt: &R,
+    waiting: OwnWaiting<PlainPart, B>,
+) -> OwnSession<PlainPart, B>
+    ensures seat { B.seat result.board ≡ B.seat waiting.board }
+{
+    match waiting.cancel(rt) {
+        Cancelled::Removed(session) => session,
+        Cancelled::WasGranted(_) => panic!(rt; "granted"),
+    }
+}
+
+/// A wait that is cancelled after it was granted has the mode.
+pub fn cancel_too_late<B: Board<PlainPart> + Drop, R: Abort + Wait>(
+    rt: &R,
+    pair: Pair<B>,
+) -> Pair<B>
+    ensures first { B.seat result.first.board ≡ B.seat pair.first.board }
+    ensures second { B.seat result.second.board ≡ B.seat pair.second.board }
+{
+    let Pair { mut first, second } = pair;
+    let number = second.id();
+    take(rt, &mut first, Mode::Share);
+    let waiting = queue(rt, second, Mode::AccessExclusive);
+    give_back(rt, &mut first, Mode::Share);
+    ask(rt, &mut first, number, Asked::NotWaiting);
+    let Cancelled::WasGranted(mut second) = waiting.cancel(rt) else {
+        panic!(rt; "not granted")
+    };
+    give_back(rt, &mut second, Mode::AccessExclusive);
+    Pair { first, second }
+}
+
+/// A wait that was granted before it looks is found granted.
+pub fn look_too_late<B: Board<PlainPart> + Drop, R: Abort + Wait>(rt: &R, pair: Pair<B>) -> Pair<B>
+    ensures first { B.seat result.first.board ≡ B.seat pair.first.board }
+    ensures second { B.seat result.second.board ≡ B.seat pair.second.board }
+{
+    let Pair { mut first, second } = pair;
+    take(rt, &mut first, Mode::AccessExclusive);
+    let waiting = queue(rt, second, Mode::AccessShare);
+    give_back(rt, &mut first, Mode::AccessExclusive);
+    let mut second = find_granted(rt, waiting);
+    give_back(rt, &mut second, Mode::AccessShare);
+    Pair { first, second }
+}
+
+/// A wait that was asked to cancel is over at once.
+pub fn wait_as_asked<B: Board<PlainPart> + Drop, R: Abort + Wait>(rt: &R, pair: Pair<B>) -> Pair<B>
+    ensures first { B.seat result.first.board ≡ B.seat pair.first.board }
+    ensures second { B.seat result.second.board ≡ B.seat pair.second.board }
+{
+    let Pair { mut first, second } = pair;
+    let number = second.id();
+    take(rt, &mut first, Mode::Exclusive);
+    let waiting = queue(rt, second, Mode::Share);
+    ask(rt, &mut first, number, Asked::Waiting);
+    let Waited::Refused(second, Refusal::Cancelled) = waiting.wait(rt) else {
+        panic!(rt; "not cancelled")
+    };
+    give_back(rt, &mut first, Mode::Exclusive);
+    Pair { first, second }
+}
+
+/// So is one that was granted.
+pub fn wait_for_nothing<B: Board<PlainPart> + Drop, R: Abort + Wait>(
+    rt: &R,
+    pair: Pair<B>,
+) -> Pair<B>
+    ensures first { B.seat result.first.board ≡ B.seat pair.first.board }
+    ensures second { B.seat result.second.board ≡ B.seat pair.second.board }
+{
+    let Pair { mut first, second } = pair;
+    take(rt, &mut first, Mode::Exclusive);
+    let waiting = queue(rt, second, Mode::Share);
+    give_back(rt, &mut first, Mode::Exclusive);
+    let Waited::Granted(mut second) = waiting.wait(rt) else {
+        panic!(rt; "not granted")
+    };
+    give_back(rt, &mut second, Mode::Share);
+    Pair { first, second }
+}
+
+/// What needs no wait is answered at once.
+pub fn answer_at_once<B: Board<PlainPart> + Drop, R: Abort + Wait>(rt: &R, pair: Pair<B>) -> Pair<B>
+    ensures first { B.seat result.first.board ≡ B.seat pair.first.board }
+    ensures second { B.seat result.second.board ≡ B.seat pair.second.board }
+{
+    let Pair { first, second } = pair;
+    let Started::Granted(first) = first.start(rt, TABLE, Mode::Exclusive, OWNER) else {
+        panic!(rt; "not granted")
+    };
+    let Started::AlreadyHeld(first) = first.start(rt, TABLE, Mode::Exclusive, OWNER) else {
+        panic!(rt; "not held")
+    };
+    let Locked::AlreadyHeld(first) = first.lock(rt, TABLE, Mode::Exclusive, OWNER) else {
+        panic!(rt; "not held")
+    };
+    let Locked::Granted(mut first) = first.lock(rt, TABLE, Mode::Share, OWNER) else {
+        panic!(rt; "not granted")
+    };
+    first.commit(rt);
+    Pair { first, second }
+}
+
+/// Two that have a mode and want a higher one: the second that asks is refused, and the first one is granted.
+pub fn refuse_a_simple_deadlock<B: Board<PlainPart> + Drop, R: Abort + Wait>(
+    rt: &R,
+    pair: Pair<B>,
+) -> Pair<B>
+    ensures first { B.seat result.first.board ≡ B.seat pair.first.board }
+    ensures second { B.seat result.second.board ≡ B.seat pair.second.board }
+{
+    let Pair {
+        mut first,
+        mut second,
+    } = pair;
+    take(rt, &mut first, Mode::Share);
+    take(rt, &mut second, Mode::Share);
+    let waiting = queue(rt, first, Mode::Exclusive);
+    let session = waiting.id();
+    let Locked::Refused(mut second, refusal) = second.lock(rt, TABLE, Mode::Exclusive, OWNER) else {
+        panic!(rt; "not refused")
+    };
+    assert!(rt; refusal == Refusal::SimpleDeadlock { session });
+    second.abort(rt);
+    let mut first = find_granted(rt, waiting);
+    first.abort(rt);
+    Pair { first, second }
+}
+
+/// Whether the session's wait for the table shows in a listing.
+fn shows_wait<B: Board<PlainPart> + Drop, R: Wait>(
+    rt: &R,
+    session: &mut OwnSession<PlainPart, B>,
+    number: SessionId,
+) -> bool
+    ensures seat { B.seat session.new.board ≡ B.seat session.old.board }
+{
+    let Ok(listing) = session.list(rt) else {
+        return false;
+    };
+    let mut shown = false;
+    for row in &listing.table {
+        if row.session == number && row.tag == TABLE && !row.granted {
+            shown = true;
+        }
+    }
+    shown
+}
+
+/// Lists until the session's wait shows.
+fn see_wait<B: Board<PlainPart> + Drop, R: Wait>(
+    rt: &R,
+    session: &mut OwnSession<PlainPart, B>,
+    number: SessionId,
+)
+    ensures seat { B.seat session.new.board ≡ B.seat session.old.board }
+{
+    for _ in rt.forever() {
+        if shows_wait(rt, session, number) {
+            return;
+        }
+        thread::yield_now();
+    }
+}
+
+/// What a session in a thread of its own does once another one waits: it asks that one to cancel, or gives back.
+fn act_once_awaited<B: Board<PlainPart> + Drop, R: Abort + Wait>(
+    rt: &R,
+    mut session: OwnSession<PlainPart, B>,
+    number: SessionId,
+    asks: bool,
+) -> OwnSession<PlainPart, B>
+    ensures seat { B.seat result.board ≡ B.seat session.board }
+{
+    see_wait(rt, &mut session, number);
+    if asks {
+        ask(rt, &mut session, number, Asked::Waiting);
+    } else {
+        give_back(rt, &mut session, Mode::AccessExclusive);
+    }
+    session
+}
+
+/// The session sleeps until the wait is over, which is granted or not.
+fn sleep<B: Board<PlainPart> + Drop, R: Abort + Wait>(
+    rt: &R,
+    session: OwnSession<PlainPart, B>,
+    is_granted: bool,
+) -> OwnSession<PlainPart, B>
+    ensures seat { B.seat result.board ≡ B.seat session.board }
+{
+    match session.lock(rt, TABLE, Mode::AccessShare, OWNER) {
+        Locked::Granted(session) => {
+            assert!(rt; is_granted);
+            session
+        }
+        Locked::Refused(session, refusal) => {
+            assert!(rt; !is_granted);
+            assert!(rt; refusal == Refusal::Cancelled);
+            session
+        }
+        Locked::AlreadyHeld(_) => panic!(rt; "held before"),
+    }
+}
+
+/// A session sleeps in its thread until the other one, in another thread, gives back or asks it to cancel.
+pub fn sleep_in_a_thread<B: Board<PlainPart> + Drop + Send, R: Abort + Threads + Wait + Sync>(
+    rt: &R,
+    pair: Pair<B>,
+    asks: bool,
+) -> Pair<B>
+    ensures first { B.seat result.first.board ≡ B.seat pair.first.board }
+    ensures second { B.seat result.second.board ≡ B.seat pair.second.board }
+{
+    let Pair { mut first, second } = pair;
+    let number = second.id();
+    take(rt, &mut first, Mode::AccessExclusive);
+    let (mut second, mut first) = join(
+        rt,
+        || sleep(rt, second, !asks),
+        || act_once_awaited(rt, first, number, asks),
+    );
+    second.commit(rt);
+    first.commit(rt);
+    Pair { first, second }
+}

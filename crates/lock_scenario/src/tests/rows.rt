@@ -1,0 +1,377 @@
+//! Scripts in which nobody waits, as rows.
+
+/// How many sessions, `a` to `e`, are opened first, the lines that follow, what they print, and the fault that ends
+/// them.
+pub type Row<'a> = (usize, &'a str, &'a str, &'a str);
+
+/// A line, and the fault that it is.
+pub type BadRow<'a> = (&'a str, &'a str);
+
+/// A text with so many copies of a piece in its middle.
+pub type Copies<'a> = (&'a str, u32, &'a str, &'a str);
+
+const OPENED: &str = "a: session 0 database 5\n";
+
+/// Lines that do nothing, lines that end in every way, and hashes.
+pub const LINES: [Row<'static>; 15] = [
+    (0, "", "", ""),
+    (0, "\n", "", ""),
+    (
+        0,
+        "  \t \n# a comment\n\t# another, session a 5\n#\r\n\r\n",
+        "",
+        "",
+    ),
+    (0, "session a 5\n", OPENED, ""),
+    (0, "session a 5", OPENED, ""),
+    (0, "session a 5\r", OPENED, ""),
+    (0, "session a 5\r\n", OPENED, ""),
+    (0, " \tsession\t a  5\t \n", OPENED, ""),
+    (0, "session a 0000000005\n", OPENED, ""),
+    (
+        0,
+        "session abc_0123456789xy 4294967295\n",
+        "abc_0123456789xy: session 0 database 4294967295\n",
+        "",
+    ),
+    (
+        0,
+        "hash 5/16384\n",
+        "hash 2389211932 partition 12 strong 796\n",
+        "",
+    ),
+    (
+        0,
+        "hash 005/0000016384",
+        "hash 2389211932 partition 12 strong 796\n",
+        "",
+    ),
+    (
+        0,
+        "hash 5/17408\n",
+        "hash 3334897436 partition 12 strong 796\n",
+        "",
+    ),
+    (
+        0,
+        "hash 0/1262\n",
+        "hash 1165483503 partition 15 strong 495\n",
+        "",
+    ),
+    (
+        0,
+        "hash 5/1259/16384/0\n",
+        "hash 1793954687 partition 15 strong 895\n",
+        "",
+    ),
+];
+
+/// Lines that are no lines of the language, as the second of a script.
+pub const BAD_LINES: [BadRow<'static>; 55] = [
+    // bytes
+    ("try a 5/1 Shar\u{e9}", "line 2: not ASCII text"),
+    ("# \u{7f}", "line 2: not ASCII text"),
+    ("frob\r a", "line 2: not ASCII text"),
+    ("\r\r", "line 2: not ASCII text"),
+    // commands and their words
+    ("frob", "line 2: unknown command"),
+    ("Session b 5", "line 2: unknown command"),
+    ("Lock a 5/16384 ShareLock", "line 2: unknown command"),
+    ("fast", "line 2: unknown command"),
+    ("count a 796", "line 2: unknown command"),
+    ("begin a b c d e f", "line 2: unknown command"),
+    ("commit", "line 2: wrong number of words"),
+    ("abort a a", "line 2: wrong number of words"),
+    ("close A a", "line 2: wrong number of words"),
+    ("owned a 5/1", "line 2: wrong number of words"),
+    (
+        "owned a 5/1 ShareLock session",
+        "line 2: wrong number of words",
+    ),
+    ("session", "line 2: wrong number of words"),
+    ("session A 5 6", "line 2: wrong number of words"),
+    ("try A 5/1", "line 2: wrong number of words"),
+    (
+        "try A 5/1 ShareLock session more",
+        "line 2: wrong number of words",
+    ),
+    ("unlock a 5/1", "line 2: wrong number of words"),
+    ("list", "line 2: wrong number of words"),
+    ("list a a", "line 2: wrong number of words"),
+    ("hash", "line 2: wrong number of words"),
+    ("hash 5/1 5/1", "line 2: wrong number of words"),
+    // names
+    ("session A x", "line 2: bad name"),
+    ("session abc_0123456789xyz 5", "line 2: bad name"),
+    ("session b-c 5", "line 2: bad name"),
+    ("list A", "line 2: bad name"),
+    ("try A 5 x", "line 2: bad name"),
+    ("session a x", "line 2: session exists"),
+    ("list b", "line 2: no such session"),
+    ("try b 5 x", "line 2: no such session"),
+    ("commit b", "line 2: no such session"),
+    ("abort B", "line 2: bad name"),
+    ("close b", "line 2: no such session"),
+    ("owned b 5 x", "line 2: no such session"),
+    ("owned a 5 x", "line 2: bad object"),
+    ("owned a 5/1 x", "line 2: bad mode"),
+    ("unlock b 5 x y", "line 2: no such session"),
+    // numbers
+    ("session b x", "line 2: bad number"),
+    ("session b +5", "line 2: bad number"),
+    ("session b 4294967296", "line 2: bad number"),
+    ("session b 00000000005", "line 2: bad number"),
+    // objects
+    ("try a 5 x", "line 2: bad object"),
+    ("try a 5/ x y", "line 2: bad object"),
+    ("try a /5 x", "line 2: bad object"),
+    ("try a 5/1/2 x", "line 2: bad object"),
+    ("try a 5/1/2/3/4 x", "line 2: bad object"),
+    ("hash 5/4294967296", "line 2: bad object"),
+    ("hash 5/1259/16384/65536", "line 2: bad object"),
+    ("hash advisory/5/1", "line 2: bad object"),
+    // modes and owners
+    ("try a 5/16384 ShareLocks", "line 2: bad mode"),
+    ("try a 5/16384 sharelock session", "line 2: bad mode"),
+    ("try a 5/16384 ShareLock Session", "line 2: bad owner"),
+    (
+        "unlock a 5/16384 ShareLock transaction",
+        "line 2: bad owner",
+    ),
+];
+
+/// A session that was closed isn't there.
+pub const CLOSED_LINES: [BadRow<'static>; 4] = [
+    ("list a", "line 3: no such session"),
+    ("close a", "line 3: no such session"),
+    ("try a 5/1 ShareLock", "line 3: no such session"),
+    ("commit a", "line 3: no such session"),
+];
+
+/// Ends of locks, transactions and sessions.
+pub const ENDS: [Row<'static>; 6] = [
+    // counts of a transaction and of the session
+    (
+        1,
+        "try a 5/16384 AccessShareLock\ntry a 5/16384 AccessShareLock\n\
+        try a 5/16384 AccessShareLock session\ncommit a\nowned a 5/16384 AccessShareLock\n\
+        abort a\nowned a 5/16384 AccessShareLock\nunlock a 5/16384 AccessShareLock session\n",
+        "a: granted\na: already held\na: already held\na: committed\n\
+        a: transaction 0 session 1\na: aborted\na: transaction 0 session 0\n\
+        a: you don't own a lock of type AccessShareLock\n",
+        "",
+    ),
+    // an unlock takes the count of the owner that it names
+    (
+        1,
+        "try a 5/1 ShareLock session\nunlock a 5/1 ShareLock\nowned a 5/1 ShareLock\n\
+        try a 5/1 ShareLock\nunlock a 5/1 ShareLock session\nowned a 5/1 ShareLock\n\
+        unlock a 5/1 ShareLock\n",
+        "a: granted\na: you don't own a lock of type ShareLock\na: transaction 0 session 1\n\
+        a: already held\na: still held\na: transaction 1 session 0\na: released\n",
+        "",
+    ),
+    // what ends is free for others, and what outlives a commit is not
+    (
+        1,
+        "session b 5\ntry a 5/1 ShareLock\ntry a 5/2 ShareLock session\n\
+        try a 5/3 ShareLock session\ntry a 5/3 ShareLock\ncommit a\nlist a\n\
+        try b 5/1 ExclusiveLock\ntry b 5/2 ExclusiveLock\nabort a\n\
+        try b 5/2 ExclusiveLock\nlist b\n",
+        "b: session 1 database 5\na: granted\na: granted\na: granted\na: already held\n\
+        a: committed\ntable a 5/2 ShareLock granted\ntable a 5/3 ShareLock granted\nrows 2\n\
+        b: granted\nb: refused 1 conflict a ShareLock held\na: aborted\nb: granted\n\
+        table b 5/1 ExclusiveLock granted\ntable b 5/2 ExclusiveLock granted\nrows 2\n",
+        "",
+    ),
+    // a closed session's name is free, its number is not
+    (
+        1,
+        "session b 5\ntry a 5/1 ShareLock session\ntry b 5/1 ShareLock\nclose a\nlist b\n\
+        session a 6\nlist a\ncommit a\ntry a 5/1 RowShareLock\nlist a\n",
+        "b: session 1 database 5\na: granted\nb: granted\na: closed\n\
+        table b 5/1 ShareLock granted\nrows 1\na: session 2 database 6\n\
+        table b 5/1 ShareLock granted\nrows 1\na: committed\na: granted\n\
+        table b 5/1 ShareLock granted\ntable a 5/1 RowShareLock granted\nrows 2\n",
+        "",
+    ),
+    // what ended, or was closed, goes to the next
+    (
+        0,
+        "session a 5\nsession b 5\ntry a 1/16384 AccessExclusiveLock\n\
+        try a 5/1259/16384/0 AccessExclusiveLock\n\
+        try a 5/1259/16384/0 AccessExclusiveLock session\ncommit a\n\
+        try b 1/16384 AccessExclusiveLock\ntry b 5/1259/16384/0 AccessExclusiveLock\nabort a\n\
+        try b 5/1259/16384/0 AccessExclusiveLock session\nclose b\n\
+        try a 1/16384 AccessExclusiveLock\ntry a 5/1259/16384/0 AccessExclusiveLock\n",
+        "a: session 0 database 5\nb: session 1 database 5\na: granted\na: granted\n\
+        a: already held\na: committed\nb: granted\n\
+        b: refused 1 conflict a AccessExclusiveLock held\na: aborted\nb: granted\nb: closed\n\
+        a: granted\na: granted\n",
+        "",
+    ),
+    // the number of a closed session is never given out again
+    (
+        0,
+        "session first 1\nclose first\nsession second 1\nsession third 1\nclose second\n\
+        session fourth 1\nsession fifth 1\nsession sixth 1\nsession seventh 1\n\
+        session eighth 1\nsession first 1\nclose third\nsession first 1\n",
+        "first: session 0 database 1\nfirst: closed\nsecond: session 1 database 1\n\
+        third: session 2 database 1\nsecond: closed\nfourth: session 3 database 1\n\
+        fifth: session 4 database 1\nsixth: session 5 database 1\n\
+        seventh: session 6 database 1\neighth: session 7 database 1\n\
+        first: refused 12 no more sessions\nthird: closed\nfirst: refused 12 no more sessions\n",
+        "",
+    ),
+];
+
+/// What is in the way, and what a listing shows.
+pub const LISTINGS: [Row<'static>; 5] = [
+    // an object is not the relation of its numbers
+    (
+        0,
+        "session a 5\nsession b 5\ntry a 5/1259/16384/3 ExclusiveLock\n\
+        try b 5/1259 ExclusiveLock\ntry b 5/1259/16384/0 ExclusiveLock\n\
+        try b 5/1259/16384/3 ExclusiveLock\nlist a\nunlock a 5/1259/16384/3 ExclusiveLock\n\
+        lock b 5/1259/16384/3 ExclusiveLock\nowned b 5/1259/16384/3 ExclusiveLock\n\
+        waiters b 5/1259/16384/3 ExclusiveLock\n",
+        "a: session 0 database 5\nb: session 1 database 5\na: granted\nb: granted\n\
+        b: granted\nb: refused 1 conflict a ExclusiveLock held\n\
+        table b 5/1259 ExclusiveLock granted\n\
+        table b 5/1259/16384/0 ExclusiveLock granted\n\
+        table a 5/1259/16384/3 ExclusiveLock granted\nrows 3\na: released\nb: granted\n\
+        b: transaction 1 session 0\nb: waiters no\n",
+        "",
+    ),
+    // rows stand by tag, then by session, then by mode
+    (
+        0,
+        "session a 1\nsession b 1\ntry b 1/1260/2/0 RowShareLock\ntry a 1/1260/2/0 RowExclusiveLock\n\
+        try b 1/1260/1/0 AccessShareLock session\ntry a 1/1260/2/0 AccessShareLock\n\
+        try a 1/1259/7/0 AccessExclusiveLock\ntry a 1/1260/2/0 AccessShareLock\nlist a\nlist b\n\
+        commit a\ncommit b\nlist a\n",
+        "a: session 0 database 1\nb: session 1 database 1\nb: granted\na: granted\nb: granted\n\
+        a: granted\na: granted\na: already held\n\
+        table a 1/1259/7/0 AccessExclusiveLock granted\n\
+        table b 1/1260/1/0 AccessShareLock granted\ntable a 1/1260/2/0 AccessShareLock granted\n\
+        table a 1/1260/2/0 RowExclusiveLock granted\ntable b 1/1260/2/0 RowShareLock granted\nrows 5\n\
+        table a 1/1259/7/0 AccessExclusiveLock granted\n\
+        table b 1/1260/1/0 AccessShareLock granted\ntable a 1/1260/2/0 AccessShareLock granted\n\
+        table a 1/1260/2/0 RowExclusiveLock granted\ntable b 1/1260/2/0 RowShareLock granted\nrows 5\n\
+        a: committed\nb: committed\ntable b 1/1260/1/0 AccessShareLock granted\nrows 1\n",
+        "",
+    ),
+    // rows of slots stand before those of the table, by session, then by slot, then by mode
+    (
+        0,
+        "session a 1\nsession b 1\ntry b 1/16385 RowShareLock\ntry a 1/16385 RowExclusiveLock\n\
+        try b 1/16384 AccessShareLock session\ntry a 1/16385 AccessShareLock\n\
+        try a 1/1259/7/0 AccessExclusiveLock\ntry a 1/16385 AccessShareLock\nlist b\n\
+        commit a\ncommit b\nlist a\n",
+        "a: session 0 database 1\nb: session 1 database 1\nb: granted\na: granted\nb: granted\n\
+        a: granted\na: granted\na: already held\n\
+        fast a 15 1/16385 AccessShareLock\nfast a 15 1/16385 RowExclusiveLock\n\
+        fast b 14 1/16384 AccessShareLock\nfast b 15 1/16385 RowShareLock\n\
+        table a 1/1259/7/0 AccessExclusiveLock granted\nrows 5\n\
+        a: committed\nb: committed\nfast b 14 1/16384 AccessShareLock\nrows 1\n",
+        "",
+    ),
+    // a strong lock moves slots to the table, and what was moved stays there
+    (
+        0,
+        "session a 5\nsession b 5\ntry a 5/16384 RowExclusiveLock\ntry b 5/16384 ShareLock\nlist a\n\
+        unlock a 5/16384 RowExclusiveLock\ntry b 5/16384 ShareLock\ntry a 5/16384 AccessShareLock\nlist b\n",
+        "a: session 0 database 5\nb: session 1 database 5\na: granted\n\
+        b: refused 1 conflict a RowExclusiveLock held\n\
+        table a 5/16384 RowExclusiveLock granted\nrows 1\na: released\nb: granted\na: granted\n\
+        table a 5/16384 AccessShareLock granted\ntable b 5/16384 ShareLock granted\nrows 2\n",
+        "",
+    ),
+    // the lowest session that is in the way is named, with its lowest mode
+    (
+        0,
+        "session reader 1\nsession lower 1\nsession higher 1\nsession asker 1\n\
+        try higher 1/16384 ShareLock session\ntry lower 1/16384 ShareLock session\n\
+        try lower 1/16384 RowShareLock session\ntry reader 1/16384 AccessShareLock session\n\
+        try asker 1/16384 ExclusiveLock session\n\
+        try reader 1/16384 AccessExclusiveLock session\n\
+        try asker 1/16384 RowExclusiveLock session\nunlock lower 1/16384 ShareLock session\n\
+        try asker 1/16384 RowExclusiveLock session\n\
+        try asker 1/16384 AccessExclusiveLock session\nlist asker\n",
+        "reader: session 0 database 1\nlower: session 1 database 1\n\
+        higher: session 2 database 1\nasker: session 3 database 1\nhigher: granted\n\
+        lower: granted\nlower: granted\nreader: granted\n\
+        asker: refused 1 conflict lower RowShareLock held\n\
+        reader: refused 1 conflict lower RowShareLock held\n\
+        asker: refused 1 conflict lower ShareLock held\nlower: released\n\
+        asker: refused 1 conflict higher ShareLock held\n\
+        asker: refused 1 conflict reader AccessShareLock held\n\
+        table reader 1/16384 AccessShareLock granted\ntable lower 1/16384 RowShareLock granted\n\
+        table higher 1/16384 ShareLock granted\nrows 3\n",
+        "",
+    ),
+];
+
+/// A session that may have two different locks.
+pub const TWO_LOCKS: [Row<'static>; 1] = [(
+    0,
+    "session a 5\ntry a 5/1 ShareLock\ntry a 5/1 RowShareLock\ntry a 5/2 ShareLock\n\
+        try a 5/1 ShareLock session\ncommit a\ntry a 5/2 ShareLock\ntry a 5/2 RowShareLock\n",
+    "a: session 0 database 5\na: granted\na: granted\na: refused 3 local table full\n\
+        a: already held\na: committed\na: granted\na: refused 3 local table full\n",
+    "",
+)];
+
+/// A script that may open one session.
+pub const ONE_SESSION: [Row<'static>; 1] = [(
+    0,
+    "session a 5\nsession b 5\nsession b 6\nlist b\n",
+    "a: session 0 database 5\nb: refused 12 no more sessions\nb: refused 12 no more sessions\n",
+    "line 4: no such session",
+)];
+
+/// The hash of 5/16384.
+const HASHED: Copies<'static> = ("hash 2389211932 partition 12 strong 796\n", 0, "", "");
+
+/// Nothing.
+const NOTHING: Copies<'static> = ("", 0, "", "");
+
+const TOO_LONG: &str = "line 1: line too long";
+
+/// The bounds of lines: a script, what it prints, and the fault that ends it.
+pub const BOUNDS: [(Copies<'static>, Copies<'static>, &str); 8] = [
+    (("hash 5/16384", 1_012, " ", ""), HASHED, ""),
+    (("hash 5/16384", 1_012, " ", "\n"), HASHED, ""),
+    (("hash 5/16384", 1_011, " ", "\r\n"), HASHED, ""),
+    (("hash 5/16384", 1_013, " ", ""), NOTHING, TOO_LONG),
+    (("hash 5/16384", 1_013, " ", "\n"), NOTHING, TOO_LONG),
+    (("hash 5/16384", 1_012, " ", "\r\n"), NOTHING, TOO_LONG),
+    (("hash 5/16384", 1_013, " ", "\u{e9}\n"), NOTHING, TOO_LONG),
+    (("", 1_025, "#", "\n"), NOTHING, TOO_LONG),
+];
+
+/// An owner takes a lock more often than it may.
+pub const COUNTS: Copies<'static> = (
+    "session a 5\n",
+    65_536,
+    "try a 5/1 ShareLock\n",
+    "try a 5/1 ShareLock session\ncommit a\nowned a 5/1 ShareLock\n",
+);
+
+/// What that prints.
+pub const COUNTED: Copies<'static> = (
+    "a: session 0 database 5\na: granted\n",
+    65_534,
+    "a: already held\n",
+    "a: refused 4 count full\na: already held\na: committed\na: transaction 0 session 1\n",
+);
+
+/// More lines than there may be.
+pub const TOO_MANY_LINES: Copies<'static> = ("", 1_000_000, "\n", "\u{e9}");
+
+/// A script whose third line is cut short.
+pub const CUT_SHORT: &str = "session a 5\nhash 5/16384\nsess";
+
+/// The sixth line is written by the pass after the last command.
+pub const WAKES: &str =
+    "session a 5\nsession b 5\ntry a 5/1 ShareLock\nlock b 5/1 ExclusiveLock\ncommit a\n";

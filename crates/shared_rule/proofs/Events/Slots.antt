@@ -1,0 +1,187 @@
+use Rattle.std.proofs.Common.{◌≡◌, ℕ, ◌<◌, Some, refl, sym, ap, ◌∙◌, subst, inl, inr, arith}
+use Rattle.std.proofs.lemmas.Bool.{cases_eq, false_from_ne_true}
+use Rattle.modes_core.specs.declared.modes.Mode.{Mode}
+use Rattle.modes_core.specs.declared.tags.Tag.{Tag}
+use Rattle.modes_core.specs.Tag.{partition_of}
+use Rattle.lw_word.specs.SlotWord.{in_use, word_with, word_without}
+use Rattle.lock_table.specs.declared.moves.Move.TheVariants.{Adopt}
+use Rattle.lock_table.specs.Content.{Content, add_hold}
+use Rattle.lock_table.specs.Put.{set_at}
+use Rattle.lock_table.proofs.PutLemmas.{set_at-here, set_at-else}
+use Rattle.lock_world.specs.declared.events.Word.TheVariants.{Database, Slot}
+use Rattle.lock_world.specs.declared.events.Step.TheVariants as step
+use Rattle.lock_world.specs.SlotHolds.{slot_count, relation_of, InUseHasDatabase, NoSlotInUse}
+use Rattle.lock_world.specs.World.{World, Words, is_unmarked}
+use Rattle.lock_world.specs.Happens.Slots.{after_setting_slot, after_clearing_slot, MayStoreDatabase}
+use Rattle.lock_world.specs.Happens.Slots.{after_storing_database}
+use Rattle.lock_world.specs.Happens.Transfers.{after_transferring}
+use Rattle.lock_world.specs.Account.{Account, InHand, SlotsInHand, account}
+use Rattle.lock_world.specs.AccountSteps.{account_setting, account_unsetting, account_transferring, account_storing}
+use Rattle.lock_world.specs.AccountLaw.{MaySetSlotBy, MayClearSlotBy, MayTransferBy}
+use Rattle.lock_world.proofs.Accounts.Lawful.{hand-known, slots-known, set_slot-lawful, clear_slot-lawful}
+use Rattle.lock_world.proofs.Accounts.Lawful.{transfer-lawful}
+use Rattle.lock_world.proofs.Accounts.Parts.{mine}
+use Rattle.lock_world.proofs.Accounts.Slots.{slots_now, account-setting, account-unsetting, account-transferring}
+use Rattle.lock_world.proofs.Accounts.Slots.{account-storing}
+use Rattle.shared_rule.specs.declared.history.Mark.TheVariants as mark
+use Rattle.shared_rule.specs.declared.history.History.{History}
+use Rattle.shared_rule.specs.Shown.{set_word}
+use Rattle.shared_rule.specs.Ruled.{NoneBeyondSlots}
+use Rattle.shared_rule.specs.History.{told, in_hand, slots_here}
+use Rattle.shared_rule.proofs.Events.Marks.{IsAlwaysLawful}
+use Rattle.shared_rule.proofs.Events.Waits.{home-recorded}
+
+-- Setting and clearing a mode in an own slot, moving one from a slot to the table, and storing the own database.
+
+-- A slot that is set is none beyond the others.
+set-none_beyond : (words : Words) (session place n : ℕ) → place < slot_count → NoneBeyondSlots words
+    → NoneBeyondSlots (set_word words (Slot session place) n)
+set-none_beyond words session place n within none k j later =
+    elim (cases_eq k session) [
+      | inl same ↦
+          ap (λ row. row j) (set_at-here words.slot session (set_at (words.slot session) place n) k same)
+          ∙ set_at-else (words.slot session) place n j (λ e. let eq : ◌≡◌ {A = ℕ} j place =
+          e in omega (arith, eq, within, later))
+          ∙ none session j later
+      | inr other ↦ ap (λ row. row j) (set_at-else words.slot session (set_at (words.slot session) place n) k other)
+          ∙ none k j later
+    ]
+
+-- Where the database is 0 no slot is in use.
+unset-unused : (database : ℕ) (slot : ℕ → ℕ) → InUseHasDatabase database slot → database ≡ 0 → NoSlotInUse slot
+unset-unused database slot has unset place within = false_from_ne_true (in_use (slot place))
+    (λ used. has place within used unset)
+
+-- The slots in hand are what the words show.
+known-here : (w : World) (s owner : ℕ) (its : SlotsInHand) → (account w s).fast.slots owner ≡ Some its
+    → its ≡ slots_now w owner
+known-here w s owner its known = (slots-known (w.sessions.holds_fast s owner) (w.words.database owner)
+    (w.words.slot owner) its known).1
+
+module _ {T : Type 0} (content : T → Content) (limit : ℕ) (x : History T) where
+  pub setting-lawful : (its : SlotsInHand) (place : ℕ) (tag : Tag) (mode : Mode) (shown : ℕ)
+      → MaySetSlotBy x.number (told content x.number x.marks) its place tag mode → shown ≡ its.word place
+      → IsAlwaysLawful content limit x (Slot x.number place) (λ _. Unit {0})
+      (λ _. word_with shown (relation_of tag) mode) (λ _. mark.SetSlot place tag mode)
+  setting-lawful its place tag mode shown may is w steps n below _ _ =
+      let s : ℕ = x.number in
+      let may' : MaySetSlotBy s (account w s) its place tag mode = subst (λ a. MaySetSlotBy s a its place tag mode)
+      steps.account may in
+      let lawful = set_slot-lawful w steps.safe s steps.makes its place tag mode may' in
+      let known : its ≡ slots_now w s = known-here w s s its may'.in_hand in
+      let here : slots_here ((account w s).fast.slots s) ≡ slots_now w s = ap slots_here may'.in_hand ∙ known in
+      let shows : shown ≡ w.words.slot s place = is ∙ ap (λ (k : SlotsInHand). k.word place) known in
+      record {
+        noted = record {
+          step = step.SetSlot place tag mode;
+          after = after_setting_slot w s place tag mode;
+          happens = (lawful, refl);
+          numbers = refl;
+          account = (λ i. account_setting s (steps.account i) (slots_here ((steps.account i).fast.slots s)) place tag
+              mode)
+              ∙ (ap (λ slots. account_setting s (account w s) slots place tag mode) here
+              ∙ sym (account-setting w s place tag mode steps.safe lawful));
+          words = ap (λ k. set_word w.words (Slot s place) (word_with k (relation_of tag) mode)) (sym shows);
+          none_beyond = set-none_beyond w.words s place (word_with shown (relation_of tag) mode) may.takes.within
+              steps.none_beyond;
+          few_counted = steps.few_counted s;
+        };
+        home = λ p none. (none, refl);
+      }
+
+  pub clearing_slot-lawful : (its : SlotsInHand) (place : ℕ) (tag : Tag) (mode : Mode) (shown : ℕ)
+      → MayClearSlotBy x.number (told content x.number x.marks) its place tag mode → shown ≡ its.word place
+      → IsAlwaysLawful content limit x (Slot x.number place) (λ _. Unit {0}) (λ _. word_without shown mode)
+      (λ _. mark.ClearedSlot place tag mode)
+  clearing_slot-lawful its place tag mode shown may is w steps n below _ _ =
+      let s : ℕ = x.number in
+      let may' : MayClearSlotBy s (account w s) its place tag mode =
+      subst (λ a. MayClearSlotBy s a its place tag mode) steps.account may in
+      let lawful = clear_slot-lawful w steps.safe s steps.makes its place tag mode may' in
+      let known : its ≡ slots_now w s = known-here w s s its may'.in_hand in
+      let here : slots_here ((account w s).fast.slots s) ≡ slots_now w s = ap slots_here may'.in_hand ∙ known in
+      let shows : shown ≡ w.words.slot s place = is ∙ ap (λ (k : SlotsInHand). k.word place) known in
+      record {
+        noted = record {
+          step = step.ClearSlot place tag mode;
+          after = after_clearing_slot w s place tag mode;
+          happens = (lawful, refl);
+          numbers = refl;
+          account = (λ i. account_unsetting s (steps.account i) (slots_here ((steps.account i).fast.slots s)) place
+              tag mode)
+              ∙ (ap (λ slots. account_unsetting s (account w s) slots place tag mode) here
+              ∙ sym (account-unsetting w s place tag mode steps.safe lawful));
+          words = ap (λ k. set_word w.words (Slot s place) (word_without k mode)) (sym shows);
+          none_beyond = set-none_beyond w.words s place (word_without shown mode) may.within steps.none_beyond;
+          few_counted = steps.few_counted s;
+        };
+        home = λ p none. (none, refl);
+      }
+
+  pub transferring-lawful : (owner place : ℕ) (its : SlotsInHand) (held : InHand) (tag : Tag) (mode strong : Mode)
+      (shown : ℕ)
+      → MayTransferBy limit (told content x.number x.marks) owner place its held tag mode strong
+      → shown ≡ its.word place
+      → IsAlwaysLawful content limit x (Slot owner place) (λ _. Unit {0}) (λ _. word_without shown mode)
+      (λ _. mark.TransferredSlot owner place tag mode)
+  transferring-lawful owner place its held tag mode strong shown may is w steps n below _ _ =
+      let s : ℕ = x.number in
+      let p : ℕ = partition_of tag in
+      let may' : MayTransferBy w.numbers.limit (account w s) owner place its held tag mode strong =
+      subst (λ k. MayTransferBy k (account w s) owner place its held tag mode strong) (sym steps.is_limit)
+      (subst (λ a. MayTransferBy limit a owner place its held tag mode strong) steps.account may) in
+      let lawful = transfer-lawful w steps.safe s steps.makes owner place its held tag mode strong may' in
+      let own = hand-known (w.contents.hand p) (w.contents.now p) s held may'.in_hand in
+      let known : its ≡ slots_now w owner = known-here w s owner its may'.its_slots in
+      let here : slots_here ((account w s).fast.slots owner) ≡ slots_now w owner = ap slots_here may'.its_slots
+      ∙ known in
+      let hand : in_hand ((account w s).hand p) ≡ mine own.hand_of (w.contents.now p) = ap in_hand may'.in_hand
+      ∙ own.as_known in
+      let shows : shown ≡ w.words.slot owner place = is ∙ ap (λ (k : SlotsInHand). k.word place) known in
+      record {
+        noted = record {
+          step = step.TransferSlot owner place tag mode strong;
+          after = after_transferring w owner place tag mode;
+          happens = (lawful, refl);
+          numbers = refl;
+          account = (λ i. account_transferring (steps.account i) owner place
+              (slots_here ((steps.account i).fast.slots owner)) (in_hand ((steps.account i).hand p)) tag mode)
+              ∙ ((λ i. account_transferring (account w s) owner place (here i) (hand i) tag mode)
+              ∙ sym (account-transferring w s owner place tag mode strong own.hand_of steps.safe lawful own.is_hand
+              own.whose));
+          words = ap (λ k. set_word w.words (Slot owner place) (word_without k mode)) (sym shows);
+          none_beyond = set-none_beyond w.words owner place (word_without shown mode) may.within steps.none_beyond;
+          few_counted = steps.few_counted s;
+        };
+        home = home-recorded w.contents p s held own
+            (set_at w.contents.now p (add_hold (w.contents.now p) owner tag mode)) (Adopt owner place)
+            (is_unmarked (w.contents.hand p))
+            (set_at-else w.contents.now p (add_hold (w.contents.now p) owner tag mode));
+      }
+
+  pub storing-lawful : (database : ℕ) → (told content x.number x.marks).fast.database ≡ 0
+      → IsAlwaysLawful content limit x (Database x.number) (λ _. Unit {0}) (λ _. database)
+      (λ _. mark.StoredDatabase database)
+  storing-lawful database unset w steps n below _ _ =
+      let s : ℕ = x.number in
+      let unset' : w.words.database s ≡ 0 = ap (λ (a : Account). a.fast.database) (sym steps.account) ∙ unset in
+      let may : MayStoreDatabase w s =
+      record {
+        steps = steps.makes;
+        unset = unset';
+        unused = unset-unused (w.words.database s) (w.words.slot s)
+            (steps.safe.slots.has_database s) unset';
+      } in
+      record {
+        noted = record {
+          step = step.StoreDatabase database;
+          after = after_storing_database w s database;
+          happens = (may, refl);
+          numbers = refl;
+          account = ap (λ a. account_storing a database) steps.account ∙ sym (account-storing w s database may);
+          words = refl;
+          none_beyond = steps.none_beyond;
+          few_counted = steps.few_counted s;
+        };
+        home = λ p none. (none, refl);
+      }

@@ -1,0 +1,5 @@
+use Rattle.shared_rule.specs.declared.history.Mark.TheVariants.{StoredDatabase}
+use Rattle.shared_rule.proofs.one_thread.OneThreadBoard.store_database.Given as goal
+
+abbrev pub ghosts-store_database : goal.ghosts-store_database
+ghosts-store_database g a = record { mark = λ _. StoredDatabase a.database }

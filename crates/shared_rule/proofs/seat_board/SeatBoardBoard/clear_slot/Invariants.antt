@@ -1,0 +1,5 @@
+use Rattle.shared_rule.specs.declared.history.Mark.TheVariants.{ClearedSlot}
+use Rattle.shared_rule.proofs.seat_board.SeatBoardBoard.clear_slot.Given as goal
+
+abbrev pub ghosts-clear_slot : goal.ghosts-clear_slot
+ghosts-clear_slot g a = record { mark = λ _. ClearedSlot a.slot a.tag.now a.mode }

@@ -1,0 +1,5 @@
+use Rattle.shared_rule.specs.declared.history.Mark.TheVariants.{LoadedStrong}
+use Rattle.shared_rule.proofs.seat_board.SeatBoardBoard.load_strong.Given as goal
+
+abbrev pub ghosts-load_strong : goal.ghosts-load_strong
+ghosts-load_strong g a = record { mark = LoadedStrong a.index }

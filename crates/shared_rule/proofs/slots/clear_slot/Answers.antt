@@ -1,0 +1,40 @@
+use Rattle.std.proofs.Common.{rules, ◌≡◌, ◌<◌, List, sym, ap, ◌∙◌, subst}
+use Rattle.lw_word.specs.SlotWord.{word_without}
+use Rattle.lock_world.specs.declared.events.Word.TheVariants.{Slot}
+use Rattle.lock_world.specs.Account.{SlotsInHand}
+use Rattle.lock_world.specs.AccountLaw.{MayClearSlotBy}
+use Rattle.shared_rule.specs.declared.history.History.{History}
+use Rattle.shared_rule.specs.declared.history.Mark.TheVariants as mark
+use Rattle.shared_rule.specs.Layout.{index_of_word}
+use Rattle.shared_rule.specs.History.{first_account, first_number}
+use Rattle.shared_rule.proofs.Events.Marks.{IsAlwaysLawful, stores_at}
+use Rattle.lock_world.proofs.Slots.Eligible.{eligible-is}
+use Rattle.shared_rule.proofs.Events.Slots.{clearing_slot-lawful}
+use Rattle.shared_rule.proofs.slots.clear_slot.Goals as goal
+
+pub without-word-requires : goal.without-word-requires
+without-word-requires g c = (eligible-is _ c.args.tag.now c.args.mode c.requires.lawful.1.eligible).2
+
+pub store_as-requires-clause-allowed : goal.store_as-requires-clause-allowed
+store_as-requires-clause-allowed g c =
+    let content = g.T.PartTable.content in
+    let place = c.args.place.now in
+    let session = c.requires.session in
+    let key = c.args.top.now.key in
+    let own : c.args.number ≡ session.history.number = c.requires.own
+    ∙ ap (λ (sessions : List (History g.row.T.Denot)). first_number sessions) session.sessions in
+    let exists : session.history.number < 64 = subst (λ n. n < 64) own (search rules) in
+    let at = c.slot_word.ensures.index ∙ ap (λ n. index_of_word (Slot n c.args.slot)) own in
+    let may = subst (λ (sessions : List (History g.row.T.Denot)). (mine : SlotsInHand)
+    × MayClearSlotBy (first_number sessions) (first_account content sessions) mine c.args.slot c.args.tag.now
+    c.args.mode × (c.args.shown ≡ mine.word c.args.slot)) session.sessions c.requires.lawful in
+    let new : word_without c.args.shown c.args.mode ≡ c.number.result = sym c.without-word.ensures.number
+    ∙ sym c.number.ensures in
+    stores_at content g.T.PartTable.begun key c.args.top.now.table_id.slots place.id place.me session.history
+    session.others session.sessions
+    (Slot session.history.number c.args.slot) (may.1.within, exists) c.slot_word.result at c.number.result
+    g.M.Marking.mark _ c.requires.mark
+    (subst (λ n. IsAlwaysLawful content key session.history (Slot session.history.number c.args.slot) (λ _. Unit {0})
+    (λ _. n) (λ _. mark.ClearedSlot c.args.slot c.args.tag.now c.args.mode)) new
+    (clearing_slot-lawful content key session.history may.0 c.args.slot c.args.tag.now c.args.mode c.args.shown may.1
+    may.2))

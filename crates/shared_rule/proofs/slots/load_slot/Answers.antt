@@ -1,0 +1,23 @@
+use Rattle.std.proofs.Common.{rules, sym, ◌∙◌, subst}
+use Rattle.lock_world.specs.declared.events.Word.TheVariants.{Slot}
+use Rattle.shared_rule.proofs.Events.Marks.{IsAlwaysLawful, looks_at}
+use Rattle.shared_rule.proofs.Events.Loads.{loading_slot-lawful}
+use Rattle.shared_rule.proofs.slots.load_slot.Goals as goal
+
+pub look_as-requires-clause-allowed : goal.look_as-requires-clause-allowed
+look_as-requires-clause-allowed g c =
+    let content = g.T.PartTable.content in
+    let place = c.args.place.now in
+    let session = c.requires.session in
+    looks_at content g.T.PartTable.begun c.args.top.now.key c.args.top.now.table_id.slots place.id place.me
+    session.history session.others session.sessions
+    (Slot c.args.owner c.args.slot) (c.requires.within, search rules) c.slot_word.result c.slot_word.ensures.index
+    g.M.Marking.mark
+    (subst (IsAlwaysLawful content c.args.top.now.key session.history (Slot c.args.owner c.args.slot) (λ _. Unit {0})
+    (λ n. n)) (sym c.requires.mark)
+    (loading_slot-lawful content c.args.top.now.key session.history c.args.owner c.args.slot c.requires.within))
+
+pub returns-clause-of_slots : goal.returns-clause-of_slots
+returns-clause-of_slots g c = λ slots known.
+    c.from_number.ensures ∙ c.look_as.ensures.knows (Slot c.args.owner c.args.slot) (c.requires.within, search rules)
+    c.slot_word.ensures.index slots known

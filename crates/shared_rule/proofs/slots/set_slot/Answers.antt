@@ -1,0 +1,48 @@
+use Rattle.std.proofs.Common.{rules, ◌≡◌, ◌<◌, List, sym, ap, ◌∙◌, subst}
+use Rattle.lw_word.specs.SlotWord.{word_with}
+use Rattle.lock_world.specs.declared.events.Word.TheVariants.{Slot}
+use Rattle.lock_world.specs.SlotHolds.{relation_of}
+use Rattle.lock_world.specs.Account.{SlotsInHand}
+use Rattle.lock_world.specs.AccountLaw.{MaySetSlotBy}
+use Rattle.shared_rule.specs.declared.history.History.{History}
+use Rattle.shared_rule.specs.declared.history.Mark.TheVariants as mark
+use Rattle.shared_rule.specs.Layout.{index_of_word}
+use Rattle.shared_rule.specs.History.{first_account, first_number}
+use Rattle.shared_rule.proofs.Events.Marks.{IsAlwaysLawful, stores_at}
+use Rattle.lock_world.proofs.Slots.Eligible.{eligible-is}
+use Rattle.shared_rule.proofs.SlotWords.{its-slot}
+use Rattle.shared_rule.proofs.Events.Slots.{setting-lawful}
+use Rattle.shared_rule.proofs.slots.set_slot.Goals as goal
+
+pub with-word-requires-clause-slot_mode : goal.with-word-requires-clause-slot_mode
+with-word-requires-clause-slot_mode g c = (eligible-is _ c.args.tag.now c.args.mode c.requires.lawful.1.eligible).2
+
+pub with-word-requires-clause-its_slot : goal.with-word-requires-clause-its_slot
+with-word-requires-clause-its_slot g c = λ used.
+    let lawful = c.requires.lawful in
+    its-slot lawful.0.word (relation_of c.args.tag.now) c.args.slot c.args.shown lawful.1.takes lawful.2 used
+    ∙ sym c.relation.ensures
+
+pub store_as-requires-clause-allowed : goal.store_as-requires-clause-allowed
+store_as-requires-clause-allowed g c =
+    let content = g.T.PartTable.content in
+    let place = c.args.place.now in
+    let session = c.requires.session in
+    let key = c.args.top.now.key in
+    let own : c.args.number ≡ session.history.number = c.requires.own
+    ∙ ap (λ (sessions : List (History g.row.T.Denot)). first_number sessions) session.sessions in
+    let exists : session.history.number < 64 = subst (λ n. n < 64) own (search rules) in
+    let at = c.slot_word.ensures.index ∙ ap (λ n. index_of_word (Slot n c.args.slot)) own in
+    let may = subst (λ (sessions : List (History g.row.T.Denot)). (mine : SlotsInHand)
+    × MaySetSlotBy (first_number sessions) (first_account content sessions) mine c.args.slot c.args.tag.now
+    c.args.mode × (c.args.shown ≡ mine.word c.args.slot)) session.sessions c.requires.lawful in
+    let new : word_with c.args.shown (relation_of c.args.tag.now) c.args.mode ≡ c.number.result =
+    ap (λ r. word_with c.args.shown r c.args.mode) (sym c.relation.ensures) ∙ sym c.with-word.ensures.number
+    ∙ sym c.number.ensures in
+    stores_at content g.T.PartTable.begun key c.args.top.now.table_id.slots place.id place.me session.history
+    session.others session.sessions
+    (Slot session.history.number c.args.slot) (may.1.takes.within, exists) c.slot_word.result at c.number.result
+    g.M.Marking.mark _ c.requires.mark
+    (subst (λ n. IsAlwaysLawful content key session.history (Slot session.history.number c.args.slot) (λ _. Unit {0})
+    (λ _. n) (λ _. mark.SetSlot c.args.slot c.args.tag.now c.args.mode)) new
+    (setting-lawful content key session.history may.0 c.args.slot c.args.tag.now c.args.mode c.args.shown may.1 may.2))

@@ -1,0 +1,41 @@
+use Rattle.std.proofs.Common.{rules, ◌≡◌, List, sym, ◌∙◌, subst}
+use Rattle.lw_word.specs.SlotWord.{word_without}
+use Rattle.lock_table.specs.Content.{add_hold}
+use Rattle.lock_world.specs.declared.events.Word.TheVariants.{Slot}
+use Rattle.lock_world.specs.SlotHolds.{relation_of}
+use Rattle.lock_world.specs.Account.{InHand, SlotsInHand}
+use Rattle.lock_world.specs.AccountLaw.{MayTransferBy}
+use Rattle.shared_rule.specs.declared.history.History.{History}
+use Rattle.shared_rule.specs.declared.history.Mark.TheVariants as mark
+use Rattle.shared_rule.specs.History.{first_account}
+use Rattle.shared_rule.proofs.Events.Marks.{IsAlwaysLawful, stores_at}
+use Rattle.shared_rule.proofs.SlotWords.{shown-weak}
+use Rattle.shared_rule.proofs.Events.Slots.{transferring-lawful}
+use Rattle.shared_rule.proofs.slots.transfer_slot.Goals as goal
+
+pub without-word-requires : goal.without-word-requires
+without-word-requires g c = let may = c.requires.lawful.2 in shown-weak (c.requires.lawful.0.word c.args.slot)
+    (relation_of c.args.tag.now) c.args.mode may.shown
+
+pub store_as-requires-clause-allowed : goal.store_as-requires-clause-allowed
+store_as-requires-clause-allowed g c =
+    let content = g.T.PartTable.content in
+    let place = c.args.place.now in
+    let session = c.requires.session in
+    let key = c.args.top.now.key in
+    let may = subst (λ (sessions : List (History g.row.T.Denot)). (its : SlotsInHand) × (mine : InHand)
+    × MayTransferBy key (first_account content sessions) c.args.owner c.args.slot its mine c.args.tag.now
+    c.args.mode c.args.strong
+    × (c.args.shown ≡ its.word c.args.slot)
+    × (content c.args.content.now ≡ add_hold mine.now c.args.owner c.args.tag.now c.args.mode)) session.sessions
+    c.requires.lawful in
+    let new : word_without c.args.shown c.args.mode ≡ c.number.result = sym c.without-word.ensures.number
+    ∙ sym c.number.ensures in
+    stores_at content g.T.PartTable.begun key c.args.top.now.table_id.slots place.id place.me session.history
+    session.others session.sessions
+    (Slot c.args.owner c.args.slot) (may.2.within, search rules) c.slot_word.result c.slot_word.ensures.index
+    c.number.result g.M.Marking.mark _ c.requires.mark
+    (subst (λ n. IsAlwaysLawful content key session.history (Slot c.args.owner c.args.slot) (λ _. Unit {0}) (λ _. n)
+    (λ _. mark.TransferredSlot c.args.owner c.args.slot c.args.tag.now c.args.mode)) new
+    (transferring-lawful content key session.history c.args.owner c.args.slot may.0 may.1 c.args.tag.now c.args.mode
+    c.args.strong c.args.shown may.2 may.3))

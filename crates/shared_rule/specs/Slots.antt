@@ -1,0 +1,57 @@
+use Rattle.std.specs.Prelude.{◌≡◌, ◌≢◌, ◌⊎◌, ℕ, MatchResult, Some}
+use Rattle.std.specs.declared.result.Result.{Result}
+use Rattle.lw_word.specs.LightweightWord.{IsHeldByNobody}
+use Rattle.lock_world.specs.declared.events.Word.{Word}
+use Rattle.lock_world.specs.declared.events.Word.TheVariants.{Partition, Fast, Database, Slot, Wait, Strong, Sleep}
+use Rattle.lock_world.specs.SlotHolds.{slot_holds}
+use Rattle.lock_world.specs.World.{Loaded}
+use Rattle.lock_world.specs.Account.{Account, SlotsInHand}
+use Rattle.lock_world.specs.AccountSteps.{account_tracing, account_taking_fast}
+use Rattle.lock_world.specs.AccountFacts.{KnowsSlots}
+
+-- What steps on slots tell the session of this number, whose account is `a` before them and `b` after them.
+
+-- It took the lock of the owner's slots, has them in hand, and knows of them what its account tells.
+pub record TakesFast (number : ℕ) (a : Account) (owner : ℕ) (b : Account) : Type 0 where
+  pub slots : SlotsInHand
+  pub knows : KnowsSlots number a owner slots
+  pub account : b ≡ account_taking_fast number a owner slots
+
+-- An attempt to take the lock of its own slots, which first loads the lock's word:
+
+-- nobody held it, and the exchange took it;
+pub record TookItFree (number : ℕ) (a b : Account) : Type 0 where
+  pub shown : ℕ
+  pub free : IsHeldByNobody shown
+  pub takes : TakesFast number (account_tracing a (Loaded (Fast number) shown)) number b
+
+-- somebody held it;
+pub record FoundItHeld (number : ℕ) (a b : Account) : Type 0 where
+  pub shown : ℕ
+  pub held : IsHeldByNobody shown → ⊥
+  pub account : b ≡ account_tracing a (Loaded (Fast number) shown)
+
+-- nobody held it, but the exchange found another number.
+pub record FoundItChanged (number : ℕ) (a b : Account) : Type 0 where
+  pub shown : ℕ
+  pub free : IsHeldByNobody shown
+  pub other : ℕ
+  pub changed : other ≢ shown
+  pub account : b ≡ account_tracing (account_tracing a (Loaded (Fast number) shown)) (Loaded (Fast number) other)
+
+abbrev pub TriesFast : {T E : Type 0} → ℕ → Account → Result T E → Account → Type 0
+TriesFast number a result b =
+    MatchResult result (λ _. TookItFree number a b) (λ _. FoundItHeld number a b ⊎ FoundItChanged number a b)
+
+-- What it knows of a number that it finds in a word: its slots in hand show it, and its database is its own.
+abbrev pub KnowsWord : ℕ → Account → Word → ℕ → Type 0
+KnowsWord number a (Partition p) found = Unit {0}
+KnowsWord number a (Fast owner) found = Unit {0}
+KnowsWord number a (Database owner) found =
+    ((slots : SlotsInHand) → a.fast.slots owner ≡ Some slots → slots.holds ≡ slot_holds found slots.word)
+    × (owner ≡ number → found ≡ a.fast.database)
+KnowsWord number a (Slot owner place) found =
+    (slots : SlotsInHand) → a.fast.slots owner ≡ Some slots → found ≡ slots.word place
+KnowsWord number a (Wait owner) found = Unit {0}
+KnowsWord number a (Strong index) found = Unit {0}
+KnowsWord number a (Sleep owner) found = Unit {0}
