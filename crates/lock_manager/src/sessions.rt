@@ -171,12 +171,7 @@ impl<T: PartTable, B: Board<T>> OwnSession<T, B> {
     /// order, where the mode on the object may not go by a slot, the local table is full, memory is wanting, all
     /// sixteen slots are in use, somebody has the lock of the own slots, or a strong lock is counted. After a refusal
     /// the session holds what it held.
-    pub fn try_fast(
-        &mut self,
-        tag: Tag,
-        mode: Mode,
-        owner: Owner,
-    ) -> Result<Acquired, Refusal>
+    pub fn try_fast(&mut self, tag: Tag, mode: Mode, owner: Owner) -> Result<Acquired, Refusal>
         // What it is answered.
         ensures already_held { (result ≡ Ok Acquired.AlreadyHeld) ↔ ((has_entry self.old.owned.entries tag mode ≡ true)
             × (owner_count_of self.old.owned.entries tag mode owner < max_count)) }
