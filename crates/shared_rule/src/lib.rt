@@ -16,6 +16,4 @@ mod seats;
 mod slots;
 mod steps;
 pub mod table;
-#[cfg(test)]
-mod tests;
 mod waits;
