@@ -1,4 +1,4 @@
-use Rattle.std.specs.Prelude.{◌≡◌, ◌≢◌, ℕ, true, false, List, None, IsSome}
+use Rattle.std.specs.Prelude.{◌≡◌, ◌≢◌, ◌<◌, ℕ, true, false, List, None, IsSome}
 use Rattle.modes_core.specs.declared.modes.Mode.{Mode}
 use Rattle.modes_core.specs.Mode.{name_of}
 use Rattle.lock_scenario.specs.Names.{IsCalled}
@@ -10,14 +10,20 @@ use Rattle.lock_scenario.specs.declared.crew.Opened.{Opened}
 use Rattle.lock_scenario.specs.declared.faults.Defect.{Defect}
 use Rattle.lock_scenario.specs.declared.faults.Defect.TheVariants.{BadName, NoSuchSession, SessionWaits, BadObject, BadMode}
 use Rattle.lock_scenario.specs.declared.command.Command.{Command}
-use Rattle.lock_scenario.specs.declared.command.Command.TheVariants.{Session, Try, Lock, Unlock, Commit, Abort, Owned, Waiters, Cancel, Hash, Close}
+use Rattle.lock_scenario.specs.declared.command.Command.TheVariants.{Session, Try, Fast, Lock, Unlock, Commit, Abort, Owned, Waiters, Cancel, Count, Hash, Close}
 use Rattle.lock_scenario.specs.declared.command.Command.TheVariants as command
+
+-- The strong lock counter that a command names is one of the 1,024.
+abbrev pub NamesCounter : Command → Type 0
+NamesCounter (Count speaker index) = index < 1024
+NamesCounter _ = Unit {0}
 
 module _ {S W : Type 0} where
   -- The session that a command addresses stands among those that don't wait; the one that a cancel asks is open.
   abbrev pub Addresses : Crew S W → Command → Type 0
   Addresses crew (Session name database) = Unit {0}
   Addresses crew (Try target owner) = MayAct crew target.speaker.place
+  Addresses crew (Fast target owner) = MayAct crew target.speaker.place
   Addresses crew (Lock target owner) = MayAct crew target.speaker.place
   Addresses crew (Unlock target owner) = MayAct crew target.speaker.place
   Addresses crew (Commit speaker) = MayAct crew speaker.place
@@ -26,6 +32,7 @@ module _ {S W : Type 0} where
   Addresses crew (Waiters target) = MayAct crew target.speaker.place
   Addresses crew (Cancel by other) = MayAct crew by.place × IsThere crew other.place
   Addresses crew (command.List speaker) = MayAct crew speaker.place
+  Addresses crew (Count speaker index) = MayAct crew speaker.place
   Addresses crew (Hash tag) = Unit {0}
   Addresses crew (Close speaker) = MayAct crew speaker.place
 

@@ -1,4 +1,4 @@
-use Rattle.std.specs.Prelude.{ℕ, ◌==◌, ◌||◌, ◌&&◌, nat_le, Bool, if◌then◌else◌, List, [], ◌∷◌, length, map, filter, Option, Some, None, codes}
+use Rattle.std.specs.Prelude.{ℕ, ◌==◌, ◌||◌, ◌&&◌, nat_le, nat_lt, Bool, if◌then◌else◌, List, [], ◌∷◌, length, map, filter, Option, Some, None, codes}
 use Rattle.std.specs.Str.{bytes_eq}
 use Rattle.std.specs.List.{list_all, slice_split}
 use Rattle.std.specs.Char.{is_ascii_digit}
@@ -36,6 +36,15 @@ is_short_numeral word = nat_le 1 (length word) && (nat_le (length word) 10 && li
 abbrev pub number_in : List ℕ → Option ℕ
 number_in word =
     if is_short_numeral word && nat_le (digits_value 10 word) 4294967295 then Some (digits_value 10 word) else None
+
+-- a number below 1,024
+abbrev pub strong_index : Option ℕ → Option ℕ
+strong_index (Some number) = if nat_lt number 1024 then Some number else None
+strong_index None = None
+
+-- the strong lock counter that a word is the index of
+abbrev pub strong_index_in : List ℕ → Option ℕ
+strong_index_in word = strong_index (number_in word)
 
 -- the byte between the numbers of a tag
 abbrev pub is_slash : ℕ → Bool

@@ -18,8 +18,11 @@ const MAX_LOCAL_SHOWN: &str = "1024";
 /// The version that `--version` shows.
 const VERSION: &str = "0.1.0";
 
-/// What `--help` shows of a run.
-const EXAMPLE: &str = "Example:
+/// What `--help` shows of the script language, and of a run.
+const LINES_AND_EXAMPLE: &str = "Lines of a script begin with:
+  session, try, fast, lock, unlock, commit, abort, owned, waiters, cancel, list, count, hash, close
+
+Example:
   lock_scenario run --sessions 2 < scenarios/object_lock.scn";
 
 /// The command line: `run [--sessions N] [--max-local M]`.
@@ -43,7 +46,7 @@ fn command<'a>(alloc: Global) -> Result<Command<'a>, AllocError> {
     Command::new(alloc, "lock_scenario")
         .version(VERSION)
         .about("Run scripts against PostgreSQL's lock manager")
-        .after_help(EXAMPLE)
+        .after_help(LINES_AND_EXAMPLE)
         .subcommand_required(true)
         .subcommand(run)
 }

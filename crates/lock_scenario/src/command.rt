@@ -1,15 +1,17 @@
 //! The commands of the script language, and the parse of their words.
-ghost use Rattle.std.specs.Prelude.{◌≡◌, ◌≢◌, ◌↔◌, ◌⊎◌, length, Some, IfOk, IfErr, IfSome, IsErrOf};
+ghost use Rattle.std.specs.Prelude.{◌≡◌, ◌≢◌, ◌<◌, ◌↔◌, ◌⊎◌, length, None, Some, IfOk, IfErr, IfSome, IsErrOf};
 ghost use Rattle.std.specs.List.{HoldsAt};
 ghost use Rattle.modes_core.specs.Mode.{name_of};
-ghost use Rattle.lock_scenario.specs.Command.{Addresses, IsBarred, IsNoTarget, IsUnnamed, NamesOneThatMayAct, NamesOpen, NamesSpeaker};
+ghost use Rattle.lock_scenario.specs.Command.{Addresses, IsBarred, IsNoTarget, IsUnnamed, NamesCounter, NamesOneThatMayAct, NamesOpen, NamesSpeaker};
 ghost use Rattle.lock_scenario.specs.Crew.{IsThere, IsUnknown, MayAct};
-ghost use Rattle.lock_scenario.specs.Words.{tag_of};
+ghost use Rattle.lock_scenario.specs.Words.{strong_index_in, tag_of};
 
 use crate::crew::{Crew, Opened, Place, Speaker};
 use crate::faults::Defect;
 use crate::names::Name;
-use crate::words::{parse_name, parse_number, parse_owner, parse_tag, split_words};
+use crate::words::{
+    parse_name, parse_number, parse_owner, parse_strong_index, parse_tag, split_words,
+};
 use modes_core::{Mode, Owner, Tag};
 
 /// Which lock a line is about, and whose.
@@ -27,6 +29,8 @@ pub enum Command {
     Session { name: Name, database: u32 },
     /// `try NAME TAG MODE OWNER`
     Try(Target, Owner),
+    /// `fast NAME TAG MODE OWNER`
+    Fast(Target, Owner),
     /// `lock NAME TAG MODE OWNER`
     Lock(Target, Owner),
     /// `unlock NAME TAG MODE OWNER`
@@ -43,6 +47,8 @@ pub enum Command {
     Cancel(Speaker, Opened),
     /// `list NAME`
     List(Speaker),
+    /// `count NAME INDEX`
+    Count(Speaker, u16),
     /// `hash TAG`
     Hash(Tag),
     /// `close NAME`
@@ -51,7 +57,8 @@ pub enum Command {
 
 /// What the line asks for, or `None` of a line with no word and of a comment.
 pub fn parse<S: Drop, W: Drop>(line: &str, crew: &Crew<S, W>) -> Result<Option<Command>, Defect>
-    ensures { IfOk result (λ command. IfSome command (Addresses crew.now)) }
+    ensures addressed { IfOk result (λ command. IfSome command (Addresses crew.now)) }
+    ensures counter { IfOk result (λ command. IfSome command NamesCounter) }
 {
     let words = split_words(line);
     let Some((verb, words)) = words.as_slice().split_first() else {
@@ -69,7 +76,8 @@ fn parse_command<S: Drop, W: Drop>(
     words: &[&str],
     crew: &Crew<S, W>,
 ) -> Result<Command, Defect>
-    ensures { IfOk result (Addresses crew.now) }
+    ensures addressed { IfOk result (Addresses crew.now) }
+    ensures counter { IfOk result NamesCounter }
 {
     match verb {
         "session" => {
@@ -79,6 +87,10 @@ fn parse_command<S: Drop, W: Drop>(
         "try" => {
             let (target, owner) = parse_owned_target(words, crew)?;
             Ok(Command::Try(target, owner))
+        }
+        "fast" => {
+            let (target, owner) = parse_owned_target(words, crew)?;
+            Ok(Command::Fast(target, owner))
         }
         "lock" => {
             let (target, owner) = parse_owned_target(words, crew)?;
@@ -91,6 +103,10 @@ fn parse_command<S: Drop, W: Drop>(
         "cancel" => {
             let (by, other) = parse_cancel(words, crew)?;
             Ok(Command::Cancel(by, other))
+        }
+        "count" => {
+            let (speaker, index) = parse_count(words, crew)?;
+            Ok(Command::Count(speaker, index))
         }
         "commit" => Ok(Command::Commit(parse_lone_speaker(words, crew)?)),
         "abort" => Ok(Command::Abort(parse_lone_speaker(words, crew)?)),
@@ -118,7 +134,7 @@ fn parse_session<S: Drop, W: Drop>(words: &[&str], crew: &Crew<S, W>) -> Result<
     Ok((name, database))
 }
 
-/// The words behind `try`, `lock` and `unlock`. Where there is no fourth one the owner is the transaction.
+/// The words behind `try`, `fast`, `lock` and `unlock`. Where there is no fourth one the owner is the transaction.
 fn parse_owned_target<S: Drop, W: Drop>(
     words: &[&str],
     crew: &Crew<S, W>,
@@ -187,6 +203,31 @@ fn parse_hash(words: &[&str]) -> Result<Tag, Defect> {
         return Err(Defect::WrongNumberOfWords);
     };
     parse_tag(tag).ok_or(Defect::BadObject)
+}
+
+/// The words behind `count`: who looks, and at which strong lock counter.
+fn parse_count<S: Drop, W: Drop>(
+    words: &[&str],
+    crew: &Crew<S, W>,
+) -> Result<(Speaker, u16), Defect>
+    ensures may_act { IfOk result (λ parsed. MayAct crew.now parsed.0.place) }
+    ensures exists { IfOk result (λ parsed. parsed.1 < 1024) }
+    ensures by { IfOk result (λ parsed. HoldsAt (λ word. NamesSpeaker crew.now word.now parsed.0) words.now 0) }
+    ensures index { IfOk result (λ parsed.
+        HoldsAt (λ word. strong_index_in word.now ≡ Some parsed.1) words.now 1) }
+    ensures wrong_number { IsErrOf result Defect.WrongNumberOfWords ↔ (length words.now ≢ 2) }
+    ensures refused { IfErr result (λ defect. defect ≢ Defect.WrongNumberOfWords →
+        HoldsAt (λ word. IsBarred crew.now word.now defect) words.now 0
+        ⊎ ((defect ≡ Defect.BadNumber)
+        × HoldsAt (λ word. NamesOneThatMayAct crew.now word.now) words.now 0
+        × HoldsAt (λ word. strong_index_in word.now ≡ None) words.now 1)) }
+{
+    let [name, index] = words else {
+        return Err(Defect::WrongNumberOfWords);
+    };
+    let speaker = parse_speaker(name, crew)?;
+    let index = parse_strong_index(index).ok_or(Defect::BadNumber)?;
+    Ok((speaker, index))
 }
 
 /// The words behind `cancel`: who asks, and the session that is asked, which may wait.

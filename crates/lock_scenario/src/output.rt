@@ -193,6 +193,11 @@ impl<W: Write + Drop> Output<W> {
         written(writeln!(self.writer, "table {name} {tag} {mode} {how}"))
     }
 
+    /// What a strong lock counter shows.
+    pub fn strong(&mut self, index: u16, shown: u64) -> Result<(), Fault> {
+        written(writeln!(self.writer, "strong {index} {shown}"))
+    }
+
     /// The hash of an object, with its partition and its strong lock counter.
     pub fn hash(&mut self, tag: Tag) -> Result<(), Fault> {
         let hash = tag.hash();

@@ -1,6 +1,6 @@
 //! Scripts: a line is read, run and answered before the next one is read.
 ghost use Rattle.std.specs.Prelude.{◌≡◌, ◌≤◌, ◌<◌, [], true, length, Ok};
-ghost use Rattle.lock_scenario.specs.Command.{Addresses};
+ghost use Rattle.lock_scenario.specs.Command.{Addresses, NamesCounter};
 ghost use Rattle.lock_scenario.specs.Crew.{IsThere, MayAct};
 
 use crate::command::{Command, Target, parse};
@@ -100,7 +100,8 @@ impl<'a, W: Write + Drop> Scene<'a, W> {
 
     /// Runs a command and then polls those who wait, and passes on what both print.
     fn run<H: Wait>(&mut self, rt: &H, command: Command) -> Result<(), Fault>
-        requires { Addresses self.old.stage.crew command }
+        requires addressed { Addresses self.old.stage.crew command }
+        requires counter { NamesCounter command }
         ensures manager { self.new.stage.manager.now ≡ self.old.stage.manager.now }
     {
         self.act(rt, command)?;
@@ -110,12 +111,14 @@ impl<'a, W: Write + Drop> Scene<'a, W> {
 
     /// Runs a command.
     fn act<H: Wait>(&mut self, rt: &H, command: Command) -> Result<(), Fault>
-        requires { Addresses self.old.stage.crew command }
+        requires addressed { Addresses self.old.stage.crew command }
+        requires counter { NamesCounter command }
         ensures manager { self.new.stage.manager.now ≡ self.old.stage.manager.now }
     {
         match command {
             Command::Session { name, database } => self.open(name, database),
             Command::Try(target, owner) => self.try_lock(rt, target, owner),
+            Command::Fast(target, owner) => self.try_fast(target, owner),
             Command::Lock(target, owner) => self.lock(rt, target, owner),
             Command::Unlock(target, owner) => self.unlock(rt, target, owner),
             Command::Commit(speaker) => self.commit(rt, speaker),
@@ -124,6 +127,7 @@ impl<'a, W: Write + Drop> Scene<'a, W> {
             Command::Waiters(target) => self.waiters(rt, target),
             Command::Cancel(by, other) => self.cancel(by, other),
             Command::List(speaker) => self.list(rt, speaker),
+            Command::Count(speaker, index) => self.count(speaker, index),
             Command::Hash(tag) => self.output.hash(tag),
             Command::Close(speaker) => self.close(rt, speaker),
         }
@@ -204,6 +208,17 @@ impl<'a, W: Write + Drop> Scene<'a, W> {
             .stage
             .try_lock(rt, place, target.tag, target.mode, owner)
         {
+            Ok(acquired) => self.output.acquired(&name, acquired),
+            Err(refusal) => self.refuse(&name, refusal),
+        }
+    }
+
+    fn try_fast(&mut self, target: Target, owner: Owner) -> Result<(), Fault>
+        requires { MayAct self.old.stage.crew target.speaker.place }
+        ensures manager { self.new.stage.manager.now ≡ self.old.stage.manager.now }
+    {
+        let Speaker { name, place } = target.speaker;
+        match self.stage.try_fast(place, target.tag, target.mode, owner) {
             Ok(acquired) => self.output.acquired(&name, acquired),
             Err(refusal) => self.refuse(&name, refusal),
         }
@@ -298,5 +313,14 @@ impl<'a, W: Write + Drop> Scene<'a, W> {
             }
             Err(refusal) => self.refuse(&speaker.name, refusal),
         }
+    }
+
+    fn count(&mut self, speaker: Speaker, index: u16) -> Result<(), Fault>
+        requires by { MayAct self.old.stage.crew speaker.place }
+        requires exists { index < 1024 }
+        ensures manager { self.new.stage.manager.now ≡ self.old.stage.manager.now }
+    {
+        let shown = self.stage.strong_count(speaker.place, index);
+        self.output.strong(index, shown)
     }
 }

@@ -105,6 +105,23 @@ impl<'a> Stage<'a> {
         answer
     }
 
+    /// Takes a mode on an object for an owner in one of the session's slots, or refuses at once.
+    pub fn try_fast(
+        &mut self,
+        place: usize,
+        tag: Tag,
+        mode: Mode,
+        owner: Owner,
+    ) -> Result<Acquired, Refusal>
+        requires { MayAct self.old.crew place }
+        ensures manager { self.new.manager.now ≡ self.old.manager.now }
+    {
+        let Named { name, mut session } = self.crew.resting.take(place);
+        let answer = session.try_fast(tag, mode, owner);
+        self.crew.resting.put(name, session);
+        answer
+    }
+
     /// Takes a mode on an object for an owner, or begins to wait for it.
     pub fn lock<H: Wait>(
         &mut self,
@@ -213,6 +230,18 @@ impl<'a> Stage<'a> {
         let answer = session.list(rt);
         self.crew.resting.put(name, session);
         answer
+    }
+
+    /// What the strong lock counter with this index shows.
+    pub fn strong_count(&mut self, place: usize, index: u16) -> u64
+        requires by { MayAct self.old.crew place }
+        requires exists { index < 1024 }
+        ensures manager { self.new.manager.now ≡ self.old.manager.now }
+    {
+        let Named { name, mut session } = self.crew.resting.take(place);
+        let shown = session.strong_count(index);
+        self.crew.resting.put(name, session);
+        shown
     }
 
     /// One session asks another one to cancel its wait.

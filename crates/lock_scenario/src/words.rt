@@ -2,10 +2,11 @@
 ghost use Rattle.std.specs.Prelude.{◌≡◌, ◌<◌, [], ◌∷◌, ◌++◌, length, take, map, filter, position, IfSome, MatchOption, is_some, IsUtf8};
 ghost use Rattle.std.specs.List.{list_all, slice_split};
 ghost use Rattle.std.specs.Char.{is_ascii_digit};
-ghost use Rattle.lock_scenario.specs.Words.{is_blank, is_word, words_of, is_name_byte, is_name, number_in, is_slash, tag_of_numbers, tag_of, owner_of};
+ghost use Rattle.lock_scenario.specs.Words.{is_blank, is_word, words_of, is_name_byte, is_name, number_in, is_slash, strong_index_in, tag_of_numbers, tag_of, owner_of};
 
 use crate::names::Name;
 use arrayvec::ArrayVec;
+use modes_core::tags::STRONG_COUNTERS;
 use modes_core::{Owner, Tag};
 
 /// The first six words of a line: what spaces and tabs part. No command has as many.
@@ -91,6 +92,17 @@ pub fn parse_number(word: &str) -> Option<u32>
     match word.parse::<u32>() {
         Ok(number) => Some(number),
         Err(_) => None,
+    }
+}
+
+/// The index of a strong lock counter: a number below 1,024.
+pub fn parse_strong_index(word: &str) -> Option<u16>
+    ensures value { result ≡ strong_index_in word.now }
+    ensures exists { IfSome result (λ index. index < 1024) }
+{
+    match parse_number(word) {
+        Some(number) if number < STRONG_COUNTERS => Some(number as u16),
+        _ => None,
     }
 }
 

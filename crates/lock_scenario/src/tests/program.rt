@@ -21,6 +21,9 @@ Options:
   -h, --help     Print help
   -V, --version  Print version
 
+Lines of a script begin with:
+  session, try, fast, lock, unlock, commit, abort, owned, waiters, cancel, list, count, hash, close
+
 Example:
   lock_scenario run --sessions 2 < scenarios/object_lock.scn
 ";

@@ -12,8 +12,8 @@ pub type Copies<'a> = (&'a str, u32, &'a str, &'a str);
 
 const OPENED: &str = "a: session 0 database 5\n";
 
-/// Lines that do nothing, lines that end in every way, and hashes.
-pub const LINES: [Row<'static>; 15] = [
+/// Lines that do nothing, lines that end in every way, hashes, and counters.
+pub const LINES: [Row<'static>; 17] = [
     (0, "", "", ""),
     (0, "\n", "", ""),
     (
@@ -64,10 +64,17 @@ pub const LINES: [Row<'static>; 15] = [
         "hash 1793954687 partition 15 strong 895\n",
         "",
     ),
+    (
+        1,
+        "count a 0\ncount a 0001023\ncount a 0000000796\r\n",
+        "strong 0 0\nstrong 1023 0\nstrong 796 0\n",
+        "",
+    ),
+    (1, " count\t a  1023", "strong 1023 0\n", ""),
 ];
 
 /// Lines that are no lines of the language, as the second of a script.
-pub const BAD_LINES: [BadRow<'static>; 55] = [
+pub const BAD_LINES: [BadRow<'static>; 71] = [
     // bytes
     ("try a 5/1 Shar\u{e9}", "line 2: not ASCII text"),
     ("# \u{7f}", "line 2: not ASCII text"),
@@ -77,8 +84,8 @@ pub const BAD_LINES: [BadRow<'static>; 55] = [
     ("frob", "line 2: unknown command"),
     ("Session b 5", "line 2: unknown command"),
     ("Lock a 5/16384 ShareLock", "line 2: unknown command"),
-    ("fast", "line 2: unknown command"),
-    ("count a 796", "line 2: unknown command"),
+    ("Fast a 5/16384 AccessShareLock", "line 2: unknown command"),
+    ("counts a 796", "line 2: unknown command"),
     ("begin a b c d e f", "line 2: unknown command"),
     ("commit", "line 2: wrong number of words"),
     ("abort a a", "line 2: wrong number of words"),
@@ -95,6 +102,14 @@ pub const BAD_LINES: [BadRow<'static>; 55] = [
         "try A 5/1 ShareLock session more",
         "line 2: wrong number of words",
     ),
+    ("fast", "line 2: wrong number of words"),
+    ("fast A 5/1", "line 2: wrong number of words"),
+    (
+        "fast A 5/1 AccessShareLock session more",
+        "line 2: wrong number of words",
+    ),
+    ("count a", "line 2: wrong number of words"),
+    ("count A 1024 x", "line 2: wrong number of words"),
     ("unlock a 5/1", "line 2: wrong number of words"),
     ("list", "line 2: wrong number of words"),
     ("list a a", "line 2: wrong number of words"),
@@ -116,24 +131,38 @@ pub const BAD_LINES: [BadRow<'static>; 55] = [
     ("owned a 5 x", "line 2: bad object"),
     ("owned a 5/1 x", "line 2: bad mode"),
     ("unlock b 5 x y", "line 2: no such session"),
+    ("fast A 5 x", "line 2: bad name"),
+    ("fast b 5 x", "line 2: no such session"),
+    ("count A x", "line 2: bad name"),
+    ("count b 1024", "line 2: no such session"),
     // numbers
     ("session b x", "line 2: bad number"),
     ("session b +5", "line 2: bad number"),
     ("session b 4294967296", "line 2: bad number"),
     ("session b 00000000005", "line 2: bad number"),
+    ("count a 1024", "line 2: bad number"),
+    ("count a x", "line 2: bad number"),
+    ("count a -1", "line 2: bad number"),
+    ("count a 00000000005", "line 2: bad number"),
     // objects
     ("try a 5 x", "line 2: bad object"),
     ("try a 5/ x y", "line 2: bad object"),
     ("try a /5 x", "line 2: bad object"),
     ("try a 5/1/2 x", "line 2: bad object"),
     ("try a 5/1/2/3/4 x", "line 2: bad object"),
+    ("fast a 5 x", "line 2: bad object"),
     ("hash 5/4294967296", "line 2: bad object"),
     ("hash 5/1259/16384/65536", "line 2: bad object"),
     ("hash advisory/5/1", "line 2: bad object"),
     // modes and owners
     ("try a 5/16384 ShareLocks", "line 2: bad mode"),
     ("try a 5/16384 sharelock session", "line 2: bad mode"),
+    ("fast a 5/16384 ShareLocks session", "line 2: bad mode"),
     ("try a 5/16384 ShareLock Session", "line 2: bad owner"),
+    (
+        "fast a 5/16384 AccessShareLock Session",
+        "line 2: bad owner",
+    ),
     (
         "unlock a 5/16384 ShareLock transaction",
         "line 2: bad owner",
@@ -225,8 +254,8 @@ pub const ENDS: [Row<'static>; 6] = [
     ),
 ];
 
-/// What is in the way, and what a listing shows.
-pub const LISTINGS: [Row<'static>; 5] = [
+/// What is in the way, what goes by a slot, and what a listing shows.
+pub const LISTINGS: [Row<'static>; 14] = [
     // an object is not the relation of its numbers
     (
         0,
@@ -279,12 +308,156 @@ pub const LISTINGS: [Row<'static>; 5] = [
     // a strong lock moves slots to the table, and what was moved stays there
     (
         0,
-        "session a 5\nsession b 5\ntry a 5/16384 RowExclusiveLock\ntry b 5/16384 ShareLock\nlist a\n\
-        unlock a 5/16384 RowExclusiveLock\ntry b 5/16384 ShareLock\ntry a 5/16384 AccessShareLock\nlist b\n",
+        "session a 5\nsession b 5\ntry a 5/16384 RowExclusiveLock\ntry b 5/16384 ShareLock\n\
+        count a 796\nlist a\nunlock a 5/16384 RowExclusiveLock\ntry b 5/16384 ShareLock\n\
+        count a 796\ntry a 5/16384 AccessShareLock\nlist b\n",
         "a: session 0 database 5\nb: session 1 database 5\na: granted\n\
-        b: refused 1 conflict a RowExclusiveLock held\n\
-        table a 5/16384 RowExclusiveLock granted\nrows 1\na: released\nb: granted\na: granted\n\
+        b: refused 1 conflict a RowExclusiveLock held\nstrong 796 0\n\
+        table a 5/16384 RowExclusiveLock granted\nrows 1\na: released\nb: granted\n\
+        strong 796 1\na: granted\n\
         table a 5/16384 AccessShareLock granted\ntable b 5/16384 ShareLock granted\nrows 2\n",
+        "",
+    ),
+    // a weak mode on a relation of the own database goes by a slot
+    (
+        1,
+        "try a 5/16384 AccessShareLock\nlist a\n",
+        "a: granted\nfast a 15 5/16384 AccessShareLock\nrows 1\n",
+        "",
+    ),
+    // weak modes share a slot, and any other has none
+    (
+        1,
+        "fast a 5/16384 AccessShareLock\nfast a 5/16384 RowExclusiveLock\n\
+        fast a 5/16384 ShareUpdateExclusiveLock\nlist a\n",
+        "a: granted\na: granted\na: refused 11 not eligible\n\
+        fast a 15 5/16384 AccessShareLock\nfast a 15 5/16384 RowExclusiveLock\nrows 2\n",
+        "",
+    ),
+    // a strong lock is counted, and its own session goes past the slots too
+    (
+        1,
+        "try a 5/16384 ShareLock\ntry a 5/16384 RowExclusiveLock\n\
+        count a 796\nlist a\n",
+        "a: granted\na: granted\nstrong 796 1\ntable a 5/16384 RowExclusiveLock granted\n\
+        table a 5/16384 ShareLock granted\nrows 2\n",
+        "",
+    ),
+    // so does who asks for another relation with the same counter
+    (
+        2,
+        "try a 5/16384 AccessExclusiveLock\ntry b 5/17408 AccessShareLock\n\
+        fast b 5/17408 RowShareLock\nhash 5/16384\n\
+        hash 5/17408\nlist a\n",
+        "a: granted\nb: granted\n\
+        b: refused 10 strong lock counted\nhash 2389211932 partition 12 strong 796\n\
+        hash 3334897436 partition 12 strong 796\ntable a 5/16384 AccessExclusiveLock granted\n\
+        table b 5/17408 AccessShareLock granted\nrows 2\n",
+        "",
+    ),
+    // neither a relation of another database nor a shared one goes by a slot
+    (
+        1,
+        "try a 6/16384 AccessShareLock\nfast a 6/16384 RowShareLock\ntry a 0/1262 ShareLock\n\
+        hash 0/1262\ncount a 495\nlist a\n",
+        "a: granted\na: refused 11 not eligible\na: granted\n\
+        hash 1165483503 partition 15 strong 495\nstrong 495 0\ntable a 0/1262 ShareLock granted\n\
+        table a 6/16384 AccessShareLock granted\nrows 2\n",
+        "",
+    ),
+    // nor an object, which is not counted either
+    (
+        2,
+        "try a 5/1259/16384/0 ExclusiveLock\ntry b 5/1259/16384/0 AccessShareLock\n\
+        try b 5/1259/16384/0 RowShareLock\nlist b\n\
+        fast b 5/1259/16384/0 RowShareLock\ncount b 895\n\
+        unlock a 5/1259/16384/0 ExclusiveLock\ntry b 5/1259/16384/0 RowShareLock\n\
+        unlock a 5/1259/16384/0 ExclusiveLock\n",
+        "a: granted\nb: granted\nb: refused 1 conflict a ExclusiveLock held\n\
+        table a 5/1259/16384/0 ExclusiveLock granted\ntable b 5/1259/16384/0 AccessShareLock granted\nrows 2\n\
+        b: refused 11 not eligible\nstrong 895 0\na: released\n\
+        b: granted\na: you don't own a lock of type ExclusiveLock\n",
+        "",
+    ),
+    // what a session has is counted once more, wherever it stands
+    (
+        1,
+        "fast a 5/16384 AccessShareLock\nfast a 5/16384 AccessShareLock session\n\
+        fast a 5/16384 AccessShareLock\nowned a 5/16384 AccessShareLock\n\
+        try a 5/16385 ShareLock\nfast a 5/16385 ShareLock session\n\
+        owned a 5/16385 ShareLock\n",
+        "a: granted\na: already held\na: already held\na: transaction 2 session 1\n\
+        a: granted\na: already held\na: transaction 1 session 1\n",
+        "",
+    ),
+    // sixteen slots, and no more
+    (
+        1,
+        "try a 5/16384 AccessShareLock\ntry a 5/16385 AccessShareLock\n\
+        try a 5/16386 AccessShareLock\ntry a 5/16387 AccessShareLock\n\
+        try a 5/16388 AccessShareLock\ntry a 5/16389 AccessShareLock\n\
+        try a 5/16390 AccessShareLock\ntry a 5/16391 AccessShareLock\n\
+        try a 5/16392 AccessShareLock\ntry a 5/16393 AccessShareLock\n\
+        try a 5/16394 AccessShareLock\ntry a 5/16395 AccessShareLock\n\
+        try a 5/16396 AccessShareLock\ntry a 5/16397 AccessShareLock\n\
+        try a 5/16398 AccessShareLock\ntry a 5/16399 AccessShareLock\n\
+        try a 5/16400 AccessShareLock\ntry a 5/16384 RowShareLock\n\
+        list a\nfast a 5/16401 AccessShareLock\n",
+        "a: granted\na: granted\n\
+        a: granted\na: granted\n\
+        a: granted\na: granted\n\
+        a: granted\na: granted\n\
+        a: granted\na: granted\n\
+        a: granted\na: granted\n\
+        a: granted\na: granted\n\
+        a: granted\na: granted\n\
+        a: granted\na: granted\n\
+        fast a 0 5/16399 AccessShareLock\nfast a 1 5/16398 AccessShareLock\n\
+        fast a 2 5/16397 AccessShareLock\nfast a 3 5/16396 AccessShareLock\n\
+        fast a 4 5/16395 AccessShareLock\nfast a 5 5/16394 AccessShareLock\n\
+        fast a 6 5/16393 AccessShareLock\nfast a 7 5/16392 AccessShareLock\n\
+        fast a 8 5/16391 AccessShareLock\nfast a 9 5/16390 AccessShareLock\n\
+        fast a 10 5/16389 AccessShareLock\nfast a 11 5/16388 AccessShareLock\n\
+        fast a 12 5/16387 AccessShareLock\nfast a 13 5/16386 AccessShareLock\n\
+        fast a 14 5/16385 AccessShareLock\nfast a 15 5/16384 AccessShareLock\n\
+        table a 5/16384 RowShareLock granted\ntable a 5/16400 AccessShareLock granted\n\
+        rows 18\na: refused 9 slots full\n",
+        "",
+    ),
+    // a slot that another session empties is used again once the use count is put right
+    (
+        2,
+        "try a 5/16384 AccessShareLock\ntry a 5/16385 AccessShareLock\n\
+        try a 5/16386 AccessShareLock\ntry a 5/16387 AccessShareLock\n\
+        try a 5/16388 AccessShareLock\ntry a 5/16389 AccessShareLock\n\
+        try a 5/16390 AccessShareLock\ntry a 5/16391 AccessShareLock\n\
+        try a 5/16392 AccessShareLock\ntry a 5/16393 AccessShareLock\n\
+        try a 5/16394 AccessShareLock\ntry a 5/16395 AccessShareLock\n\
+        try a 5/16396 AccessShareLock\ntry a 5/16397 AccessShareLock\n\
+        try a 5/16398 AccessShareLock\ntry a 5/16399 AccessShareLock\n\
+        lock b 5/16384 AccessExclusiveLock\ntry a 5/16400 AccessShareLock\n\
+        unlock a 5/16399 AccessShareLock\ntry a 5/16401 AccessShareLock\n\
+        list a\n",
+        "a: granted\na: granted\n\
+        a: granted\na: granted\n\
+        a: granted\na: granted\n\
+        a: granted\na: granted\n\
+        a: granted\na: granted\n\
+        a: granted\na: granted\n\
+        a: granted\na: granted\n\
+        a: granted\na: granted\n\
+        b: waits\na: granted\n\
+        a: released\na: granted\n\
+        fast a 1 5/16398 AccessShareLock\nfast a 2 5/16397 AccessShareLock\n\
+        fast a 3 5/16396 AccessShareLock\nfast a 4 5/16395 AccessShareLock\n\
+        fast a 5 5/16394 AccessShareLock\nfast a 6 5/16393 AccessShareLock\n\
+        fast a 7 5/16392 AccessShareLock\nfast a 8 5/16391 AccessShareLock\n\
+        fast a 9 5/16390 AccessShareLock\nfast a 10 5/16389 AccessShareLock\n\
+        fast a 11 5/16388 AccessShareLock\nfast a 12 5/16387 AccessShareLock\n\
+        fast a 13 5/16386 AccessShareLock\nfast a 14 5/16385 AccessShareLock\n\
+        fast a 15 5/16401 AccessShareLock\ntable a 5/16384 AccessShareLock granted\n\
+        table b 5/16384 AccessExclusiveLock awaited\ntable a 5/16400 AccessShareLock granted\n\
+        rows 18\n",
         "",
     ),
     // the lowest session that is in the way is named, with its lowest mode
@@ -313,14 +486,27 @@ pub const LISTINGS: [Row<'static>; 5] = [
 ];
 
 /// A session that may have two different locks.
-pub const TWO_LOCKS: [Row<'static>; 1] = [(
-    0,
-    "session a 5\ntry a 5/1 ShareLock\ntry a 5/1 RowShareLock\ntry a 5/2 ShareLock\n\
+pub const TWO_LOCKS: [Row<'static>; 2] = [
+    (
+        0,
+        "session a 5\ntry a 5/1 ShareLock\ntry a 5/1 RowShareLock\ntry a 5/2 ShareLock\n\
         try a 5/1 ShareLock session\ncommit a\ntry a 5/2 ShareLock\ntry a 5/2 RowShareLock\n",
-    "a: session 0 database 5\na: granted\na: granted\na: refused 3 local table full\n\
+        "a: session 0 database 5\na: granted\na: granted\na: refused 3 local table full\n\
         a: already held\na: committed\na: granted\na: refused 3 local table full\n",
-    "",
-)];
+        "",
+    ),
+    // what may not go by a slot is refused for that first
+    (
+        1,
+        "fast a 5/1 AccessShareLock\nfast a 5/1 RowShareLock\nfast a 5/2 AccessShareLock\n\
+        fast a 5/2 ShareLock\nfast a 5/1 RowShareLock session\ncommit a\n\
+        fast a 5/2 AccessShareLock\nlist a\n",
+        "a: granted\na: granted\na: refused 3 local table full\na: refused 11 not eligible\n\
+        a: already held\na: committed\na: granted\n\
+        fast a 14 5/2 AccessShareLock\nfast a 15 5/1 RowShareLock\nrows 2\n",
+        "",
+    ),
+];
 
 /// A script that may open one session.
 pub const ONE_SESSION: [Row<'static>; 1] = [(

@@ -131,6 +131,8 @@ fn print_answers(rt: &impl Abort, output: &mut Output<&mut Vec<u8>>) -> Result<(
     output.closed(&a)?;
     output.owned(&a, 12, 65_535)?;
     output.not_owned(&a, Mode::ShareRowExclusive)?;
+    output.strong(0, 0)?;
+    output.strong(1_023, u64::MAX)?;
     output.flush()
 }
 
@@ -144,7 +146,8 @@ fn an_answer_has_its_text(rt: HostRuntime) -> Result<(), Fail> {
                 b: granted after waiting\nb: cancelled\na: asked b\nb isn't waiting\n\
                 a: waiters yes\na: waiters no\na: released\na: still held\na: committed\na: aborted\n\
                 a: closed\na: transaction 12 session 65535\n\
-                a: you don't own a lock of type ShareRowExclusiveLock\n";
+                a: you don't own a lock of type ShareRowExclusiveLock\n\
+                strong 0 0\nstrong 1023 18446744073709551615\n";
     assert_eq!(rt; printed.as_slice(), text.as_bytes());
     Ok(())
 }

@@ -6,11 +6,13 @@ pub const WAITS: [Row<'static>; 9] = [
     // a reader, whoever waits for it, and what the listing shows of both
     (
         2,
-        "try a 5/16384 AccessShareLock\nlock b 5/16384 AccessExclusiveLock\n\
-        waiters a 5/16384 AccessShareLock\nlist a\nunlock a 5/16384 AccessShareLock\ncommit b\n",
-        "a: granted\nb: waits\na: waiters yes\ntable a 5/16384 AccessShareLock granted\n\
+        "try a 5/16384 AccessShareLock\nlock b 5/16384 AccessExclusiveLock\ncount a 796\n\
+        waiters a 5/16384 AccessShareLock\nlist a\nunlock a 5/16384 AccessShareLock\n\
+        commit b\ncount a 796\n",
+        "a: granted\nb: waits\nstrong 796 1\na: waiters yes\n\
+        table a 5/16384 AccessShareLock granted\n\
         table b 5/16384 AccessExclusiveLock awaited\nrows 2\na: released\n\
-        b: granted after waiting\nb: committed\n",
+        b: granted after waiting\nb: committed\nstrong 796 0\n",
         "",
     ),
     // a conditional request does not pass a waiter
@@ -135,9 +137,9 @@ pub const PLACES: [Row<'static>; 5] = [
     (
         2,
         "try a 5/16384 ShareLock\ntry b 5/16384 ShareLock\nlock a 5/16384 ExclusiveLock\n\
-        lock b 5/16384 ExclusiveLock\nunlock b 5/16384 ShareLock\n",
-        "a: granted\nb: granted\na: waits\nb: refused 5 simple deadlock a\nb: released\n\
-        a: granted after waiting\n",
+        lock b 5/16384 ExclusiveLock\ncount b 796\nunlock b 5/16384 ShareLock\ncount b 796\n",
+        "a: granted\nb: granted\na: waits\nb: refused 5 simple deadlock a\nstrong 796 3\n\
+        b: released\na: granted after waiting\nstrong 796 2\n",
         "",
     ),
     // the same with a waiter ahead; the queue stays as it was
@@ -160,9 +162,9 @@ pub const CANCELS: [Row<'static>; 7] = [
     (
         3,
         "try a 5/16384 AccessShareLock\nlock b 5/16384 AccessExclusiveLock\n\
-        lock c 5/16384 AccessShareLock\ncancel a b\ncancel a b\n",
+        lock c 5/16384 AccessShareLock\ncancel a b\ncount a 796\ncancel a b\n",
         "a: granted\nb: waits\nc: waits\na: asked b\nb: cancelled\nc: granted after waiting\n\
-        b isn't waiting\n",
+        strong 796 0\nb isn't waiting\n",
         "",
     ),
     // and two of them
@@ -232,13 +234,16 @@ pub const B_WAITS: &str = "try a 5/16384 AccessExclusiveLock\nlock b 5/16384 Acc
 pub const B_IS_QUEUED: &str = "a: granted\nb: waits\n";
 
 /// A session that waits, which is `b`, is addressed by a cancel alone.
-pub const WAITING_LINES: [BadRow<'static>; 20] = [
+pub const WAITING_LINES: [BadRow<'static>; 23] = [
     ("commit b", "line 5: session waits"),
     ("abort b", "line 5: session waits"),
     ("close b", "line 5: session waits"),
     ("list b", "line 5: session waits"),
     ("try b 5 x", "line 5: session waits"),
     ("lock b 5/16385 ShareLock", "line 5: session waits"),
+    ("fast b 5/16385 AccessShareLock", "line 5: session waits"),
+    ("fast b 5 x", "line 5: session waits"),
+    ("count b x", "line 5: session waits"),
     ("unlock b 5 x y", "line 5: session waits"),
     ("owned b 5 x", "line 5: session waits"),
     ("waiters b 5 x", "line 5: session waits"),
