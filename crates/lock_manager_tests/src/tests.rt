@@ -6,14 +6,16 @@ mod conflicts;
 mod listings;
 mod memory;
 mod pair;
+mod races;
 mod threads;
 mod turn_lists;
 mod turns;
 mod waits;
 
-use lock_manager::{Config, Manager, Refusal};
+use lock_manager::{Config, Manager, Mode, Refusal};
 use lock_table::PlainPart;
 use pair::Pair;
+use races::Race;
 use shared_rule::board::Board;
 use std::alloc::Global;
 use std::process::Abort;
@@ -38,6 +40,9 @@ enum Story<'a> {
     /// One sleeps until the other one gives back, or asks it to cancel.
     Sleeps { asks: bool },
     ListsMany,
+    /// They race for something, over and over.
+    Races(Race, u32),
+    FindsSlotsBusy,
 }
 
 /// Tells a story of two sessions.
@@ -68,6 +73,12 @@ fn tell<B: Board<PlainPart> + Drop + Send, R: Abort + Threads + Wait + Sync>(
         Story::Sleeps { asks } => waits::sleep_in_a_thread(rt, pair, asks),
         Story::ListsMany => {
             listings::list_many(rt, &mut pair);
+            pair
+        }
+        Story::Races(race, rounds) => races::race_often(rt, pair, race, rounds),
+        Story::FindsSlotsBusy => {
+            races::find_slots_busy(rt, &mut pair);
+            races::see_nothing(rt, &mut pair.first);
             pair
         }
     }
@@ -166,4 +177,20 @@ fn two_sessions_do_as_the_stories_say(rt: HostRuntime) -> Result<(), Fail> {
         run(&rt, rt.alloc(), two(listings::MANY), story)?;
     }
     Ok(())
+}
+
+#[test]
+fn a_thousand_races_end_as_one_of_the_two_had_won(rt: HostRuntime) -> Result<(), Fail> {
+    let rounds = 1_000;
+    for race in [
+        Race::WeakAgainstStrong(Mode::AccessShare, Mode::AccessExclusive),
+        Race::WeakAgainstStrong(Mode::RowExclusive, Mode::Share),
+        Race::StrongOverWeak(Mode::RowExclusive, Mode::Share),
+        Race::CancelAgainstRelease(Mode::AccessExclusive, Mode::AccessShare),
+        Race::CancelAgainstRelease(Mode::Share, Mode::AccessExclusive),
+        Race::AskAgainstSleep,
+    ] {
+        run(&rt, rt.alloc(), two(8), Story::Races(race, rounds))?;
+    }
+    run(&rt, rt.alloc(), two(8), Story::FindsSlotsBusy)
 }
