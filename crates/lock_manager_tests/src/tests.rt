@@ -6,6 +6,7 @@ mod conflicts;
 mod listings;
 mod memory;
 mod pair;
+mod queues;
 mod races;
 mod threads;
 mod turn_lists;
@@ -152,6 +153,20 @@ fn turns_are_answered_as_the_lists_say(rt: HostRuntime) -> Result<(), Fail> {
         ("entries", two(2), turn_lists::ENTRIES.as_slice(), 1),
         ("counts", two(1), turn_lists::COUNTS.as_slice(), 1),
         ("strong", all_numbers, turn_lists::STRONG.as_slice(), 2_000),
+        ("by slot", two(8), turn_lists::BY_SLOT.as_slice(), 1),
+        ("slots", two(20), turn_lists::SLOTS.as_slice(), 1),
+        (
+            "entries by slot",
+            two(2),
+            turn_lists::ENTRIES_BY_SLOT.as_slice(),
+            1,
+        ),
+        (
+            "counts by slot",
+            two(1),
+            turn_lists::COUNTS_BY_SLOT.as_slice(),
+            1,
+        ),
     ] {
         println!(rt; "{name}")?;
         run(&rt, rt.alloc(), config, Story::Turns(turns, rounds))?;
