@@ -1,6 +1,6 @@
 //! Want of memory is an answer, after which nothing is lost.
 
-ghost use Rattle.std.specs.Prelude.{◌≡◌, ◌+◌, IfOk, OnOk};
+ghost use Rattle.std.specs.Prelude.{◌≡◌, ◌+◌, ◌<◌, IfOk, OnOk};
 ghost use Rattle.lock_manager.specs.Managers.{IsNew, IsOpenerOf};
 
 use lock_manager::{
@@ -136,8 +136,12 @@ const TABLE: Tag = Tag::Relation {
     relation: 16_384,
 };
 
-/// How many times a strong mode is asked for, each time beside one lock more in its partition.
-const TRANSFERS: u32 = 16;
+/// How many times a strong mode is asked for.
+const TRANSFERS: u32 = 6;
+
+/// How many locks more are in its partition each time: so its list has to grow now for the first mode that is moved, now
+/// for the second one, now for the strong mode itself.
+const BESIDE: u32 = 3;
 
 /// Each weak mode of the table is listed once, in a slot or in the table.
 fn expect_once<R: Abort>(rt: &R, listing: &Listing, mode: Mode) {
@@ -208,6 +212,22 @@ fn move_once<B: Board<PlainPart>, R: Abort + Wait>(
     give_back(rt, first, TABLE, Mode::RowExclusive);
 }
 
+/// Takes further locks in the partition of the table.
+fn take_beside<B: Board<PlainPart>, R: Abort + Wait>(
+    rt: &R,
+    session: &mut OwnSession<PlainPart, B>,
+    transfer: u32,
+)
+    requires few { transfer < 6 }
+    ensures seat { B.seat session.new.board ≡ B.seat session.old.board }
+{
+    for place in 0..BESIDE {
+        let tag = Tag::relation(5, 32_768 + 16 * (BESIDE * transfer + place));
+        assert_eq!(rt; tag.partition(), TABLE.partition());
+        take_at_last(rt, session, tag, Mode::ShareUpdateExclusive);
+    }
+}
+
 /// Again and again, while the table's partition fills.
 fn move_often<B: Board<PlainPart>, R: Abort + Wait>(
     rt: &R,
@@ -218,10 +238,8 @@ fn move_often<B: Board<PlainPart>, R: Abort + Wait>(
     ensures second { B.seat second.new.board ≡ B.seat second.old.board }
 {
     'transfers: for transfer in 0..TRANSFERS {
-        let beside = Tag::relation(5, 32_768 + 16 * transfer);
-        assert_eq!(rt; beside.partition(), TABLE.partition());
         move_once(rt, first, second);
-        take_at_last(rt, second, beside, Mode::ShareUpdateExclusive);
+        take_beside(rt, second, transfer);
     }
 }
 
@@ -230,7 +248,7 @@ fn move_often<B: Board<PlainPart>, R: Abort + Wait>(
 fn a_transfer_goes_on_where_memory_was_wanting_once(rt: HostRuntime) -> Result<(), Fail> {
     let config = Config {
         sessions: 2,
-        max_local: TRANSFERS + 1,
+        max_local: TRANSFERS * BESIDE + 1,
     };
     let (manager, mut opener) = make_at_last(rt.alloc(), config)?;
     let mut first = open_at_last(&mut opener, &manager).expect(&rt, "a session at last");
