@@ -6,14 +6,17 @@ mod conflicts;
 mod listings;
 mod memory;
 mod pair;
+mod queues;
+mod races;
 mod threads;
 mod turn_lists;
 mod turns;
 mod waits;
 
-use lock_manager::{Config, Manager, Refusal};
+use lock_manager::{Config, Manager, Mode, Refusal};
 use lock_table::PlainPart;
 use pair::Pair;
+use races::Race;
 use shared_rule::board::Board;
 use std::alloc::Global;
 use std::process::Abort;
@@ -38,6 +41,9 @@ enum Story<'a> {
     /// One sleeps until the other one gives back, or asks it to cancel.
     Sleeps { asks: bool },
     ListsMany,
+    /// They race for something, over and over.
+    Races(Race, u32),
+    FindsSlotsBusy,
 }
 
 /// Tells a story of two sessions.
@@ -68,6 +74,12 @@ fn tell<B: Board<PlainPart> + Drop + Send, R: Abort + Threads + Wait + Sync>(
         Story::Sleeps { asks } => waits::sleep_in_a_thread(rt, pair, asks),
         Story::ListsMany => {
             listings::list_many(rt, &mut pair);
+            pair
+        }
+        Story::Races(race, rounds) => races::race_often(rt, pair, race, rounds),
+        Story::FindsSlotsBusy => {
+            races::find_slots_busy(rt, &mut pair);
+            races::see_nothing(rt, &mut pair.first);
             pair
         }
     }
@@ -141,6 +153,20 @@ fn turns_are_answered_as_the_lists_say(rt: HostRuntime) -> Result<(), Fail> {
         ("entries", two(2), turn_lists::ENTRIES.as_slice(), 1),
         ("counts", two(1), turn_lists::COUNTS.as_slice(), 1),
         ("strong", all_numbers, turn_lists::STRONG.as_slice(), 2_000),
+        ("by slot", two(8), turn_lists::BY_SLOT.as_slice(), 1),
+        ("slots", two(20), turn_lists::SLOTS.as_slice(), 1),
+        (
+            "entries by slot",
+            two(2),
+            turn_lists::ENTRIES_BY_SLOT.as_slice(),
+            1,
+        ),
+        (
+            "counts by slot",
+            two(1),
+            turn_lists::COUNTS_BY_SLOT.as_slice(),
+            1,
+        ),
     ] {
         println!(rt; "{name}")?;
         run(&rt, rt.alloc(), config, Story::Turns(turns, rounds))?;
@@ -166,4 +192,20 @@ fn two_sessions_do_as_the_stories_say(rt: HostRuntime) -> Result<(), Fail> {
         run(&rt, rt.alloc(), two(listings::MANY), story)?;
     }
     Ok(())
+}
+
+#[test]
+fn a_thousand_races_end_as_one_of_the_two_had_won(rt: HostRuntime) -> Result<(), Fail> {
+    let rounds = 1_000;
+    for race in [
+        Race::WeakAgainstStrong(Mode::AccessShare, Mode::AccessExclusive),
+        Race::WeakAgainstStrong(Mode::RowExclusive, Mode::Share),
+        Race::StrongOverWeak(Mode::RowExclusive, Mode::Share),
+        Race::CancelAgainstRelease(Mode::AccessExclusive, Mode::AccessShare),
+        Race::CancelAgainstRelease(Mode::Share, Mode::AccessExclusive),
+        Race::AskAgainstSleep,
+    ] {
+        run(&rt, rt.alloc(), two(8), Story::Races(race, rounds))?;
+    }
+    run(&rt, rt.alloc(), two(8), Story::FindsSlotsBusy)
 }

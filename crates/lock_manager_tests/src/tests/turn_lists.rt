@@ -1,9 +1,12 @@
 //! Lists of turns.
 
 use super::turns::Answer::{
-    AlreadyHeld, Conflict, Ended, Granted, Modes, Refused, Released, StillHeld, Times,
+    AlreadyHeld, Conflict, Counted, Ended, Granted, Modes, Refused, Released, Rows, StillHeld,
+    Times,
 };
-use super::turns::Call::{Abort, Commit, Count, Held, Try, Unlock};
+use super::turns::Call::{
+    Abort, Commit, Count, Database, Fast, FastOnEach, Held, Strong, Try, Unlock,
+};
 use super::turns::Who::{First, Second};
 use super::turns::{Answer, Call, Turn};
 use lock_manager::Mode::{
@@ -196,4 +199,116 @@ pub const STRONG: [Turn; 28] = [
     (First, 1, WRITE, Granted),
     (Second, 1, TAKE, Conflict(0, RowExclusive)),
     (First, 1, Commit, Ended),
+];
+
+/// A relation of the sessions' own database, which goes by slots.
+const OWN: Tag = Tag::Relation {
+    database: 5,
+    relation: 20_000,
+};
+
+const READ_BY_SLOT: Call = Fast(OWN, AccessShare, Transaction);
+
+const NOT_ELIGIBLE: Answer = Refused(Refusal::NotEligible);
+
+/// Which modes go by a slot, and where they are once a strong mode has been by.
+pub const BY_SLOT: [Turn; 27] = [
+    (First, 1, Database, Answer::Database(5)),
+    (First, 1, Fast(OWN, RowExclusive, Transaction), Granted),
+    (First, 1, Fast(OWN, RowExclusive, Session), AlreadyHeld),
+    (First, 1, READ_BY_SLOT, Granted),
+    (First, 1, Call::Rows, Rows { fast: 2, table: 0 }),
+    (
+        First,
+        1,
+        Fast(OWN, ShareUpdateExclusive, Transaction),
+        NOT_ELIGIBLE,
+    ),
+    (
+        First,
+        1,
+        Fast(OBJECT, AccessShare, Transaction),
+        NOT_ELIGIBLE,
+    ),
+    (
+        First,
+        1,
+        Fast(TABLE, AccessShare, Transaction),
+        NOT_ELIGIBLE,
+    ),
+    (
+        Second,
+        1,
+        Try(OWN, Share, Transaction),
+        Conflict(0, RowExclusive),
+    ),
+    (Second, 1, Strong(OWN), Counted(0)),
+    (First, 1, Call::Rows, Rows { fast: 0, table: 2 }),
+    (First, 1, READ_BY_SLOT, AlreadyHeld),
+    (First, 1, Abort, Ended),
+    (Second, 1, Try(OWN, Share, Transaction), Granted),
+    (First, 1, Strong(OWN), Counted(1)),
+    (First, 2, READ_BY_SLOT, Refused(Refusal::StrongCounted)),
+    (First, 1, Try(OWN, AccessShare, Transaction), Granted),
+    (First, 1, Call::Rows, Rows { fast: 0, table: 2 }),
+    (
+        Second,
+        1,
+        Try(OWN, AccessExclusive, Transaction),
+        Conflict(0, AccessShare),
+    ),
+    (Second, 1, Strong(OWN), Counted(1)),
+    (First, 1, Commit, Ended),
+    (Second, 1, Try(OWN, AccessExclusive, Transaction), Granted),
+    (First, 1, Strong(OWN), Counted(2)),
+    (Second, 1, Commit, Ended),
+    (First, 1, Strong(OWN), Counted(0)),
+    (First, 1, READ_BY_SLOT, Granted),
+    (First, 1, Call::Rows, Rows { fast: 1, table: 0 }),
+];
+
+const READ_EACH: Call = FastOnEach(AccessShare, Transaction);
+
+/// The fourth of them.
+const FOURTH: Tag = Tag::Relation {
+    database: 5,
+    relation: 16_387,
+};
+
+const SLOTS_FULL: Answer = Refused(Refusal::SlotsFull);
+
+/// A session has sixteen slots, and once they are used no further mode goes by one.
+pub const SLOTS: [Turn; 12] = [
+    (First, 16, READ_EACH, Granted),
+    (First, 1, READ_BY_SLOT, SLOTS_FULL),
+    (First, 1, Fast(FOURTH, RowShare, Transaction), SLOTS_FULL),
+    (First, 16, READ_EACH, AlreadyHeld),
+    (First, 1, Try(OWN, AccessShare, Transaction), Granted),
+    (First, 1, Call::Rows, Rows { fast: 16, table: 1 }),
+    (
+        First,
+        1,
+        Unlock(FOURTH, AccessShare, Transaction),
+        StillHeld,
+    ),
+    (First, 1, Unlock(FOURTH, AccessShare, Transaction), Released),
+    (First, 1, Fast(FOURTH, RowShare, Transaction), Granted),
+    (First, 1, Call::Rows, Rows { fast: 16, table: 1 }),
+    (First, 1, Commit, Ended),
+    (First, 1, Call::Rows, Rows { fast: 0, table: 0 }),
+];
+
+/// By a slot too a session has no more entries than it was made for, two here.
+pub const ENTRIES_BY_SLOT: [Turn; 3] = [
+    (First, 2, READ_EACH, Granted),
+    (First, 2, READ_BY_SLOT, Refused(Refusal::LocalFull)),
+    (First, 2, READ_EACH, AlreadyHeld),
+];
+
+/// By a slot too an owner counts to 65,535.
+pub const COUNTS_BY_SLOT: [Turn; 4] = [
+    (First, 1, READ_BY_SLOT, Granted),
+    (First, 65_534, READ_BY_SLOT, AlreadyHeld),
+    (First, 2, READ_BY_SLOT, FULL),
+    (First, 1, Fast(OWN, AccessShare, Session), AlreadyHeld),
 ];

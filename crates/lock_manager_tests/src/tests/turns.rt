@@ -3,7 +3,7 @@
 ghost use Rattle.std.specs.Prelude.{◌≡◌};
 
 use super::pair::Pair;
-use lock_manager::{Acquired, How, Mode, OwnSession, Owner, Refusal, Tag, Unlocked};
+use lock_manager::{Acquired, How, Listing, Mode, OwnSession, Owner, Refusal, Tag, Unlocked};
 use lock_table::PlainPart;
 use shared_rule::board::Board;
 use std::process::Abort;
@@ -12,11 +12,20 @@ use std::sync::Wait;
 #[derive(Clone, Copy)]
 pub enum Call {
     Try(Tag, Mode, Owner),
+    /// By a slot or not at all.
+    Fast(Tag, Mode, Owner),
+    /// The same, each time on another relation of the sessions' database.
+    FastOnEach(Mode, Owner),
     Unlock(Tag, Mode, Owner),
     Commit,
     Abort,
     Held(Tag),
     Count(Tag, Mode, Owner),
+    /// The strong lock counter of the object.
+    Strong(Tag),
+    Database,
+    /// How many rows a listing has.
+    Rows,
 }
 
 #[derive(Clone, Copy, PartialEq, Eq)]
@@ -32,6 +41,9 @@ pub enum Answer {
     /// The mask of modes.
     Modes(u16),
     Times(u16),
+    Counted(u64),
+    Database(u32),
+    Rows { fast: usize, table: usize },
 }
 
 /// A session makes a call so many times, and is answered this each time.
@@ -73,16 +85,35 @@ fn given_back(answer: Result<Unlocked, Refusal>) -> Answer {
     }
 }
 
+/// How many rows a listing has.
+fn listed(answer: Result<Listing, Refusal>) -> Answer {
+    match answer {
+        Ok(listing) => Answer::Rows {
+            fast: listing.fast.len(),
+            table: listing.table.len(),
+        },
+        Err(refusal) => Answer::Refused(refusal),
+    }
+}
+
+/// The relation that is asked for this time.
+fn relation(time: u32) -> Tag {
+    Tag::relation(5, 16_384 | time)
+}
+
 /// A call, and its answer.
 fn make<B: Board<PlainPart>, R: Wait>(
     rt: &R,
     session: &mut OwnSession<PlainPart, B>,
     call: Call,
+    time: u32,
 ) -> Answer
     ensures seat { B.seat session.new.board ≡ B.seat session.old.board }
 {
     match call {
         Call::Try(tag, mode, owner) => taken(session.try_lock(rt, tag, mode, owner)),
+        Call::Fast(tag, mode, owner) => taken(session.try_fast(tag, mode, owner)),
+        Call::FastOnEach(mode, owner) => taken(session.try_fast(relation(time), mode, owner)),
         Call::Unlock(tag, mode, owner) => given_back(session.unlock(rt, tag, mode, owner)),
         Call::Commit => {
             session.commit(rt);
@@ -94,6 +125,9 @@ fn make<B: Board<PlainPart>, R: Wait>(
         }
         Call::Held(tag) => Answer::Modes(session.held(tag).mask()),
         Call::Count(tag, mode, owner) => Answer::Times(session.owner_count(tag, mode, owner)),
+        Call::Strong(tag) => Answer::Counted(session.strong_count(tag.strong_index())),
+        Call::Database => Answer::Database(session.database()),
+        Call::Rows => listed(session.list(rt)),
     }
 }
 
@@ -109,7 +143,7 @@ fn take_turn<B: Board<PlainPart>, R: Abort + Wait>(
     ensures seat { B.seat session.new.board ≡ B.seat session.old.board }
 {
     for time in 0..times {
-        let is_right = make(rt, session, call) == answer;
+        let is_right = make(rt, session, call, time) == answer;
         assert!(rt; is_right, "turn {place}, for the time {time}");
     }
 }

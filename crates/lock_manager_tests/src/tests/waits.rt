@@ -15,15 +15,15 @@ use std::sync::Wait;
 use std::thread;
 use std::thread::{Threads, join};
 
-const TABLE: Tag = Tag::Relation {
+pub const TABLE: Tag = Tag::Relation {
     database: 5,
     relation: 16_384,
 };
 
-const OWNER: Owner = Owner::Transaction;
+pub const OWNER: Owner = Owner::Transaction;
 
 /// Takes a mode on the table at once.
-fn take<B: Board<PlainPart> + Drop, R: Abort + Wait>(
+pub fn take<B: Board<PlainPart> + Drop, R: Abort + Wait>(
     rt: &R,
     session: &mut OwnSession<PlainPart, B>,
     mode: Mode,
@@ -35,7 +35,7 @@ fn take<B: Board<PlainPart> + Drop, R: Abort + Wait>(
 }
 
 /// Gives it back.
-fn give_back<B: Board<PlainPart> + Drop, R: Abort + Wait>(
+pub fn give_back<B: Board<PlainPart> + Drop, R: Abort + Wait>(
     rt: &R,
     session: &mut OwnSession<PlainPart, B>,
     mode: Mode,
@@ -47,7 +47,7 @@ fn give_back<B: Board<PlainPart> + Drop, R: Abort + Wait>(
 }
 
 /// Begins to wait for a mode on the table.
-fn queue<B: Board<PlainPart> + Drop, R: Abort + Wait>(
+pub fn queue<B: Board<PlainPart> + Drop, R: Abort + Wait>(
     rt: &R,
     session: OwnSession<PlainPart, B>,
     mode: Mode,
@@ -321,7 +321,7 @@ fn act_once_awaited<B: Board<PlainPart> + Drop, R: Abort + Wait>(
 }
 
 /// The session sleeps until the wait is over, which is granted or not.
-fn sleep<B: Board<PlainPart> + Drop, R: Abort + Wait>(
+pub fn sleep<B: Board<PlainPart> + Drop, R: Abort + Wait>(
     rt: &R,
     session: OwnSession<PlainPart, B>,
     is_granted: bool,
