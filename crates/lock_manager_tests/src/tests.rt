@@ -13,7 +13,7 @@ mod turn_lists;
 mod turns;
 mod waits;
 
-use lock_manager::{Config, Manager, Mode, Refusal};
+use lock_manager::{Config, Final, Manager, Mode, Refusal};
 use lock_table::PlainPart;
 use pair::Pair;
 use races::Race;
@@ -97,8 +97,12 @@ fn run<R: Abort + Threads + Wait + Sync>(
     assert_eq!(rt; opener.live(), 2);
     let pair = tell(rt, pair, story).meet();
     pair.close(rt, &mut opener);
-    let stood = manager.finish(opener);
-    assert_eq!(rt; stood.table, 0);
+    let Final {
+        fast,
+        table,
+        strong,
+    } = manager.finish(opener);
+    assert!(rt; (fast, table, strong) == (0, 0, 0));
     Ok(())
 }
 
