@@ -3,6 +3,7 @@
 ghost use Rattle.std.specs.Prelude.{◌≡◌};
 
 use crate::keys::Key;
+use crossbeam_utils::Backoff;
 use lock_manager::{Locked, OwnSession};
 use lock_table::PlainPart;
 use modes_core::Owner;
@@ -11,22 +12,18 @@ use std::sync::atomic::{AtomicU64, Ordering};
 use std::sync::{Condvar, Mutex, Wait};
 use std::thread::{Threads, join};
 
-/// Nobody's number.
-pub const NOBODY: u64 = u64::MAX;
-
 /// What the two take, and how often each.
-#[derive(Clone, Copy)]
+#[derive(Clone, Copy, Debug)]
 pub struct Plan {
     pub key: Key,
     pub owner: Owner,
     pub turns: u32,
 }
 
-/// A session that has taken its turns: how many were granted, and before how many the other one had the lock.
+/// A session that has taken its turns, and how many of them were granted.
 pub struct Player<B: Board<PlainPart>> {
     pub session: OwnSession<PlainPart, B>,
     pub granted: u64,
-    pub passed: u64,
 }
 
 /// The session with the lock, and whether it has it.
@@ -46,35 +43,49 @@ fn lock<B: Board<PlainPart>, R: Wait>(
     }
 }
 
-/// Locks and unlocks over and over, and counts where the other one had the lock last.
+/// Looks until the other one awaits the lock, or plays no more.
+fn see_other<B: Board<PlainPart>, R: Wait>(
+    rt: &R,
+    session: &mut OwnSession<PlainPart, B>,
+    plan: Plan,
+    playing: &AtomicU64,
+)
+    ensures seat { B.seat session.new.board ≡ B.seat session.old.board }
+{
+    let (tag, mode) = plan.key;
+    let backoff = Backoff::new();
+    'looks: for _ in rt.forever() {
+        let is_awaited = session.has_waiters(rt, tag, mode);
+        if is_awaited == Ok(true) || playing.load(Ordering::SeqCst) < 2 {
+            return;
+        }
+        backoff.snooze();
+    }
+    unreachable!()
+}
+
+/// Locks over and over, and unlocks each time as soon as the other one awaits it.
 fn take_turns<B: Board<PlainPart>, R: Wait>(
     rt: &R,
     mut session: OwnSession<PlainPart, B>,
     plan: Plan,
-    last: &AtomicU64,
+    playing: &AtomicU64,
 ) -> Player<B>
     ensures seat { B.seat result.session.board ≡ B.seat session.board }
 {
     let (tag, mode) = plan.key;
-    let number = session.id().number();
     let mut granted = 0u64;
-    let mut passed = 0u64;
     'turns: for _ in 0..plan.turns {
         let (locked, is_granted) = lock(rt, session, plan);
         session = locked;
         if is_granted {
             granted = granted.wrapping_add(1);
-            if last.swap(u64::from(number), Ordering::SeqCst) != u64::from(number) {
-                passed = passed.wrapping_add(1);
-            }
+            see_other(rt, &mut session, plan, playing);
             let _ = session.unlock(rt, tag, mode, plan.owner);
         }
     }
-    Player {
-        session,
-        granted,
-        passed,
-    }
+    playing.fetch_sub(1, Ordering::SeqCst);
+    Player { session, granted }
 }
 
 /// Both sessions' turns, each in a thread.
@@ -87,12 +98,12 @@ pub fn pass_lock<B: Board<PlainPart> + Drop + Send, R: Threads + Wait + Sync>(
     ensures first { B.seat result.0.session.board ≡ B.seat first.board }
     ensures second { B.seat result.1.session.board ≡ B.seat second.board }
 {
-    let last = AtomicU64::new(NOBODY);
-    let last = &last;
+    let players = AtomicU64::new(2);
+    let playing = &players;
     join(
         rt,
-        || take_turns(rt, first, plan, last),
-        || take_turns(rt, second, plan, last),
+        || take_turns(rt, first, plan, playing),
+        || take_turns(rt, second, plan, playing),
     )
 }
 
