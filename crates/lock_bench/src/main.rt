@@ -5,6 +5,10 @@
 mod bed;
 mod crew;
 mod doors;
+mod fast_bed;
+mod fast_page;
+mod floors;
+mod handover_page;
 mod keys;
 mod local_page;
 mod loops;
@@ -15,6 +19,7 @@ mod session_doors;
 mod session_loops;
 mod shared_map;
 mod threads_page;
+mod turns;
 
 use clap::{Arg, ArgAction, Command};
 use modes_core::Owner;
@@ -26,7 +31,7 @@ use std::sync::Wait;
 use std::thread::Threads;
 use std::time::{Clock, CpuClock};
 
-const PAGES: [&str; 3] = ["local", "manager", "threads"];
+const PAGES: [&str; 5] = ["local", "manager", "fast", "threads", "handover"];
 
 /// The status of pages that were printed, and of a text that was asked for.
 const SUCCESS: u8 = 0;
@@ -41,7 +46,7 @@ const REFUSED_WORDS: u8 = 2;
 #[derive(Clone, Copy, Debug)]
 struct Wanted {
     check: bool,
-    pages: [bool; 3],
+    pages: [bool; 5],
 }
 
 /// What the words ask for. Refused words and a call for help are an error.
@@ -50,7 +55,7 @@ fn parse<'a>(alloc: Global, words: &'a [String]) -> Result<Wanted, clap::Error> 
         .value_name("PAGE")
         .value_parser(PAGES.as_slice())
         .help(
-            "The local table, the lock manager on one thread, or in threads; all three if left out",
+            "The local table, the lock manager on one thread, its fast path, it in threads, or a lock handed over; all if left out",
         );
     let check = Arg::new(alloc, "check")
         .long("check")
@@ -122,7 +127,7 @@ fn print_pages<R: Threads + Wait + Clock + CpuClock + AllocGlobal + Print + Sync
         Owner::Transaction
     };
     let check = wanted.check;
-    let [local, manager, threads] = wanted.pages;
+    let [local, manager, fast, threads, handover] = wanted.pages;
     if local {
         if check {
             local_page::check(rt, database, owner)?;
@@ -133,8 +138,14 @@ fn print_pages<R: Threads + Wait + Clock + CpuClock + AllocGlobal + Print + Sync
     if manager {
         manager_page::print(rt, database, owner, check)?;
     }
+    if fast {
+        fast_page::print(rt, database, owner, check)?;
+    }
     if threads {
         threads_page::print(rt, database, owner, check)?;
+    }
+    if handover {
+        handover_page::print(rt, database, owner, check)?;
     }
     Ok(())
 }

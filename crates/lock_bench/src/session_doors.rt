@@ -22,6 +22,18 @@ pub fn try_lock<B: Board<PlainPart>, R: Wait>(
 }
 
 #[inline(never)]
+pub fn try_fast<B: Board<PlainPart>>(
+    session: &mut OwnSession<PlainPart, B>,
+    tag: Tag,
+    mode: Mode,
+    owner: Owner,
+) -> Result<Acquired, Refusal>
+    ensures seat { B.seat session.new.board ≡ B.seat session.old.board }
+{
+    session.try_fast(tag, mode, owner)
+}
+
+#[inline(never)]
 pub fn unlock<B: Board<PlainPart>, R: Wait>(
     rt: &R,
     session: &mut OwnSession<PlainPart, B>,

@@ -4,7 +4,7 @@ ghost use Rattle.std.specs.Prelude.{◌≡◌};
 
 use crate::keys::Key;
 use crate::rounds::cpu_nanos;
-use crate::session_doors::{commit, try_lock, unlock};
+use crate::session_doors::{commit, try_fast, try_lock, unlock};
 use anyhow::Result;
 use lock_manager::OwnSession;
 use lock_table::PlainPart;
@@ -65,6 +65,42 @@ pub fn count_refused<B: Board<PlainPart>, R: Wait>(
         }
     }
     refused
+}
+
+/// Asks for each by a slot alone, and gives how often a strong lock was counted.
+pub fn count_strong_counted<B: Board<PlainPart>>(
+    session: &mut OwnSession<PlainPart, B>,
+    keys: &[Key],
+    owner: Owner,
+    laps: u32,
+) -> u64
+    ensures seat { B.seat session.new.board ≡ B.seat session.old.board }
+{
+    let mut counted = 0u64;
+    'laps: for _ in 0..laps {
+        'keys: for (tag, mode) in keys {
+            if let Err(Refusal::StrongCounted) = try_fast(session, *tag, *mode, owner) {
+                counted = counted.wrapping_add(1);
+            }
+        }
+    }
+    counted
+}
+
+/// Takes all and commits, over and over.
+pub fn lock_and_end<B: Board<PlainPart>, R: Wait>(
+    rt: &R,
+    session: &mut OwnSession<PlainPart, B>,
+    keys: &[Key],
+    laps: u32,
+) -> Result<(), Refusal>
+    ensures seat { B.seat session.new.board ≡ B.seat session.old.board }
+{
+    'laps: for _ in 0..laps {
+        lock_all(rt, session, keys, Owner::Transaction)?;
+        commit(rt, session);
+    }
+    Ok(())
 }
 
 /// Takes all and commits, over and over; gives the nanoseconds of the commits alone.

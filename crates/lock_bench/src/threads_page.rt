@@ -3,8 +3,8 @@
 ghost use Rattle.std.specs.Prelude.{◌≡◌};
 
 use crate::crew::{Crew, Job, on_map};
-use crate::keys::{Key, keys_of_partition};
-use crate::rounds::{ROUNDS, Times, print_ratio, wall_nanos};
+use crate::keys::{Key, Kind, keys, keys_of_partition};
+use crate::rounds::{ROUNDS, Spread, Times, print_ratio, wall_nanos};
 use crate::shared_map::SharedMap;
 use anyhow::Result;
 use lock_manager::{Config, Manager};
@@ -23,9 +23,15 @@ enum Case {
     OneObject,
     OnePartition,
     OwnPartitions,
+    OneRelation,
 }
 
-const CASES: [Case; 3] = [Case::OneObject, Case::OnePartition, Case::OwnPartitions];
+const CASES: [Case; 4] = [
+    Case::OneObject,
+    Case::OnePartition,
+    Case::OwnPartitions,
+    Case::OneRelation,
+];
 
 /// How many threads there are.
 const THREADS: [u32; 3] = [1, 2, 4];
@@ -42,6 +48,7 @@ impl Case {
             Case::OneObject => "one object for all",
             Case::OnePartition => "own objects in one partition",
             Case::OwnPartitions => "own objects in own partitions",
+            Case::OneRelation => "one relation for all, by own slots",
         }
     }
 
@@ -52,6 +59,7 @@ impl Case {
             Case::OneObject => keys_of_partition(alloc, database, 0, 0, 1),
             Case::OnePartition => keys_of_partition(alloc, database, 0, from, OWN_KEYS),
             Case::OwnPartitions => keys_of_partition(alloc, database, thread, from, OWN_KEYS),
+            Case::OneRelation => keys(alloc, Kind::Relations, database, 0, 1),
         }
     }
 
@@ -68,7 +76,7 @@ impl Case {
             keys.push(self.keys(alloc, database, thread)?)?;
         }
         let laps = match self {
-            Case::OneObject => steps,
+            Case::OneObject | Case::OneRelation => steps,
             _ => steps / 16,
         };
         Ok(Job { keys, owner, laps })
@@ -77,20 +85,20 @@ impl Case {
     /// How many steps a thread has with so many laps.
     fn steps(self, laps: u32) -> u64 {
         match self {
-            Case::OneObject => u64::from(laps),
+            Case::OneObject | Case::OneRelation => u64::from(laps),
             _ => u64::from(laps) * 16,
         }
     }
 }
 
-/// Times rounds of the sessions' work and of the same work on the map, in turn.
+/// Times rounds of the sessions' work and of the same work on the map, in turn, and gives the first.
 fn print_case<B: Board<PlainPart> + Send, R: Threads + Wait + Clock + AllocGlobal + Print + Sync>(
     rt: &R,
     crew: &mut Crew<B>,
     job: &Job,
     case: Case,
     threads: u32,
-) -> Result<()>
+) -> Result<Spread>
     ensures first { B.seat crew.new.first.board ≡ B.seat crew.old.first.board }
     ensures second { B.seat crew.new.second.board ≡ B.seat crew.old.second.board }
     ensures third { B.seat crew.new.third.board ≡ B.seat crew.old.third.board }
@@ -114,7 +122,16 @@ fn print_case<B: Board<PlainPart> + Send, R: Threads + Wait + Clock + AllocGloba
     let of_map = of_map.spread();
     println!(rt; "        {name:<42} {of_crew}")?;
     println!(rt; "        {:<42} {of_map}", "the same on a map in a mutex")?;
-    print_ratio(rt, "to that", of_crew, of_map)
+    print_ratio(rt, "to that", of_crew, of_map)?;
+    Ok(of_crew)
+}
+
+/// Prints how many times the throughput of one thread this is.
+fn print_gain<R: Print>(rt: &R, of_one: Option<&Spread>, of_crew: Spread) -> Result<()> {
+    match of_one {
+        Some(of_one) => print_ratio(rt, "times one thread", *of_one, of_crew),
+        None => Ok(()),
+    }
 }
 
 /// The same once, and what it leaves.
@@ -156,14 +173,19 @@ fn print_crew<B: Board<PlainPart> + Send, R: Threads + Wait + Clock + AllocGloba
     ensures fourth { B.seat crew.new.fourth.board ≡ B.seat crew.old.fourth.board }
 {
     let steps = if check { 1_600 } else { STEPS };
+    let mut alone = Vec::new(rt.alloc());
     'threads: for threads in THREADS {
         println!(rt; "threads: {threads}")?;
-        'cases: for case in CASES {
+        'cases: for (place, case) in CASES.iter().enumerate() {
             let job = case.job(rt.alloc(), database, owner, steps)?;
             if check {
-                check_case(rt, crew, &job, case, threads)?;
-            } else {
-                print_case(rt, crew, &job, case, threads)?;
+                check_case(rt, crew, &job, *case, threads)?;
+                continue;
+            }
+            let time = print_case(rt, crew, &job, *case, threads)?;
+            print_gain(rt, alone.get(place), time)?;
+            if threads == 1 {
+                alone.push(time)?;
             }
         }
     }

@@ -1,0 +1,143 @@
+//! The floors of the fast path: the atomic steps that a lock's way has, on plain words, and nothing else.
+use crossbeam_utils::CachePadded;
+use std::alloc::{AllocError, Global};
+use std::array;
+use std::sync::atomic::{AtomicU64, Ordering};
+
+/// What an exclusive holder adds to the word of a lock.
+const TAKEN: u64 = 16_777_216;
+
+/// A session's words: the lock of its slots, its database, and the slots.
+#[derive(Drop)]
+struct SessionWords {
+    fast: AtomicU64,
+    database: AtomicU64,
+    slots: [AtomicU64; 16],
+}
+
+/// A counter, a partition, and the words of as many sessions as there can be, 128 bytes apart at least.
+#[derive(Drop)]
+pub struct Words {
+    counter: CachePadded<AtomicU64>,
+    partition: CachePadded<AtomicU64>,
+    own: CachePadded<SessionWords>,
+    sessions: Vec<CachePadded<SessionWords>>,
+}
+
+/// Takes a lock, as far as it is free.
+fn take(word: &AtomicU64) {
+    let shown = word.load(Ordering::SeqCst);
+    let _ = word.compare_exchange(
+        shown,
+        shown.wrapping_add(TAKEN),
+        Ordering::SeqCst,
+        Ordering::SeqCst,
+    );
+}
+
+fn put(word: &AtomicU64) {
+    word.fetch_sub(TAKEN, Ordering::SeqCst);
+}
+
+impl SessionWords {
+    fn new() -> Self {
+        SessionWords {
+            fast: AtomicU64::new(0),
+            database: AtomicU64::new(5),
+            slots: array::from_fn(|_| AtomicU64::new(0)),
+        }
+    }
+
+    /// Loads the sixteen slots, and stores one.
+    fn store_slot(&self, number: u64) {
+        for slot in &self.slots {
+            slot.load(Ordering::SeqCst);
+        }
+        self.slots[15].store(number, Ordering::SeqCst);
+    }
+}
+
+impl Words {
+    /// With words for so many sessions.
+    pub fn new(alloc: Global, sessions: u32) -> Result<Self, AllocError> {
+        let mut words = Words {
+            counter: CachePadded::new(AtomicU64::new(0)),
+            partition: CachePadded::new(AtomicU64::new(0)),
+            own: CachePadded::new(SessionWords::new()),
+            sessions: Vec::new(alloc),
+        };
+        for _ in 0..sessions {
+            words.sessions.push(CachePadded::new(SessionWords::new()))?;
+        }
+        Ok(words)
+    }
+
+    /// A weak mode taken by a slot.
+    #[inline(never)]
+    fn take_by_slot(&self, number: u64) {
+        take(&self.own.fast);
+        self.counter.load(Ordering::SeqCst);
+        self.own.store_slot(number);
+        put(&self.own.fast);
+    }
+
+    /// It is given back.
+    #[inline(never)]
+    fn give_by_slot(&self) {
+        take(&self.own.fast);
+        self.own.store_slot(0);
+        put(&self.own.fast);
+    }
+
+    /// A try of a slot that finds a strong lock counted.
+    #[inline(never)]
+    fn find_counted(&self) {
+        take(&self.own.fast);
+        self.counter.load(Ordering::SeqCst);
+        put(&self.own.fast);
+    }
+
+    /// A strong mode, past every session.
+    #[inline(never)]
+    fn take_strong(&self) {
+        self.counter.fetch_add(1, Ordering::SeqCst);
+        for session in &self.sessions {
+            take(&session.fast);
+            session.database.load(Ordering::SeqCst);
+            put(&session.fast);
+        }
+        take(&self.partition);
+        put(&self.partition);
+    }
+
+    /// It is given back.
+    #[inline(never)]
+    fn give_strong(&self) {
+        take(&self.partition);
+        put(&self.partition);
+        self.counter.fetch_sub(1, Ordering::SeqCst);
+    }
+
+    /// So many weak modes, each taken and given back.
+    pub fn weak_pairs(&self, steps: u64) {
+        for step in 0..steps {
+            self.take_by_slot(step);
+            self.give_by_slot();
+        }
+    }
+
+    /// So many tries that are refused.
+    pub fn refusals(&self, steps: u64) {
+        for _ in 0..steps {
+            self.find_counted();
+        }
+    }
+
+    /// So many strong modes, each taken and given back.
+    pub fn strong_pairs(&self, steps: u64) {
+        for _ in 0..steps {
+            self.take_strong();
+            self.give_strong();
+        }
+    }
+}

@@ -1,0 +1,131 @@
+//! Two threads that pass one thing back and forth: an exclusive lock of the lock manager, or a turn under a mutex.
+
+ghost use Rattle.std.specs.Prelude.{◌≡◌};
+
+use crate::keys::Key;
+use crossbeam_utils::Backoff;
+use lock_manager::{Locked, OwnSession};
+use lock_table::PlainPart;
+use modes_core::Owner;
+use shared_rule::board::Board;
+use std::sync::atomic::{AtomicU64, Ordering};
+use std::sync::{Condvar, Mutex, Wait};
+use std::thread::{Threads, join};
+
+/// What the two take, and how often each.
+#[derive(Clone, Copy, Debug)]
+pub struct Plan {
+    pub key: Key,
+    pub owner: Owner,
+    pub turns: u32,
+}
+
+/// A session that has taken its turns, and how many of them were granted.
+pub struct Player<B: Board<PlainPart>> {
+    pub session: OwnSession<PlainPart, B>,
+    pub granted: u64,
+}
+
+/// The session with the lock, and whether it has it.
+#[inline(never)]
+fn lock<B: Board<PlainPart>, R: Wait>(
+    rt: &R,
+    session: OwnSession<PlainPart, B>,
+    plan: Plan,
+) -> (OwnSession<PlainPart, B>, bool)
+    ensures seat { B.seat result.0.board ≡ B.seat session.board }
+{
+    let (tag, mode) = plan.key;
+    match session.lock(rt, tag, mode, plan.owner) {
+        Locked::Granted(session) => (session, true),
+        Locked::AlreadyHeld(session) => (session, true),
+        Locked::Refused(session, _) => (session, false),
+    }
+}
+
+/// Looks until the other one awaits the lock, or plays no more.
+fn see_other<B: Board<PlainPart>, R: Wait>(
+    rt: &R,
+    session: &mut OwnSession<PlainPart, B>,
+    plan: Plan,
+    playing: &AtomicU64,
+)
+    ensures seat { B.seat session.new.board ≡ B.seat session.old.board }
+{
+    let (tag, mode) = plan.key;
+    let backoff = Backoff::new();
+    'looks: for _ in rt.forever() {
+        let is_awaited = session.has_waiters(rt, tag, mode);
+        if is_awaited == Ok(true) || playing.load(Ordering::SeqCst) < 2 {
+            return;
+        }
+        backoff.snooze();
+    }
+    unreachable!()
+}
+
+/// Locks over and over, and unlocks each time as soon as the other one awaits it.
+fn take_turns<B: Board<PlainPart>, R: Wait>(
+    rt: &R,
+    mut session: OwnSession<PlainPart, B>,
+    plan: Plan,
+    playing: &AtomicU64,
+) -> Player<B>
+    ensures seat { B.seat result.session.board ≡ B.seat session.board }
+{
+    let (tag, mode) = plan.key;
+    let mut granted = 0u64;
+    'turns: for _ in 0..plan.turns {
+        let (locked, is_granted) = lock(rt, session, plan);
+        session = locked;
+        if is_granted {
+            granted = granted.wrapping_add(1);
+            see_other(rt, &mut session, plan, playing);
+            let _ = session.unlock(rt, tag, mode, plan.owner);
+        }
+    }
+    playing.fetch_sub(1, Ordering::SeqCst);
+    Player { session, granted }
+}
+
+/// Both sessions' turns, each in a thread.
+pub fn pass_lock<B: Board<PlainPart> + Drop + Send, R: Threads + Wait + Sync>(
+    rt: &R,
+    first: OwnSession<PlainPart, B>,
+    second: OwnSession<PlainPart, B>,
+    plan: Plan,
+) -> (Player<B>, Player<B>)
+    ensures first { B.seat result.0.session.board ≡ B.seat first.board }
+    ensures second { B.seat result.1.session.board ≡ B.seat second.board }
+{
+    let players = AtomicU64::new(2);
+    let playing = &players;
+    join(
+        rt,
+        || take_turns(rt, first, plan, playing),
+        || take_turns(rt, second, plan, playing),
+    )
+}
+
+/// Waits for the turn and passes it on, over and over. It is the other one's at the end.
+fn pass_on<R: Wait>(rt: &R, turn: &Mutex<u64>, passed: &Condvar, number: u64, turns: u32) {
+    for _ in 0..turns {
+        let mut whose = passed.wait_while(rt, turn.lock(rt), |whose| *whose != number);
+        *whose = number ^ 1;
+        drop(whose);
+        passed.notify_one();
+    }
+}
+
+/// The same by a mutex and a condition variable.
+pub fn pass_turn<R: Threads + Wait + Sync>(rt: &R, turns: u32) -> u64 {
+    let turn = Mutex::new(0u64);
+    let passed = Condvar::new();
+    let (turn_of, passed_on) = (&turn, &passed);
+    join(
+        rt,
+        || pass_on(rt, turn_of, passed_on, 0, turns),
+        || pass_on(rt, turn_of, passed_on, 1, turns),
+    );
+    turn.into_inner()
+}
