@@ -89,7 +89,7 @@ fn expect_released(
 
 #[test]
 fn a_waiter_goes_behind_those_left_before_it(rt: HostRuntime) -> Result<(), Fail> {
-    let mut part = PlainPart::new(rt.alloc());
+    let mut part = PlainPart::new(rt.alloc())?;
     expect_asked(
         &rt,
         &mut part,
@@ -113,7 +113,7 @@ fn a_waiter_goes_behind_those_left_before_it(rt: HostRuntime) -> Result<(), Fail
 
 #[test]
 fn a_conditional_request_is_refused_by_a_hold(rt: HostRuntime) -> Result<(), Fail> {
-    let mut part = PlainPart::new(rt.alloc());
+    let mut part = PlainPart::new(rt.alloc())?;
     let holds = [
         (2, Mode::Share, Decision::Granted),
         (1, Mode::AccessShare, Decision::Granted),
@@ -136,7 +136,7 @@ fn a_conditional_request_is_refused_by_a_hold(rt: HostRuntime) -> Result<(), Fai
 
 #[test]
 fn a_conditional_request_does_not_pass_a_waiter(rt: HostRuntime) -> Result<(), Fail> {
-    let mut part = PlainPart::new(rt.alloc());
+    let mut part = PlainPart::new(rt.alloc())?;
     expect_asked(
         &rt,
         &mut part,
@@ -157,7 +157,7 @@ fn a_conditional_request_does_not_pass_a_waiter(rt: HostRuntime) -> Result<(), F
 
 #[test]
 fn a_conditional_request_is_refused_with_the_lowest_holder(rt: HostRuntime) -> Result<(), Fail> {
-    let mut part = PlainPart::new(rt.alloc());
+    let mut part = PlainPart::new(rt.alloc())?;
     expect_asked(
         &rt,
         &mut part,
@@ -180,7 +180,7 @@ fn a_conditional_request_is_refused_with_the_lowest_holder(rt: HostRuntime) -> R
 
 #[test]
 fn a_holder_stands_before_whom_it_keeps_waiting(rt: HostRuntime) -> Result<(), Fail> {
-    let mut part = PlainPart::new(rt.alloc());
+    let mut part = PlainPart::new(rt.alloc())?;
     expect_asked(
         &rt,
         &mut part,
@@ -197,7 +197,7 @@ fn a_holder_stands_before_whom_it_keeps_waiting(rt: HostRuntime) -> Result<(), F
 
 #[test]
 fn two_that_wait_for_one_another_are_told(rt: HostRuntime) -> Result<(), Fail> {
-    let mut part = PlainPart::new(rt.alloc());
+    let mut part = PlainPart::new(rt.alloc())?;
     expect_asked(
         &rt,
         &mut part,
@@ -218,7 +218,7 @@ fn two_that_wait_for_one_another_are_told(rt: HostRuntime) -> Result<(), Fail> {
 
 #[test]
 fn a_waiter_that_leaves_lets_others_go(rt: HostRuntime) -> Result<(), Fail> {
-    let mut part = PlainPart::new(rt.alloc());
+    let mut part = PlainPart::new(rt.alloc())?;
     expect_asked(
         &rt,
         &mut part,

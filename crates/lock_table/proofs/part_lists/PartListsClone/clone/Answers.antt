@@ -1,5 +1,5 @@
 use Rattle.std.proofs.Common.{◌≡◌, ◌+◌, ◌<◌, ◌∙◌, vec_len, vec_capacity, arith}
-use Rattle.lock_table.proofs.plain_part.PlainPartClone.clone.Goals as goal
+use Rattle.lock_table.proofs.part_lists.PartListsClone.clone.Goals as goal
 
 pub invariant_of-result : goal.invariant_of-result
 invariant_of-result c =

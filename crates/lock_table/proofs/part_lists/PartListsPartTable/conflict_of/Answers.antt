@@ -6,8 +6,8 @@ use Rattle.lock_table.specs.PartView.{holds_in}
 use Rattle.lock_table.specs.Clash.{HolderInTheWay}
 use Rattle.lock_table.proofs.HoldLists.{take_one_more}
 use Rattle.lock_table.proofs.Holders.{HolderInTheWay-skip, HolderInTheWay-take}
-use Rattle.lock_table.proofs.plain_part.PlainPartPartTable.conflict_of.Goals as goal
-use Rattle.lock_table.proofs.plain_part.PlainPartPartTable.conflict_of.Goals.{then-is_in_the_way, else-is_in_the_way}
+use Rattle.lock_table.proofs.part_lists.PartListsPartTable.conflict_of.Goals as goal
+use Rattle.lock_table.proofs.part_lists.PartListsPartTable.conflict_of.Goals.{then-is_in_the_way, else-is_in_the_way}
 
 pub loop-hold-preserved : goal.loop-hold-preserved
 loop-hold-preserved c =

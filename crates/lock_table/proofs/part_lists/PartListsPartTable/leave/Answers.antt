@@ -5,7 +5,7 @@ use Rattle.lock_table.specs.PartView.{holds_in}
 use Rattle.lock_table.specs.PartWaits.{request_of}
 use Rattle.lock_table.proofs.HoldLists.{count_by-filter}
 use Rattle.lock_table.proofs.WaitLists.{times_in-fewer_waits, awaited-mode, waits-left}
-use Rattle.lock_table.proofs.plain_part.PlainPartPartTable.leave.Goals as goal
+use Rattle.lock_table.proofs.part_lists.PartListsPartTable.leave.Goals as goal
 
 pub invariant_of-self : goal.invariant_of-self
 invariant_of-self c =

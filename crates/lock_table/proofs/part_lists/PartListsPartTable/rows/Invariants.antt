@@ -2,7 +2,7 @@ use Rattle.std.proofs.Common.{◌≡◌, ◌+◌, ◌-◌, ◌≤◌, take, ◌+
 use Rattle.std.specs.Prelude.{map}
 use Rattle.lock_table.specs.PartView.{row_of}
 use Rattle.lock_table.specs.PartWaits.{awaited_row_of}
-use Rattle.lock_table.proofs.plain_part.PlainPartPartTable.rows.Given as goal
+use Rattle.lock_table.proofs.part_lists.PartListsPartTable.rows.Given as goal
 
 abbrev pub invariant-loop-hold : goal.invariant-loop-hold
 invariant-loop-hold l =

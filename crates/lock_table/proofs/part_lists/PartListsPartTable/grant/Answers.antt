@@ -4,7 +4,7 @@ use Rattle.lock_table.specs.PartWaits.{times_in, queues_in}
 use Rattle.lock_table.proofs.HoldLists.{add_hold-push}
 use Rattle.lock_table.proofs.WaitLists.{one_more_once, times_in-hold}
 use Rattle.lock_table.proofs.Options.{ForSome-none}
-use Rattle.lock_table.proofs.plain_part.PlainPartPartTable.grant.Goals as goal
+use Rattle.lock_table.proofs.part_lists.PartListsPartTable.grant.Goals as goal
 
 pub invariant_of-self : goal.invariant_of-self
 invariant_of-self c =

@@ -6,7 +6,7 @@ use Rattle.modes_core.specs.Tag.{tag_eq}
 use Rattle.lock_table.specs.declared.part_waits.PartWait.{PartWait}
 use Rattle.lock_table.specs.PartView.{PartView}
 use Rattle.lock_table.specs.PartWaits.{queues_in}
-use Rattle.lock_table.proofs.plain_part.PlainPartPartTable.waiter.Goals as goal
+use Rattle.lock_table.proofs.part_lists.PartListsPartTable.waiter.Goals as goal
 
 no_longer : (ws : List PartWait) (t : Tag) → length (queues_in ws t) ≤ length ws
 no_longer ws t = simp (length-map, length-filter) (count_by-le-length (λ (w : PartWait). tag_eq t w.tag) ws)

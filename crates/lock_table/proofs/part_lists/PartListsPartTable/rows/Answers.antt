@@ -7,7 +7,7 @@ use Rattle.lock_table.specs.declared.rows.TableRow.{TableRow}
 use Rattle.lock_table.specs.PartView.{PartView, row_of}
 use Rattle.lock_table.specs.PartWaits.{EachOnce, awaited_row_of}
 use Rattle.lock_table.proofs.ListingLemmas.{IsListing-lists, sorted_behind, behind_old}
-use Rattle.lock_table.proofs.plain_part.PlainPartPartTable.rows.Goals as goal
+use Rattle.lock_table.proofs.part_lists.PartListsPartTable.rows.Goals as goal
 
 pub returns-clause-ok : goal.returns-clause-ok
 returns-clause-ok c =

@@ -1,7 +1,7 @@
 use Rattle.std.proofs.Common.{◌∙◌, sym, take}
 use Rattle.lock_table.proofs.HoldLists.{take_one_more, held-take, held-skip}
-use Rattle.lock_table.proofs.plain_part.PlainPartPartTable.held.Goals as goal
-use Rattle.lock_table.proofs.plain_part.PlainPartPartTable.held.Goals.{then-is_on, else-is_on}
+use Rattle.lock_table.proofs.part_lists.PartListsPartTable.held.Goals as goal
+use Rattle.lock_table.proofs.part_lists.PartListsPartTable.held.Goals.{then-is_on, else-is_on}
 
 pub loop-hold-preserved : goal.loop-hold-preserved
 loop-hold-preserved c =

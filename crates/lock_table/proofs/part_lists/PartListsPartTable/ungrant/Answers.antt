@@ -6,7 +6,7 @@ use Rattle.lock_table.specs.PartWaits.{queues_in}
 use Rattle.lock_table.proofs.HoldLists.{remove_hold-filter}
 use Rattle.lock_table.proofs.WaitLists.{times_in-fewer_holds}
 use Rattle.std.proofs.lemmas.Fn.{filter_same}
-use Rattle.lock_table.proofs.plain_part.PlainPartPartTable.ungrant.Goals as goal
+use Rattle.lock_table.proofs.part_lists.PartListsPartTable.ungrant.Goals as goal
 
 pub invariant_of-self : goal.invariant_of-self
 invariant_of-self c =

@@ -1,5 +1,5 @@
 use Rattle.std.proofs.Common.{◌∙◌, arith}
-use Rattle.lock_table.proofs.plain_part.PlainPartPartTable.wake.Goals as goal
+use Rattle.lock_table.proofs.part_lists.PartListsPartTable.wake.Goals as goal
 
 pub invariant_of-self : goal.invariant_of-self
 invariant_of-self c =
