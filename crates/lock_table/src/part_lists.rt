@@ -1,7 +1,9 @@
 //! What a `PlainPart` has on the heap.
 
-ghost use Rattle.std.specs.Prelude.{◌≡◌};
+ghost use Rattle.std.specs.Prelude.{◌≡◌, ◌<◌, true, length};
+ghost use Rattle.std.specs.List.{list_any, HoldsAt};
 ghost use Rattle.lock_table.specs.Clash.{lower_holder_of};
+ghost use Rattle.lock_table.specs.Request.{is_request_of};
 
 use crate::no_memory::NoMemory;
 use crate::part_table::PartTable;
@@ -15,8 +17,8 @@ use modes_core::{Mode, ModeSet, SessionId, Tag, conflicts};
 use std::alloc::{AllocError, Global};
 use std::marker::Model;
 
-/// A list of the holds of a partition, and one of the waits of all its objects. Each call looks through a
-/// whole list.
+/// A list of the holds of a partition, in no order, and one of the waits of all its objects. Most calls look
+/// through a whole list.
 #[derive(Drop)]
 pub struct PartLists {
     holds: Vec<Request>,
@@ -111,7 +113,8 @@ impl PartTable for PartLists {
     }
 
     fn ungrant(&mut self, session: SessionId, tag: &Tag, mode: Mode) {
-        self.holds.retain(|hold| !hold.is_of(session, tag, mode));
+        let index = index_of_hold(self.holds.as_slice(), session, tag, mode);
+        self.holds.swap_remove(index);
     }
 
     fn held(&self, session: SessionId, tag: &Tag) -> ModeSet {
@@ -183,6 +186,22 @@ impl PartTable for PartLists {
         sort_rows(&mut rows[before..]);
         Ok(())
     }
+}
+
+/// Where the session's hold stands in the list. The latest stand at the end, so the look begins there.
+fn index_of_hold(holds: &[Request], session: SessionId, tag: &Tag, mode: Mode) -> usize
+    requires { list_any (λ hold. is_request_of hold session tag.now mode) holds.now ≡ true }
+    ensures within { result < length holds.now }
+    ensures its { HoldsAt (λ hold. is_request_of hold session tag.now mode ≡ true) holds.now result }
+{
+    let mut left = holds.len();
+    while left > 0 {
+        if holds[left - 1].is_of(session, tag, mode) {
+            return left - 1;
+        }
+        left -= 1;
+    }
+    unreachable!()
 }
 
 /// The lower of two holders, by session and then by mode.

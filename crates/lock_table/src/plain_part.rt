@@ -12,8 +12,8 @@ use std::marker::Model;
 #[cfg(test)]
 pub mod tests;
 
-/// The plain keeper of a partition: a list of its holds, and one of the waits of all its objects. Each
-/// call looks through a whole list. Both lists are on the heap, so that the part is one pointer wide: who
+/// The plain keeper of a partition: a list of its holds, and one of the waits of all its objects. Most
+/// calls look through a whole list. Both lists are on the heap, so that the part is one pointer wide: who
 /// takes a partition gets it by value, and puts it back so.
 #[derive(Drop)]
 pub struct PlainPart {
