@@ -83,8 +83,10 @@ fn expect_released(
     if !part.held(session, &tag).has(mode) {
         panic!(rt; "session {number} doesn't hold it");
     }
-    let woken = release(part, session, &tag, mode);
-    expect_woken(rt, &woken, expected);
+    match release(part, session, &tag, mode) {
+        None => assert!(rt; expected.is_empty()),
+        Some(woken) => expect_woken(rt, &woken, expected),
+    }
 }
 
 #[test]
