@@ -1,7 +1,6 @@
-use Rattle.std.proofs.Common.{◌≡◌, ◌≢◌, ◌⊎◌, ℕ, Bool, ◌==◌, true, false, ap, List, [], ◌∷◌, ◌++◌, append-nil, length, refl, sym, ◌∙◌, subst, inl, inr}
+use Rattle.std.proofs.Common.{◌≡◌, ◌≢◌, ◌⊎◌, ℕ, Bool, true, false, ap, List, [], ◌∷◌, ◌++◌, append-nil, refl, sym, ◌∙◌, subst, inl, inr}
 use Rattle.std.specs.Prelude.{map}
 use Rattle.std.proofs.lemmas.Bool.{false≢true, and_left}
-use Rattle.std.proofs.lemmas.List.{nil_from_length}
 use Rattle.modes_core.specs.declared.modes.Mode.{Mode}
 use Rattle.modes_core.specs.declared.tags.Tag.{Tag}
 use Rattle.modes_core.specs.Tag.{partition_of, is_strong_on, is_eligible_for}
@@ -29,15 +28,6 @@ use Rattle.lock_manager.proofs.Waking.{release-once}
 
 -- Releasing a hold in a partition that was just taken.
 
--- Somebody is told where the list isn't empty.
-pub somebody_told : (woken : List (ℕ × Mode)) (is_empty : Bool) → is_empty ≡ (length woken == 0) → is_empty ≡ false → woken ≢ []
-somebody_told woken is_empty is not_empty none = false≢true (sym not_empty ∙ is ∙ ap (λ its. length its == 0) none)
-
--- Where nobody is told nobody was granted.
-none_granted : (granted : List Wait) → [] ≡ map whose_and_mode granted → granted ≡ []
-none_granted [] none = refl
-none_granted (wait ∷ granted) none = cc
-
 module _ (seat : Seated) (a : Account) (p : ℕ) (tag : Tag) (mode : Mode) (taken put : Content) (granted : List Wait) (woken : List (ℕ × Mode))
     (object : partition_of tag ≡ p) (own : a.own tag mode ≡ true)
     (moved : Moves taken seat.number (Release tag mode) granted put) (whose : woken ≡ map whose_and_mode granted) where
@@ -54,13 +44,13 @@ module _ (seat : Seated) (a : Account) (p : ℕ) (tag : Tag) (mode : Mode) (take
 
   -- and put the partition by it where it lets nobody go,
   pub may_put_released :
-      (its : Seated) (b : Account) → its ≡ seat → b ≡ account_taking a p taken → length woken ≡ 0
+      (its : Seated) (b : Account) → its ≡ seat → b ≡ account_taking a p taken → granted ≡ []
       → (mine : InHand) × MayPutPart its.limit its.number b p mine (Release tag mode) put
   may_put_released its b same_seat same none =
       let alone : MayPutBy seat.limit seat.number (account_taking a p taken) p (fresh_hand taken) (Release tag mode) put =
       record {
         may_move = subst (λ waits. MayMoveBy seat.limit seat.number (account_taking a p taken) p (fresh_hand taken) (Release tag mode) waits put)
-            (none_granted granted (sym (nil_from_length woken none) ∙ whose)) may_release;
+            none may_release;
         by_putting = tt;
       } in (
         fresh_hand taken,

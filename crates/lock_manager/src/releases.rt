@@ -113,11 +113,9 @@ fn release_in_part<T: PartTable, B: Board<T>, R: Wait>(rt: &R, board: &mut B, ta
     let part = tag.partition();
     let done = Move::Release { tag: *tag, mode };
     let mut content = board.take_part(rt, part);
-    let woken = release(&mut content, number, tag, mode);
-    if woken.is_empty() {
-        board.put_part(part, &done, content);
-    } else {
-        put_with_woken(board, part, &done, &woken, content);
+    match release(&mut content, number, tag, mode) {
+        None => board.put_part(part, &done, content),
+        Some(woken) => put_with_woken(board, part, &done, &woken, content),
     }
 }
 

@@ -1,11 +1,10 @@
-use Rattle.std.proofs.Common.{◌≡◌, ℕ, ◌+◌, ◌<◌, ◌≤◌, Bool, true, false, not, ◌&&◌, ◌||◌, List, [], ◌∷◌, ◌++◌, take, length, get_or, ◌==◌, arith, refl, sym, ap, ◌∙◌, inl, inr}
+use Rattle.std.proofs.Common.{◌≡◌, ℕ, ◌+◌, ◌<◌, ◌≤◌, Bool, true, false, cond, ◌&&◌, ◌||◌, List, [], ◌∷◌, ◌++◌, take, length, get_or, ◌==◌, arith, refl, sym, ap, ◌∙◌, inl, inr}
 use Rattle.std.specs.Prelude.{filter, count_by, if◌then◌else◌}
-use Rattle.std.specs.List.{list_any}
-use Rattle.std.proofs.lemmas.Bool.{cases_Bool, false≢true}
+use Rattle.std.specs.List.{list_any, swap_remove}
+use Rattle.std.proofs.lemmas.Bool.{cases_Bool, false≢true, cond-true, cond-false}
 use Rattle.std.proofs.lemmas.List.Folds.{list_any-append}
-use Rattle.std.proofs.lemmas.List.Sums.{sum_by-cons, sum_by-append}
+use Rattle.std.proofs.lemmas.List.Sums.{sum_by-cons, sum_by-append, sum_by-swap_remove}
 use Rattle.std.proofs.Math.Bool.{or-true, or-false, or_comm}
-use Rattle.std.proofs.lemmas.Map.Views.{any-filter_same}
 use Rattle.modes_core.specs.declared.modes.Mode.{Mode}
 use Rattle.modes_core.specs.declared.tags.Tag.{Tag}
 use Rattle.lock_table.specs.declared.request.Request.{Request}
@@ -16,6 +15,7 @@ use Rattle.modes_core.specs.Mode.{mode_eq}
 use Rattle.modes_core.specs.Tag.{tag_eq}
 use Rattle.modes_core.proofs.Laws.{both_true}
 use Rattle.std.proofs.lemmas.List.{take_more}
+use Rattle.lock_table.proofs.ListLemmas.{any-counted, counted-any}
 use Rattle.lock_table.proofs.Same.{same_triple, SameTriple-from, same_triple-comm, set_hold-here, set_hold-else}
 
 -- A list with one hold more at its end has one hold more.
@@ -34,33 +34,6 @@ push_at xs s o m s' o' m' =
 pub add_hold-push :
     (xs : List Request) (s : ℕ) (o : Tag) (m : Mode) → holds_in (xs ++ record { session = s; tag = o; mode = m } ∷ []) ≡ set_hold (holds_in xs) s o m true
 add_hold-push xs s o m = λ i s' o' m'. push_at xs s o m s' o' m' i
-
--- A list without the hold has one hold less.
-filter_at :
-    (xs : List Request) (s : ℕ) (o : Tag) (m : Mode) (s' : ℕ) (o' : Tag) (m' : Mode) →
-    holds_in (filter (λ hold. not (is_request_of hold s o m)) xs) s' o' m' ≡ set_hold (holds_in xs) s o m false s' o' m'
-filter_at xs s o m s' o' m' =
-    elim (cases_Bool (same_triple s' o' m' s o m)) [
-      | inl alike ↦
-          let same = SameTriple-from s' o' m' s o m alike in
-          rw (same.session, same.tag, same.mode) (
-          any-filter_same (λ hold. is_request_of hold s o m) (λ hold. not (is_request_of hold s o m)) false (λ hold is. ap not is) xs ∙
-          sym (set_hold-here (holds_in xs) s o m false)
-          )
-      | inr apart ↦
-          any-filter_same (λ hold. is_request_of hold s' o' m') (λ hold. not (is_request_of hold s o m)) true (other apart) xs ∙
-          sym (set_hold-else (holds_in xs) s o m false s' o' m' apart)
-    ] where
-      other : same_triple s' o' m' s o m ≡ false → (hold : Request) → is_request_of hold s' o' m' ≡ true → not (is_request_of hold s o m) ≡ true
-      other apart hold is =
-          let same = SameTriple-from s' o' m' hold.session hold.tag hold.mode is in
-          let not_it : is_request_of hold s o m ≡ false =
-          same_triple-comm s o m hold.session hold.tag hold.mode ∙ rw (← same.session, ← same.tag, ← same.mode) apart in
-          ap not not_it
-
-pub remove_hold-filter :
-    (xs : List Request) (s : ℕ) (o : Tag) (m : Mode) → holds_in (filter (λ hold. not (is_request_of hold s o m)) xs) ≡ set_hold (holds_in xs) s o m false
-remove_hold-filter xs s o m = λ i s' o' m'. filter_at xs s o m s' o' m' i
 
 -- An element more at the front counts where it passes.
 pub count_by-cons : {X : Type 0} (test : X → Bool) (x : X) (xs : List X) → count_by test (x ∷ xs) ≡ (if test x then 1 else 0) + count_by test xs
@@ -88,6 +61,58 @@ count_by-none test (x ∷ xs) none =
       | inr fail ↦ rw (fail, count_by-none test xs (sym (ap (λ b. b || list_any test xs) fail) ∙ none)) refl
     ]
     )
+
+-- Nobody is counted where no element passes, and as many pass where as many are counted.
+any-of_none : {X : Type 0} (test : X → Bool) (xs : List X) → count_by test xs ≡ 0 → list_any test xs ≡ false
+any-of_none test xs none =
+    elim (cases_Bool (list_any test xs)) [
+      | inl some ↦ let more : 0 < count_by test xs = any-counted test xs some in absurd (omega arith)
+      | inr it ↦ it
+    ]
+
+any-same_count : {X : Type 0} (test : X → Bool) (xs ys : List X) → count_by test xs ≡ count_by test ys → list_any test xs ≡ list_any test ys
+any-same_count test xs ys same =
+    elim (cases_Bool (list_any test ys)) [
+      | inl some ↦ let more : 0 < count_by test ys = any-counted test ys some in counted-any test xs (omega arith) ∙ sym some
+      | inr none ↦ let nobody : count_by test ys ≡ 0 = count_by-none test ys none in any-of_none test xs (omega arith) ∙ sym none
+    ]
+
+-- An element that is taken out, with the last one moved into its place, is counted no more.
+pub count_by-taken_out :
+    {X : Type 0} (test : X → Bool) (xs : List X) (i : ℕ) (x : X) → i < length xs → x ≡ get_or xs i x →
+    count_by test (swap_remove xs i x) + cond (test x) 1 0 ≡ count_by test xs
+count_by-taken_out test xs i x within is =
+    ap (λ y. count_by test (swap_remove xs i x) + cond (test y) 1 0) is ∙ sum_by-swap_remove (λ y. cond (test y) 1 0) xs i x within
+
+-- A list without a hold that stood in it once has one hold less.
+taken_out_at :
+    (xs : List Request) (i : ℕ) (x : Request) (s : ℕ) (o : Tag) (m : Mode) (s' : ℕ) (o' : Tag) (m' : Mode) →
+    i < length xs → x ≡ get_or xs i x → is_request_of x s o m ≡ true → count_by (λ hold. is_request_of hold s o m) xs ≤ 1 →
+    holds_in (swap_remove xs i x) s' o' m' ≡ set_hold (holds_in xs) s o m false s' o' m'
+taken_out_at xs i x s o m s' o' m' within is its once =
+    elim (cases_Bool (same_triple s' o' m' s o m)) [
+      | inl alike ↦
+          let same = SameTriple-from s' o' m' s o m alike in
+          let less = count_by-taken_out (λ hold. is_request_of hold s o m) xs i x within is in
+          let one : ◌≡◌ {A = ℕ} (cond (is_request_of x s o m) 1 0) 1 = cond-true (is_request_of x s o m) 1 0 its in
+          rw (same.session, same.tag, same.mode) (
+          any-of_none (λ hold. is_request_of hold s o m) (swap_remove xs i x) (omega (arith, less, one, once)) ∙
+          sym (set_hold-here (holds_in xs) s o m false)
+          )
+      | inr apart ↦
+          let it = SameTriple-from s o m x.session x.tag x.mode its in
+          let not_it : is_request_of x s' o' m' ≡ false = rw (← it.session, ← it.tag, ← it.mode) apart in
+          let less = count_by-taken_out (λ hold. is_request_of hold s' o' m') xs i x within is in
+          let none : ◌≡◌ {A = ℕ} (cond (is_request_of x s' o' m') 1 0) 0 = cond-false (is_request_of x s' o' m') 1 0 not_it in
+          any-same_count (λ hold. is_request_of hold s' o' m') (swap_remove xs i x) xs (omega (arith, less, none)) ∙
+          sym (set_hold-else (holds_in xs) s o m false s' o' m' apart)
+    ]
+
+pub remove_hold-taken_out :
+    (xs : List Request) (i : ℕ) (x : Request) (s : ℕ) (o : Tag) (m : Mode) →
+    i < length xs → x ≡ get_or xs i x → is_request_of x s o m ≡ true → count_by (λ hold. is_request_of hold s o m) xs ≤ 1 →
+    holds_in (swap_remove xs i x) ≡ set_hold (holds_in xs) s o m false
+remove_hold-taken_out xs i x s o m within is its once = λ j s' o' m'. taken_out_at xs i x s o m s' o' m' within is its once j
 
 pub count_by-append : {X : Type 0} (test : X → Bool) (xs ys : List X) → count_by test (xs ++ ys) ≡ count_by test xs + count_by test ys
 count_by-append test xs ys = sum_by-append (λ x. if test x then 1 else 0) xs ys

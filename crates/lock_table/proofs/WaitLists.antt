@@ -1,6 +1,6 @@
-use Rattle.std.proofs.Common.{◌≡◌, ℕ, ◌+◌, ◌<◌, ◌≤◌, Bool, true, false, not, ◌&&◌, ◌||◌, ◌==◌, List, [], ◌∷◌, ◌++◌, take, drop, length, get_or, Option, Some, None, arith, refl, sym, ap, ◌∙◌, subst, inl, inr}
+use Rattle.std.proofs.Common.{◌≡◌, ℕ, ◌+◌, ◌<◌, ◌≤◌, Bool, true, false, cond, not, ◌&&◌, ◌||◌, ◌==◌, List, [], ◌∷◌, ◌++◌, take, drop, length, get_or, Option, Some, None, arith, refl, sym, ap, ◌∙◌, subst, inl, inr}
 use Rattle.std.specs.Prelude.{map, filter, find, count_by, option_map, slice_get, if◌then◌else◌}
-use Rattle.std.specs.List.{list_any, insert}
+use Rattle.std.specs.List.{list_any, insert, swap_remove}
 use Rattle.std.proofs.lemmas.Bool.{cases_Bool, false≢true, false_from_ne_true, eqb-true, eq-eqb}
 use Rattle.std.proofs.lemmas.List.{map-append, take_at, drop_at, take-append-drop, drop_more, get_or_at, length-append}
 use Rattle.std.proofs.lemmas.Option.{slice_get-get_or}
@@ -21,7 +21,7 @@ use Rattle.lock_table.specs.Queue.{waits_there, awaits_mode, wait_in, queue_with
 use Rattle.lock_table.specs.Put.{put}
 use Rattle.lock_table.proofs.PutLemmas.{put_here, put_else}
 use Rattle.lock_table.proofs.Same.{SameTriple-from}
-use Rattle.lock_table.proofs.HoldLists.{count_by-cons, count_by-none, count_by-append, count_by-filter}
+use Rattle.lock_table.proofs.HoldLists.{count_by-cons, count_by-none, count_by-append, count_by-filter, count_by-taken_out}
 
 -- Equality of numbers goes both ways.
 pub eqb_comm : (a b : ℕ) → (a == b) ≡ (b == a)
@@ -118,10 +118,12 @@ times_in-wait hs xs ys w s o m =
     omega arith
 
 -- What a filter leaves is there no more often.
-pub times_in-fewer_holds :
-    (p : Request → Bool) (hs : List Request) (ws : List PartWait) (s : ℕ) (o : Tag) (m : Mode) → times_in (filter p hs) ws s o m ≤ times_in hs ws s o m
-times_in-fewer_holds p hs ws s o m =
-    let less : count_by (λ hold. is_request_of hold s o m) (filter p hs) ≤ count_by (λ hold. is_request_of hold s o m) hs = count_by-filter (λ hold. is_request_of hold s o m) p hs in
+pub times_in-taken_out :
+    (hs : List Request) (ws : List PartWait) (i : ℕ) (x : Request) → i < length hs → x ≡ get_or hs i x → (s : ℕ) (o : Tag) (m : Mode) →
+    times_in (swap_remove hs i x) ws s o m ≤ times_in hs ws s o m
+times_in-taken_out hs ws i x within is s o m =
+    let less : count_by (λ hold. is_request_of hold s o m) (swap_remove hs i x) + cond (is_request_of x s o m) 1 0 ≡ count_by (λ hold. is_request_of hold s o m) hs =
+    count_by-taken_out (λ hold. is_request_of hold s o m) hs i x within is in
     omega arith
 
 pub times_in-fewer_waits :

@@ -5,7 +5,7 @@ pub mod Request
 pub mod Listing
 pub mod PartView
 pub mod PartWaits
-pub mod PlainPart
+pub mod PartLists
 pub mod Queue
 pub mod Walk
 pub mod Moves

@@ -6,6 +6,7 @@ pub mod answering;
 pub mod listing;
 pub mod moves;
 pub mod no_memory;
+pub mod part_lists;
 pub mod part_table;
 pub mod part_waits;
 pub mod parts;

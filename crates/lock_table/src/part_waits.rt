@@ -73,10 +73,10 @@ impl PartWait {
     pub fn awaits_one(&self, tag: &Tag, modes: ModeSet) -> bool
         ensures { result ≡ awaits_one_of self.now tag.now (set_has modes) }
     {
-        if !tag.is_same(self.tag) {
+        if !modes.has(self.waiter.mode) {
             return false;
         }
-        modes.has(self.waiter.mode)
+        tag.is_same(self.tag)
     }
 }
 

@@ -19,7 +19,7 @@ pub fn empty_parts(alloc: Global) -> Result<Vec<PlainPart>, NoMemory>
 {
     let mut parts = Vec::with_capacity(alloc, PARTITIONS as usize)?;
     for _part in 0..PARTITIONS as usize {
-        parts.push_reserved(PlainPart::new(alloc));
+        parts.push_reserved(PlainPart::new(alloc)?);
     }
     Ok(parts)
 }

@@ -1,29 +1,23 @@
-ghost use Rattle.std.specs.Prelude.{◌≡◌, IfOk};
-ghost use Rattle.lock_table.specs.Content.{empty_content};
-ghost use Rattle.lock_table.specs.Clash.{lower_holder_of};
-
 use crate::no_memory::NoMemory;
+use crate::part_lists::PartLists;
 use crate::part_table::PartTable;
-use crate::part_waits::{
-    PartWait, awaited_mode, index_of_place, take_wait_out, waiter_at, wake_queue,
-};
+use crate::part_waits::{PartWait, awaited_mode};
 use crate::request::Request;
-use crate::rows::{TableRow, sort_rows};
+use crate::rows::TableRow;
 use crate::waits::{Waiter, Woken};
-use modes_core::{Mode, ModeSet, SessionId, Tag, conflicts};
+use modes_core::{Mode, ModeSet, SessionId, Tag};
 use std::alloc::{AllocError, Global};
 use std::marker::Model;
 
 #[cfg(test)]
 pub mod tests;
 
-/// The plain keeper of a partition: a list of its holds, and one of the waits of all its objects. Each
-/// call looks through the whole list; it serves the slow machine, the tests and one thread.
+/// The plain keeper of a partition: a list of its holds, and one of the waits of all its objects. Most
+/// calls look through a whole list. Both lists are on the heap, so that the part is one pointer wide: who
+/// takes a partition gets it by value, and puts it back so.
 #[derive(Drop)]
 pub struct PlainPart {
-    holds: Vec<Request>,
-    waits: Vec<PartWait>,
-    begun: Option<Request>,
+    lists: Box<PartLists>,
 }
 
 impl Model for PlainPart {
@@ -31,11 +25,7 @@ impl Model for PlainPart {
 
     ghost Value = { PartView };
 
-    ghost use Rattle.lock_table.specs.PlainPart.{view_of, IsPlainPart};
-
-    ghost view = { view_of };
-
-    ghost invariant = { IsPlainPart };
+    ghost view = { λ part. part.lists.value };
 }
 
 impl PlainPart {
@@ -46,30 +36,27 @@ impl PlainPart {
     ghost use Rattle.std.specs.List.{list_any};
     ghost use Rattle.lock_table.specs.Content.{empty_content};
 
-    /// A part with nothing in it, which grows by this allocator.
-    pub fn new(alloc: Global) -> Self
-        ensures content { content_of result ≡ empty_content }
-        ensures begun { result.begun ≡ None }
+    /// A part with nothing in it, which grows by this allocator. After `NoMemory` there is nothing.
+    pub fn new(alloc: Global) -> Result<Self, NoMemory>
+        ensures content { IfOk result (λ part. content_of part ≡ empty_content) }
+        ensures begun { IfOk result (λ part. part.begun ≡ None) }
     {
-        PlainPart {
-            holds: Vec::new(alloc),
-            waits: Vec::new(alloc),
-            begun: None,
-        }
+        let lists = Box::new(alloc, PartLists::new(alloc))?;
+        Ok(PlainPart { lists })
     }
 
     /// Whether the session holds anything.
     pub fn has_hold_of(&self, session: SessionId) -> bool
         ensures { result ≡ list_any (λ hold. hold.session == session) self.now.holds }
     {
-        self.holds.iter().any(|hold| hold.session == session)
+        self.holds().iter().any(|hold| hold.session == session)
     }
 
     /// Whether the session waits in the object's queue.
     pub fn has_wait_of(&self, session: SessionId, tag: &Tag) -> bool
         ensures { result ≡ waits_there ((content_of self.now).waits tag.now) session }
     {
-        awaited_mode(self.waits.as_slice(), session, tag).is_some()
+        awaited_mode(self.waits(), session, tag).is_some()
     }
 
     /// Its holds. Each request is held or awaited once at most.
@@ -77,32 +64,26 @@ impl PlainPart {
         ensures value { result.now ≡ self.now.holds }
         ensures each_once { EachOnce self.now.holds self.now.waits }
     {
-        self.holds.as_slice()
+        self.lists.holds()
     }
 
     /// The waits of all its objects, those of one object in the order of its queue.
     pub fn waits(&self) -> &[PartWait]
         ensures { result.now ≡ self.now.waits }
     {
-        self.waits.as_slice()
+        self.lists.waits()
     }
 }
 
 /// The same part once more, in memory of its own, with room for what the part has room for.
 impl Clone for PlainPart {
+    ghost use Rattle.std.specs.Prelude.{◌≡◌};
+
     ghost is_clone = { λ part its. its ≡ part };
 
     fn clone(&self) -> Result<Self, AllocError> {
-        let alloc = *self.holds.allocator();
-        let mut holds = Vec::from_slice(alloc, self.holds.as_slice())?;
-        let mut waits = Vec::from_slice(alloc, self.waits.as_slice())?;
-        holds.reserve(self.waits.len() + 1)?;
-        waits.reserve(1)?;
-        Ok(PlainPart {
-            holds,
-            waits,
-            begun: self.begun,
-        })
+        let lists = self.lists.clone()?;
+        Ok(PlainPart { lists })
     }
 }
 
@@ -114,113 +95,46 @@ impl PartTable for PlainPart {
     ghost begun = { λ part. part.begun };
 
     fn begin(&mut self, session: SessionId, tag: &Tag, mode: Mode) -> Result<(), NoMemory> {
-        self.holds.reserve(self.waits.len() + 1)?;
-        self.waits.reserve(1)?;
-        let tag = *tag;
-        self.begun = Some(Request { session, tag, mode });
-        Ok(())
+        self.lists.begin(session, tag, mode)
     }
 
-    fn withdraw(&mut self, _session: SessionId, _tag: &Tag, _mode: Mode) {
-        self.begun = None;
+    fn withdraw(&mut self, session: SessionId, tag: &Tag, mode: Mode) {
+        self.lists.withdraw(session, tag, mode);
     }
 
     fn grant(&mut self, session: SessionId, tag: &Tag, mode: Mode) {
-        self.begun = None;
-        let tag = *tag;
-        self.holds.push_reserved(Request { session, tag, mode });
+        self.lists.grant(session, tag, mode);
     }
 
     fn ungrant(&mut self, session: SessionId, tag: &Tag, mode: Mode) {
-        self.holds.retain(|hold| !hold.is_of(session, tag, mode));
+        self.lists.ungrant(session, tag, mode);
     }
 
     fn held(&self, session: SessionId, tag: &Tag) -> ModeSet {
-        let mut modes = ModeSet::empty();
-        for hold in &self.holds {
-            if hold.is_on(session, tag) {
-                modes = modes.with(hold.mode);
-            }
-        }
-        modes
+        self.lists.held(session, tag)
     }
 
     fn conflict_of(&self, session: SessionId, tag: &Tag, mode: Mode) -> Option<(SessionId, Mode)> {
-        let conflicting = conflicts(mode);
-        let mut lowest = None;
-        for hold in &self.holds {
-            if hold.is_in_the_way(session, tag, conflicting) {
-                lowest = Some(lower_holder(lowest, hold.session, hold.mode));
-            }
-        }
-        lowest
+        self.lists.conflict_of(session, tag, mode)
     }
 
     fn waiter(&self, tag: &Tag, place: usize) -> Option<Waiter> {
-        // No list is longer than a number of its length can say.
-        let _len = self.waits.len();
-        waiter_at(self.waits.as_slice(), tag, place)
+        self.lists.waiter(tag, place)
     }
 
     fn join(&mut self, session: SessionId, tag: &Tag, mode: Mode, place: usize) {
-        let held = self.held(session, tag);
-        let index = index_of_place(self.waits.as_slice(), tag, place);
-        self.begun = None;
-        let waiter = Waiter {
-            session,
-            mode,
-            held,
-        };
-        match self.waits.insert(index, PartWait { tag: *tag, waiter }) {
-            Ok(()) => {}
-            Err(_) => unreachable!(),
-        }
+        self.lists.join(session, tag, mode, place);
     }
 
     fn leave(&mut self, session: SessionId, tag: &Tag) -> Option<Mode> {
-        let mode = awaited_mode(self.waits.as_slice(), session, tag);
-        take_wait_out(&mut self.waits, session, tag);
-        mode
+        self.lists.leave(session, tag)
     }
 
     fn wake(&mut self, tag: &Tag) -> Woken {
-        wake_queue(&mut self.holds, &mut self.waits, tag)
+        self.lists.wake(tag)
     }
 
     fn rows(&self, rows: &mut Vec<TableRow>) -> Result<(), NoMemory> {
-        let before = rows.len();
-        rows.reserve(self.holds.len() + self.waits.len())?;
-        for hold in &self.holds {
-            rows.push_reserved(TableRow {
-                session: hold.session,
-                tag: hold.tag,
-                mode: hold.mode,
-                granted: true,
-            });
-        }
-        for wait in &self.waits {
-            rows.push_reserved(wait.row());
-        }
-        sort_rows(&mut rows[before..]);
-        Ok(())
+        self.lists.rows(rows)
     }
-}
-
-/// The lower of two holders, by session and then by mode.
-fn lower_holder(
-    lowest: Option<(SessionId, Mode)>,
-    session: SessionId,
-    mode: Mode,
-) -> (SessionId, Mode)
-    ensures { result ≡ lower_holder_of lowest session mode }
-{
-    if let Some((other, its)) = lowest {
-        if other < session {
-            return (other, its);
-        }
-        if other == session && its.number() <= mode.number() {
-            return (other, its);
-        }
-    }
-    (session, mode)
 }

@@ -20,10 +20,10 @@ impl Request {
         if self.session != session {
             return false;
         }
-        if !tag.is_same(self.tag) {
+        if !mode.is_same(self.mode) {
             return false;
         }
-        mode.is_same(self.mode)
+        tag.is_same(self.tag)
     }
 
     /// Whether this is a request of the session on the object.
@@ -43,9 +43,9 @@ impl Request {
         if self.session == session {
             return false;
         }
-        if !tag.is_same(self.tag) {
+        if !modes.has(self.mode) {
             return false;
         }
-        modes.has(self.mode)
+        tag.is_same(self.tag)
     }
 }

@@ -1,4 +1,4 @@
-ghost use Rattle.std.specs.Prelude.{◌≡◌, true, List, map};
+ghost use Rattle.std.specs.Prelude.{◌≡◌, ◌≢◌, true, List, [], map, IfNone, IfSome};
 ghost use Rattle.lock_table.specs.Content.{Wait};
 ghost use Rattle.lock_table.specs.declared.moves.Move.TheVariants.{Release};
 ghost use Rattle.lock_table.specs.Moves.{Moves};
@@ -18,17 +18,29 @@ pub fn awaited_in_conflict<P: PartTable>(part: &P, tag: &Tag, mode: Mode) -> boo
 
 /// Takes a hold of the session out, and grants the waits that are free to go then, where somebody
 /// awaits a mode in conflict with the one released (`LockRelease` with `UnGrantLock` and `CleanUpLock`
-/// in lock.c). It says whom it granted, in order.
-pub fn release<P: PartTable>(part: &mut P, session: SessionId, tag: &Tag, mode: Mode) -> Woken
+/// in lock.c). It says whom it granted, in order, and nothing where it granted nobody.
+pub fn release<P: PartTable>(
+    part: &mut P,
+    session: SessionId,
+    tag: &Tag,
+    mode: Mode,
+) -> Option<Woken>
     requires { (P.content part.old).holds session tag.now mode ≡ true }
-    ensures woken { (granted : List Wait)
+    ensures nobody { IfNone result
+        (Moves (P.content part.old) session (Release tag.now mode) [] (P.content part.new)) }
+    ensures woken { IfSome result (λ woken. (granted : List Wait)
         × Moves (P.content part.old) session (Release tag.now mode) granted (P.content part.new)
-        × (result.items ≡ map whose_and_mode granted) }
+        × (woken.items ≡ map whose_and_mode granted)) }
+    ensures somebody { IfSome result (λ woken. woken.items ≢ []) }
     ensures begun { P.begun part.new ≡ P.begun part.old }
 {
     part.ungrant(session, tag, mode);
-    if awaited_in_conflict(part, tag, mode) {
-        return part.wake(tag);
+    if !awaited_in_conflict(part, tag, mode) {
+        return None;
     }
-    Woken::new()
+    let woken = part.wake(tag);
+    if woken.is_empty() {
+        return None;
+    }
+    Some(woken)
 }

@@ -1,7 +1,7 @@
 //! What a move that can grant waits makes of a partition, worked out on a copy: whether an event is lawful
 //! may depend on whom the move would grant.
 
-ghost use Rattle.std.specs.Prelude.{◌≡◌, true, false, List, map, None, IfOk, IfSome};
+ghost use Rattle.std.specs.Prelude.{◌≡◌, true, false, List, [], map, None, IfOk, IfSome};
 ghost use Rattle.lock_table.specs.Content.{Wait};
 ghost use Rattle.lock_table.specs.Queue.{waits_there};
 ghost use Rattle.lock_table.specs.Moves.{Moves};
@@ -23,6 +23,19 @@ pub struct MovedPart {
     pub woken: Woken,
 }
 
+impl MovedPart {
+    // A part whose move granted nobody.
+    fn alone(part: PlainPart) -> Self
+        ensures part { result.part ≡ part }
+        ensures nobody { result.woken.items ≡ [] }
+    {
+        MovedPart {
+            part,
+            woken: Woken::new(),
+        }
+    }
+}
+
 /// The part once the session's hold is released, with those woken whom that lets go. Nothing where it has
 /// no such hold.
 pub fn after_release(
@@ -38,7 +51,10 @@ pub fn after_release(
         return Ok(None);
     }
     let mut after = part.clone()?;
-    let woken = release(&mut after, session, &tag, mode);
+    let woken = match release(&mut after, session, &tag, mode) {
+        Some(woken) => woken,
+        None => return Ok(Some(MovedPart::alone(after))),
+    };
     Ok(Some(MovedPart { part: after, woken }))
 }
 

@@ -110,7 +110,7 @@ fn the_middle_one_of_three_goes_first(rt: HostRuntime) -> Result<(), Fail> {
         session(&rt, 2),
         session(&rt, 3),
     );
-    let mut part = PlainPart::new(rt.alloc());
+    let mut part = PlainPart::new(rt.alloc())?;
     holds(&rt, &mut part, a, object(), Mode::Share)?;
     waits(&rt, &mut part, b, object(), Mode::RowExclusive, 0)?;
     waits(&rt, &mut part, c, object(), Mode::AccessShare, 1)?;
@@ -141,7 +141,7 @@ fn the_middle_one_of_three_goes_first(rt: HostRuntime) -> Result<(), Fail> {
 
 #[test]
 fn several_go_in_the_queues_order(rt: HostRuntime) -> Result<(), Fail> {
-    let mut part = PlainPart::new(rt.alloc());
+    let mut part = PlainPart::new(rt.alloc())?;
     for number in 0..40u8 {
         let place = usize::from(number);
         waits(
@@ -165,7 +165,7 @@ fn several_go_in_the_queues_order(rt: HostRuntime) -> Result<(), Fail> {
 
 #[test]
 fn waits_stand_at_their_places(rt: HostRuntime) -> Result<(), Fail> {
-    let mut part = PlainPart::new(rt.alloc());
+    let mut part = PlainPart::new(rt.alloc())?;
     waits(&rt, &mut part, session(&rt, 1), object(), Mode::Share, 0)?;
     waits(
         &rt,
@@ -200,7 +200,7 @@ fn waits_stand_at_their_places(rt: HostRuntime) -> Result<(), Fail> {
 
 #[test]
 fn who_leaves_is_out_of_one_queue(rt: HostRuntime) -> Result<(), Fail> {
-    let mut part = PlainPart::new(rt.alloc());
+    let mut part = PlainPart::new(rt.alloc())?;
     waits(&rt, &mut part, session(&rt, 1), object(), Mode::Share, 0)?;
     waits(
         &rt,
@@ -239,7 +239,7 @@ fn who_leaves_is_out_of_one_queue(rt: HostRuntime) -> Result<(), Fail> {
 #[test]
 fn a_waiter_has_the_modes_of_its_joining(rt: HostRuntime) -> Result<(), Fail> {
     let a = session(&rt, 0);
-    let mut part = PlainPart::new(rt.alloc());
+    let mut part = PlainPart::new(rt.alloc())?;
     holds(&rt, &mut part, a, object(), Mode::AccessShare)?;
     holds(&rt, &mut part, a, another_object(), Mode::RowShare)?;
     waits(&rt, &mut part, a, object(), Mode::Exclusive, 0)?;
@@ -254,7 +254,7 @@ fn a_waiter_has_the_modes_of_its_joining(rt: HostRuntime) -> Result<(), Fail> {
 #[test]
 fn waits_are_listed_behind_holds(rt: HostRuntime) -> Result<(), Fail> {
     let (a, b) = (session(&rt, 0), session(&rt, 1));
-    let mut part = PlainPart::new(rt.alloc());
+    let mut part = PlainPart::new(rt.alloc())?;
     holds(&rt, &mut part, b, object(), Mode::Share)?;
     holds(&rt, &mut part, a, object(), Mode::RowShare)?;
     waits(&rt, &mut part, a, object(), Mode::AccessShare, 0)?;
@@ -283,7 +283,7 @@ fn waits_are_listed_behind_holds(rt: HostRuntime) -> Result<(), Fail> {
 #[test]
 fn a_request_is_told_where_it_stands(rt: HostRuntime) -> Result<(), Fail> {
     let (a, b, c) = (session(&rt, 0), session(&rt, 1), session(&rt, 2));
-    let mut part = PlainPart::new(rt.alloc());
+    let mut part = PlainPart::new(rt.alloc())?;
     let first = waiting_answer(&part, a, &object(), Mode::Share);
     assert_eq!(rt; first, Answer::Granted);
     holds(&rt, &mut part, a, object(), Mode::Share)?;
@@ -306,7 +306,7 @@ fn a_request_is_told_where_it_stands(rt: HostRuntime) -> Result<(), Fail> {
 #[test]
 fn a_copy_is_a_part_of_its_own(rt: HostRuntime) -> Result<(), Fail> {
     let (a, b) = (session(&rt, 0), session(&rt, 1));
-    let mut part = PlainPart::new(rt.alloc());
+    let mut part = PlainPart::new(rt.alloc())?;
     holds(&rt, &mut part, a, object(), Mode::Share)?;
     waits(&rt, &mut part, b, object(), Mode::Exclusive, 0)?;
     let mut copy = part.clone()?;

@@ -9,5 +9,5 @@ use Rattle.lock_table.proofs.plain_part.PlainPart.has_wait_of.Goals as goal
 pub returns : goal.returns
 returns c =
     c.is_some.ensures ∙ ap is_some c.awaited_mode.ensures ∙ is_some-option_map (λ (wait : PartWait). wait.waiter.mode) _
-    ∙ is_some-find (λ (wait : PartWait). is_request_on (request_of wait) c.args.session c.args.tag.now) c.as_slice.result.now
-    ∙ rw (c.as_slice.ensures.value, ← c.self.view_is) (sym (there-in c.self.inside.waits.items c.args.session c.args.tag.now))
+    ∙ is_some-find (λ (wait : PartWait). is_request_on (request_of wait) c.args.session c.args.tag.now) c.waits.result.now
+    ∙ rw c.waits.ensures (sym (there-in c.args.self.now.waits c.args.session c.args.tag.now))

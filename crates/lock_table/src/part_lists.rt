@@ -1,0 +1,224 @@
+//! What a `PlainPart` has on the heap.
+
+ghost use Rattle.std.specs.Prelude.{◌≡◌, ◌<◌, true, length};
+ghost use Rattle.std.specs.List.{list_any, HoldsAt};
+ghost use Rattle.lock_table.specs.Clash.{lower_holder_of};
+ghost use Rattle.lock_table.specs.Request.{is_request_of};
+
+use crate::no_memory::NoMemory;
+use crate::part_table::PartTable;
+use crate::part_waits::{
+    PartWait, awaited_mode, index_of_place, take_wait_out, waiter_at, wake_queue,
+};
+use crate::request::Request;
+use crate::rows::{TableRow, sort_rows};
+use crate::waits::{Waiter, Woken};
+use modes_core::{Mode, ModeSet, SessionId, Tag, conflicts};
+use std::alloc::{AllocError, Global};
+use std::marker::Model;
+
+/// A list of the holds of a partition, in no order, and one of the waits of all its objects. Most calls look
+/// through a whole list.
+#[derive(Drop)]
+pub struct PartLists {
+    holds: Vec<Request>,
+    waits: Vec<PartWait>,
+    begun: Option<Request>,
+}
+
+impl Model for PartLists {
+    ghost use Rattle.lock_table.specs.PartView.{PartView};
+
+    ghost Value = { PartView };
+
+    ghost use Rattle.lock_table.specs.PartLists.{view_of, ArePartLists};
+
+    ghost view = { view_of };
+
+    ghost invariant = { ArePartLists };
+}
+
+impl PartLists {
+    ghost use Rattle.lock_table.specs.PartWaits.{EachOnce};
+    ghost use Rattle.std.specs.Prelude.{◌≡◌, [], None};
+
+    /// Lists with nothing in them, which grow by this allocator.
+    pub fn new(alloc: Global) -> Self
+        ensures { result ≡ record { holds = []; waits = []; begun = None } }
+    {
+        PartLists {
+            holds: Vec::new(alloc),
+            waits: Vec::new(alloc),
+            begun: None,
+        }
+    }
+
+    /// The holds. Each request is held or awaited once at most.
+    pub fn holds(&self) -> &[Request]
+        ensures value { result.now ≡ self.now.holds }
+        ensures each_once { EachOnce self.now.holds self.now.waits }
+    {
+        self.holds.as_slice()
+    }
+
+    /// The waits of all objects, those of one object in the order of its queue.
+    pub fn waits(&self) -> &[PartWait]
+        ensures { result.now ≡ self.now.waits }
+    {
+        self.waits.as_slice()
+    }
+}
+
+/// The same lists once more, in memory of their own, with room for what these have room for.
+impl Clone for PartLists {
+    ghost is_clone = { λ lists theirs. theirs ≡ lists };
+
+    fn clone(&self) -> Result<Self, AllocError> {
+        let alloc = *self.holds.allocator();
+        let mut holds = Vec::from_slice(alloc, self.holds.as_slice())?;
+        let mut waits = Vec::from_slice(alloc, self.waits.as_slice())?;
+        holds.reserve(self.waits.len() + 1)?;
+        waits.reserve(1)?;
+        Ok(PartLists {
+            holds,
+            waits,
+            begun: self.begun,
+        })
+    }
+}
+
+impl PartTable for PartLists {
+    ghost use Rattle.lock_table.specs.PartView.{content_of};
+
+    ghost content = { content_of };
+
+    ghost begun = { λ lists. lists.begun };
+
+    fn begin(&mut self, session: SessionId, tag: &Tag, mode: Mode) -> Result<(), NoMemory> {
+        self.holds.reserve(self.waits.len() + 1)?;
+        self.waits.reserve(1)?;
+        let tag = *tag;
+        self.begun = Some(Request { session, tag, mode });
+        Ok(())
+    }
+
+    fn withdraw(&mut self, _session: SessionId, _tag: &Tag, _mode: Mode) {
+        self.begun = None;
+    }
+
+    fn grant(&mut self, session: SessionId, tag: &Tag, mode: Mode) {
+        self.begun = None;
+        let tag = *tag;
+        self.holds.push_reserved(Request { session, tag, mode });
+    }
+
+    fn ungrant(&mut self, session: SessionId, tag: &Tag, mode: Mode) {
+        let index = index_of_hold(self.holds.as_slice(), session, tag, mode);
+        self.holds.swap_remove(index);
+    }
+
+    fn held(&self, session: SessionId, tag: &Tag) -> ModeSet {
+        let mut modes = ModeSet::empty();
+        for hold in &self.holds {
+            if hold.is_on(session, tag) {
+                modes = modes.with(hold.mode);
+            }
+        }
+        modes
+    }
+
+    fn conflict_of(&self, session: SessionId, tag: &Tag, mode: Mode) -> Option<(SessionId, Mode)> {
+        let conflicting = conflicts(mode);
+        let mut lowest = None;
+        for hold in &self.holds {
+            if hold.is_in_the_way(session, tag, conflicting) {
+                lowest = Some(lower_holder(lowest, hold.session, hold.mode));
+            }
+        }
+        lowest
+    }
+
+    fn waiter(&self, tag: &Tag, place: usize) -> Option<Waiter> {
+        // No list is longer than a number of its length can say.
+        let _len = self.waits.len();
+        waiter_at(self.waits.as_slice(), tag, place)
+    }
+
+    fn join(&mut self, session: SessionId, tag: &Tag, mode: Mode, place: usize) {
+        let held = self.held(session, tag);
+        let index = index_of_place(self.waits.as_slice(), tag, place);
+        self.begun = None;
+        let waiter = Waiter {
+            session,
+            mode,
+            held,
+        };
+        match self.waits.insert(index, PartWait { tag: *tag, waiter }) {
+            Ok(()) => {}
+            Err(_) => unreachable!(),
+        }
+    }
+
+    fn leave(&mut self, session: SessionId, tag: &Tag) -> Option<Mode> {
+        let mode = awaited_mode(self.waits.as_slice(), session, tag);
+        take_wait_out(&mut self.waits, session, tag);
+        mode
+    }
+
+    fn wake(&mut self, tag: &Tag) -> Woken {
+        wake_queue(&mut self.holds, &mut self.waits, tag)
+    }
+
+    fn rows(&self, rows: &mut Vec<TableRow>) -> Result<(), NoMemory> {
+        let before = rows.len();
+        rows.reserve(self.holds.len() + self.waits.len())?;
+        for hold in &self.holds {
+            rows.push_reserved(TableRow {
+                session: hold.session,
+                tag: hold.tag,
+                mode: hold.mode,
+                granted: true,
+            });
+        }
+        for wait in &self.waits {
+            rows.push_reserved(wait.row());
+        }
+        sort_rows(&mut rows[before..]);
+        Ok(())
+    }
+}
+
+/// Where the session's hold stands in the list. The latest stand at the end, so the look begins there.
+fn index_of_hold(holds: &[Request], session: SessionId, tag: &Tag, mode: Mode) -> usize
+    requires { list_any (λ hold. is_request_of hold session tag.now mode) holds.now ≡ true }
+    ensures within { result < length holds.now }
+    ensures its { HoldsAt (λ hold. is_request_of hold session tag.now mode ≡ true) holds.now result }
+{
+    let mut left = holds.len();
+    while left > 0 {
+        if holds[left - 1].is_of(session, tag, mode) {
+            return left - 1;
+        }
+        left -= 1;
+    }
+    unreachable!()
+}
+
+/// The lower of two holders, by session and then by mode.
+fn lower_holder(
+    lowest: Option<(SessionId, Mode)>,
+    session: SessionId,
+    mode: Mode,
+) -> (SessionId, Mode)
+    ensures { result ≡ lower_holder_of lowest session mode }
+{
+    if let Some((other, its)) = lowest {
+        if other < session {
+            return (other, its);
+        }
+        if other == session && its.number() <= mode.number() {
+            return (other, its);
+        }
+    }
+    (session, mode)
+}
