@@ -5,6 +5,7 @@ use crate::part_waits::{PartWait, awaited_mode};
 use crate::request::Request;
 use crate::rows::TableRow;
 use crate::waits::{Waiter, Woken};
+use crossbeam_utils::CachePadded;
 use modes_core::{Mode, ModeSet, SessionId, Tag};
 use std::alloc::{AllocError, Global};
 use std::marker::Model;
@@ -14,10 +15,10 @@ pub mod tests;
 
 /// The plain keeper of a partition: a list of its holds, and one of the waits of all its objects. Most
 /// calls look through a whole list. Both lists are on the heap, so that the part is one pointer wide: who
-/// takes a partition gets it by value, and puts it back so.
+/// takes a partition gets it by value, and puts it back so. The boxes of two parts share no cache line.
 #[derive(Drop)]
 pub struct PlainPart {
-    lists: Box<PartLists>,
+    lists: Box<CachePadded<PartLists>>,
 }
 
 impl Model for PlainPart {
@@ -25,7 +26,9 @@ impl Model for PlainPart {
 
     ghost Value = { PartView };
 
-    ghost view = { λ part. part.lists.value };
+    ghost use Rattle.crossbeam_utils.specs.Padded.{padded_value};
+
+    ghost view = { λ part. padded_value part.lists.value };
 }
 
 impl PlainPart {
@@ -41,7 +44,7 @@ impl PlainPart {
         ensures content { IfOk result (λ part. content_of part ≡ empty_content) }
         ensures begun { IfOk result (λ part. part.begun ≡ None) }
     {
-        let lists = Box::new(alloc, PartLists::new(alloc))?;
+        let lists = Box::new(alloc, CachePadded::new(PartLists::new(alloc)))?;
         Ok(PlainPart { lists })
     }
 
@@ -82,7 +85,9 @@ impl Clone for PlainPart {
     ghost is_clone = { λ part its. its ≡ part };
 
     fn clone(&self) -> Result<Self, AllocError> {
-        let lists = self.lists.clone()?;
+        let alloc = *Box::allocator(&self.lists);
+        let lists: PartLists = (**self.lists).clone()?;
+        let lists = Box::new(alloc, CachePadded::new(lists))?;
         Ok(PlainPart { lists })
     }
 }
