@@ -16,7 +16,7 @@ use Rattle.modes_core.specs.Tag.{tag_eq}
 use Rattle.modes_core.proofs.Laws.{both_true}
 use Rattle.std.proofs.lemmas.List.{take_more}
 use Rattle.lock_table.proofs.ListLemmas.{any-counted, counted-any}
-use Rattle.lock_table.proofs.Same.{same_triple, SameTriple-from, same_triple-comm, set_hold-here, set_hold-else}
+use Rattle.lock_table.proofs.Same.{same_triple, SameTriple-from, set_hold-here, set_hold-else}
 
 -- A list with one hold more at its end has one hold more.
 push_at :

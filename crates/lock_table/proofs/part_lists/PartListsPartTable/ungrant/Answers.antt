@@ -1,4 +1,4 @@
-use Rattle.std.proofs.Common.{◌≡◌, ◌<◌, ◌≤◌, ◌∙◌, true, length, List, ap, sym, subst, arith}
+use Rattle.std.proofs.Common.{◌≡◌, ◌<◌, ◌≤◌, ◌∙◌, true, length, List, ap, subst, arith}
 use Rattle.std.specs.Prelude.{count_by, slice_index_or}
 use Rattle.lock_table.specs.Request.{is_request_of}
 use Rattle.lock_table.specs.declared.request.Request.{Request}
