@@ -73,10 +73,10 @@ impl PartWait {
     pub fn awaits_one(&self, tag: &Tag, modes: ModeSet) -> bool
         ensures { result ≡ awaits_one_of self.now tag.now (set_has modes) }
     {
-        if !modes.has(self.waiter.mode) {
+        if !tag.is_same(self.tag) {
             return false;
         }
-        tag.is_same(self.tag)
+        modes.has(self.waiter.mode)
     }
 }
 

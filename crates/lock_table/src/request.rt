@@ -43,9 +43,10 @@ impl Request {
         if self.session == session {
             return false;
         }
-        if !modes.has(self.mode) {
+        // Most holds of a partition are on other objects.
+        if !tag.is_same(self.tag) {
             return false;
         }
-        tag.is_same(self.tag)
+        modes.has(self.mode)
     }
 }
