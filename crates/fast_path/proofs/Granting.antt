@@ -1,5 +1,5 @@
-use Rattle.std.proofs.Common.{◌≡◌, ℕ, ◌+◌, ◌<◌, ◌≤◌, ◌^◌, Bool, true, false, nat_eq, List, [], ◌∷◌, ◌++◌, Option, Some, None, refl, sym, ap, ◌∙◌, subst, inl, inr, arith, append_assoc}
-use Rattle.std.specs.Prelude.{◌==◌, if◌then◌else◌, IfNone, IsSome}
+use Rattle.std.proofs.Common.{◌≡◌, ℕ, ◌+◌, ◌<◌, ◌≤◌, ◌^◌, Bool, true, false, nat_eq, [], ◌∷◌, ◌++◌, Option, Some, None, refl, sym, ap, ◌∙◌, subst, inl, inr, arith, append_assoc}
+use Rattle.std.specs.Prelude.{◌==◌, if◌then◌else◌, IfSome, IfNone, IsSome}
 use Rattle.std.proofs.lemmas.Bool.{both_ways, and_parts, eqb-true, eq-eqb, cond-true, cond-false}
 use Rattle.modes_core.specs.declared.modes.Mode.{Mode}
 use Rattle.modes_core.specs.declared.tags.Tag.{Tag}
@@ -18,9 +18,11 @@ use Rattle.lock_world.proofs.Slots.Eligible.{eligible-is}
 use Rattle.lock_world.proofs.Slots.Used.{used-fewer, used-same, used-one_more, used-room, word_with-in_use}
 use Rattle.shared_rule.specs.History.{slots_here}
 use Rattle.shared_rule.specs.Slots.{TakesFast}
-use Rattle.fast_path.specs.Slots.{account_loading, account_tried, slot_loads, word_of, AreWords, IsHighestUnused, IsReady}
+use Rattle.fast_path.specs.declared.slot_words.SeenSlot.{SeenSlot}
+use Rattle.fast_path.specs.declared.slot_words.Sighting.{Sighting}
+use Rattle.fast_path.specs.Slots.{account_loading, account_tried, slot_loads, IsHighestUnused, IsSeenOf, IsSeenUnused, Sights}
+use Rattle.fast_path.specs.Slots.{IsReady}
 use Rattle.fast_path.specs.Grants.{GrantsInSlot, HasOwnSlots, without_slots}
-use Rattle.fast_path.proofs.Words.{highest-words}
 
 -- A grant by the fast path, through its steps.
 
@@ -90,12 +92,12 @@ used-granted slot relation place uses mode fits weak takes enough = at (in_use (
 
 -- Where not all are in use one is found that is not.
 pub some-unused :
-    (words : List ℕ) (word : ℕ → ℕ) (uses : ℕ) (found : Option ℕ) → AreWords words word → used word ≤ uses
-    → uses < slot_count → IfNone found ((place : ℕ) → place < slot_count → in_use (word_of words place) ≡ true) → IsSome found
-some-unused words word uses (Some place) are enough room all = refl
-some-unused words word uses None are enough room all =
+    (word : ℕ → ℕ) (uses : ℕ) (found : Option SeenSlot) → used word ≤ uses → uses < slot_count
+    → IfNone found ((place : ℕ) → place < slot_count → in_use (word place) ≡ true) → IsSome found
+some-unused word uses (Some slot) enough room all = refl
+some-unused word uses None enough room all =
     let free = used-room word (omega (arith, enough, room)) in
-    absurd (both_ways (in_use (word free.0)) free.2 (ap in_use (sym (are free.0 free.1)) ∙ all free.0 free.1))
+    absurd (both_ways (in_use (word free.0)) free.2 (all free.0 free.1))
 
 -- The counter read as 0, and all slots loaded.
 
@@ -121,8 +123,12 @@ module _ (number : ℕ) (a : Account) (tag : Tag) (mine : SlotsInHand)
         ∙ ap (λ (x : Account). account_loading x number mine.word slot_count)
         (read ∙ (λ i. account_reading number a (of_tag i) (is_zero i)))
 
-    pub looked-words : (words : List ℕ) → AreWords words (slots_here (b.fast.slots own)).word → AreWords words mine.word
-    looked-words words are = subst (λ found. AreWords words (slots_here found).word) read_slots are
+    pub looked-sights :
+        (relation : ℕ) (seen : Sighting) → relation ≡ relation_of tag
+        → Sights (slots_here (b.fast.slots own)).word relation seen → Sights mine.word (relation_of tag) seen
+    looked-sights relation seen its sighted =
+        subst (λ (r : ℕ). Sights mine.word r seen) its
+        (subst (λ found. Sights (slots_here found).word relation seen) read_slots sighted)
 
   -- The mode set in a slot, and the lock put.
   module _ (mode : Mode) (place : ℕ) where
@@ -218,64 +224,67 @@ module _ (number : ℕ) (a : Account) (tag : Tag) (mine : SlotsInHand)
 
 -- The same by what each step ensures.
 module _ (number : ℕ) (a : Account) (uses : ℕ) (tag : Tag) (mode : Mode) (has : HasOwnSlots number a uses)
-    (own index shown by place : ℕ) (b c d : Account) (same : own ≡ number) (same_by : by ≡ number)
+    (own index shown by : ℕ) (slot : SeenSlot) (b c d : Account) (same : own ≡ number) (same_by : by ≡ number)
     (of_tag : index ≡ index_of tag) (is_zero : shown ≡ 0) (read : b ≡ account_reading number a index shown)
     (loaded : c ≡ account_loading b own (slots_here (b.fast.slots own)).word slot_count)
-    (set : d ≡ account_setting by c (slots_here (c.fast.slots by)) place tag mode) where
+    (set : d ≡ account_setting by c (slots_here (c.fast.slots by)) slot.place tag mode) where
   is_looked : c ≡ account_looked number a tag has.slots has.in_hand
   is_looked = looked number a tag has.slots has.in_hand b own index shown same of_tag is_zero read c loaded
 
   pub may_put-granted : (slots : SlotsInHand) × MayPutFastBy d own slots
-  may_put-granted = may_put number a tag has.slots has.in_hand mode place c d by own same_by same is_looked set
+  may_put-granted = may_put number a tag has.slots has.in_hand mode slot.place c d by own same_by same is_looked set
 
   module _ (relation : ℕ) (its_relation : relation ≡ relation_of tag) (fits : relation < 2 ^ 32)
       (eligible : is_eligible_for a.fast.database tag mode ≡ true)
-      (room : uses < slot_count) (words : List ℕ) (loaded_words : AreWords words (slots_here (b.fast.slots own)).word)
+      (room : uses < slot_count) (seen : Sighting)
+      (sighted : Sights (slots_here (b.fast.slots own)).word relation seen)
       (e : Account) (last : ℕ) (same_last : last ≡ by) (put : e ≡ account_putting_fast last d own) where
     is_put : e ≡ account_putting_fast by d own
     is_put = put ∙ ap (λ (n : ℕ). account_putting_fast n d own) same_last
 
-    are : AreWords words has.slots.word
-    are = looked-words number a tag has.slots has.in_hand b own index shown same of_tag is_zero read words loaded_words
+    sights : Sights has.slots.word (relation_of tag) seen
+    sights = looked-sights number a tag has.slots has.in_hand b own index shown same of_tag is_zero read relation seen
+        its_relation sighted
 
-    is_same : (k : ℕ) → k < slot_count
-        → is_slot_of (word_of words k) relation ≡ is_slot_of (has.slots.word k) (relation_of tag)
-    is_same k within = λ i. is_slot_of (are k within i) (its_relation i)
-
-    done : (left : ℕ) → IsSlotToGrant has.slots.word (relation_of tag) place
-        → (in_use (has.slots.word place) ≡ false → IsHighestUnused has.slots.word place)
-        → left ≡ (if in_use (has.slots.word place) then uses else uses + 1) → left ≤ slot_count
+    done : (left : ℕ) → IsSlotToGrant has.slots.word (relation_of tag) slot.place
+        → (in_use (has.slots.word slot.place) ≡ false → IsHighestUnused has.slots.word slot.place)
+        → left ≡ (if in_use (has.slots.word slot.place) then uses else uses + 1) → left ≤ slot_count
         → GrantsInSlot number (without_slots a) a.trace uses tag mode e left × IsReady e left
     done left takes highest raised within = (
-      grants number a tag has.slots has.in_hand mode place c d by own same_by same is_looked set e uses left
+      grants number a tag has.slots has.in_hand mode slot.place c d by own same_by same is_looked set e uses left
           has.no_zero is_put takes highest raised,
-      ready number a tag has.slots has.in_hand mode place c d by own same_by same is_looked set e uses left has.no_zero
-          is_put takes eligible
+      ready number a tag has.slots has.in_hand mode slot.place c d by own same_by same is_looked set e uses left
+          has.no_zero is_put takes eligible
           (subst (λ r. r < 2 ^ 32) its_relation fits) has.enough raised within,
     )
 
     -- In the slot that the relation has the use count stays,
     pub done-its :
-        place < slot_count → is_slot_of (word_of words place) relation ≡ true
-        → GrantsInSlot number (without_slots a) a.trace uses tag mode e uses × IsReady e uses
-    done-its within its =
-        let its_word : is_slot_of (has.slots.word place) (relation_of tag) ≡ true = sym (is_same place within) ∙ its in
-        let is_relation = nat_eq (relation_in (has.slots.word place)) (relation_of tag) in
-        let is = (and_parts (in_use (has.slots.word place)) is_relation its_word).0 in
-        done uses (its-takes has.slots.word (relation_of tag) place within its_word)
-        (λ unused. absurd (both_ways (in_use (has.slots.word place)) unused is))
-        (sym (cond-true (in_use (has.slots.word place)) uses (uses + 1) is))
+        seen.of_relation ≡ Some slot → GrantsInSlot number (without_slots a) a.trace uses tag mode e uses × IsReady e uses
+    done-its is =
+        let its : IsSeenOf has.slots.word (relation_of tag) slot =
+        subst (λ found. IfSome found (IsSeenOf has.slots.word (relation_of tag))) is sights.found in
+        let its_word : is_slot_of (has.slots.word slot.place) (relation_of tag) ≡ true =
+        ap (λ w. is_slot_of w (relation_of tag)) (sym its.shown) ∙ its.its in
+        let is_relation = nat_eq (relation_in (has.slots.word slot.place)) (relation_of tag) in
+        let used_by = (and_parts (in_use (has.slots.word slot.place)) is_relation its_word).0 in
+        done uses (its-takes has.slots.word (relation_of tag) slot.place its.within its_word)
+        (λ unused. absurd (both_ways (in_use (has.slots.word slot.place)) unused used_by))
+        (sym (cond-true (in_use (has.slots.word slot.place)) uses (uses + 1) used_by))
         (omega (arith, room))
 
     -- and in another one it is raised.
     pub done-unused :
-        IsHighestUnused (word_of words) place
-        → ((other : ℕ) → other < slot_count → is_slot_of (word_of words other) relation ≡ false)
+        seen.of_relation ≡ None → seen.highest_unused ≡ Some slot
         → GrantsInSlot number (without_slots a) a.trace uses tag mode e (uses + 1) × IsReady e (uses + 1)
-    done-unused found none =
-        let highest = highest-words words has.slots.word place are found in
+    done-unused no_slot is =
+        let unused : IsSeenUnused has.slots.word slot =
+        subst (λ found. IfSome found (IsSeenUnused has.slots.word)) is sights.unused in
+        let none : (other : ℕ) → other < slot_count → is_slot_of (has.slots.word other) (relation_of tag) ≡ false =
+        subst (λ found. IfNone found ((other : ℕ) → other < slot_count
+        → is_slot_of (has.slots.word other) (relation_of tag) ≡ false)) no_slot sights.none in
         done (uses + 1)
-        (unused-takes has.slots.word (relation_of tag) place highest
-        (λ other within. sym (is_same other within) ∙ none other within))
-        (λ unused. highest) (sym (cond-false (in_use (has.slots.word place)) uses (uses + 1) highest.unused))
+        (unused-takes has.slots.word (relation_of tag) slot.place unused.highest none)
+        (λ _. unused.highest)
+        (sym (cond-false (in_use (has.slots.word slot.place)) uses (uses + 1) unused.highest.unused))
         (omega (arith, room))

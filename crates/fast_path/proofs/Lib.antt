@@ -1,5 +1,6 @@
 mod Loading
 mod Words
+mod Looking
 mod Granting
 mod Releasing
 pub mod Counting

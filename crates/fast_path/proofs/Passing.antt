@@ -1,6 +1,6 @@
 use Rattle.std.proofs.Common.{◌≡◌, ◌≢◌, ℕ, ◌<◌, Bool, true, false, List, [], ◌∷◌, ◌++◌, Some, None}
 use Rattle.std.proofs.Common.{inl, inr, refl, sym, ap, ◌∙◌, subst, append_assoc}
-use Rattle.std.specs.Prelude.{◌==◌, nat_lt, not, ◌&&◌, if◌then◌else◌}
+use Rattle.std.specs.Prelude.{◌==◌, nat_lt, not, ◌&&◌, if◌then◌else◌, IfSome, IfNone}
 use Rattle.std.proofs.lemmas.Bool.{cases_Bool, eqb-true}
 use Rattle.modes_core.specs.declared.modes.Mode.{Mode}
 use Rattle.modes_core.specs.declared.tags.Tag.{Tag}
@@ -19,20 +19,15 @@ use Rattle.lock_world.specs.AccountSteps.{account_tracing, account_putting_fast,
 use Rattle.lock_world.specs.AccountLaw.{MayPassBy}
 use Rattle.shared_rule.specs.History.{slots_here}
 use Rattle.shared_rule.specs.Slots.{TakesFast}
-use Rattle.fast_path.specs.Slots.{word_of, AreWords, slot_loads, account_loading}
+use Rattle.fast_path.specs.declared.slot_words.SeenSlot.{SeenSlot}
+use Rattle.fast_path.specs.declared.slot_words.Sighting.{Sighting}
+use Rattle.fast_path.specs.Slots.{slot_loads, account_loading, IsSeenOf, Sights}
 use Rattle.fast_path.specs.Transfers.{database_of, adopting, finding, Adopts}
 use Rattle.fast_path.specs.Transfers.{IsAfterScan, Passes, StopsAt}
-use Rattle.fast_path.specs.Turns.{IsUnlocked, HasRelation, HasSlots, AdoptsBelow, AdoptsSome}
+use Rattle.fast_path.specs.Turns.{account_holding, IsUnlocked, Looks, BeginsTurn, HasRelation, HasSlots, AdoptsBelow, AdoptsSome}
 use Rattle.fast_path.proofs.Showing.{elsewhere-none, no_slot-none, not_weak-none}
 
 -- One turn of a transfer.
-
--- the account with the lock of a session's slots in hand, and what it remembers of its own since, after these steps
-abbrev pub account_holding : Account → ℕ → SlotsInHand → (ℕ → ℕ) → List TraceEntry → Account
-account_holding a owner slots remembered steps = record a {
-  fast = record (a.fast) { slots = set_at a.fast.slots owner (Some slots); remembered = remembered };
-  trace = a.trace ++ steps;
-}
 
 -- what the session remembers of its own slots once it has taken the lock of those of this owner
 abbrev pub remembered_then : ℕ → Account → ℕ → SlotsInHand → ℕ → ℕ
@@ -49,15 +44,7 @@ remembered-no_more number a owner slots knows = at (owner == number)
       at true seen = seen refl
       at false seen = λ place relation mode within shown. shown
 
--- The lock of a session's slots is in hand, and its database is loaded.
-pub record Looks (a : Account) (owner shown : ℕ) (b : Account) : Type 0 where
-  pub slots : SlotsInHand
-  pub remembered : ℕ → ℕ
-  pub no_more : ShowsNoMore remembered a.fast.remembered
-  pub one_each : OneSlotEach slots.word
-  pub holds : slots.holds ≡ slot_holds shown slots.word
-  pub account : b ≡ account_holding a owner slots remembered (Loaded (Database owner) shown ∷ [])
-
+-- The lock of a session's slots is taken, and its database is loaded.
 pub looks :
     (number : ℕ) (a taken b : Account) (owner shown : ℕ) → TakesFast number a owner taken
     → ((slots : SlotsInHand) → taken.fast.slots owner ≡ Some slots → slots.holds ≡ slot_holds shown slots.word)
@@ -92,53 +79,63 @@ looked-loads a b c owner shown looked loaded =
           (slot_loads owner looked.slots.word slot_count) i;
     })
 
--- It is in the tag's database, and the words of its slots are loaded.
-pub record Finds (a : Account) (owner : ℕ) (tag : Tag) (words : List ℕ) (b : Account) : Type 0 where
+-- It is in the tag's database, and its slots were looked through.
+pub record Finds (a : Account) (owner : ℕ) (tag : Tag) (seen : Sighting) (b : Account) : Type 0 where
   pub slots : SlotsInHand
   pub remembered : ℕ → ℕ
   pub no_more : ShowsNoMore remembered a.fast.remembered
   pub one_each : OneSlotEach slots.word
   pub holds : slots.holds ≡ slot_holds (database_of tag) slots.word
-  pub are_words : AreWords words slots.word
+  pub sighted : Sights slots.word (relation_of tag) seen
   pub account : b ≡ account_holding a owner slots remembered (finding owner tag slots.word)
 
 pub finds :
-    (a b c : Account) (owner shown : ℕ) (tag : Tag) (words : List ℕ) → Looks a owner shown b → shown ≡ database_of tag
+    (a b c : Account) (owner relation : ℕ) (tag : Tag) (seen : Sighting) → Looks a owner (database_of tag) b
+    → relation ≡ relation_of tag
     → c ≡ account_loading b owner (slots_here (b.fast.slots owner)).word slot_count
-    → AreWords words (slots_here (b.fast.slots owner)).word
-    → Finds a owner tag words c
-finds a b c owner shown tag words looked same loaded are = record {
+    → Sights (slots_here (b.fast.slots owner)).word relation seen
+    → Finds a owner tag seen c
+finds a b c owner relation tag seen looked same loaded sighted = record {
   slots = looked.slots;
   remembered = looked.remembered;
   no_more = looked.no_more;
   one_each = looked.one_each;
-  holds = looked.holds ∙ (λ i. slot_holds (same i) looked.slots.word);
-  are_words = λ place within. are place within ∙ (λ i. (slots_here (slots-looked a b owner shown looked i)).word place);
-  account = looked-loads a b c owner shown looked loaded ∙ (λ i. account_holding a owner looked.slots looked.remembered
-      (Loaded (Database owner) (same i) ∷ slot_loads owner looked.slots.word slot_count));
+  holds = looked.holds;
+  sighted = subst (λ (r : ℕ). Sights looked.slots.word r seen) same
+      (subst (λ found. Sights (slots_here found).word relation seen)
+      (slots-looked a b owner (database_of tag) looked) sighted);
+  account = looked-loads a b c owner (database_of tag) looked loaded;
 }
+
+-- The strong lock is to go past the session next, as it was before.
+pub next-before :
+    (a b : Account) (owner : ℕ) (tag : Tag) (mode : Mode) → BeginsTurn a owner tag b
+    → is_at owner b.fast.counted tag mode ≡ true → is_at owner a.fast.counted tag mode ≡ true
+next-before a b owner tag mode begun next =
+    ap (λ (x : Account). is_at owner x.fast.counted tag mode) (sym begun.looked.account) ∙ next
 
 -- What it finds: no slot of the relation,
 none-found :
-    (words : List ℕ) (word : ℕ → ℕ) (relation : ℕ) (tag : Tag) → AreWords words word → relation ≡ relation_of tag
-    → ((place : ℕ) → place < slot_count → is_slot_of (word_of words place) relation ≡ false)
-    → (place : ℕ) → place < slot_count → is_slot_of (word place) (relation_of tag) ≡ false
-none-found words word relation tag are same none place within =
-    (λ i. is_slot_of (sym (are place within) i) (sym same i)) ∙ none place within
+    (a b : Account) (owner : ℕ) (tag : Tag) (seen : Sighting) (found : Finds a owner tag seen b)
+    → seen.of_relation ≡ None
+    → (place : ℕ) → place < slot_count → is_slot_of (found.slots.word place) (relation_of tag) ≡ false
+none-found a b owner tag seen found none = subst (λ its. IfNone its ((place : ℕ) → place < slot_count
+    → is_slot_of (found.slots.word place) (relation_of tag) ≡ false)) none found.sighted.none
 
 -- or one.
 pub relation-found :
-    (a b : Account) (owner place word relation : ℕ) (tag : Tag) (words : List ℕ) (found : Finds a owner tag words b)
-    → place < slot_count
-    → word ≡ word_of words place → relation ≡ relation_of tag → is_slot_of (word_of words place) relation ≡ true
-    → HasRelation found.slots place word tag
-relation-found a b owner place word relation tag words found within read same its = record {
-  holds = found.holds;
-  one_each = found.one_each;
-  within = within;
-  is_word = read ∙ found.are_words place within;
-  its = (λ i. is_slot_of (read i) (sym same i)) ∙ its;
-}
+    (a b : Account) (owner : ℕ) (tag : Tag) (seen : Sighting) (slot : SeenSlot) (found : Finds a owner tag seen b)
+    → seen.of_relation ≡ Some slot → HasRelation found.slots slot.place slot.word tag
+relation-found a b owner tag seen slot found is =
+    let its : IsSeenOf found.slots.word (relation_of tag) slot =
+    subst (λ found_slot. IfSome found_slot (IsSeenOf found.slots.word (relation_of tag))) is found.sighted.found in
+    record {
+      holds = found.holds;
+      one_each = found.one_each;
+      within = its.within;
+      is_word = its.shown;
+      its = its.its;
+    }
 
 -- Where no slot holds the object the strong lock may go past the session.
 may_pass :
@@ -165,16 +162,14 @@ may_pass-elsewhere a b owner shown tag mode looked other strong at = (
 )
 
 pub may_pass-nothing :
-    (a b : Account) (owner relation : ℕ) (tag : Tag) (mode : Mode) (words : List ℕ) → Finds a owner tag words b
-    → relation ≡ relation_of tag
-    → ((place : ℕ) → place < slot_count → is_slot_of (word_of words place) relation ≡ false)
+    (a b : Account) (owner : ℕ) (tag : Tag) (mode : Mode) (seen : Sighting) → Finds a owner tag seen b
+    → seen.of_relation ≡ None
     → is_at owner a.fast.counted tag mode ≡ true → (slots : SlotsInHand) × MayPassBy b owner slots tag mode
-may_pass-nothing a b owner relation tag mode words found same none at = (
+may_pass-nothing a b owner tag mode seen found none at = (
   found.slots,
   may_pass a b owner found.slots found.remembered (finding owner tag found.slots.word) tag mode found.account at
       (λ its. (λ i. found.holds i tag its)
-      ∙ no_slot-none tag (database_of tag) found.slots.word
-      (none-found words found.slots.word relation tag found.are_words same none) its),
+      ∙ no_slot-none tag (database_of tag) found.slots.word (none-found a b owner tag seen found none) its),
 )
 
 -- The steps of a turn in which modes with numbers below this one were adopted,
@@ -185,11 +180,11 @@ adopting_steps owner tag slots word taken below =
 
 -- and the account after them.
 adopted-holding :
-    (a b c : Account) (owner word below : ℕ) (tag : Tag) (words : List ℕ) (found : Finds a owner tag words b)
+    (a b c : Account) (owner word below : ℕ) (tag : Tag) (seen : Sighting) (found : Finds a owner tag seen b)
     (adopts : AdoptsBelow b owner word tag below c)
     → c ≡ account_holding a owner adopts.rest found.remembered
     (adopting_steps owner tag found.slots.word word adopts.taken below)
-adopted-holding a b c owner word below tag words found adopts =
+adopted-holding a b c owner word below tag seen found adopts =
     adopts.account
     ∙ (λ i. record (found.account i) {
       fast = record ((found.account i).fast) { slots = set_at (found.account i).fast.slots owner (Some adopts.rest) };
@@ -208,15 +203,15 @@ adopted-holding a b c owner word below tag words found adopts =
           (adopting adopts.taken owner tag word below) ∷ []
 
 pub may_pass-adopted :
-    (a b c : Account) (owner place word : ℕ) (tag : Tag) (mode : Mode) (words : List ℕ)
-    (found : Finds a owner tag words b) → HasRelation found.slots place word tag
+    (a b c : Account) (owner place word : ℕ) (tag : Tag) (mode : Mode) (seen : Sighting)
+    (found : Finds a owner tag seen b) → HasRelation found.slots place word tag
     → AdoptsBelow b owner word tag 4 c → is_at owner a.fast.counted tag mode ≡ true → (slots : SlotsInHand)
     × MayPassBy c owner slots tag mode
-may_pass-adopted a b c owner place word tag mode words found has adopts at = (
+may_pass-adopted a b c owner place word tag mode seen found has adopts at = (
   adopts.rest,
   may_pass a c owner adopts.rest found.remembered (adopting_steps owner tag found.slots.word word adopts.taken 4) tag
       mode
-      (adopted-holding a b c owner word 4 tag words found adopts) at
+      (adopted-holding a b c owner word 4 tag seen found adopts) at
       (λ its. adopts.without found.slots in_hand its ∙ gone its),
 ) where
   in_hand : b.fast.slots owner ≡ Some found.slots
@@ -307,16 +302,15 @@ passes-elsewhere number a b c owner shown tag mode unlocked looked other passed 
 
 -- past one with no slot of the relation,
 pub passes-nothing :
-    (number : ℕ) (a b c : Account) (owner relation : ℕ) (tag : Tag) (mode : Mode) (words : List ℕ) → IsUnlocked a
-    → Finds a owner tag words b
-    → relation ≡ relation_of tag
-    → ((place : ℕ) → place < slot_count → is_slot_of (word_of words place) relation ≡ false)
+    (number : ℕ) (a b c : Account) (owner : ℕ) (tag : Tag) (mode : Mode) (seen : Sighting) → IsUnlocked a
+    → Finds a owner tag seen b
+    → seen.of_relation ≡ None
     → c ≡ account_passing number b owner tag mode → Passes a owner tag mode c
-passes-nothing number a b c owner relation tag mode words unlocked found same none passed = record {
+passes-nothing number a b c owner tag mode seen unlocked found none passed = record {
   steps = finding owner tag found.slots.word;
   turn = inr (inl (record {
     word = found.slots.word;
-    none = none-found words found.slots.word relation tag found.are_words same none;
+    none = none-found a b owner tag seen found none;
     loads = refl;
   }));
   after = after-pass number a b c owner found.slots found.remembered
@@ -325,10 +319,10 @@ passes-nothing number a b c owner relation tag mode words unlocked found same no
 
 -- What the turn has where a slot has the relation.
 pub has-slots :
-    (a b : Account) (owner place word : ℕ) (tag : Tag) (words : List ℕ) → IsUnlocked a
-    → (found : Finds a owner tag words b)
+    (a b : Account) (owner place word : ℕ) (tag : Tag) (seen : Sighting) → IsUnlocked a
+    → (found : Finds a owner tag seen b)
     → HasRelation found.slots place word tag → HasSlots b owner place word tag
-has-slots a b owner place word tag words unlocked found has = record {
+has-slots a b owner place word tag seen unlocked found has = record {
   no_content = (λ i. (found.account i).hand) ∙ unlocked.no_content;
   slots = found.slots;
   in_hand = (λ i. (found.account i).fast.slots) ∙ (λ i. set_at (unlocked.no_slots i) owner (Some found.slots));
@@ -336,11 +330,11 @@ has-slots a b owner place word tag words unlocked found has = record {
 }
 
 adopts-found :
-    (a b : Account) (owner place word below : ℕ) (tag : Tag) (words : List ℕ) (taken : Content)
-    (found : Finds a owner tag words b)
+    (a b : Account) (owner place word below : ℕ) (tag : Tag) (seen : Sighting) (taken : Content)
+    (found : Finds a owner tag seen b)
     → HasRelation found.slots place word tag → Adopts owner tag word below
     (adopting_steps owner tag found.slots.word word taken below)
-adopts-found a b owner place word below tag words taken found has = record {
+adopts-found a b owner place word below tag seen taken found has = record {
   word = found.slots.word;
   place = place;
   within = has.within;
@@ -352,25 +346,25 @@ adopts-found a b owner place word below tag words taken found has = record {
 
 -- A turn that adopts all its modes,
 pub passes-adopting :
-    (number : ℕ) (a b c d : Account) (owner place word : ℕ) (tag : Tag) (mode : Mode) (words : List ℕ) → IsUnlocked a
-    → (found : Finds a owner tag words b)
+    (number : ℕ) (a b c d : Account) (owner place word : ℕ) (tag : Tag) (mode : Mode) (seen : Sighting) → IsUnlocked a
+    → (found : Finds a owner tag seen b)
     → HasRelation found.slots place word tag → AdoptsBelow b owner word tag 4 c
     → d ≡ account_passing number c owner tag mode → Passes a owner tag mode d
-passes-adopting number a b c d owner place word tag mode words unlocked found has adopts passed = record {
+passes-adopting number a b c d owner place word tag mode seen unlocked found has adopts passed = record {
   steps = adopting_steps owner tag found.slots.word word adopts.taken 4;
-  turn = inr (inr (word, adopts-found a b owner place word 4 tag words adopts.taken found has));
+  turn = inr (inr (word, adopts-found a b owner place word 4 tag seen adopts.taken found has));
   after = after-pass number a c d owner adopts.rest found.remembered
       (adopting_steps owner tag found.slots.word word adopts.taken 4) tag mode
-      unlocked found.no_more (adopted-holding a b c owner word 4 tag words found adopts) passed;
+      unlocked found.no_more (adopted-holding a b c owner word 4 tag seen found adopts) passed;
 }
 
 -- and one that is cut short.
 pub stops-adopting :
-    (number : ℕ) (a b c d : Account) (owner place word : ℕ) (tag : Tag) (words : List ℕ) → IsUnlocked a
-    → (found : Finds a owner tag words b)
+    (number : ℕ) (a b c d : Account) (owner place word : ℕ) (tag : Tag) (seen : Sighting) → IsUnlocked a
+    → (found : Finds a owner tag seen b)
     → HasRelation found.slots place word tag → AdoptsSome b owner word tag c → d ≡ account_putting_fast number c owner
     → StopsAt a owner tag d
-stops-adopting number a b c d owner place word tag words unlocked found has some put =
+stops-adopting number a b c d owner place word tag seen unlocked found has some put =
     let below : ℕ = number_of some.wanting in
     record {
       steps = adopting_steps owner tag found.slots.word word some.adopts.taken below;
@@ -378,9 +372,9 @@ stops-adopting number a b c d owner place word tag words unlocked found has some
         shown = word;
         wanting = some.wanting;
         in_slot = some.in_slot;
-        adopts = adopts-found a b owner place word below tag words some.adopts.taken found has;
+        adopts = adopts-found a b owner place word below tag seen some.adopts.taken found has;
       };
       after = after-put number a c d owner some.adopts.rest found.remembered
           (adopting_steps owner tag found.slots.word word some.adopts.taken below)
-          unlocked found.no_more (adopted-holding a b c owner word below tag words found some.adopts) put;
+          unlocked found.no_more (adopted-holding a b c owner word below tag seen found some.adopts) put;
     }

@@ -1,5 +1,5 @@
-use Rattle.std.proofs.Common.{◌≡◌, ℕ, ◌<◌, ◌≤◌, true, false, nat_eq, List, ◌++◌, Some, None, length, slice_set, refl, sym, ap, ◌∙◌, subst, arith}
-use Rattle.std.specs.Prelude.{◌==◌, if◌then◌else◌}
+use Rattle.std.proofs.Common.{◌≡◌, ℕ, ◌+◌, ◌-◌, ◌<◌, ◌≤◌, true, false, nat_eq, ◌++◌, Some, None, refl, sym, ap, ◌∙◌, subst, arith}
+use Rattle.std.specs.Prelude.{◌==◌, if◌then◌else◌, IfSome, IfNone}
 use Rattle.std.proofs.lemmas.Bool.{both_ways, false_from_ne_true, and_parts, and_from, eq-eqb, cond-true}
 use Rattle.modes_core.specs.declared.modes.Mode.{Mode}
 use Rattle.modes_core.specs.declared.tags.Tag.{Tag}
@@ -12,12 +12,14 @@ use Rattle.lock_world.specs.Account.{Account, SlotsInHand}
 use Rattle.lock_world.specs.AccountSteps.{own_with, account_unsetting, account_taking_fast, account_putting_fast}
 use Rattle.lock_world.specs.AccountLaw.{MayPutFastBy}
 use Rattle.lock_world.proofs.Slots.Eligible.{shown-in_use, slot_holds-none}
-use Rattle.lock_world.proofs.Slots.Used.{used-most, used-zero, no_slot-no_hold}
+use Rattle.lock_world.proofs.Totals.{some_pass}
+use Rattle.lock_world.proofs.Slots.Used.{used-most, used-same, used-one_less, used-zero, no_slot-no_hold}
 use Rattle.shared_rule.specs.History.{slots_here}
 use Rattle.shared_rule.specs.Slots.{TakesFast}
-use Rattle.fast_path.specs.Slots.{account_loading, account_tried, slot_loads, word_of, AreWords, IsReady}
+use Rattle.fast_path.specs.declared.slot_words.SeenSlot.{SeenSlot}
+use Rattle.fast_path.specs.declared.slot_words.Sighting.{Sighting}
+use Rattle.fast_path.specs.Slots.{account_loading, account_tried, slot_loads, IsSeenOf, Sights, IsReady}
 use Rattle.fast_path.specs.Releases.{ClearsSlot, FindsNoSlot}
-use Rattle.fast_path.proofs.Words.{used-words, words-set}
 
 -- A release by the fast path, through its steps.
 
@@ -75,61 +77,71 @@ module _ (number : ℕ) (a : Account) (uses own : ℕ) (ready : IsReady a uses) 
   read_slots = ap (λ (x : Account). x.fast.slots own) taken
       ∙ set_at-here a.fast.slots number (Some takes.slots) own same
 
-  seen :
+  looked :
       (c : Account) → c ≡ account_loading b own (slots_here (b.fast.slots own)).word slot_count
       → c ≡ account_seen number a takes.slots
-  seen c loaded =
+  looked c loaded =
       loaded
       ∙ (λ i. account_loading b (same i) (slots_here (read_slots i)).word slot_count)
       ∙ ap (λ (x : Account). account_loading x number takes.slots.word slot_count) taken
 
-  seen-words : (words : List ℕ) → AreWords words (slots_here (b.fast.slots own)).word → AreWords words takes.slots.word
-  seen-words words are = subst (λ found. AreWords words (slots_here found).word) read_slots are
-
   module _ (c : Account) (loaded : c ≡ account_loading b own (slots_here (b.fast.slots own)).word slot_count)
-      (words : List ℕ)
-      (loaded_words : AreWords words (slots_here (b.fast.slots own)).word) (tag : Tag) (mode : Mode) where
-    are : AreWords words takes.slots.word
-    are = seen-words words loaded_words
+      (tag : Tag) (mode : Mode) (relation : ℕ) (its_relation : relation ≡ relation_of tag) (seen : Sighting)
+      (sighted : Sights (slots_here (b.fast.slots own)).word relation seen) where
+    sights : Sights takes.slots.word (relation_of tag) seen
+    sights =
+        subst (λ (r : ℕ). Sights takes.slots.word r seen) its_relation
+        (subst (λ found. Sights (slots_here found).word relation seen) read_slots sighted)
 
-    is_same : (relation : ℕ) → relation ≡ relation_of tag → (k : ℕ) → k < slot_count
-        → is_slot_of (takes.slots.word k) (relation_of tag) ≡ is_slot_of (word_of words k) relation
-    is_same relation its k within = sym (λ i. is_slot_of (are k within i) (its i))
+    its : (slot : SeenSlot) → seen.of_relation ≡ Some slot → IsSeenOf takes.slots.word (relation_of tag) slot
+    its slot is = subst (λ found. IfSome found (IsSeenOf takes.slots.word (relation_of tag))) is sights.found
+
+    its-there : (slot : SeenSlot) → seen.of_relation ≡ Some slot
+        → is_slot_of (takes.slots.word slot.place) (relation_of tag) ≡ true
+    its-there slot is = ap (λ w. is_slot_of w (relation_of tag)) (sym (its slot is).shown) ∙ (its slot is).its
+
+    its-used : (slot : SeenSlot) → seen.of_relation ≡ Some slot → in_use (takes.slots.word slot.place) ≡ true
+    its-used slot is =
+        (and_parts (in_use (takes.slots.word slot.place))
+        (nat_eq (relation_in (takes.slots.word slot.place)) (relation_of tag)) (its-there slot is)).0
 
     -- No slot has the hold where none is the relation's,
-    pub no-its :
-        (relation : ℕ) → relation ≡ relation_of tag
-        → ((k : ℕ) → k < slot_count → is_slot_of (word_of words k) relation ≡ false)
-        → slot_holds a.fast.database takes.slots.word tag mode ≡ false
-    no-its relation its none =
-        in_none a.fast.database takes.slots.word tag mode (λ k within. is_same relation its k within ∙ none k within)
+    pub no-its : seen.of_relation ≡ None → slot_holds a.fast.database takes.slots.word tag mode ≡ false
+    no-its is =
+        in_none a.fast.database takes.slots.word tag mode
+        (subst (λ found. IfNone found ((place : ℕ) → place < slot_count
+        → is_slot_of (takes.slots.word place) (relation_of tag) ≡ false)) is sights.none)
 
     -- or the relation's hasn't the mode.
     pub no-mode :
-        (relation place word : ℕ) → relation ≡ relation_of tag → place < slot_count
-        → is_slot_of (word_of words place) relation ≡ true
-        → word ≡ word_of words place → has_mode word mode ≡ false
+        (slot : SeenSlot) → seen.of_relation ≡ Some slot → has_mode slot.word mode ≡ false
         → slot_holds a.fast.database takes.slots.word tag mode ≡ false
-    no-mode relation place word its within found is hasn't =
-        not_in_its a.fast.database takes.slots.word tag mode place takes.knows.one_each within
-        (is_same relation its place within ∙ found)
-        (ap (λ w. has_mode w mode) (sym (is ∙ are place within)) ∙ hasn't)
+    no-mode slot is hasn't =
+        not_in_its a.fast.database takes.slots.word tag mode slot.place takes.knows.one_each (its slot is).within
+        (its-there slot is) (ap (λ w. has_mode w mode) (sym (its slot is).shown) ∙ hasn't)
+
+    -- Where one is the relation's some are in use.
+    pub some-used : (slot : SeenSlot) → seen.of_relation ≡ Some slot → 0 < seen.used_count
+    some-used slot is =
+        let some : 0 < used takes.slots.word =
+        some_pass slot_count (λ k. in_use (takes.slots.word k)) slot.place (its slot is).within (its-used slot is) in
+        omega (arith, some, sights.counted)
 
     -- The mode cleared in a slot.
-    module _ (d : Account) (by place : ℕ) (same_by : by ≡ number)
-        (cleared : d ≡ account_unsetting by c (slots_here (c.fast.slots by)) place tag mode) where
+    module _ (d : Account) (by : ℕ) (slot : SeenSlot) (same_by : by ≡ number)
+        (cleared : d ≡ account_unsetting by c (slots_here (c.fast.slots by)) slot.place tag mode) where
       abbrev pub words_left : ℕ → ℕ
-      words_left = set_at takes.slots.word place (word_without (takes.slots.word place) mode)
+      words_left = set_at takes.slots.word slot.place (word_without (takes.slots.word slot.place) mode)
 
       here : c.fast.slots by ≡ Some takes.slots
-      here = ap (λ (x : Account). x.fast.slots by) (seen c loaded)
+      here = ap (λ (x : Account). x.fast.slots by) (looked c loaded)
           ∙ set_at-here a.fast.slots number (Some takes.slots) by same_by
 
-      is_cleared : d ≡ account_unsetting number (account_seen number a takes.slots) takes.slots place tag mode
+      is_cleared : d ≡ account_unsetting number (account_seen number a takes.slots) takes.slots slot.place tag mode
       is_cleared =
           cleared
-          ∙ (λ i. account_unsetting (same_by i) c (slots_here (here i)) place tag mode)
-          ∙ ap (λ (x : Account). account_unsetting number x takes.slots place tag mode) (seen c loaded)
+          ∙ (λ i. account_unsetting (same_by i) c (slots_here (here i)) slot.place tag mode)
+          ∙ ap (λ (x : Account). account_unsetting number x takes.slots slot.place tag mode) (looked c loaded)
 
       -- Then the lock may be put,
       pub may_put-cleared : (slots : SlotsInHand) × MayPutFastBy d own slots
@@ -158,7 +170,7 @@ module _ (number : ℕ) (a : Account) (uses own : ℕ) (ready : IsReady a uses) 
             }) where
               its_account : Account
               its_account = account_putting_fast number (account_unsetting number (account_seen number a takes.slots)
-                  takes.slots place tag mode) number
+                  takes.slots slot.place tag mode) number
 
               gone : its_account.fast.slots ≡ a.fast.slots
               gone =
@@ -171,49 +183,56 @@ module _ (number : ℕ) (a : Account) (uses own : ℕ) (ready : IsReady a uses) 
 
         -- and the mode was cleared so.
         pub clears :
-            (relation word left : ℕ) → relation ≡ relation_of tag → is_eligible_for a.fast.database tag mode ≡ true
-            → place < slot_count
-            → place < length words → word ≡ word_of words place → is_slot_of (word_of words place) relation ≡ true
-            → has_mode word mode ≡ true
-            → left ≡ used (word_of (slice_set words place (word_without word mode)))
+            (left : ℕ) → is_eligible_for a.fast.database tag mode ≡ true → seen.of_relation ≡ Some slot
+            → has_mode slot.word mode ≡ true → left ≡ used words_left
             → ClearsSlot number a tag mode e left × IsReady e left
-        clears relation word left its_relation eligible within in_list is_word its has counted = (
+        clears left eligible is has recounted = (
           record {
             word = takes.slots.word;
-            place = place;
-            held_in = record { eligible = eligible; within = within; shown = shown };
+            place = slot.place;
+            held_in = record {
+              eligible = eligible;
+              within = (its slot is).within;
+              shown = shown-there (takes.slots.word slot.place) (relation_of tag) mode (its-there slot is)
+                  (ap (λ w. has_mode w mode) (sym (its slot is).shown) ∙ has);
+            };
             account = after;
             recomputed = recounted;
           },
           record {
             no_slots = ap (λ (x : Account). x.fast.slots) after ∙ ready.no_slots;
             no_zero = ap (λ (x : Account). x.fast.zero) after ∙ ready.no_zero;
-            enough = subst (λ slot. used slot ≤ left) (sym (ap (λ (x : Account). x.fast.remembered) after))
+            enough = subst (λ slots. used slots ≤ left) (sym (ap (λ (x : Account). x.fast.remembered) after))
                 (omega (arith, recounted));
             within = subst (λ (n : ℕ). n ≤ slot_count) (sym recounted) (used-most words_left);
           },
-        ) where
-          at_place : word ≡ takes.slots.word place
-          at_place = is_word ∙ are place within
+        )
 
-          shown : shows (takes.slots.word place) (relation_of tag) mode ≡ true
-          shown = shown-there (takes.slots.word place) (relation_of tag) mode
-              (is_same relation its_relation place within ∙ its) (ap (λ w. has_mode w mode) (sym at_place) ∙ has)
+      -- As many slots are in use then where that one still is,
+      pub recounted-kept :
+          seen.of_relation ≡ Some slot → in_use (word_without slot.word mode) ≡ true
+          → seen.used_count ≡ used words_left
+      recounted-kept is still =
+          sights.counted
+          ∙ sym (used-same takes.slots.word slot.place (word_without (takes.slots.word slot.place) mode)
+          (ap (λ w. in_use (word_without w mode)) (sym (its slot is).shown) ∙ still ∙ sym (its-used slot is)))
 
-          recounted : left ≡ used words_left
-          recounted =
-              counted
-              ∙ used-words (slice_set words place (word_without word mode))
-              (set_at takes.slots.word place (word_without word mode))
-              (words-set words takes.slots.word place (word_without word mode) in_list are)
-              ∙ ap (λ w. used (set_at takes.slots.word place (word_without w mode))) at_place
+      -- and one fewer where it is not.
+      pub recounted-less :
+          (left : ℕ) → seen.of_relation ≡ Some slot → in_use (word_without slot.word mode) ≡ false
+          → left ≡ seen.used_count - 1 → left ≡ used words_left
+      recounted-less left is empty one =
+          let less : used words_left + 1 ≡ used takes.slots.word =
+          used-one_less takes.slots.word slot.place (word_without (takes.slots.word slot.place) mode) (its slot is).within
+          (its-used slot is) (ap (λ w. in_use (word_without w mode)) (sym (its slot is).shown) ∙ empty) in
+          omega (arith, less, one, sights.counted)
 
     -- The hold in no slot, and the lock put.
     module _ (e : Account) (last : ℕ) (same_last : last ≡ number) (put : e ≡ account_putting_fast last c own) where
       left_alone : e ≡ account_tried a takes.slots.word (a.trace ++ slot_loads number takes.slots.word slot_count)
       left_alone =
           put
-          ∙ (λ i. account_putting_fast (same_last i) (seen c loaded i) (same i))
+          ∙ (λ i. account_putting_fast (same_last i) (looked c loaded i) (same i))
           ∙ (λ i. record a {
             fast = record (a.fast) { slots = gone i; remembered = remembered i; zero = unread i };
             trace = a.trace ++ slot_loads number takes.slots.word slot_count;
@@ -234,7 +253,7 @@ module _ (number : ℕ) (a : Account) (uses own : ℕ) (ready : IsReady a uses) 
 
       -- The release finds nothing.
       pub finds_none :
-          (left : ℕ) → slot_holds a.fast.database takes.slots.word tag mode ≡ false → left ≡ used (word_of words)
+          (left : ℕ) → slot_holds a.fast.database takes.slots.word tag mode ≡ false → left ≡ seen.used_count
           → FindsNoSlot number a tag mode e left × IsReady e left
           × (slot_holds e.fast.database e.fast.remembered tag mode ≡ false)
       finds_none left none counted = (
@@ -249,4 +268,4 @@ module _ (number : ℕ) (a : Account) (uses own : ℕ) (ready : IsReady a uses) 
         ap (λ (x : Account). slot_holds x.fast.database x.fast.remembered tag mode) left_alone ∙ none,
       ) where
         recounted : left ≡ used takes.slots.word
-        recounted = counted ∙ used-words words takes.slots.word are
+        recounted = counted ∙ sights.counted

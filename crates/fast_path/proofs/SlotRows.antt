@@ -15,9 +15,9 @@ use Rattle.shared_rule.specs.History.{slots_here}
 use Rattle.fast_path.specs.Slots.{word_of, AreWords, slot_loads, account_loading}
 use Rattle.fast_path.specs.Rows.{database_in, rows_of_slot, rows_below, rows_of_session, rows_of_all, loads_of_all}
 use Rattle.fast_path.specs.Rows.{ListsSlots, ListsSession, BeginsWith}
-use Rattle.fast_path.specs.Turns.{IsUnlocked}
+use Rattle.fast_path.specs.Turns.{IsUnlocked, Looks}
 use Rattle.fast_path.specs.Transfers.{IsAfterScan}
-use Rattle.fast_path.proofs.Passing.{Looks, slots-looked, looked-loads, after-put}
+use Rattle.fast_path.proofs.Passing.{slots-looked, looked-loads, after-put}
 
 -- Rows of what sessions' slots show.
 

@@ -1,12 +1,14 @@
-use Rattle.std.specs.Prelude.{◌≡◌, ℕ, ◌<◌, ◌≤◌, zero, suc, false, true, List, [], ◌∷◌, ◌++◌, None, slice_index_or}
+use Rattle.std.specs.Prelude.{◌≡◌, ℕ, ◌<◌, ◌≤◌, zero, suc, false, true, List, [], ◌∷◌, ◌++◌, None, IfSome, IfNone, slice_index_or}
 use Rattle.modes_core.specs.declared.modes.Mode.{Mode}
 use Rattle.modes_core.specs.declared.tags.Tag.{Tag}
 use Rattle.modes_core.specs.Tag.{is_eligible_for}
 use Rattle.lw_word.specs.SlotWord.{in_use}
 use Rattle.lock_world.specs.declared.events.Word.TheVariants.{Slot}
-use Rattle.lock_world.specs.SlotHolds.{slot_count, used}
+use Rattle.lock_world.specs.SlotHolds.{slot_count, is_slot_of, used}
 use Rattle.lock_world.specs.World.{TraceEntry, Loaded}
 use Rattle.lock_world.specs.Account.{Account}
+use Rattle.fast_path.specs.declared.slot_words.SeenSlot.{SeenSlot}
+use Rattle.fast_path.specs.declared.slot_words.Sighting.{Sighting}
 
 -- A session's slots, as the fast path reads them.
 
@@ -23,6 +25,25 @@ pub record IsHighestUnused (word : ℕ → ℕ) (place : ℕ) : Type 0 where
   pub within : place < slot_count
   pub unused : in_use (word place) ≡ false
   pub higher : (other : ℕ) → place < other → other < slot_count → in_use (word other) ≡ true
+
+-- The slot was seen among those with these words: it is in use for the relation,
+pub record IsSeenOf (word : ℕ → ℕ) (relation : ℕ) (slot : SeenSlot) : Type 0 where
+  pub within : slot.place < slot_count
+  pub shown : slot.word ≡ word slot.place
+  pub its : is_slot_of slot.word relation ≡ true
+
+-- or it is the highest-numbered one that is not in use.
+pub record IsSeenUnused (word : ℕ → ℕ) (slot : SeenSlot) : Type 0 where
+  pub shown : slot.word ≡ word slot.place
+  pub highest : IsHighestUnused word slot.place
+
+-- What a look through the slots with these words finds for a relation.
+pub record Sights (word : ℕ → ℕ) (relation : ℕ) (seen : Sighting) : Type 0 where
+  pub found : IfSome seen.of_relation (IsSeenOf word relation)
+  pub none : IfNone seen.of_relation ((place : ℕ) → place < slot_count → is_slot_of (word place) relation ≡ false)
+  pub unused : IfSome seen.highest_unused (IsSeenUnused word)
+  pub full : IfNone seen.highest_unused ((place : ℕ) → place < slot_count → in_use (word place) ≡ true)
+  pub counted : seen.used_count ≡ used word
 
 -- the loads of the first so many of a session's slots, which show these words
 unfoldable pub slot_loads : ℕ → (ℕ → ℕ) → ℕ → List TraceEntry

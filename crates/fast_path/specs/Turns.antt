@@ -1,4 +1,4 @@
-use Rattle.std.specs.Prelude.{◌≡◌, ℕ, ◌<◌, nat_lt, not, ◌&&◌, true, false, [], ◌∷◌, ◌++◌}
+use Rattle.std.specs.Prelude.{◌≡◌, ℕ, ◌<◌, nat_lt, not, ◌&&◌, true, false, List, [], ◌∷◌, ◌++◌}
 use Rattle.std.specs.Prelude.{Option, Some, None, Result, Ok, Err}
 use Rattle.modes_core.specs.declared.modes.Mode.{Mode}
 use Rattle.modes_core.specs.declared.tags.Tag.{Tag}
@@ -10,8 +10,9 @@ use Rattle.lock_table.specs.declared.no_memory.NoMemory.{NoMemory}
 use Rattle.lock_table.specs.Content.{Content}
 use Rattle.lock_table.specs.Put.{set_at}
 use Rattle.lock_table.specs.Queue.{awaits_mode}
-use Rattle.lock_world.specs.SlotHolds.{slot_count, relation_of, slot_holds, is_slot_of, OneSlotEach}
-use Rattle.lock_world.specs.World.{Took, Episode}
+use Rattle.lock_world.specs.declared.events.Word.TheVariants.{Database}
+use Rattle.lock_world.specs.SlotHolds.{slot_count, relation_of, slot_holds, is_slot_of, OneSlotEach, ShowsNoMore}
+use Rattle.lock_world.specs.World.{TraceEntry, Took, Episode, Loaded}
 use Rattle.lock_world.specs.Account.{Account, InHand, SlotsInHand}
 use Rattle.lock_world.specs.Happens.Transfers.{MayAdopt}
 use Rattle.fast_path.specs.Transfers.{database_of, adopting}
@@ -23,6 +24,27 @@ pub record IsUnlocked (a : Account) : Type 0 where
   pub no_content : a.hand ≡ (λ _. None)
   pub no_slots : a.fast.slots ≡ (λ _. None)
   pub no_zero : a.fast.zero ≡ None
+
+-- the account with the lock of a session's slots in hand, and what it remembers of its own slots since, after these steps
+abbrev pub account_holding : Account → ℕ → SlotsInHand → (ℕ → ℕ) → List TraceEntry → Account
+account_holding a owner slots remembered steps = record a {
+  fast = record (a.fast) { slots = set_at a.fast.slots owner (Some slots); remembered = remembered };
+  trace = a.trace ++ steps;
+}
+
+-- The lock of a session's slots was taken, and then its database was loaded.
+pub record Looks (a : Account) (owner shown : ℕ) (b : Account) : Type 0 where
+  pub slots : SlotsInHand
+  pub remembered : ℕ → ℕ
+  pub no_more : ShowsNoMore remembered a.fast.remembered
+  pub one_each : OneSlotEach slots.word
+  pub holds : slots.holds ≡ slot_holds shown slots.word
+  pub account : b ≡ account_holding a owner slots remembered (Loaded (Database owner) shown ∷ [])
+
+-- So a turn begins that goes past a session of the tag's database.
+pub record BeginsTurn (a : Account) (owner : ℕ) (tag : Tag) (b : Account) : Type 0 where
+  pub unlocked : IsUnlocked a
+  pub looked : Looks a owner (database_of tag) b
 
 -- In the tag's database these slots have the relation at this place, by this word.
 pub record HasRelation (slots : SlotsInHand) (place word : ℕ) (tag : Tag) : Type 0 where

@@ -7,7 +7,7 @@ ghost use Rattle.lock_world.specs.World.{TraceEntry};
 ghost use Rattle.fast_path.specs.Slots.{IsReady, MayTry};
 ghost use Rattle.fast_path.specs.Grants.{Grants, TriesGrant, GrantsHeld, HasOwnSlots};
 
-use crate::slot_words::{SLOTS, highest_unused, load_slots, place_of, relation_of};
+use crate::slot_words::{SLOTS, Sighting, look_through, relation_of};
 use lock_table::PartTable;
 use modes_core::{Mode, Refusal, Tag};
 use shared_rule::board::Board;
@@ -86,15 +86,18 @@ fn grant_with_slots<T: PartTable, B: Board<T>>(
         board.put_fast(own);
         return Err(Refusal::StrongCounted);
     }
-    let words = load_slots(board, own);
-    let relation = relation_of(tag);
-    if let Some(place) = place_of(&words, relation) {
-        board.set_slot(place, words[usize::from(place)], tag, mode);
+    let Sighting {
+        of_relation,
+        highest_unused,
+        ..
+    } = look_through(board, own, relation_of(tag));
+    if let Some(slot) = of_relation {
+        board.set_slot(slot.place, slot.word, tag, mode);
         board.put_fast(own);
         return Ok(());
     }
-    let place = highest_unused(&words).unwrap();
-    board.set_slot(place, words[usize::from(place)], tag, mode);
+    let slot = highest_unused.unwrap();
+    board.set_slot(slot.place, slot.word, tag, mode);
     *uses += 1;
     board.put_fast(own);
     Ok(())

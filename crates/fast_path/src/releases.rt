@@ -6,7 +6,7 @@ ghost use Rattle.lock_world.specs.SlotHolds.{slot_holds};
 ghost use Rattle.fast_path.specs.Slots.{IsReady};
 ghost use Rattle.fast_path.specs.Releases.{Ungrants};
 
-use crate::slot_words::{count_used, load_slots, place_of, relation_of};
+use crate::slot_words::{Sighting, look_through, relation_of};
 use lock_table::PartTable;
 use modes_core::{Mode, Tag};
 use shared_rule::board::Board;
@@ -37,19 +37,24 @@ pub fn ungrant<T: PartTable, B: Board<T>, R: Wait>(
     }
     let own = board.number();
     board.take_fast(rt, own);
-    let mut words = load_slots(board, own);
-    let found = place_of(&words, relation_of(tag));
-    if let Some(place) = found {
-        let word = words[usize::from(place)];
-        if word.has(mode) {
-            board.clear_slot(place, word, tag, mode);
+    let Sighting {
+        of_relation,
+        used_count,
+        ..
+    } = look_through(board, own, relation_of(tag));
+    if let Some(slot) = of_relation {
+        if slot.word.has(mode) {
+            board.clear_slot(slot.place, slot.word, tag, mode);
             board.put_fast(own);
-            words[usize::from(place)] = word.without(mode);
-            *uses = count_used(&words);
+            *uses = if slot.word.without(mode).in_use() {
+                used_count
+            } else {
+                used_count - 1
+            };
             return true;
         }
     }
     board.put_fast(own);
-    *uses = count_used(&words);
+    *uses = used_count;
     false
 }

@@ -1,11 +1,10 @@
 //! The words of a session's sixteen slots, as one who has their lock in hand loads them.
 
-ghost use Rattle.std.specs.Prelude.{◌≡◌, ◌<◌, ◌≤◌, ℕ, false, true, IfSome, IfNone, slice_index_or, length, Some};
-ghost use Rattle.lw_word.specs.SlotWord.{in_use};
-ghost use Rattle.lock_world.specs.SlotHolds.{slot_count, relation_of, is_slot_of, used};
+ghost use Rattle.std.specs.Prelude.{◌≡◌, ◌<◌, ◌≤◌, Some};
+ghost use Rattle.lock_world.specs.SlotHolds.{slot_count, relation_of};
 ghost use Rattle.lock_world.specs.Account.{SlotsInHand};
 ghost use Rattle.shared_rule.specs.History.{slots_here};
-ghost use Rattle.fast_path.specs.Slots.{account_loading, word_of, AreWords, IsHighestUnused};
+ghost use Rattle.fast_path.specs.Slots.{account_loading, AreWords, Sights};
 
 use lock_table::PartTable;
 use lw_word::SlotWord;
@@ -52,50 +51,56 @@ pub(crate) fn load_slots<T: PartTable, B: Board<T>>(
     words
 }
 
-/// Whether the slot with this word is in use for the relation.
-fn is_slot_of(word: SlotWord, relation: u32) -> bool
-    ensures { result ≡ is_slot_of word relation }
-{
-    word.in_use() && word.relation() == relation
+/// A slot's place, and the word that it shows.
+#[derive(Clone, Copy)]
+pub(crate) struct SeenSlot {
+    pub(crate) place: u8,
+    pub(crate) word: SlotWord,
 }
 
-/// Which slot is in use for the relation, if one is.
-pub(crate) fn place_of(words: &[SlotWord; 16], relation: u32) -> Option<u8>
-    ensures within { IfSome result (λ place. place < slot_count) }
-    ensures found { IfSome result (λ place. is_slot_of (word_of words.now place) relation ≡ true) }
-    ensures none { IfNone result ((place : ℕ) → place < slot_count →
-        is_slot_of (word_of words.now place) relation ≡ false) }
+/// What one look through a session's slots finds for a relation.
+#[derive(Clone, Copy)]
+pub(crate) struct Sighting {
+    /// The slot in use for the relation, if one is.
+    pub(crate) of_relation: Option<SeenSlot>,
+    /// The highest-numbered slot that is not in use, if one is not.
+    pub(crate) highest_unused: Option<SeenSlot>,
+    /// How many slots are in use.
+    pub(crate) used_count: u8,
+}
+
+/// Loads the words of a session's slots, whose lock is in hand, one after another, and keeps of them only what a grant, a
+/// release or a transfer of a lock on the relation asks for.
+#[inline(always)]
+pub(crate) fn look_through<T: PartTable, B: Board<T>>(
+    board: &mut B,
+    owner: SessionId,
+    relation: u32,
+) -> Sighting
+    requires in_hand { (slots : SlotsInHand) × ((B.view board.old).fast.slots owner ≡ Some slots) }
+    ensures loaded { B.view board.new ≡
+        account_loading (B.view board.old) owner (slots_here ((B.view board.old).fast.slots owner)).word slot_count }
+    ensures sighted { Sights (slots_here ((B.view board.old).fast.slots owner)).word relation result }
+    ensures seat { B.seat board.new ≡ B.seat board.old }
+    ensures stack { B.stack board.new ≡ B.stack board.old }
 {
+    let mut of_relation = None;
+    let mut highest_unused = None;
+    let mut used_count = 0;
     for place in 0..SLOTS {
-        if is_slot_of(words[usize::from(place)], relation) {
-            return Some(place);
+        let word = board.load_slot(owner, place);
+        if word.in_use() {
+            used_count += 1;
+            if word.relation() == relation {
+                of_relation = Some(SeenSlot { place, word });
+            }
+        } else {
+            highest_unused = Some(SeenSlot { place, word });
         }
     }
-    None
-}
-
-/// The highest-numbered slot that is not in use, if one is not.
-pub(crate) fn highest_unused(words: &[SlotWord; 16]) -> Option<u8>
-    ensures found { IfSome result (IsHighestUnused (word_of words.now)) }
-    ensures none { IfNone result ((place : ℕ) → place < slot_count → in_use (word_of words.now place) ≡ true) }
-{
-    for place in (0..SLOTS).rev() {
-        if !words[usize::from(place)].in_use() {
-            return Some(place);
-        }
+    Sighting {
+        of_relation,
+        highest_unused,
+        used_count,
     }
-    None
-}
-
-/// How many slots are in use.
-pub(crate) fn count_used(words: &[SlotWord; 16]) -> u8
-    ensures { result ≡ used (word_of words.now) }
-{
-    let mut count = 0;
-    for place in 0..SLOTS {
-        if words[usize::from(place)].in_use() {
-            count += 1;
-        }
-    }
-    count
 }

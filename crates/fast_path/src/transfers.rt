@@ -2,12 +2,13 @@
 
 ghost use Rattle.std.specs.Prelude.{◌≡◌, ◌<◌, ◌≤◌, false, true, None, length};
 ghost use Rattle.modes_core.specs.Tag.{is_strong_on};
+ghost use Rattle.lock_world.specs.Account.{Account};
 ghost use Rattle.lock_world.specs.Counted.{is_counted, is_at};
 ghost use Rattle.lock_world.specs.Happens.Counters.{most_counted};
-ghost use Rattle.fast_path.specs.Turns.{IsUnlocked, HasSlots, HasSlotsAndPart, MovesOrNot, AdoptsOrNot};
+ghost use Rattle.fast_path.specs.Turns.{IsUnlocked, BeginsTurn, HasSlots, HasSlotsAndPart, MovesOrNot, AdoptsOrNot};
 ghost use Rattle.fast_path.specs.Transfers.{database_of, TransfersOrNot, PassesOrNot};
 
-use crate::slot_words::{load_slots, place_of, relation_of};
+use crate::slot_words::{Sighting, look_through, relation_of};
 use lock_table::{Move, NoMemory, PartTable};
 use lw_word::SlotWord;
 use modes_core::{Mode, SessionId, Tag};
@@ -90,20 +91,34 @@ fn pass<T: PartTable, B: Board<T>, R: Wait>(
         board.pass_fast(owner, tag, mode);
         return Ok(());
     }
-    let words = load_slots(board, owner);
-    let Some(place) = place_of(&words, relation_of(tag)) else {
+    pass_in_database(rt, board, owner, tag, mode)
+}
+
+/// Goes past a session of the tag's database, the lock of whose slots is in hand, once its modes on the object are out
+/// of its slot. It is a function of its own, so that going past other sessions takes no stack for it.
+#[inline(never)]
+fn pass_in_database<T: PartTable, B: Board<T>, R: Wait>(
+    rt: &R,
+    board: &mut B,
+    owner: SessionId,
+    tag: &Tag,
+    mode: Mode,
+) -> Result<(), NoMemory>
+    requires exists { owner < (B.seat board.old).limit }
+    requires strong { is_strong_on tag.now mode ≡ true }
+    requires next { is_at owner (B.view board.old).fast.counted tag.now mode ≡ true }
+    requires begun { (before : Account) × BeginsTurn before owner tag.now (B.view board.old) }
+    ensures passed { (before : Account) → BeginsTurn before owner tag.now (B.view board.old)
+        → PassesOrNot before owner tag.now mode result (B.view board.new) }
+    ensures stack { B.stack board.new ≡ B.stack board.old }
+    ensures seat { B.seat board.new ≡ B.seat board.old }
+{
+    let Sighting { of_relation, .. } = look_through(board, owner, relation_of(tag));
+    let Some(slot) = of_relation else {
         board.pass_fast(owner, tag, mode);
         return Ok(());
     };
-    match adopt(
-        rt,
-        board,
-        owner,
-        place,
-        words[usize::from(place)],
-        tag,
-        mode,
-    ) {
+    match adopt(rt, board, owner, slot.place, slot.word, tag, mode) {
         Ok(()) => {
             board.pass_fast(owner, tag, mode);
             Ok(())

@@ -1,10 +1,9 @@
-use Rattle.std.proofs.Common.{◌≡◌, ◌∙◌, false, slice_set, sym, ap, inr, rules, arith}
-use Rattle.std.proofs.lemmas.List.{get_or_read}
-use Rattle.lw_word.specs.SlotWord.{has_mode, word_without}
-use Rattle.lock_world.specs.SlotHolds.{slot_holds, used}
+use Rattle.std.proofs.Common.{◌≡◌, ◌∙◌, false, sym, ap, inr, refl, rules}
+use Rattle.lw_word.specs.SlotWord.{in_use}
+use Rattle.lock_world.specs.SlotHolds.{slot_holds}
 use Rattle.shared_rule.specs.Boards.{Seated}
-use Rattle.fast_path.specs.Slots.{word_of}
-use Rattle.fast_path.proofs.Releasing.{none-used, no-its, no-mode, may_put-cleared, clears, finds_none}
+use Rattle.fast_path.proofs.Releasing.{none-used, no-its, no-mode, some-used, may_put-cleared, clears, finds_none}
+use Rattle.fast_path.proofs.Releasing.{recounted-kept, recounted-less}
 use Rattle.fast_path.proofs.releases.ungrant.Goals as goal
 use Rattle.fast_path.proofs.releases.ungrant.Goals.{in-Some+else-has, in_default}
 
@@ -15,38 +14,70 @@ returns-then-uses-eq0-clause-in_no_slot g c =
 
 pub put_fast-requires-clause-lawful : goal.put_fast-requires-clause-lawful
 put_fast-requires-clause-lawful g c =
-    let seat = g.B.Board.seat c.args.board.now in
-    let a = g.B.Board.view c.args.board.now in
     let took = c.take_fast in
-    let loads = c.load_slots-words in
+    let looks = c.look_through-used_count in
     let cleared = c.clear_slot in
-    may_put-cleared seat.number a c.args.uses.now c.number-own.result c.requires.ready c.number-own.ensures.value
-    (g.B.Board.view took.new.self) took.ensures.taken (g.B.Board.view loads.new.board) loads.ensures.loaded
-    loads.result loads.ensures.words c.args.tag.now c.args.mode (g.B.Board.view cleared.new.self) _ c.in-Some.place
-    (ap (λ (s : Seated). s.number) (loads.ensures.seat ∙ took.ensures.seat)) cleared.ensures.view
+    may_put-cleared (g.B.Board.seat c.args.board.now).number (g.B.Board.view c.args.board.now) c.args.uses.now
+    c.number-own.result c.requires.ready c.number-own.ensures.value (g.B.Board.view took.new.self) took.ensures.taken
+    (g.B.Board.view looks.new.board) looks.ensures.loaded c.args.tag.now c.args.mode c.relation_of.result
+    c.relation_of.ensures looks.result looks.ensures.sighted (g.B.Board.view cleared.new.self) _ c.in-Some.slot
+    (ap (λ (s : Seated). s.number) (looks.ensures.seat ∙ took.ensures.seat)) cleared.ensures.view
 
-pub returns-then-has : goal.returns-then-has
-returns-then-has g c =
-    let seat = g.B.Board.seat c.args.board.now in
+pub overflow_sub-uses : goal.overflow_sub-uses
+overflow_sub-uses g c =
+    let took = c.take_fast in
+    let looks = c.look_through-used_count in
+    some-used (g.B.Board.seat c.args.board.now).number (g.B.Board.view c.args.board.now) c.args.uses.now
+    c.number-own.result c.requires.ready c.number-own.ensures.value (g.B.Board.view took.new.self) took.ensures.taken
+    (g.B.Board.view looks.new.board) looks.ensures.loaded c.args.tag.now c.args.mode c.relation_of.result
+    c.relation_of.ensures looks.result looks.ensures.sighted c.in-Some.slot c.in-Some.is
+
+pub returns-then-in_use : goal.returns-then-in_use
+returns-then-in_use g c =
+    let number = (g.B.Board.seat c.args.board.now).number in
     let a = g.B.Board.view c.args.board.now in
     let took = c.take_fast in
-    let loads = c.load_slots-words in
+    let looks = c.look_through-used_count in
     let cleared = c.clear_slot in
-    let found = c.in-Some.ensures in
-    let shown = c.index-words-from in
-    let read : shown.result ≡ word_of loads.result c.in-Some.place =
-    get_or_read loads.result _ _ (omega (arith, found.within)) shown.is 0 ∙ ap (word_of loads.result) c.from.ensures in
-    let left : c.without.result ≡ word_without shown.result c.args.mode =
-    c.without.ensures.number ∙ ap (λ word. word_without word c.args.mode) (sym shown.is) in
-    let both = clears seat.number a c.args.uses.now c.number-own.result c.requires.ready c.number-own.ensures.value
-    (g.B.Board.view took.new.self) took.ensures.taken (g.B.Board.view loads.new.board) loads.ensures.loaded
-    loads.result loads.ensures.words c.args.tag.now c.args.mode (g.B.Board.view cleared.new.self) _ c.in-Some.place
-    (ap (λ (s : Seated). s.number) (loads.ensures.seat ∙ took.ensures.seat)) cleared.ensures.view
-    (g.B.Board.view c.put_fast.new.self) _ (ap (λ (s : Seated). s.number) cleared.ensures.seat) c.put_fast.ensures.view
-    c.relation_of.result shown.result c.count_used.result c.relation_of.ensures c.requires.eligible found.within
-    (omega (arith, found.within)) read found.found
-    (ap (λ word. has_mode word c.args.mode) shown.is ∙ sym c.has.ensures ∙ c.if-has.true)
-    (c.count_used.ensures ∙ (λ i. used (word_of (slice_set loads.result (c.from-then-has.ensures i) (left i))))) in
+    let same = ap (λ (s : Seated). s.number) (looks.ensures.seat ∙ took.ensures.seat) in
+    let counted = recounted-kept number a c.args.uses.now c.number-own.result c.requires.ready
+    c.number-own.ensures.value (g.B.Board.view took.new.self) took.ensures.taken (g.B.Board.view looks.new.board)
+    looks.ensures.loaded c.args.tag.now c.args.mode c.relation_of.result c.relation_of.ensures looks.result
+    looks.ensures.sighted (g.B.Board.view cleared.new.self) _ c.in-Some.slot same cleared.ensures.view c.in-Some.is
+    (ap in_use (sym c.without.ensures.number) ∙ sym c.in_use.ensures ∙ c.if-in_use.true) in
+    let both = clears number a c.args.uses.now c.number-own.result c.requires.ready c.number-own.ensures.value
+    (g.B.Board.view took.new.self) took.ensures.taken (g.B.Board.view looks.new.board) looks.ensures.loaded
+    c.args.tag.now c.args.mode c.relation_of.result c.relation_of.ensures looks.result looks.ensures.sighted
+    (g.B.Board.view cleared.new.self) _ c.in-Some.slot same cleared.ensures.view (g.B.Board.view c.put_fast.new.self) _
+    (ap (λ (s : Seated). s.number) cleared.ensures.seat) c.put_fast.ensures.view looks.result.used_count
+    c.requires.eligible c.in-Some.is (sym c.has.ensures ∙ c.if-has.true) counted in
+    record {
+      ungranted = (c.if-uses-eq0.false, both.0);
+      in_no_slot = search rules;
+      ready = both.1;
+      seat = search rules;
+      stack = search rules;
+    }
+
+pub returns-else-in_use : goal.returns-else-in_use
+returns-else-in_use g c =
+    let number = (g.B.Board.seat c.args.board.now).number in
+    let a = g.B.Board.view c.args.board.now in
+    let took = c.take_fast in
+    let looks = c.look_through-used_count in
+    let cleared = c.clear_slot in
+    let same = ap (λ (s : Seated). s.number) (looks.ensures.seat ∙ took.ensures.seat) in
+    let counted = recounted-less number a c.args.uses.now c.number-own.result c.requires.ready
+    c.number-own.ensures.value (g.B.Board.view took.new.self) took.ensures.taken (g.B.Board.view looks.new.board)
+    looks.ensures.loaded c.args.tag.now c.args.mode c.relation_of.result c.relation_of.ensures looks.result
+    looks.ensures.sighted (g.B.Board.view cleared.new.self) _ c.in-Some.slot same cleared.ensures.view _ c.in-Some.is
+    (ap in_use (sym c.without.ensures.number) ∙ sym c.in_use.ensures ∙ c.if-in_use.false) refl in
+    let both = clears number a c.args.uses.now c.number-own.result c.requires.ready c.number-own.ensures.value
+    (g.B.Board.view took.new.self) took.ensures.taken (g.B.Board.view looks.new.board) looks.ensures.loaded
+    c.args.tag.now c.args.mode c.relation_of.result c.relation_of.ensures looks.result looks.ensures.sighted
+    (g.B.Board.view cleared.new.self) _ c.in-Some.slot same cleared.ensures.view (g.B.Board.view c.put_fast.new.self) _
+    (ap (λ (s : Seated). s.number) cleared.ensures.seat) c.put_fast.ensures.view _ c.requires.eligible c.in-Some.is
+    (sym c.has.ensures ∙ c.if-has.true) counted in
     record {
       ungranted = (c.if-uses-eq0.false, both.0);
       in_no_slot = search rules;
@@ -57,34 +88,29 @@ returns-then-has g c =
 
 pub returns : goal.returns
 returns g c =
-    let seat = g.B.Board.seat c.args.board.now in
+    let number = (g.B.Board.seat c.args.board.now).number in
     let a = g.B.Board.view c.args.board.now in
     let took = c.take_fast in
-    let loads = c.load_slots-words in
+    let looks = c.look_through-used_count in
     let none : slot_holds a.fast.database took.ensures.taken.slots.word c.args.tag.now c.args.mode ≡ false =
-    elim c.match-found.branch [
+    elim c.match-of_relation.branch [
       | in-Some+else-has w ↦
-          let found = w.in-Some.ensures in
-          let shown = w.index-words-from in
-          let read : shown.result ≡ word_of loads.result w.in-Some.place =
-          get_or_read loads.result _ _ (omega (arith, found.within)) shown.is 0
-          ∙ ap (word_of loads.result) w.from.ensures in
-          no-mode seat.number a c.args.uses.now c.number-own.result c.requires.ready c.number-own.ensures.value
-          (g.B.Board.view took.new.self) took.ensures.taken (g.B.Board.view loads.new.board) loads.ensures.loaded
-          loads.result loads.ensures.words c.args.tag.now c.args.mode c.relation_of.result w.in-Some.place shown.result
-          c.relation_of.ensures found.within found.found read
-          (ap (λ word. has_mode word c.args.mode) shown.is ∙ sym w.has.ensures ∙ w.if-has.false)
+          no-mode number a c.args.uses.now c.number-own.result c.requires.ready c.number-own.ensures.value
+          (g.B.Board.view took.new.self) took.ensures.taken (g.B.Board.view looks.new.board) looks.ensures.loaded
+          c.args.tag.now c.args.mode c.relation_of.result c.relation_of.ensures looks.result looks.ensures.sighted
+          w.in-Some.slot w.in-Some.is (sym w.has.ensures ∙ w.if-has.false)
       | in_default w ↦
-          no-its seat.number a c.args.uses.now c.number-own.result c.requires.ready c.number-own.ensures.value
-          (g.B.Board.view took.new.self) took.ensures.taken (g.B.Board.view loads.new.board) loads.ensures.loaded
-          loads.result loads.ensures.words c.args.tag.now c.args.mode c.relation_of.result c.relation_of.ensures
-          w.in_default.ensures.none
+          no-its number a c.args.uses.now c.number-own.result c.requires.ready c.number-own.ensures.value
+          (g.B.Board.view took.new.self) took.ensures.taken (g.B.Board.view looks.new.board) looks.ensures.loaded
+          c.args.tag.now c.args.mode c.relation_of.result c.relation_of.ensures looks.result looks.ensures.sighted
+          w.in_default.is
     ] in
-    let all = finds_none seat.number a c.args.uses.now c.number-own.result c.requires.ready c.number-own.ensures.value
-    (g.B.Board.view took.new.self) took.ensures.taken (g.B.Board.view loads.new.board) loads.ensures.loaded
-    loads.result loads.ensures.words c.args.tag.now c.args.mode (g.B.Board.view c.put_fast-2.new.self) _
-    (ap (λ (s : Seated). s.number) (loads.ensures.seat ∙ took.ensures.seat)) c.put_fast-2.ensures.view
-    c.count_used-2.result none c.count_used-2.ensures in
+    let all = finds_none number a c.args.uses.now c.number-own.result c.requires.ready c.number-own.ensures.value
+    (g.B.Board.view took.new.self) took.ensures.taken (g.B.Board.view looks.new.board) looks.ensures.loaded
+    c.args.tag.now c.args.mode c.relation_of.result c.relation_of.ensures looks.result looks.ensures.sighted
+    (g.B.Board.view c.put_fast-2.new.self) _
+    (ap (λ (s : Seated). s.number) (looks.ensures.seat ∙ took.ensures.seat)) c.put_fast-2.ensures.view
+    looks.result.used_count none refl in
     record {
       ungranted = inr (c.if-uses-eq0.false, all.0);
       in_no_slot = λ no. all.2;
