@@ -24,7 +24,7 @@ use Rattle.fast_path.specs.declared.slot_words.Sighting.{Sighting}
 use Rattle.fast_path.specs.Slots.{slot_loads, account_loading, IsSeenOf, Sights}
 use Rattle.fast_path.specs.Transfers.{database_of, adopting, finding, Adopts}
 use Rattle.fast_path.specs.Transfers.{IsAfterScan, Passes, StopsAt}
-use Rattle.fast_path.specs.Turns.{account_holding, IsUnlocked, Looks, BeginsTurn, HasRelation, HasSlots, AdoptsBelow, AdoptsSome}
+use Rattle.fast_path.specs.Turns.{account_holding, IsUnlocked, Looks, BeginsTurn, HasRelation, AdoptsBelow, AdoptsSome}
 use Rattle.fast_path.proofs.Showing.{elsewhere-none, no_slot-none, not_weak-none}
 
 -- One turn of a transfer.
@@ -315,18 +315,6 @@ passes-nothing number a b c owner tag mode seen unlocked found none passed = rec
   }));
   after = after-pass number a b c owner found.slots found.remembered
       (finding owner tag found.slots.word) tag mode unlocked found.no_more found.account passed;
-}
-
--- What the turn has where a slot has the relation.
-pub has-slots :
-    (a b : Account) (owner place word : ℕ) (tag : Tag) (seen : Sighting) → IsUnlocked a
-    → (found : Finds a owner tag seen b)
-    → HasRelation found.slots place word tag → HasSlots b owner place word tag
-has-slots a b owner place word tag seen unlocked found has = record {
-  no_content = (λ i. (found.account i).hand) ∙ unlocked.no_content;
-  slots = found.slots;
-  in_hand = (λ i. (found.account i).fast.slots) ∙ (λ i. set_at (unlocked.no_slots i) owner (Some found.slots));
-  has = has;
 }
 
 adopts-found :
