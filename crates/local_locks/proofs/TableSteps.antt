@@ -1,5 +1,5 @@
 use Rattle.std.proofs.Common.{◌≡◌, ◌≢◌, ℕ, ◌+◌, ◌-◌, ◌<◌, true, not, ◌&&◌, cond, List, [], ◌∷◌, ◌++◌, length, set, refl, sym, ap, subst, ◌∙◌, inl, inr, arith}
-use Rattle.std.specs.Prelude.{Some, None, IfSome, is_some}
+use Rattle.std.specs.Prelude.{Option, Some, None, IfSome, is_some}
 use Rattle.std.specs.Option.{option_map_or}
 use Rattle.std.proofs.lemmas.Bool.{cases_Bool, cases_eq, cases_lt, ne_eqb}
 use Rattle.modes_core.specs.declared.modes.Mode.{Mode}
@@ -12,8 +12,9 @@ use Rattle.place_index.specs.Notes.{Notes}
 use Rattle.local_locks.specs.declared.records.Entry.{Entry}
 use Rattle.local_locks.specs.declared.ends.End.{End}
 use Rattle.local_locks.specs.declared.ends.Progress.{Progress}
+use Rattle.local_locks.specs.declared.looks.Missing.{Missing}
 use Rattle.local_locks.specs.Owned.{IsCounted, count_for, count_in_all, raised, lowered, new_entry, max_count, is_of, entry_for, has_entry, owner_count_of, total_of, change, entries_but, with_one_more, with_one_less}
-use Rattle.local_locks.specs.Slots.{Slots, slot_at, present, IsIndexed, IsPast, IsKept, reached, back_to}
+use Rattle.local_locks.specs.Slots.{Slots, opened, entry_at, slot_at, present, IsIndexed, IsPlaceOf, IsPast, IsKept, IsTable, reached, back_to}
 use Rattle.local_locks.proofs.SlotLaws.{change-at, length-present_set, slot_at-set, slot_at-set_other, slot_at-push_before, slot_at-past, slot_at-push, slot_at-within, present-push}
 use Rattle.local_locks.proofs.IndexLaws.{none_else, found_entry, indexed-change}
 use Rattle.local_locks.proofs.EndLaws.{Keeps, Keeps-lowered}
@@ -50,6 +51,10 @@ raised-key Transaction e = (refl, refl)
 pub lowered-key : (owner : Owner) (e : Entry) → ((lowered owner e).tag ≡ e.tag) × ((lowered owner e).mode ≡ e.mode)
 lowered-key Session e = (refl, refl)
 lowered-key Transaction e = (refl, refl)
+
+pub count_for-below : (owner : Owner) (e : Entry) → IsCounted e → count_for owner e ≢ max_count → count_for owner e < max_count
+count_for-below Session e counted limit = omega (arith, counted.session, limit)
+count_for-below Transaction e counted limit = omega (arith, counted.transaction, limit)
 
 pub IsCounted-raised : (owner : Owner) (e : Entry) → count_for owner e < max_count → IsCounted e → IsCounted (raised owner e)
 IsCounted-raised Session e below counted = record { some = omega arith; transaction = counted.transaction; session = omega arith }
@@ -98,6 +103,21 @@ kept-raised slots index len max_local progress place owner e kept at below =
     (IsCounted-raised owner e below (kept.counted place e at))
     (λ end. past-back_to end slots (set slots place (Some (raised owner e))) place progress
     (λ k before. slot_at-set_other slots place k (Some (raised owner e)) (λ same. omega arith)) (kept.past end))
+
+-- the table with it, in which the owner's count was not at its most
+pub IsTable-raised :
+    (es es' : List Entry) (index : Notes) (len max_local : ℕ) (progress : Progress) (missing : Option Missing) (tag : Tag) (mode : Mode) (place : ℕ) (owner : Owner) →
+    IsTable es index len max_local progress missing → IsPlaceOf es tag mode place → count_for owner (entry_at es place) ≢ max_count →
+    opened es' ≡ set (opened es) place (Some (raised owner (entry_at es place))) → length es' ≡ length es →
+    IsTable es' index len max_local (back_to place progress) None
+IsTable-raised es es' index len max_local progress missing tag mode place owner table at limit raised_es number =
+    record {
+      kept = subst (λ (s : Slots). IsKept s index len max_local (back_to place progress)) (sym raised_es)
+          (kept-raised (opened es) index len max_local progress place owner (entry_at es place) table.kept at.there
+          (count_for-below owner (entry_at es place) (table.kept.counted place (entry_at es place) at.there) limit));
+      few = omega (arith, number, table.few);
+      remembered = tt;
+    }
 
 pub kept-lowered :
     (slots : Slots) (index : Notes) (len max_local : ℕ) (progress : Progress) (place : ℕ) (owner : Owner) (e : Entry) →

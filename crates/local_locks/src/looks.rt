@@ -72,13 +72,13 @@ pub(crate) fn look(slots: &[Entry], index: &PlaceIndex, last: usize, tag: &Tag, 
     look_up(slots, index, tag, mode)
 }
 
-/// The same after a `reserve`: goes by its look where it found nothing for this object and mode, and else looks
-/// first at the place where it found an entry.
+/// The same after another look: goes by that where it found nothing for this object and mode, and else looks first at
+/// the place where it found an entry.
 #[inline(always)]
 pub(crate) fn look_again(
     slots: &[Entry],
     index: &PlaceIndex,
-    reserved: usize,
+    found_at: usize,
     missing: &Option<Missing>,
     tag: &Tag,
     mode: Mode,
@@ -92,8 +92,8 @@ pub(crate) fn look_again(
             return Spot::Free(missing.hash);
         }
     }
-    if reserved < slots.len() && slots[reserved].is_of(tag, mode) && slots[reserved].is_held() {
-        return Spot::At(reserved);
+    if found_at < slots.len() && slots[found_at].is_of(tag, mode) && slots[found_at].is_held() {
+        return Spot::At(found_at);
     }
     look_up_apart(slots, index, tag, mode)
 }

@@ -1,4 +1,4 @@
-ghost use Rattle.std.specs.Prelude.{◌≡◌, ◌+◌, ◌<◌, ◌≤◌, ◌↔◌, ◌⊎◌, ◌∷◌, [], true, false, if◌then◌else◌, Some, None, IsErrOf, IsOkUnless, IfOk, IfErr, OnOk, OnErr, IfSome, IfNone, length};
+ghost use Rattle.std.specs.Prelude.{◌≡◌, ◌≢◌, ◌+◌, ◌<◌, ◌≤◌, ◌↔◌, ◌⊎◌, ◌∷◌, [], true, false, if◌then◌else◌, Some, None, IsErrOf, IsOkUnless, IfOk, IfErr, OnOk, OnErr, IfSome, IfNone, length};
 ghost use Rattle.local_locks.specs.Owned.{max_count, has_entry, owner_count_of, total_of, with_one_more, with_one_less, acquired_as, ended_by, left_by, with_next_ended, IsWellOwned, IsReserved};
 
 use crate::ends::Progress;
@@ -104,6 +104,42 @@ impl LocalTable {
         Entries::of(&self.slots)
     }
 
+    /// Counts an object and mode that is held already once more for this owner, in one look, and answers whether it is
+    /// (`LockAcquireExtended` in lock.c where it finds a local lock with `nLocks` above 0).
+    pub fn add_held(&mut self, tag: &Tag, mode: Mode, owner: Owner) -> Result<bool, Refusal>
+        ensures held { (result ≡ Ok true) ↔ ((has_entry self.old.entries tag.now mode ≡ true)
+            × (owner_count_of self.old.entries tag.now mode owner < max_count)) }
+        ensures not_held { (result ≡ Ok false) ↔ (has_entry self.old.entries tag.now mode ≡ false) }
+        ensures count_full { IsErrOf result Refusal.CountFull
+            ↔ (owner_count_of self.old.entries tag.now mode owner ≡ max_count) }
+        ensures no_other { IsOkUnless result Refusal.CountFull }
+        ensures entries { result ≡ Ok true → self.new.entries ≡ with_one_more self.old.entries tag.now mode owner }
+        ensures same { result ≢ Ok true → self.new ≡ self.old }
+        ensures room { self.old.room ≤ self.new.room }
+        ensures max_local { self.new.max_local ≡ self.old.max_local }
+        ensures well_owned { IsWellOwned self.new }
+    {
+        let place = match look_up(&self.slots, &self.index, tag, mode) {
+            Spot::At(place) => place,
+            Spot::Free(hash) => {
+                self.missing = Some(Missing {
+                    tag: *tag,
+                    mode,
+                    hash,
+                });
+                return Ok(false);
+            }
+        };
+        if self.slots[place].count_for(owner) == u16::MAX {
+            return Err(Refusal::CountFull);
+        }
+        self.missing = None;
+        self.last = place;
+        raise(&mut self.slots, place, owner);
+        self.progress = self.progress.back_to(place);
+        Ok(true)
+    }
+
     /// Makes room for one more acquire of the object and mode by this owner, which `add` then enters.
     pub fn reserve(&mut self, tag: Tag, mode: Mode, owner: Owner) -> Result<(), Refusal>
         ensures ok { OnOk result (IsReserved self.new tag mode owner) }
@@ -124,7 +160,14 @@ impl LocalTable {
         ensures max_local { self.new.max_local ≡ self.old.max_local }
         ensures well_owned { IsWellOwned self.new }
     {
-        match look_up(&self.slots, &self.index, &tag, mode) {
+        match look_again(
+            &self.slots,
+            &self.index,
+            self.last,
+            &self.missing,
+            &tag,
+            mode,
+        ) {
             Spot::At(place) => {
                 self.last = place;
                 if self.slots[place].count_for(owner) == u16::MAX {

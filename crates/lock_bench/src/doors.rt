@@ -23,6 +23,9 @@ pub fn acquire(
     mode: Mode,
     owner: Owner,
 ) -> Result<Acquired, Refusal> {
+    if table.add_held(&tag, mode, owner)? {
+        return Ok(Acquired::AlreadyHeld);
+    }
     table.reserve(tag, mode, owner)?;
     Ok(table.add(tag, mode, owner))
 }

@@ -1,14 +1,15 @@
-use Rattle.std.proofs.Common.{◌≡◌, ◌≢◌, ℕ, ◌+◌, ◌<◌, ◌≤◌, ◌==◌, Bool, true, false, ◌||◌, cond, List, [], ◌∷◌, ◌++◌, length, arith, refl, sym, ap, ◌∙◌, subst, inl, inr}
-use Rattle.std.specs.Prelude.{All, if◌then◌else◌}
+use Rattle.std.proofs.Common.{◌≡◌, ◌≢◌, ℕ, ◌+◌, ◌<◌, ◌≤◌, ◌==◌, Bool, true, false, ◌||◌, cond, List, [], ◌∷◌, ◌++◌, Result, Ok, length, arith, refl, sym, ap, ◌∙◌, subst, inl, inr}
+use Rattle.std.specs.Prelude.{if◌then◌else◌}
 use Rattle.std.proofs.lemmas.Bool.{cases_Bool, false≢true}
 use Rattle.modes_core.specs.declared.modes.Mode.{Mode}
+use Rattle.modes_core.specs.declared.refusals.Refusal.{Refusal}
 use Rattle.modes_core.specs.declared.tags.Tag.{Tag}
 use Rattle.modes_core.specs.declared.sessions.Owner.{Owner}
 use Rattle.modes_core.specs.declared.sessions.Owner.TheVariants.{Session, Transaction}
 use Rattle.modes_core.specs.Tag.{is_strong_on}
 use Rattle.local_locks.specs.declared.records.Entry.{Entry}
-use Rattle.local_locks.specs.Owned.{IsCounted, is_of, has_entry, total_of, raised, lowered, change, new_entry, with_one_more}
-use Rattle.local_locks.proofs.EntryLaws.{has_entry-none, has_entry-some, same_key, same_key-from, has_entry-with_one_more}
+use Rattle.local_locks.specs.Owned.{Owned, max_count, is_of, has_entry, owner_count_of, raised, lowered, change, new_entry, with_one_more}
+use Rattle.local_locks.proofs.EntryLaws.{same_key, same_key-from, has_entry-with_one_more}
 use Rattle.lock_world.specs.Account.{Account}
 use Rattle.lock_world.specs.AccountSteps.{own_with, account_storing}
 use Rattle.lock_world.specs.Counted.{Counted, is_counted}
@@ -57,17 +58,23 @@ rest-new limit database uses a stack entries blank none empty nothing =
       no_partition = empty;
     }
 
--- What its total says of an entry, once room for one more acquire was reserved.
-pub not_had :
-    (before reserved : List Entry) (tag : Tag) (mode : Mode) (total : ℕ) → reserved ≡ before → All IsCounted reserved → total ≡ total_of reserved tag mode → total ≡ 0
-    → has_entry before tag mode ≡ false
-not_had before reserved tag mode total same counted is none =
-    ap (λ (entries : List Entry). has_entry entries tag mode) (sym same) ∙ has_entry-none reserved tag mode counted (sym is ∙ none)
+-- What it has an entry of is counted once more,
+pub held_again :
+    (old new : Owned) (tag : Tag) (mode : Mode) (owner : Owner) (answer : Result Bool Refusal) (held : Bool) → answer ≡ Ok held → held ≡ true
+    → (answer ≡ Ok true → (has_entry old.entries tag mode ≡ true) × (owner_count_of old.entries tag mode owner < max_count))
+    → (answer ≡ Ok true → new.entries ≡ with_one_more old.entries tag mode owner)
+    → (has_entry old.entries tag mode ≡ true) × (new.entries ≡ with_one_more old.entries tag mode owner)
+held_again old new tag mode owner answer held ok is entry more =
+    let once_more : answer ≡ Ok true = ok ∙ ap (λ (b : Bool). Ok b) is in
+    ((entry once_more).0, more once_more)
 
-pub had : (before reserved : List Entry) (tag : Tag) (mode : Mode) (total : ℕ) → reserved ≡ before → total ≡ total_of reserved tag mode → total ≢ 0 → has_entry before tag mode ≡ true
-had before reserved tag mode total same is some =
-    let more : 0 < total_of reserved tag mode = omega (arith, is, some) in
-    ap (λ (entries : List Entry). has_entry entries tag mode) (sym same) ∙ has_entry-some reserved tag mode more
+-- and where it has none its table stays as it was.
+pub not_held_yet :
+    (old new : Owned) (tag : Tag) (mode : Mode) (answer : Result Bool Refusal) (held : Bool) → answer ≡ Ok held → held ≡ false
+    → (answer ≡ Ok false → has_entry old.entries tag mode ≡ false) → (answer ≢ Ok true → new ≡ old) → (has_entry old.entries tag mode ≡ false) × (new.entries ≡ old.entries)
+not_held_yet old new tag mode answer held ok is none same =
+    let missed : answer ≡ Ok false = ok ∙ ap (λ (b : Bool). Ok b) is in
+    (none missed, ap (λ (owned : Owned). owned.entries) (same (λ found. cc)))
 
 -- It has counted nothing for what it has no entry of,
 pub counted-none :

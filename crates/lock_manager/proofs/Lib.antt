@@ -4,7 +4,6 @@ pub mod Waking
 pub mod Releasing
 pub mod Resting
 pub mod Holding
-pub mod Starting
 pub mod Polling
 pub mod Unlocking
 mod HeldModes

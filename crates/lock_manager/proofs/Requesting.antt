@@ -8,10 +8,6 @@ use Rattle.modes_core.specs.declared.refusals.Refusal.{Refusal}
 use Rattle.modes_core.specs.declared.refusals.Refusal.TheVariants.{Conflict, NoMemory, LocalFull, CountFull, SimpleDeadlock, Cancelled, NotHeld, Busy, SlotsFull, StrongCounted, NotEligible, NoMoreSessions, BadConfig}
 use Rattle.modes_core.specs.Mode.{number_of}
 use Rattle.modes_core.specs.Tag.{partition_of, index_of, is_strong_on, is_eligible_for}
-use Rattle.local_locks.specs.declared.answers.Acquired.{Acquired}
-use Rattle.local_locks.specs.declared.answers.Acquired.TheVariants.{AlreadyHeld}
-use Rattle.local_locks.specs.declared.answers.Acquired.TheVariants as acquired
-use Rattle.local_locks.specs.Owned.{Owned, has_entry, acquired_as}
 use Rattle.wait_queue.specs.declared.requests.Kind.{Kind}
 use Rattle.wait_queue.specs.declared.requests.Kind.TheVariants.{Conditional, Waiting}
 use Rattle.wait_queue.specs.declared.requests.Decision.{Decision}
@@ -30,7 +26,7 @@ use Rattle.fast_path.specs.Grants.{Grants}
 use Rattle.fast_path.specs.Transfers.{IsAfterScan, Transfers, IsCutShort, TransfersOrNot}
 use Rattle.shared_rule.specs.Boards.{Seated}
 use Rattle.lock_manager.specs.Rest.{IsUseCount, IsIdle}
-use Rattle.lock_manager.specs.Requests.{LeadsToTable, DecidesInPart, Decides, Requests, Acquires, IsRequested, counted_granted, account_awaiting, account_decided}
+use Rattle.lock_manager.specs.Requests.{LeadsToTable, DecidesInPart, Decides, Requests, IsRequested, counted_granted, account_awaiting, account_decided}
 use Rattle.fast_path.proofs.Counting.{counted_at, uncounting-last}
 use Rattle.lock_manager.proofs.Deciding.{decided-granted}
 use Rattle.lock_manager.proofs.Holding.{use_count-same}
@@ -384,36 +380,6 @@ not_of_limits kind seat a b uses left tag mode refusal requests = (
 )
 
 -- ---- the whole acquire
-
--- An acquire that is decided is one where a request is.
-pub acquires-granted :
-    (seat : Seated) (owned : Owned) (a b : Account) (uses left : ℕ) (tag : Tag) (mode : Mode) (answer : Acquired) → answer ≡ acquired_as owned.entries tag mode
-    → has_entry owned.entries tag mode ≡ false → Requests Conditional seat a uses tag mode (Ok Granted) b left → Acquires seat owned a uses tag mode (Ok answer) b left
-acquires-granted seat owned a b uses left tag mode answer is new requests =
-    subst (λ (x : Acquired). Acquires seat owned a uses tag mode (Ok x) b left) (sym (is ∙ ap (λ b. if b then AlreadyHeld else acquired.Granted) new)) requests
-
-pub acquires-again :
-    (seat : Seated) (owned : Owned) (a : Account) (uses : ℕ) (tag : Tag) (mode : Mode) (answer : Acquired) → answer ≡ acquired_as owned.entries tag mode
-    → has_entry owned.entries tag mode ≡ true → Acquires seat owned a uses tag mode (Ok answer) a uses
-acquires-again seat owned a uses tag mode answer is held =
-    subst (λ (x : Acquired). Acquires seat owned a uses tag mode (Ok x) a uses) (sym (is ∙ ap (λ b. if b then AlreadyHeld else acquired.Granted) held)) (refl, refl)
-
-pub acquires-refused :
-    (seat : Seated) (owned : Owned) (a b : Account) (uses left : ℕ) (tag : Tag) (mode : Mode) (refusal : Refusal) → Requests Conditional seat a uses tag mode (Err refusal) b left
-    → Acquires seat owned a uses tag mode (Err refusal) b left
-acquires-refused seat owned a b uses left tag mode LocalFull requests = absurd requests.refused
-acquires-refused seat owned a b uses left tag mode CountFull requests = absurd requests.refused
-acquires-refused seat owned a b uses left tag mode NoMemory requests = inr requests
-acquires-refused seat owned a b uses left tag mode (Conflict other its how) requests = requests
-acquires-refused seat owned a b uses left tag mode (SimpleDeadlock other) requests = requests
-acquires-refused seat owned a b uses left tag mode Cancelled requests = requests
-acquires-refused seat owned a b uses left tag mode NotHeld requests = requests
-acquires-refused seat owned a b uses left tag mode Busy requests = requests
-acquires-refused seat owned a b uses left tag mode SlotsFull requests = requests
-acquires-refused seat owned a b uses left tag mode StrongCounted requests = requests
-acquires-refused seat owned a b uses left tag mode NotEligible requests = requests
-acquires-refused seat owned a b uses left tag mode NoMoreSessions requests = requests
-acquires-refused seat owned a b uses left tag mode BadConfig requests = requests
 
 -- A conditional request that is answered well is granted.
 pub conditional-granted :

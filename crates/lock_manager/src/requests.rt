@@ -50,10 +50,10 @@ pub fn acquire<T: PartTable, B: Board<T>, R: Wait>(
     ensures max_local { own.new.locals.max_local ≡ own.old.locals.max_local }
     ensures well_owned { IsWellOwned own.new.locals }
 {
-    own.locals.reserve(tag, mode, owner)?;
-    if own.locals.total(tag, mode) != 0 {
-        return Ok(own.locals.add(tag, mode, owner));
+    if own.locals.add_held(&tag, mode, owner)? {
+        return Ok(Acquired::AlreadyHeld);
     }
+    own.locals.reserve(tag, mode, owner)?;
     match request(
         rt,
         board,
@@ -100,9 +100,8 @@ pub fn acquire_by_slot<T: PartTable, B: Board<T>>(
     ensures max_local { own.new.locals.max_local ≡ own.old.locals.max_local }
     ensures well_owned { IsWellOwned own.new.locals }
 {
-    if own.locals.total(tag, mode) != 0 {
-        own.locals.reserve(tag, mode, owner)?;
-        return Ok(own.locals.add(tag, mode, owner));
+    if own.locals.add_held(&tag, mode, owner)? {
+        return Ok(Acquired::AlreadyHeld);
     }
     if !is_eligible(own.database, tag, mode) {
         return Err(Refusal::NotEligible);

@@ -93,11 +93,10 @@ pub fn start<T: PartTable, B: Board<T>, R: Wait>(
     ensures well_owned { IsWellOwned own.new.locals }
     ensures database { own.new.database ≡ own.old.database }
 {
-    own.locals.reserve(tag, mode, owner)?;
-    if own.locals.total(tag, mode) != 0 {
-        own.locals.add(tag, mode, owner);
+    if own.locals.add_held(&tag, mode, owner)? {
         return Ok(Started::AlreadyHeld);
     }
+    own.locals.reserve(tag, mode, owner)?;
     match request(
         rt,
         board,

@@ -77,9 +77,50 @@ fn attempt_fast<T: PartTable>(
     top.compare_exchange::<TakesSlots>(place, fast_word(owner), shown, taken) == shown
 }
 
+// The same, where the word shows that nobody holds the lock, and else no attempt.
+#[inline(always)]
+fn attempt_free_fast<T: PartTable>(top: &Top<T>, place: &mut Place<T>, owner: SessionId) -> bool
+    requires table { FitsTable place.old top.now.table_id }
+    requires exists { owner < top.now.key }
+    requires session { HasSession place.old.me.0 }
+    ensures seat { IsSameSeat place.old place.new }
+    ensures won { OnTrue result (TookSlots T.content owner place.old.me place.new.me) }
+    ensures lost { OnFalse result (place.new.me ≡ place.old.me) }
+{
+    let shown = top.peek(fast_word(owner));
+    match taken(shown) {
+        Some(taken) => attempt_fast(top, place, owner, shown, taken),
+        None => false,
+    }
+}
+
 /// Takes the lock of a session's fast-path slots exclusively, issued or not (`LWLockAcquire` of `fpInfoLock`). It
 /// waits until the lock is free.
+#[inline]
 pub(crate) fn take_fast<T: PartTable, R: Wait>(
+    rt: &R,
+    top: &Top<T>,
+    place: &mut Place<T>,
+    owner: SessionId,
+)
+    requires table { FitsTable place.old top.now.table_id }
+    requires exists { owner < top.now.key }
+    requires session { HasSession place.old.me.0 }
+    ensures seat { IsSameSeat place.old place.new }
+    ensures taken { TakesFast (number_at place.old) (account_at T.content place.old) owner
+        (account_at T.content place.new) }
+    ensures lone { StaysLone place.old.me.0 place.new.me.0 }
+    ensures slots { place.new.me.1 ≡ place.old.me.1 }
+{
+    if !attempt_free_fast(top, place, owner) {
+        take_fast_held(rt, top, place, owner);
+    }
+}
+
+/// The same after an attempt that failed: it waits before each further one.
+#[cold]
+#[inline(never)]
+fn take_fast_held<T: PartTable, R: Wait>(
     rt: &R,
     top: &Top<T>,
     place: &mut Place<T>,
@@ -96,13 +137,10 @@ pub(crate) fn take_fast<T: PartTable, R: Wait>(
 {
     let backoff = Backoff::new();
     for _ in rt.forever() {
-        let shown = top.peek(fast_word(owner));
-        if let Some(taken) = taken(shown) {
-            if attempt_fast(top, place, owner, shown, taken) {
-                return;
-            }
-        }
         backoff.snooze();
+        if attempt_free_fast(top, place, owner) {
+            return;
+        }
     }
     unreachable!()
 }

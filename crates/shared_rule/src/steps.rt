@@ -126,8 +126,30 @@ fn attempt_part<T: PartTable>(
     Some(top.exchange(place, content_slot(part), None).unwrap())
 }
 
+// The same, where the word shows that nobody holds the lock, and else no attempt.
+#[inline(always)]
+fn attempt_free_part<T: PartTable>(top: &Top<T>, place: &mut Place<T>, part: u8) -> Option<T>
+    requires table { FitsTable place.old top.now.table_id }
+    requires exists { part < 16 }
+    requires session { HasSession place.old.me.0 }
+    ensures seat { IsSameSeat place.old place.new }
+    ensures lost { IfNone result (place.new.me ≡ place.old.me) }
+    ensures side { IfSome result (λ content. place.new.me
+        ≡ (noting place.old.me.0 (TookPart part content), (content_slot_of part, None) ∷ place.old.me.1)) }
+    ensures none_begun { IfSome result (λ content. T.begun content ≡ None) }
+    ensures knows { IfSome result (λ content.
+        KnowsContent (number_at place.old) (account_at T.content place.old) part (T.content content)) }
+{
+    let shown = top.peek(partition_word(part));
+    match taken(shown) {
+        Some(taken) => attempt_part(top, place, part, shown, taken),
+        None => None,
+    }
+}
+
 /// Takes a partition's lightweight lock exclusively, and its content in hand (`LWLockAcquire` in lwlock.c). It waits
 /// until the lock is free. Of the content it tells what the session's account knows of it.
+#[inline]
 pub(crate) fn take_part<T: PartTable, R: Wait>(
     rt: &R,
     top: &Top<T>,
@@ -143,15 +165,31 @@ pub(crate) fn take_part<T: PartTable, R: Wait>(
     ensures none_begun { T.begun result ≡ None }
     ensures knows { KnowsContent (number_at place.old) (account_at T.content place.old) part (T.content result) }
 {
+    match attempt_free_part(top, place, part) {
+        Some(content) => content,
+        None => take_part_held(rt, top, place, part),
+    }
+}
+
+/// The same after an attempt that failed: it waits before each further one.
+#[cold]
+#[inline(never)]
+fn take_part_held<T: PartTable, R: Wait>(rt: &R, top: &Top<T>, place: &mut Place<T>, part: u8) -> T
+    requires table { FitsTable place.old top.now.table_id }
+    requires exists { part < 16 }
+    requires session { HasSession place.old.me.0 }
+    ensures seat { IsSameSeat place.old place.new }
+    ensures side { place.new.me
+        ≡ (noting place.old.me.0 (TookPart part result), (content_slot_of part, None) ∷ place.old.me.1) }
+    ensures none_begun { T.begun result ≡ None }
+    ensures knows { KnowsContent (number_at place.old) (account_at T.content place.old) part (T.content result) }
+{
     let backoff = Backoff::new();
     for _ in rt.forever() {
-        let shown = top.peek(partition_word(part));
-        if let Some(taken) = taken(shown) {
-            if let Some(content) = attempt_part(top, place, part, shown, taken) {
-                return content;
-            }
-        }
         backoff.snooze();
+        if let Some(content) = attempt_free_part(top, place, part) {
+            return content;
+        }
     }
     unreachable!()
 }

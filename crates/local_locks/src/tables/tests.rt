@@ -117,9 +117,10 @@ fn the_limits_are_kept(rt: HostRuntime) {
         Err(Refusal::CountFull)
     );
     assert_eq!(rt;
-        acquire(&mut table, tag, Mode::Share, Owner::Session),
-        Ok(Acquired::AlreadyHeld)
+        table.add_held(&tag, Mode::Share, Owner::Transaction),
+        Err(Refusal::CountFull)
     );
+    assert_eq!(rt; table.add_held(&tag, Mode::Share, Owner::Session), Ok(true));
     assert_eq!(rt; table.total(tag, Mode::Share), 65536);
     assert!(rt; acquire_again(&rt, &mut table, tag, Mode::Exclusive, Owner::Session).is_ok());
     assert_eq!(rt;
@@ -318,6 +319,41 @@ fn random_key(random: u32) -> (Tag, Mode, Owner) {
     (tag, mode, owner)
 }
 
+// Acquires it by `reserve` and `add`, and enters it in the list.
+fn acquire_both(
+    rt: &impl Abort,
+    table: &mut LocalTable,
+    list: &mut Plain,
+    tag: Tag,
+    mode: Mode,
+    owner: Owner,
+) {
+    let answer = if at(list, tag, mode).is_some() {
+        Acquired::AlreadyHeld
+    } else {
+        Acquired::Granted
+    };
+    assert_eq!(rt; acquire_again(rt, table, tag, mode, owner), Ok(answer));
+    plain_acquire(rt, list, tag, mode, owner);
+}
+
+// Counts it once more where it is held, and tells whether it was.
+fn add_held_both(
+    rt: &impl Abort,
+    table: &mut LocalTable,
+    list: &mut Plain,
+    tag: Tag,
+    mode: Mode,
+    owner: Owner,
+) -> bool {
+    let held = at(list, tag, mode).is_some();
+    assert_eq!(rt; table.add_held(&tag, mode, owner), Ok(held));
+    if held {
+        plain_acquire(rt, list, tag, mode, owner);
+    }
+    held
+}
+
 #[test]
 fn random_calls_are_as_on_a_plain_list(rt: HostRuntime) {
     let mut table = new_table(&rt, rt.alloc(), 1024);
@@ -326,22 +362,20 @@ fn random_calls_are_as_on_a_plain_list(rt: HostRuntime) {
     for step in 0..100_000u32 {
         random = random.wrapping_mul(1_664_525).wrapping_add(1_013_904_223);
         let (tag, mode, owner) = random_key(random);
-        if random >> 27 & 7 < 4 {
-            let held = at(&list, tag, mode).is_some();
-            let answer = if held {
-                Acquired::AlreadyHeld
-            } else {
-                Acquired::Granted
-            };
-            assert_eq!(rt;
-                acquire_again(&rt, &mut table, tag, mode, owner),
-                Ok(answer),
-                "{step}"
-            );
-            plain_acquire(&rt, &mut list, tag, mode, owner);
-        } else {
-            let had = plain_release(&rt, &mut list, tag, mode, owner);
-            assert_eq!(rt; table.drop_one(tag, mode, owner).is_ok(), had, "{step}");
+        match random >> 27 & 7 {
+            0..=1 => acquire_both(&rt, &mut table, &mut list, tag, mode, owner),
+            2..=3 => {
+                if !add_held_both(&rt, &mut table, &mut list, tag, mode, owner) {
+                    acquire_both(&rt, &mut table, &mut list, tag, mode, owner);
+                }
+            }
+            4 => {
+                let _ = add_held_both(&rt, &mut table, &mut list, tag, mode, owner);
+            }
+            _ => {
+                let had = plain_release(&rt, &mut list, tag, mode, owner);
+                assert_eq!(rt; table.drop_one(tag, mode, owner).is_ok(), had, "{step}");
+            }
         }
         if step % 1000 == 0 {
             assert_same(&rt, &table, &list);

@@ -1,7 +1,7 @@
-use Rattle.std.proofs.Common.{◌≢◌, true, Some, sym, ap, ◌∙◌}
+use Rattle.std.proofs.Common.{◌≢◌, sym, ap, ◌∙◌}
 use Rattle.std.proofs.lemmas.List.{get_or_default}
 use Rattle.local_locks.specs.Owned.{is_of, count_in_all}
-use Rattle.local_locks.specs.Slots.{opened, entry_at}
+use Rattle.local_locks.specs.Slots.{entry_at}
 use Rattle.local_locks.proofs.OpenLaws.{slot_at-opened, entry_in-held}
 use Rattle.local_locks.proofs.LookLaws.{place_of}
 use Rattle.local_locks.proofs.looks.look_again.Goals as goal
@@ -9,8 +9,8 @@ use Rattle.local_locks.proofs.looks.look_again.Goals as goal
 pub returns-then-is_held : goal.returns-then-is_held
 returns-then-is_held c =
     let es = c.args.slots.now in
-    let read = get_or_default es c.args.reserved _ _ c.if-reserved-slots.true in
-    let held : count_in_all (entry_at es c.args.reserved) ≢ 0 = λ none. c.is_held.ensures.0 c.if-is_held.true (ap count_in_all read ∙ none) in
-    place_of es c.args.index.now c.requires.indexed c.args.tag.now c.args.mode c.args.reserved
-    (slot_at-opened es c.args.reserved ∙ entry_in-held (entry_at es c.args.reserved) held)
+    let read = get_or_default es c.args.found_at _ _ c.if-found_at-slots.true in
+    let held : count_in_all (entry_at es c.args.found_at) ≢ 0 = λ none. c.is_held.ensures.0 c.if-is_held.true (ap count_in_all read ∙ none) in
+    place_of es c.args.index.now c.requires.indexed c.args.tag.now c.args.mode c.args.found_at
+    (slot_at-opened es c.args.found_at ∙ entry_in-held (entry_at es c.args.found_at) held)
     (ap (is_of c.args.tag.now c.args.mode) (sym read) ∙ (sym c.is_of.ensures ∙ c.if-is_of.true))

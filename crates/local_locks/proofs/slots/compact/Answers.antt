@@ -1,4 +1,4 @@
-use Rattle.std.proofs.Common.{◌≡◌, ◌≢◌, ◌<◌, ◌≤◌, ℕ, true, false, None, sym, ap, ◌∙◌, arith, length, inl, inr, take, subst, Vec, Global, vec_capacity}
+use Rattle.std.proofs.Common.{◌≡◌, ◌<◌, ◌≤◌, ℕ, None, sym, ap, ◌∙◌, arith, length, inl, inr, take, subst, Vec, Global, vec_capacity}
 use Rattle.std.specs.Option.{option_map}
 use Rattle.place_index.specs.Notes.{Notes}
 use Rattle.std.specs.Prelude.{IsSomeAnd}

@@ -1,4 +1,3 @@
-use Rattle.std.proofs.Common.{refl}
 use Rattle.lock_manager.proofs.Reading.{rest-read_slots, rest-read}
 use Rattle.lock_manager.proofs.listing.list.Goals as goal
 

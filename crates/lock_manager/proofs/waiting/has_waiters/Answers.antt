@@ -1,11 +1,11 @@
-use Rattle.std.proofs.Common.{refl}
+use Rattle.std.proofs.Common.{refl, sym, ◌∙◌}
+use Rattle.local_locks.proofs.EntryLaws.{has_entry-none}
 use Rattle.lock_manager.proofs.Deciding.{may_put-kept}
-use Rattle.lock_manager.proofs.Holding.{not_had}
 use Rattle.lock_manager.proofs.waiting.has_waiters.Goals as goal
 
 pub returns-then-total-eq0-clause-not_held : goal.returns-then-total-eq0-clause-not_held
 returns-then-total-eq0-clause-not_held g c = (
-  λ is. not_had c.args.own.now.locals.entries c.args.own.now.locals.entries c.args.tag c.args.mode c.total.result refl c.total.ensures.well_owned.counted c.total.ensures.total c.if-total-eq0.true,
+  λ is. has_entry-none c.args.own.now.locals.entries c.args.tag c.args.mode c.total.ensures.well_owned.counted (sym c.total.ensures.total ∙ c.if-total-eq0.true),
   λ none. refl,
 )
 

@@ -1,82 +1,42 @@
-use Rattle.std.proofs.Common.{◌≡◌, ◌<◌, false, List, Ok, length, arith, sym, ap, ◌∙◌, subst}
-use Rattle.std.proofs.lemmas.Bool.{false≢true}
+use Rattle.std.proofs.Common.{◌≡◌, ◌<◌, List, Ok, length, arith, ap, ◌∙◌, subst}
 use Rattle.local_locks.specs.declared.records.Entry.{Entry}
 use Rattle.local_locks.specs.Owned.{has_entry, with_one_more}
-use Rattle.lock_world.specs.Account.{Account}
 use Rattle.lock_world.specs.Happens.Counters.{most_counted}
 use Rattle.lock_manager.specs.Requests.{IsRequested}
-use Rattle.lock_manager.proofs.Holding.{rest-database, not_had, had, rest-not_counted, rest-few, rest-granted, rest-held_again}
-use Rattle.lock_manager.proofs.Starting.{rest-queued, granted_not_held, queued_not_held, refused_not_held}
+use Rattle.lock_manager.proofs.Holding.{held_again, not_held_yet, rest-not_counted, rest-few, rest-granted, rest-held_again}
 use Rattle.lock_manager.proofs.waiting.start.Goals as goal
 
-pub returns-then-total-ne0-clause-rest : goal.returns-then-total-ne0-clause-rest
-returns-then-total-ne0-clause-rest g c other =
-    let entries = c.args.own.now.locals.entries in
-    rest-held_again (g.B.Board.seat c.args.board.now).limit c.args.own.now.database c.args.own.now.uses (g.B.Board.view c.args.board.now) (g.B.Board.stack c.args.board.now) entries c.add.new.self.entries c.args.tag c.args.mode c.args.owner
-    (had entries c.reserve.new.self.entries c.args.tag c.args.mode c.total.result c.reserve.ensures.entries c.total.ensures.total c.if-total-ne0.true)
-    (c.add.ensures.entries ∙ ap (λ (es : List Entry). with_one_more es c.args.tag c.args.mode c.args.owner) c.reserve.ensures.entries) c.requires.rest
-
-pub request-requires-clause-new : goal.request-requires-clause-new
-request-requires-clause-new g c =
-    ap (λ (a : Account). a.own c.args.tag c.args.mode) c.requires.rest.account
-    ∙ not_had c.args.own.now.locals.entries c.reserve.new.self.entries c.args.tag c.args.mode c.total.result c.reserve.ensures.entries c.total.ensures.well_owned.counted c.total.ensures.total
-    c.if-total-ne0.false
-
-pub request-requires-clause-database : goal.request-requires-clause-database
-request-requires-clause-database g c =
-    rest-database (g.B.Board.seat c.args.board.now).limit c.args.own.now.database c.args.own.now.uses (g.B.Board.view c.args.board.now) (g.B.Board.stack c.args.board.now)
-    c.args.own.now.locals.entries c.requires.rest
+pub returns-then-branch-clause-rest : goal.returns-then-branch-clause-rest
+returns-then-branch-clause-rest g c other =
+    let again =
+    held_again c.args.own.now.locals c.add_held.new.self c.args.tag c.args.mode c.args.owner c.add_held.result c.in_ok-add_held.field-0 (c.in_ok-add_held.was {u = tt}) c.if-branch.true c.add_held.ensures.held.0
+    c.add_held.ensures.entries in
+    rest-held_again (g.B.Board.seat c.args.board.now).limit c.args.own.now.database c.args.own.now.uses (g.B.Board.view c.args.board.now) (g.B.Board.stack c.args.board.now) c.args.own.now.locals.entries
+    c.add_held.new.self.entries c.args.tag c.args.mode c.args.owner again.0 again.1 c.requires.rest
 
 pub request-requires-clause-not_counted : goal.request-requires-clause-not_counted
 request-requires-clause-not_counted g c =
-    let entries = c.args.own.now.locals.entries in
-    rest-not_counted (g.B.Board.seat c.args.board.now).limit c.args.own.now.database c.args.own.now.uses (g.B.Board.view c.args.board.now) (g.B.Board.stack c.args.board.now) entries c.args.tag c.args.mode c.requires.rest
-    (not_had entries c.reserve.new.self.entries c.args.tag c.args.mode c.total.result c.reserve.ensures.entries c.total.ensures.well_owned.counted c.total.ensures.total c.if-total-ne0.false)
+    let yet = not_held_yet c.args.own.now.locals c.add_held.new.self c.args.tag c.args.mode c.add_held.result c.in_ok-add_held.field-0 (c.in_ok-add_held.was {u = tt}) c.if-branch.false c.add_held.ensures.not_held.0 c.add_held.ensures.same in
+    rest-not_counted (g.B.Board.seat c.args.board.now).limit c.args.own.now.database c.args.own.now.uses (g.B.Board.view c.args.board.now) (g.B.Board.stack c.args.board.now) c.args.own.now.locals.entries
+    c.args.tag c.args.mode c.requires.rest yet.0
 
 pub request-requires-clause-countable : goal.request-requires-clause-countable
 request-requires-clause-countable g c =
+    let yet = not_held_yet c.args.own.now.locals c.add_held.new.self c.args.tag c.args.mode c.add_held.result c.in_ok-add_held.field-0 (c.in_ok-add_held.was {u = tt}) c.if-branch.false c.add_held.ensures.not_held.0 c.add_held.ensures.same in
     let entries = c.args.own.now.locals.entries in
-    let new : has_entry entries c.args.tag c.args.mode ≡ false =
-    not_had entries c.reserve.new.self.entries c.args.tag c.args.mode c.total.result c.reserve.ensures.entries c.total.ensures.well_owned.counted c.total.ensures.total c.if-total-ne0.false in
-    let room : length c.reserve.new.self.entries < c.reserve.new.self.max_local =
-    c.in_ok-reserve.ensures.ok.allowed (ap (λ (es : List Entry). has_entry es c.args.tag c.args.mode) c.reserve.ensures.entries ∙ new) in
-    let same : length c.reserve.new.self.entries ≡ length entries = ap (λ (es : List Entry). length es) c.reserve.ensures.entries in
-    let few : length entries < 65536 = omega (arith, room, same, c.reserve.ensures.max_local, c.requires.few_entries) in
+    let same = c.reserve.ensures.entries ∙ yet.1 in
+    let room : length c.reserve.new.self.entries < c.reserve.new.self.max_local = c.in_ok-reserve.ensures.ok.allowed (ap (λ (es : List Entry). has_entry es c.args.tag c.args.mode) same ∙ yet.0) in
+    let number : length c.reserve.new.self.entries ≡ length entries = ap (λ (es : List Entry). length es) same in
+    let few : length entries < 65536 = omega (arith, room, number, c.reserve.ensures.max_local, c.add_held.ensures.max_local, c.requires.few_entries) in
     rest-few (g.B.Board.seat c.args.board.now).limit c.args.own.now.database c.args.own.now.uses most_counted (g.B.Board.view c.args.board.now) (g.B.Board.stack c.args.board.now) entries c.requires.rest few
-
-pub returns-in-Ok-Granted-clause-already_held : goal.returns-in-Ok-Granted-clause-already_held
-returns-in-Ok-Granted-clause-already_held g c =
-    let entries = c.args.own.now.locals.entries in
-    let new = not_had entries c.reserve.new.self.entries c.args.tag c.args.mode c.total.result c.reserve.ensures.entries c.total.ensures.well_owned.counted c.total.ensures.total c.if-total-ne0.false in
-    (λ is. absurd (granted_not_held is), λ held. absurd (false≢true (sym new ∙ held.0)))
 
 pub returns-in-Ok-Granted-clause-rest : goal.returns-in-Ok-Granted-clause-rest
 returns-in-Ok-Granted-clause-rest g c other =
+    let yet = not_held_yet c.args.own.now.locals c.add_held.new.self c.args.tag c.args.mode c.add_held.result c.in_ok-add_held.field-0 (c.in_ok-add_held.was {u = tt}) c.if-branch.false c.add_held.ensures.not_held.0 c.add_held.ensures.same in
     let entries = c.args.own.now.locals.entries in
     rest-granted (g.B.Board.seat c.args.board.now).limit c.args.own.now.database c.args.own.now.uses c.request.new.uses (g.B.Board.view c.args.board.now) (g.B.Board.view c.request.new.board) (g.B.Board.stack c.args.board.now) (g.B.Board.stack c.request.new.board)
-    entries c.add-in-Ok-Granted.new.self.entries c.args.tag c.args.mode c.args.owner
-    (not_had entries c.reserve.new.self.entries c.args.tag c.args.mode c.total.result c.reserve.ensures.entries c.total.ensures.well_owned.counted c.total.ensures.total c.if-total-ne0.false)
+    entries c.add.new.self.entries c.args.tag c.args.mode c.args.owner yet.0
     (subst (λ decision. IsRequested (g.B.Board.seat c.args.board.now).limit (g.B.Board.view c.args.board.now) c.args.tag c.args.mode (Ok decision) (g.B.Board.view c.request.new.board))
-    c.in-Ok-Granted.field-0-is c.in-Ok-Granted.ensures.account) c.request.ensures.use_count c.request.ensures.stack
-    (c.add-in-Ok-Granted.ensures.entries ∙ ap (λ (es : List Entry). with_one_more es c.args.tag c.args.mode c.args.owner) c.reserve.ensures.entries) c.requires.rest
-
-pub returns-in-Ok-Queued-clause-already_held : goal.returns-in-Ok-Queued-clause-already_held
-returns-in-Ok-Queued-clause-already_held g c =
-    let entries = c.args.own.now.locals.entries in
-    let new = not_had entries c.reserve.new.self.entries c.args.tag c.args.mode c.total.result c.reserve.ensures.entries c.total.ensures.well_owned.counted c.total.ensures.total c.if-total-ne0.false in
-    (λ is. absurd (queued_not_held is), λ held. absurd (false≢true (sym new ∙ held.0)))
-
-pub returns-in-Ok-Queued-clause-waiting : goal.returns-in-Ok-Queued-clause-waiting
-returns-in-Ok-Queued-clause-waiting g c queued =
-    let entries = c.args.own.now.locals.entries in
-    rest-queued (g.B.Board.seat c.args.board.now).limit c.args.own.now.database c.args.own.now.uses c.request.new.uses (g.B.Board.view c.args.board.now) (g.B.Board.view c.request.new.board) (g.B.Board.stack c.args.board.now) (g.B.Board.stack c.request.new.board)
-    entries c.reserve.new.self.entries c.args.tag c.args.mode
-    (not_had entries c.reserve.new.self.entries c.args.tag c.args.mode c.total.result c.reserve.ensures.entries c.total.ensures.well_owned.counted c.total.ensures.total c.if-total-ne0.false)
-    (subst (λ decision. IsRequested (g.B.Board.seat c.args.board.now).limit (g.B.Board.view c.args.board.now) c.args.tag c.args.mode (Ok decision) (g.B.Board.view c.request.new.board))
-    c.in-Ok-Queued.field-0-is c.in-Ok-Queued.ensures.account) c.request.ensures.use_count c.request.ensures.stack c.reserve.ensures.entries c.requires.rest
-
-pub returns-in-Err-clause-already_held : goal.returns-in-Err-clause-already_held
-returns-in-Err-clause-already_held g c =
-    let entries = c.args.own.now.locals.entries in
-    let new = not_had entries c.reserve.new.self.entries c.args.tag c.args.mode c.total.result c.reserve.ensures.entries c.total.ensures.well_owned.counted c.total.ensures.total c.if-total-ne0.false in
-    (λ is. absurd (refused_not_held c.in-Err.refusal is), λ held. absurd (false≢true (sym new ∙ held.0)))
+    c.in-Ok-Granted.field-0-is
+    c.in-Ok-Granted.ensures.account) c.request.ensures.use_count c.request.ensures.stack
+    (c.add.ensures.entries ∙ ap (λ (es : List Entry). with_one_more es c.args.tag c.args.mode c.args.owner) (c.reserve.ensures.entries ∙ yet.1)) c.requires.rest

@@ -1,14 +1,14 @@
-use Rattle.std.proofs.Common.{◌≡◌, ◌<◌, ◌+◌, ◌∷◌, ◌++◌, [], Some, false, sym, ap, subst, cond, ◌∙◌, length, arith}
+use Rattle.std.proofs.Common.{◌≡◌, ◌≢◌, ◌<◌, ◌+◌, ◌∷◌, ◌++◌, [], Some, false, sym, ap, subst, cond, ◌∙◌, length, arith}
 use Rattle.std.specs.Prelude.{is_some, List}
 use Rattle.local_locks.specs.Owned.{IsCounted, raised, new_entry, max_count, count_for, has_entry, owner_count_of, with_one_more, change}
-use Rattle.local_locks.specs.Slots.{Slots, IsKept, IsIndexed, IsPlaceOf, IsMissing, opened, entry_at, present, back_to}
+use Rattle.local_locks.specs.Slots.{Slots, IsKept, IsIndexed, IsTable, IsPlaceOf, IsMissing, opened, entry_at, present, back_to}
 use Rattle.local_locks.specs.declared.ends.Progress.{Progress}
 use Rattle.local_locks.specs.declared.records.Entry.{Entry}
 use Rattle.local_locks.proofs.SlotLaws.{present-push}
 use Rattle.local_locks.proofs.OpenLaws.{length-opened}
 use Rattle.local_locks.proofs.LookLaws.{absent_key, new_entry-key}
 use Rattle.local_locks.proofs.KeptLaws.{well_owned}
-use Rattle.local_locks.proofs.TableSteps.{owner_count-at, kept-raised, kept-pushed, entries-raised, IsCounted-new}
+use Rattle.local_locks.proofs.TableSteps.{owner_count-at, IsTable-raised, kept-pushed, entries-raised, IsCounted-new}
 use Rattle.local_locks.proofs.tables.LocalTable.add.Goals as goal
 
 -- ---- there is an entry
@@ -19,15 +19,10 @@ invariant_of-self c =
     let at = subst (λ (l : List Entry). IsPlaceOf l c.args.tag c.args.mode c.in-At.place) c.deref.ensures.value (c.in-At.ensures {u = tt}) in
     let count = owner_count-at (present (opened es)) c.args.tag c.args.mode c.args.owner (entry_at es c.in-At.place) at.found in
     let seen = ap (λ v. owner_count_of v.entries c.args.tag c.args.mode c.args.owner) c.self.view_is in
-    let below : count_for c.args.owner (entry_at es c.in-At.place) < max_count = omega (arith, count, seen, c.requires.countable) in
-    record {
-      kept = subst (λ (p : Progress). IsKept (opened c.raise.new.slots.items) c.self.inside.index c.self.inside.len c.self.inside.max_local p) (sym c.back_to-self-inside.ensures)
-          (subst (λ (s : Slots). IsKept s c.self.inside.index c.self.inside.len c.self.inside.max_local (back_to c.in-At.place c.self.inside.progress)) (sym c.raise.ensures.slots)
-          (kept-raised (opened es) c.self.inside.index c.self.inside.len c.self.inside.max_local c.self.inside.progress c.in-At.place c.args.owner (entry_at es c.in-At.place)
-          c.self.invariant.kept at.there below));
-      few = omega (arith, c.raise.ensures.number, c.self.invariant.few);
-      remembered = tt;
-    }
+    let limit : count_for c.args.owner (entry_at es c.in-At.place) ≢ max_count = omega (arith, count, seen, c.requires.countable) in
+    subst (λ (p : Progress). IsTable c.raise.new.slots.items c.self.inside.index c.self.inside.len c.self.inside.max_local p _) (sym c.back_to-self-inside.ensures)
+    (IsTable-raised es c.raise.new.slots.items c.self.inside.index c.self.inside.len c.self.inside.max_local c.self.inside.progress c.self.inside.missing c.args.tag c.args.mode
+    c.in-At.place c.args.owner c.self.invariant at limit c.raise.ensures.slots c.raise.ensures.number)
 
 pub returns-in-At-clause-well_owned : goal.returns-in-At-clause-well_owned
 returns-in-At-clause-well_owned c = well_owned _ _ _ _ _ _ (invariant_of-self c).kept
