@@ -1,5 +1,6 @@
 -- When the machine shows a World, and what its looks then tell.
 pub mod Places
+pub mod LwWords
 pub mod Changes
 pub mod Hands
 pub mod Locks

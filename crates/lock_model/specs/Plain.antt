@@ -18,7 +18,8 @@ use Rattle.lock_model.specs.declared.machine.plain.QueuedWait.{QueuedWait}
 use Rattle.lock_model.specs.declared.machine.plain.Plain.{Plain}
 use Rattle.lock_table.specs.Content.{Holds}
 use Rattle.lock_table.specs.Content as content
-use Rattle.lw_word.specs.LightweightWord.{free_word}
+use Rattle.lw_word.specs.LockState.{opening_state}
+use Rattle.lw_word.specs.LockState as lock_state
 use Rattle.lock_world.specs.World.{World, WordExists, word_in}
 use Rattle.lock_world.specs.SlotHolds.{IsHeldIn}
 use Rattle.lock_world.specs.SafeWorld.{slots_of}
@@ -36,8 +37,8 @@ abbrev pub listed_sleepers : Plain → List Sleeper
 listed_sleepers plain = plain.lists.sleepers.items
 
 abbrev pub word_of : Plain → Word → ℕ
-word_of plain (Partition p) = slice_index_or plain.words.partitions p free_word
-word_of plain (Fast session) = slice_index_or plain.words.fast session free_word
+word_of plain (Partition p) = lock_state.word_of (slice_index_or plain.words.partitions p opening_state)
+word_of plain (Fast session) = lock_state.word_of (slice_index_or plain.words.fast session opening_state)
 word_of plain (Database session) = slice_index_or plain.fast_path.databases session 0
 word_of plain (Slot session place) = slice_index_or (slice_index_or plain.fast_path.slots session []) place 0
 word_of plain (Wait session) = slice_index_or plain.words.waits session 0

@@ -23,7 +23,8 @@ use Rattle.lock_table.specs.declared.moves.Move.TheVariants.{Keep, Grant, Join, 
 use Rattle.lock_table.specs.MoveTests.{move_eq}
 use Rattle.lock_world.specs.declared.events.Step.{Step}
 use Rattle.lock_table.specs.Content.{Holds, Content}
-use Rattle.lw_word.specs.LightweightWord.{free_word}
+use Rattle.lw_word.specs.LightweightWord.{IsLightweightWord}
+use Rattle.lw_word.specs.LockState.{LockState, opening_state, state_of}
 use Rattle.lw_word.specs.declared.wait_lists.LwWaiter.{LwWaiter}
 use Rattle.lock_table.specs.OwnWait.{OwnWait}
 use Rattle.lock_table.specs.Parts.{part_at, contents_in}
@@ -82,12 +83,17 @@ pub record ShowsNumbers (shown : Numbers) (numbers : world.Numbers) : Type 0 whe
   pub live : (session : ℕ) → slice_index_or shown.live session false ≡ numbers.live session
   pub kept_by : (session : ℕ) → slice_index_or shown.kept_by session None ≡ numbers.kept_by session
 
+-- The word of a lightweight lock says what its number in the World says.
+pub record ShowsLock (shown : LockState) (word : ℕ) : Type 0 where
+  pub says : shown ≡ state_of word
+  pub is_word : IsLightweightWord word
+
 -- The words show what they show in the World.
 pub record ShowsWords (shown : Words) (words : world.Words) : Type 0 where
   pub sixty_four_fast : length shown.fast ≡ 64
   pub sixty_four_waits : length shown.waits ≡ 64
-  pub partition : (p : ℕ) → slice_index_or shown.partitions p free_word ≡ words.partition p
-  pub fast : (session : ℕ) → slice_index_or shown.fast session free_word ≡ words.fast session
+  pub partition : (p : ℕ) → ShowsLock (slice_index_or shown.partitions p opening_state) (words.partition p)
+  pub fast : (session : ℕ) → ShowsLock (slice_index_or shown.fast session opening_state) (words.fast session)
   pub wait : (session : ℕ) → slice_index_or shown.waits session 0 ≡ words.wait session
 
 -- The marks of so many locks, 64 of each, tell which sessions have which of them in the World.

@@ -11,7 +11,7 @@ mod counters;
 mod hands;
 mod list_words;
 mod lists;
-mod lock_bits;
+mod lw_words;
 mod moved_part;
 mod own_waits;
 mod partitions;

@@ -3,7 +3,7 @@ use Rattle.std.specs.Prelude.{◌==◌, nat_le, filter, All, count_by, if◌then
 use Rattle.std.specs.List.{list_any}
 use Rattle.std.proofs.Math.ListN.{set}
 use Rattle.std.proofs.lemmas.Bool.{cases_Bool, cases_eq, both_ways, false≢true, and_parts, and_from, and_left, and_right, or_from, or_parts, cond-true, cond-false, eqb-true, eq-eqb, ne_eqb, lt-ltb, ltb-true, not-true, not_from_false, false_from_ne_true}
-use Rattle.std.proofs.lemmas.List.{map-id, get_or_default}
+use Rattle.std.proofs.lemmas.List.{map-id}
 use Rattle.std.proofs.lemmas.List.Elements.{All-append, All-filter, All-map}
 use Rattle.modes_core.specs.declared.modes.Mode.{Mode}
 use Rattle.modes_core.specs.declared.modes.Mode.TheVariants.{AccessShare, RowShare, RowExclusive, ShareUpdateExclusive, Share, ShareRowExclusive, Exclusive, AccessExclusive}
@@ -11,7 +11,8 @@ use Rattle.modes_core.specs.declared.tags.Tag.{Tag}
 use Rattle.modes_core.specs.declared.tags.Tag.TheVariants.{Relation, Object}
 use Rattle.modes_core.specs.Mode.{number_of}
 use Rattle.modes_core.specs.Tag.{is_eligible_for, is_strong_on, partition_of}
-use Rattle.lw_word.specs.LightweightWord.{free_word, put_word}
+use Rattle.lw_word.specs.declared.words.LwMode.TheVariants as lw_mode
+use Rattle.lw_word.specs.LockState.{opening_state, put_in}
 use Rattle.lock_table.specs.Content.{Content}
 use Rattle.lock_table.specs.OwnWait.{is_for}
 use Rattle.lock_table.specs.Parts.{contents_in}
@@ -41,6 +42,7 @@ use Rattle.lock_model.proofs.Shows.Locks.{marks-set}
 use Rattle.lock_model.proofs.Shows.SlotLooks.{zero-set}
 use Rattle.lock_model.proofs.Shows.Looks.{steps_from, steps_kept, awaits_from, slots_from, own_from, own_in_content, own_nowhere, content_from}
 use Rattle.lock_model.proofs.Follows.Skipped.{skipped}
+use Rattle.lock_model.proofs.Follows.Slots.{put_fast_shown}
 
 -- The machine's steps on strong lock counters.
 
@@ -289,7 +291,7 @@ module _ (m : Machine) (w : World) (safe : SafeWorld w) (shows : Shows m w) wher
       → (v : World) × Next w (record { session = s; step = PutPassing o t n }) v
       × Shows
       (record m {
-        words = record (m.words) { fast = set m.words.fast o (put_word (get_or m.words.fast o 0)) };
+        words = record (m.words) { fast = set m.words.fast o (put_in lw_mode.Exclusive (get_or m.words.fast o opening_state)) };
         locks = record (m.locks) { fast_holders = set m.locks.fast_holders o (set (get_or m.locks.fast_holders o []) s false) };
         fast_path = record (m.fast_path) { zeros = if nat_eq o s then set m.fast_path.zeros s None else m.fast_path.zeros };
         counted = after.counted;
@@ -299,8 +301,7 @@ module _ (m : Machine) (w : World) (safe : SafeWorld w) (shows : Shows m w) wher
     inl (may_pass_from s o t n may exists, refl),
     record {
       numbers = shows.numbers;
-      words = fast_word-set m.words w.words o _ _ shows.words exists
-          (ap put_word (get_or_default m.words.fast o 0 free_word (subst (λ n. o < n) (sym shows.words.sixty_four_fast) exists) ∙ shows.words.fast o));
+      words = fast_word-set m.words w.words o _ _ shows.words exists (put_fast_shown m w safe shows s o _ _ (shows.words.fast o) (may_pass_from s o t n may exists).holding refl);
       locks = record {
         fast_holders = marks-set m.locks.fast_holders 64 w.sessions.holds_fast s o false shows.locks.fast_holders below exists;
         fast_sharers = shows.locks.fast_sharers;

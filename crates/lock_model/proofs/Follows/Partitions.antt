@@ -12,7 +12,8 @@ use Rattle.lock_world.specs.declared.events.Word.TheVariants.{Partition}
 use Rattle.lock_model.specs.declared.machine.hands.InHand.{InHand}
 use Rattle.lock_model.specs.declared.machine.state.Machine.{Machine}
 use Rattle.lock_model.specs.declared.machine.state.Contents.{Contents}
-use Rattle.lw_word.specs.LightweightWord.{free_word, taken_word, put_word, IsHeldByNobody}
+use Rattle.lw_word.specs.declared.words.LwMode.TheVariants.{Exclusive}
+use Rattle.lw_word.specs.LockState.{LockState, opening_state, IsFreeFor, taken_in, put_in}
 use Rattle.lock_table.specs.Content.{Wait, Content, add_hold, remove_hold}
 use Rattle.lock_table.specs.Queue.{some_awaits_conflict, Wakes, WaitingAnswer}
 use Rattle.lock_table.specs.Moves.{Moves, WakesFor, IsInPartition, FitsOwn}
@@ -26,8 +27,9 @@ use Rattle.lock_world.specs.Counted.{IsCountedFor}
 use Rattle.lock_model.specs.SlotLooks.{may_ask}
 use Rattle.lock_model.specs.CountedLists.{counted_for}
 use Rattle.lock_model.proofs.Follows.Counters.{counted_for_from, counted_for_needs}
-use Rattle.lock_model.specs.Shows.{Shows, is_unmarked_in, none_unmarked, makes_steps, hand_of, awaits, awaited_of, HasUnmoved, is_over, CannotMake}
+use Rattle.lock_model.specs.Shows.{Shows, ShowsLock, is_unmarked_in, none_unmarked, makes_steps, hand_of, awaits, awaited_of, HasUnmoved, is_over, CannotMake}
 use Rattle.lock_model.proofs.Shows.Hands.{none_unmarked-each, each-none_unmarked}
+use Rattle.lock_model.proofs.Shows.LwWords.{holder_shown, made_shown, free_shown, taken_shown, put_shown}
 use Rattle.lock_model.proofs.Shows.Changes.{partition_word-set, hand-set, IsChangedAt, changed_nowhere, parts-changed}
 use Rattle.lock_table.proofs.QueueLaws.{one_wakes}
 use Rattle.lock_model.proofs.Shows.Looks.{recorded_from, unmarked_from, steps_from, hand_from, hand_not, own_in_content, not_awaited_own, content_from, fits_from, from_fits}
@@ -66,24 +68,25 @@ WakesFor-one m before t granted other after its one two =
 -- the machine, once it has put the partition with these parts
 abbrev pub put_by : Machine → ℕ → Contents → Machine
 put_by m p changed = record m {
-  words = record (m.words) { partitions = set m.words.partitions p (put_word (get_or m.words.partitions p free_word)) };
+  words = record (m.words) { partitions = set m.words.partitions p (put_in Exclusive (get_or m.words.partitions p opening_state)) };
   contents = record { hands = set m.contents.hands p None; parts = changed.parts };
 }
 
 module _ (m : Machine) (w : World) (safe : SafeWorld w) (shows : Shows m w) where
-  pub taken : (s p : ℕ) (unmarked : List Bool) → makes_steps m s ≡ true → p < 16 → p < length m.words.partitions → IsHeldByNobody (get_or m.words.partitions p free_word) → ((k : ℕ) → is_unmarked_in unmarked k ≡ false)
+  pub taken : (s p : ℕ) (its word : LockState) (unmarked : List Bool) → makes_steps m s ≡ true → p < 16 → p < length m.words.partitions → ShowsLock its (w.words.partition p)
+      → IsFreeFor Exclusive its × (word ≡ taken_in Exclusive its) → ((k : ℕ) → is_unmarked_in unmarked k ≡ false)
       → (v : World) × Next w (record { session = s; step = TakeExclusive (Partition p) }) v
       × Shows
       (record m {
-        words = record (m.words) { partitions = set m.words.partitions p (taken_word (get_or m.words.partitions p free_word)) };
+        words = record (m.words) { partitions = set m.words.partitions p word };
         contents = record (m.contents) { hands = set m.contents.hands p (Some (record { holder = s; recorded = None; unmarked = unmarked })) };
       }) v
-  taken s p unmarked steps exists in_words free none = (
+  taken s p its word unmarked steps exists in_words says answer none = (
     after_taking_partition w s p,
-    inl (record { steps = steps_from m w safe shows s steps; exists = exists; free = subst IsHeldByNobody (shows.words.partition p) free }, refl),
+    inl (record { steps = steps_from m w safe shows s steps; exists = exists; free = (free_shown its _ says).0 answer.0 }, refl),
     record {
       numbers = shows.numbers;
-      words = partition_word-set m.words w.words p _ _ shows.words in_words (ap taken_word (shows.words.partition p));
+      words = partition_word-set m.words w.words p word _ shows.words in_words (made_shown word _ answer.1 (taken_shown its _ says Exclusive tt answer.0));
       fast_path = shows.fast_path;
       counted = shows.counted;
       lists = shows.lists;
@@ -94,11 +97,12 @@ module _ (m : Machine) (w : World) (safe : SafeWorld w) (shows : Shows m w) wher
   )
 
   -- A put is shown once the parts follow it.
-  shown_put : (s p : ℕ) (done : Move) (content : Content) (changed : Contents) → p < 16 → p < length m.words.partitions → IsChangedAt m.contents.parts.items changed.parts.items p content
+  shown_put : (s p : ℕ) (done : Move) (content : Content) (changed : Contents) → p < 16 → p < length m.words.partitions → w.sessions.holds_partition s p ≡ true → IsChangedAt m.contents.parts.items changed.parts.items p content
       → Shows (put_by m p changed) (after_putting_partition w s p done content)
-  shown_put s p done content changed exists in_words at = record {
+  shown_put s p done content changed exists in_words holding at = record {
     numbers = shows.numbers;
-    words = partition_word-set m.words w.words p _ _ shows.words in_words (ap put_word (shows.words.partition p));
+    words = partition_word-set m.words w.words p _ _ shows.words in_words
+        (put_shown _ _ (shows.words.partition p) Exclusive (holder_shown w.numbers.limit (w.words.partition p) _ _ (safe.but_slots.table.promise.words p) s holding));
     fast_path = shows.fast_path;
     counted = shows.counted;
     lists = shows.lists;
@@ -122,7 +126,7 @@ module _ (m : Machine) (w : World) (safe : SafeWorld w) (shows : Shows m w) wher
       } in (
         after_putting_recorded w s p,
         inl (inr (may, refl)),
-        shown_put s p Keep (w.contents.now p) m.contents has.exists in_words (changed_nowhere m.contents.parts.items p (w.contents.now p) (shows.contents.now p has.exists) (shows.contents.none_begun p)),
+        shown_put s p Keep (w.contents.now p) m.contents has.exists in_words has.holding (changed_nowhere m.contents.parts.items p (w.contents.now p) (shows.contents.now p has.exists) (shows.contents.none_begun p)),
       )
 
   -- A put by a session that hasn't the partition in hand is not lawful.
@@ -178,7 +182,7 @@ module _ (m : Machine) (w : World) (safe : SafeWorld w) (shows : Shows m w) wher
       } in (
         after_putting_partition w s p done content,
         inl (inl (content, may, refl)),
-        shown_put s p done content changed has.exists in_words at,
+        shown_put s p done content changed has.exists in_words has.holding at,
       )
 
   pub kept : (s p : ℕ) → HasUnmoved m s p → p < length m.words.partitions

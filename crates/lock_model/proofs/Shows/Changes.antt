@@ -13,9 +13,9 @@ use Rattle.lock_table.specs.OwnWait.{OwnWait}
 use Rattle.lock_table.specs.Parts.{no_part, part_at, contents_in}
 use Rattle.lock_table.specs.PartView.{PartView, content_of}
 use Rattle.lock_table.specs.Put.{set_at}
-use Rattle.lw_word.specs.LightweightWord.{free_word}
+use Rattle.lw_word.specs.LockState.{LockState, opening_state}
 use Rattle.lock_world.specs.World as world
-use Rattle.lock_model.specs.Shows.{ShowsHandIfAny, ShowsWords, ShowsContents, ShowsWaits, awaited_of}
+use Rattle.lock_model.specs.Shows.{ShowsHandIfAny, ShowsLock, ShowsWords, ShowsContents, ShowsWaits, awaited_of}
 use Rattle.lock_table.proofs.PutLemmas.{set_at-here, set_at-else, written-at}
 
 -- What the machine shows once one place of it was written, for each record of `Shows`.
@@ -25,23 +25,23 @@ pub get_or-set_at : {A : Type 0} (xs : List A) (k : ℕ) (a d : A) (f : ℕ → 
 get_or-set_at xs k a d f within reads j = written-at (λ own its. own ≡ its) xs k a d f a within refl j (reads j)
 
 -- A partition's word, that of a session's fast-path slots, and a session's wait word.
-pub partition_word-set : (shown : Words) (words : world.Words) (p a b : ℕ) → ShowsWords shown words → p < length shown.partitions → a ≡ b
+pub partition_word-set : (shown : Words) (words : world.Words) (p : ℕ) (a : LockState) (b : ℕ) → ShowsWords shown words → p < length shown.partitions → ShowsLock a b
     → ShowsWords (record shown { partitions = set shown.partitions p a }) (record words { partition = set_at words.partition p b })
-partition_word-set shown words p a b shows within same = record {
+partition_word-set shown words p a b shows within is = record {
   sixty_four_fast = shows.sixty_four_fast;
   sixty_four_waits = shows.sixty_four_waits;
-  partition = λ q. get_or-set_at shown.partitions p a free_word words.partition within shows.partition q ∙ ap (λ n. set_at words.partition p n q) same;
+  partition = λ q. written-at ShowsLock shown.partitions p a opening_state words.partition b within is q (shows.partition q);
   fast = shows.fast;
   wait = shows.wait;
 }
 
-pub fast_word-set : (shown : Words) (words : world.Words) (o a b : ℕ) → ShowsWords shown words → o < 64 → a ≡ b
+pub fast_word-set : (shown : Words) (words : world.Words) (o : ℕ) (a : LockState) (b : ℕ) → ShowsWords shown words → o < 64 → ShowsLock a b
     → ShowsWords (record shown { fast = set shown.fast o a }) (record words { fast = set_at words.fast o b })
-fast_word-set shown words o a b shows below same = record {
+fast_word-set shown words o a b shows below is = record {
   sixty_four_fast = length-set shown.fast o a ∙ shows.sixty_four_fast;
   sixty_four_waits = shows.sixty_four_waits;
   partition = shows.partition;
-  fast = λ k. get_or-set_at shown.fast o a free_word words.fast (subst (λ n. o < n) (sym shows.sixty_four_fast) below) shows.fast k ∙ ap (λ n. set_at words.fast o n k) same;
+  fast = λ k. written-at ShowsLock shown.fast o a opening_state words.fast b (subst (λ n. o < n) (sym shows.sixty_four_fast) below) is k (shows.fast k);
   wait = shows.wait;
 }
 

@@ -8,7 +8,7 @@ use Rattle.modes_core.specs.declared.tags.Tag.{Tag}
 use Rattle.modes_core.specs.Tag.{partition_of}
 use Rattle.lock_model.specs.declared.machine.hands.InHand.{InHand}
 use Rattle.lock_model.specs.declared.machine.state.Machine.{Machine}
-use Rattle.lw_word.specs.LightweightWord.{free_word}
+use Rattle.lw_word.specs.LockState.{LockState, opening_state}
 use Rattle.lock_table.specs.Content.{Content}
 use Rattle.lock_table.specs.OwnWait.{OwnWait, Stage, InQueue, WasGranted, HasLeft, is_for, is_pending, queued_by}
 use Rattle.lock_table.specs.Parts.{contents_in}
@@ -17,7 +17,7 @@ use Rattle.lock_world.specs.World.{World, Hand, MakesSteps, recorded_in, is_unma
 use Rattle.lock_world.specs.Safe.{is_hand_of, stages}
 use Rattle.lock_world.specs.SlotHolds.{slot_holds}
 use Rattle.lock_world.specs.SafeWorld.{SafeWorld, slots_of, own_but}
-use Rattle.lock_model.specs.Shows.{Shows, ShowsHand, ShowsHandIfAny, is_unmarked_in, is_holder, makes_steps, hand_of, awaits, awaited_of}
+use Rattle.lock_model.specs.Shows.{Shows, ShowsLock, ShowsHand, ShowsHandIfAny, is_unmarked_in, is_holder, makes_steps, hand_of, awaits, awaited_of}
 use Rattle.lock_model.specs.SlotLooks.{slots_hold, may_ask}
 use Rattle.lock_table.proofs.ListLemmas.{any_weaker, filter_nothing}
 
@@ -161,9 +161,17 @@ module _ (m : Machine) (w : World) (safe : SafeWorld w) (shows : Shows m w) wher
             ∙ sym ((safe.but_slots.table.promise.one_place.on_object t).held s n) ∙ sym (and_not_false there _ (awaits_from s t n ∙ other))
       ]
 
-  -- The word of the lock of a session's fast-path slots.
-  pub fast_word_from : (o : ℕ) → o < 64 → get_or m.words.fast o 0 ≡ w.words.fast o
-  fast_word_from o exists = get_or_default m.words.fast o 0 free_word (subst (λ n. o < n) (sym shows.words.sixty_four_fast) exists) ∙ shows.words.fast o
+  -- The word of a partition's lock, and that of the lock of a session's fast-path slots, as the machine reads them.
+  pub partition_word_from : (i p : ℕ) (d : LockState) → i ≡ p → p < length m.words.partitions → ShowsLock (get_or m.words.partitions i d) (w.words.partition p)
+  partition_word_from i p d place in_words =
+      subst (λ its. ShowsLock its (w.words.partition p))
+      (sym (ap (λ k. get_or m.words.partitions k d) place ∙ get_or_default m.words.partitions p d opening_state in_words)) (shows.words.partition p)
+
+  pub fast_word_from : (i o : ℕ) (d : LockState) → i ≡ o → o < 64 → ShowsLock (get_or m.words.fast i d) (w.words.fast o)
+  fast_word_from i o d place exists =
+      let in_words : o < length m.words.fast = subst (λ n. o < n) (sym shows.words.sixty_four_fast) exists in
+      subst (λ its. ShowsLock its (w.words.fast o))
+      (sym (ap (λ k. get_or m.words.fast k d) place ∙ get_or_default m.words.fast o d opening_state in_words)) (shows.words.fast o)
 
   -- A session's own holds are those that its slots show, and those of the contents but what it awaits.
   pub own_from : (s : ℕ) (t : Tag) (n : Mode)

@@ -25,7 +25,8 @@ use Rattle.lock_model.specs.declared.machine.plain.Plain.{Plain}
 use Rattle.lock_model.specs.declared.machine.state.FastPath.{FastPath}
 use Rattle.lock_model.specs.declared.machine.state.Machine.{Machine}
 use Rattle.lock_table.specs.Content.{empty_content}
-use Rattle.lw_word.specs.LightweightWord.{free_word}
+use Rattle.lw_word.specs.LockState.{LockState, opening_state}
+use Rattle.lw_word.specs.LockState as lock_state
 use Rattle.lock_table.specs.Parts.{AreAtHome, no_part, part_at, contents_in}
 use Rattle.lock_table.specs.PartView.{PartView, content_of}
 use Rattle.lw_word.specs.SlotWord.{relation_in}
@@ -45,6 +46,7 @@ use Rattle.lock_world.specs.Total.{total}
 use Rattle.lock_model.proofs.CountedLists.{total-of_sessions}
 use Rattle.lock_model.specs.Shows.{Shows, ShowsHandIfAny, AreInTable, ListsHolds, is_hold, counted_of, waiters_of}
 use Rattle.lock_model.proofs.Shows.Places.{get_or-one_value}
+use Rattle.lock_model.proofs.Shows.LwWords.{opening-word_shown, made_shown, number_shown}
 use Rattle.lock_model.proofs.Shows.Locks.{no_marks}
 use Rattle.lock_model.proofs.Shows.Looks.{content_from, slots_from}
 use Rattle.lock_model.proofs.PlainLists.{ListsHolds-gathered, AreInTable-gathered}
@@ -57,8 +59,8 @@ NobodySleeps m =
     × (m.lists.off ≡ replicate 64 (replicate 64 false))
 
 -- The machine as it is made shows the opening World.
-pub opening-shown : (m : Machine) → m.numbers.issued ≡ 0 → m.numbers.live ≡ replicate 64 false → m.numbers.kept_by ≡ replicate 64 None → m.words.partitions ≡ replicate 16 536870912
-    → m.words.fast ≡ replicate 64 536870912 → m.words.waits ≡ replicate 64 0 → m.locks.fast_holders ≡ replicate 64 (replicate 64 false)
+pub opening-shown : (m : Machine) → m.numbers.issued ≡ 0 → m.numbers.live ≡ replicate 64 false → m.numbers.kept_by ≡ replicate 64 None → m.words.partitions ≡ replicate 16 opening_state
+    → m.words.fast ≡ replicate 64 opening_state → m.words.waits ≡ replicate 64 0 → m.locks.fast_holders ≡ replicate 64 (replicate 64 false)
     → m.locks.fast_sharers ≡ replicate 64 (replicate 64 false) → m.locks.partition_sharers ≡ replicate 16 (replicate 64 false) → m.fast_path.databases ≡ replicate 64 0 → m.fast_path.slots ≡ replicate 64 (replicate 16 0) → m.fast_path.zeros ≡ replicate 64 None → m.counted.items ≡ []
     → NobodySleeps m
     → m.contents.hands ≡ replicate 16 None → m.waits.awaited ≡ replicate 64 None → m.waits.seen ≡ replicate 64 false
@@ -71,10 +73,10 @@ opening-shown m issued live kept_by words fast_words wait_words holders sharers 
     kept_by = λ k. ap (λ list. get_or list k None) kept_by ∙ get_or-one_value 64 None k;
   };
   words = record {
-    sixty_four_fast = ap length fast_words ∙ length-replicate {A = ℕ} 64 536870912;
+    sixty_four_fast = ap length fast_words ∙ length-replicate {A = LockState} 64 opening_state;
     sixty_four_waits = ap length wait_words ∙ length-replicate {A = ℕ} 64 0;
-    partition = λ p. ap (λ list. get_or list p free_word) words ∙ get_or-one_value 16 536870912 p;
-    fast = λ k. ap (λ list. get_or list k free_word) fast_words ∙ get_or-one_value 64 536870912 k;
+    partition = λ p. made_shown _ opening_state (ap (λ list. get_or list p opening_state) words ∙ get_or-one_value 16 opening_state p) opening-word_shown;
+    fast = λ k. made_shown _ opening_state (ap (λ list. get_or list k opening_state) fast_words ∙ get_or-one_value 64 opening_state k) opening-word_shown;
     wait = λ k. ap (λ list. get_or list k 0) wait_words ∙ get_or-one_value 64 0 k;
   };
   fast_path = record {
@@ -272,8 +274,8 @@ plain-shown m w safe shows plain parts parts_2 these those gathered gathered_wai
   waits = subst (λ items. GathersWaits items (listed_waits plain)) those gathered_waits
 
   word_shown : (word : Word) → WordExists word → word_of plain word ≡ word_in w.words word
-  word_shown (Partition p) exists = ap (λ words. get_or words.partitions p free_word) same ∙ shows.words.partition p
-  word_shown (Fast k) exists = ap (λ words. get_or words.fast k free_word) same ∙ shows.words.fast k
+  word_shown (Partition p) exists = ap (λ words. lock_state.word_of (get_or words.partitions p opening_state)) same ∙ number_shown _ _ (shows.words.partition p)
+  word_shown (Fast k) exists = ap (λ words. lock_state.word_of (get_or words.fast k opening_state)) same ∙ number_shown _ _ (shows.words.fast k)
   word_shown (Database k) exists = ap (λ path. get_or path.databases k 0) same_path ∙ shows.fast_path.database k
   word_shown (Slot k i) exists = ap (λ path. get_or (get_or path.slots k []) i 0) same_path ∙ shows.fast_path.slot k i
   word_shown (Wait k) exists = ap (λ words. get_or words.waits k 0) same ∙ shows.words.wait k

@@ -3,9 +3,10 @@
 ghost use Rattle.std.specs.Prelude.{◌≡◌, not, map, filter};
 ghost use Rattle.lock_model.specs.CountedLists.{is_by, is_by_at, passed_by};
 
-use super::lock_bits::EXCLUSIVE;
+use super::lw_words::put;
 use super::state::{CountedBy, Machine};
 use lock_table::{NoMemory, PartTable};
+use lw_word::LwMode;
 use modes_core::{Mode, SessionId, Tag, is_strong};
 
 /// How many strong locks a session may have counted.
@@ -67,7 +68,8 @@ impl Machine {
     ghost use Rattle.std.specs.List.{list_any};
     ghost use Rattle.std.specs.Vec.{vec_capacity};
     ghost use Rattle.modes_core.specs.Tag.{partition_of};
-    ghost use Rattle.lw_word.specs.LightweightWord.{put_word};
+    ghost use Rattle.lw_word.specs.declared.words.LwMode.TheVariants.{Exclusive};
+    ghost use Rattle.lw_word.specs.LockState.{opening_state, put_in};
     ghost use Rattle.lock_table.specs.Parts.{contents_in};
     ghost use Rattle.lock_world.specs.declared.events.Step.{Step};
     ghost use Rattle.lock_world.specs.World.{World};
@@ -209,7 +211,8 @@ impl Machine {
     fn free_fast(&mut self, session: SessionId, owner: SessionId)
         ensures { self.new ≡ record self.old {
           words = record (self.old.words) {
-            fast = slice_set self.old.words.fast owner (put_word (slice_index_or self.old.words.fast owner 0));
+            fast = slice_set self.old.words.fast owner
+                (put_in Exclusive (slice_index_or self.old.words.fast owner opening_state));
           };
           locks = record (self.old.locks) {
             fast_holders = slice_set self.old.locks.fast_holders owner
@@ -223,8 +226,7 @@ impl Machine {
     {
         let index = usize::from(owner.number());
         let whose = usize::from(session.number());
-        // A word that is held shows it, so that nothing is cut off here.
-        self.words.fast[index] = self.words.fast[index].saturating_sub(EXCLUSIVE);
+        self.words.fast[index] = put(self.words.fast[index], LwMode::Exclusive);
         self.locks.fast_holders[index][whose] = false;
         if owner == session {
             self.fast_path.zeros[whose] = None;

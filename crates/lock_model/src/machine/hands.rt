@@ -4,9 +4,10 @@ ghost use Rattle.std.specs.Prelude.{◌≡◌, ℕ};
 ghost use Rattle.lock_model.specs.Shows.{has_made, is_unmarked_in, none_unmarked, names_in};
 ghost use Rattle.lock_model.specs.Transfers.{may_adopt};
 
-use super::lock_bits::EXCLUSIVE;
+use super::lw_words::put;
 use super::state::Machine;
 use lock_table::{Move, Woken};
+use lw_word::{LwMode, LwWord};
 use modes_core::SessionId;
 
 /// A partition in a session's hand.
@@ -57,7 +58,8 @@ impl InHand {
 
 impl Machine {
     ghost use Rattle.std.specs.Prelude.{◌≡◌, ◌<◌, ◌+◌, replicate, false, slice_set, slice_index_or, Some, None};
-    ghost use Rattle.lw_word.specs.LightweightWord.{free_word, taken_word, put_word, IsHeldByNobody};
+    ghost use Rattle.lw_word.specs.declared.words.LwMode.TheVariants.{Exclusive};
+    ghost use Rattle.lw_word.specs.LockState.{opening_state, put_in};
     ghost use Rattle.lock_world.specs.WaitWord.{wait_state, granted_word};
     ghost use Rattle.lock_model.specs.Shows.{hand_of};
 
@@ -82,15 +84,11 @@ impl Machine {
         }
     }
 
-    /// Sets the partition's word held, and its content is in the session's hand.
-    pub fn set_held(&mut self, session: SessionId, partition: u8)
-        requires exists { partition < 16 }
-        requires free { IsHeldByNobody (slice_index_or self.old.words.partitions partition free_word) }
+    /// Sets the partition's word to this one, by which it is held, and its content is in the session's hand.
+    pub fn set_held(&mut self, session: SessionId, partition: u8, held: LwWord)
+        requires { partition < 16 }
         ensures { self.new ≡ record self.old {
-          words = record (self.old.words) {
-            partitions = slice_set self.old.words.partitions partition
-                (taken_word (slice_index_or self.old.words.partitions partition free_word));
-          };
+          words = record (self.old.words) { partitions = slice_set self.old.words.partitions partition held };
           contents = record (self.old.contents) {
             hands = slice_set self.old.contents.hands partition
                 (Some (record { holder = session; recorded = None; unmarked = replicate 64 false }));
@@ -98,7 +96,7 @@ impl Machine {
         } }
     {
         let index = usize::from(partition);
-        self.words.partitions[index] += EXCLUSIVE;
+        self.words.partitions[index] = held;
         self.contents.hands[index] = Some(InHand {
             holder: session,
             recorded: None,
@@ -157,20 +155,19 @@ impl Machine {
         self.words.waits[index] += 1;
     }
 
-    /// Sets the partition's word free, and its content is at home.
+    /// Puts the partition's word, and its content is at home.
     pub fn set_free(&mut self, partition: u8)
         requires { partition < 16 }
         ensures { self.new ≡ record self.old {
           words = record (self.old.words) {
             partitions = slice_set self.old.words.partitions partition
-                (put_word (slice_index_or self.old.words.partitions partition free_word));
+                (put_in Exclusive (slice_index_or self.old.words.partitions partition opening_state));
           };
           contents = record (self.old.contents) { hands = slice_set self.old.contents.hands partition None };
         } }
     {
         let index = usize::from(partition);
-        // A word that is held shows it, so that nothing is cut off here.
-        self.words.partitions[index] = self.words.partitions[index].saturating_sub(EXCLUSIVE);
+        self.words.partitions[index] = put(self.words.partitions[index], LwMode::Exclusive);
         self.contents.hands[index] = None;
     }
 }

@@ -1,20 +1,9 @@
 //! The plain machine's steps on the bits of lightweight words that guard wait lists, and on their flags.
 
-ghost use Rattle.std.specs.Prelude.{◌≡◌};
-ghost use Rattle.lw_word.specs.LightweightWord.{list_unlocked_word};
-
-use super::lock_bits::{HAS_WAITERS, LIST_LOCKED, RELEASE_OK};
+use super::lw_words::unlocked;
 use super::state::Machine;
 use lock_world::Word;
-use lw_word::LwWord;
 use modes_core::SessionId;
-
-/// The word with its wait list unlocked, and without the flags that are not to stay.
-fn unlocked(word: u32, has_waiters: bool, release_ok: bool) -> u32
-    ensures { result ≡ list_unlocked_word word has_waiters release_ok }
-{
-    (u64::from(word) & LwWord::kept_bits(has_waiters, release_ok)) as u32
-}
 
 impl Machine {
     ghost use Rattle.std.specs.Prelude.{◌≡◌};
@@ -94,13 +83,11 @@ impl Machine {
         }
     }
 
-    /// Whether the session may lock the wait list of a lock with this word.
-    fn may_lock_list(&self, session: SessionId, word: u32) -> bool
-        ensures { result ≡ may_lock_list self.now session word }
+    /// Whether the session may lock a wait list that nobody has.
+    fn may_lock_list(&self, session: SessionId) -> bool
+        ensures { result ≡ may_lock_list self.now session }
     {
-        self.makes_steps(session)
-            && word / LIST_LOCKED % 2 == 0
-            && self.lists.has_list[usize::from(session.number())].is_none()
+        self.makes_steps(session) && self.lists.has_list[usize::from(session.number())].is_none()
     }
 
     /// Whether the session makes steps, and has the wait list of this lock in hand.
@@ -116,9 +103,11 @@ impl Machine {
         ensures { Follows self.old session (Step.LockList (Word.Partition partition)) self.new }
     {
         let index = usize::from(partition);
-        if index < 16 && self.may_lock_list(session, self.words.partitions[index]) {
-            self.words.partitions[index] |= LIST_LOCKED;
-            self.lists.has_list[usize::from(session.number())] = Some(2 * partition);
+        if index < 16 && self.may_lock_list(session) {
+            if let Some(word) = self.words.partitions[index].lock_list() {
+                self.words.partitions[index] = word;
+                self.lists.has_list[usize::from(session.number())] = Some(2 * partition);
+            }
         }
     }
 
@@ -127,9 +116,11 @@ impl Machine {
         ensures { Follows self.old session (Step.LockList (Word.Fast owner)) self.new }
     {
         let index = usize::from(owner.number());
-        if self.may_lock_list(session, self.words.fast[index]) {
-            self.words.fast[index] |= LIST_LOCKED;
-            self.lists.has_list[usize::from(session.number())] = Some(2 * owner.number() + 1);
+        if self.may_lock_list(session) {
+            if let Some(word) = self.words.fast[index].lock_list() {
+                self.words.fast[index] = word;
+                self.lists.has_list[usize::from(session.number())] = Some(2 * owner.number() + 1);
+            }
         }
     }
 
@@ -177,9 +168,9 @@ impl Machine {
         let index = usize::from(partition);
         if index < 16
             && self.makes_steps(session)
-            && shown == u64::from(self.words.partitions[index])
+            && shown == self.words.partitions[index].number()
         {
-            self.words.partitions[index] |= RELEASE_OK;
+            self.words.partitions[index] = self.words.partitions[index].set_release_ok();
         }
     }
 
@@ -188,8 +179,8 @@ impl Machine {
         ensures { Follows self.old session (Step.SetReleaseOk (Word.Fast owner) shown) self.new }
     {
         let index = usize::from(owner.number());
-        if self.makes_steps(session) && shown == u64::from(self.words.fast[index]) {
-            self.words.fast[index] |= RELEASE_OK;
+        if self.makes_steps(session) && shown == self.words.fast[index].number() {
+            self.words.fast[index] = self.words.fast[index].set_release_ok();
         }
     }
 
@@ -200,9 +191,9 @@ impl Machine {
         let index = usize::from(partition);
         if index < 16
             && self.has_list(session, 2 * partition)
-            && shown == u64::from(self.words.partitions[index])
+            && shown == self.words.partitions[index].number()
         {
-            self.words.partitions[index] |= HAS_WAITERS;
+            self.words.partitions[index] = self.words.partitions[index].set_has_waiters();
         }
     }
 
@@ -212,9 +203,9 @@ impl Machine {
     {
         let index = usize::from(owner.number());
         if self.has_list(session, 2 * owner.number() + 1)
-            && shown == u64::from(self.words.fast[index])
+            && shown == self.words.fast[index].number()
         {
-            self.words.fast[index] |= HAS_WAITERS;
+            self.words.fast[index] = self.words.fast[index].set_has_waiters();
         }
     }
 }

@@ -1,9 +1,9 @@
 //! The plain machine's steps on lightweight locks: a partition is taken, and put back after a move.
 
-use super::lock_bits::PAST_HOLDERS;
 use super::state::Machine;
 use lock_table::{Answer, Move, NoMemory, PartTable, waiting_answer};
 use lock_world::Word;
+use lw_word::LwMode;
 use modes_core::{Mode, SessionId, Tag};
 
 impl Machine {
@@ -59,11 +59,10 @@ impl Machine {
         ensures { Follows self.old session (Step.TakeExclusive (Word.Partition partition)) self.new }
     {
         let index = usize::from(partition);
-        if self.makes_steps(session)
-            && index < 16
-            && self.words.partitions[index] % PAST_HOLDERS == 0
-        {
-            self.set_held(session, partition);
+        if index < 16 && self.makes_steps(session) {
+            if let Some(word) = self.words.partitions[index].attempt(LwMode::Exclusive) {
+                self.set_held(session, partition, word);
+            }
         }
     }
 

@@ -87,12 +87,12 @@ impl Plain {
             Word::Partition(partition) => {
                 let index = usize::from(partition);
                 if index < 16 {
-                    u64::from(self.words.partitions[index])
+                    self.words.partitions[index].number()
                 } else {
                     0
                 }
             }
-            Word::Fast(session) => u64::from(self.words.fast[usize::from(session.number())]),
+            Word::Fast(session) => self.words.fast[usize::from(session.number())].number(),
             Word::Database(session) => {
                 u64::from(self.fast_path.databases[usize::from(session.number())])
             }

@@ -1,9 +1,10 @@
 //! The plain machine's steps of sharing a lightweight lock: that of a partition, whose content does not come with it,
 //! and that of a session's fast-path slots.
 
-use super::lock_bits::EXCLUSIVE;
+use super::lw_words::{put, share};
 use super::state::{Machine, has_a_mark};
 use lock_world::Word;
+use lw_word::LwMode;
 use modes_core::SessionId;
 
 impl Machine {
@@ -49,13 +50,11 @@ impl Machine {
     {
         let index = usize::from(partition);
         let whose = usize::from(session.number());
-        if index < 16
-            && self.makes_steps(session)
-            && self.words.partitions[index] / EXCLUSIVE % 2 == 0
-            && !self.locks.partition_sharers[index][whose]
-        {
-            self.words.partitions[index] += 1;
-            self.locks.partition_sharers[index][whose] = true;
+        if index < 16 && self.makes_steps(session) && !self.locks.partition_sharers[index][whose] {
+            if let Some(word) = share(self.words.partitions[index]) {
+                self.words.partitions[index] = word;
+                self.locks.partition_sharers[index][whose] = true;
+            }
         }
     }
 
@@ -66,8 +65,7 @@ impl Machine {
         let index = usize::from(partition);
         let whose = usize::from(session.number());
         if index < 16 && self.makes_steps(session) && self.locks.partition_sharers[index][whose] {
-            // A word that is shared shows it, so that nothing is cut off here.
-            self.words.partitions[index] = self.words.partitions[index].saturating_sub(1);
+            self.words.partitions[index] = put(self.words.partitions[index], LwMode::Shared);
             self.locks.partition_sharers[index][whose] = false;
         }
     }
@@ -78,12 +76,11 @@ impl Machine {
     {
         let index = usize::from(owner.number());
         let whose = usize::from(session.number());
-        if self.makes_steps(session)
-            && self.words.fast[index] / EXCLUSIVE % 2 == 0
-            && !self.locks.fast_sharers[index][whose]
-        {
-            self.words.fast[index] += 1;
-            self.locks.fast_sharers[index][whose] = true;
+        if self.makes_steps(session) && !self.locks.fast_sharers[index][whose] {
+            if let Some(word) = share(self.words.fast[index]) {
+                self.words.fast[index] = word;
+                self.locks.fast_sharers[index][whose] = true;
+            }
         }
     }
 
@@ -94,8 +91,7 @@ impl Machine {
         let index = usize::from(owner.number());
         let whose = usize::from(session.number());
         if self.makes_steps(session) && self.locks.fast_sharers[index][whose] {
-            // A word that is shared shows it, so that nothing is cut off here.
-            self.words.fast[index] = self.words.fast[index].saturating_sub(1);
+            self.words.fast[index] = put(self.words.fast[index], LwMode::Shared);
             self.locks.fast_sharers[index][whose] = false;
         }
     }

@@ -6,12 +6,12 @@ ghost use Rattle.lw_word.specs.SlotWord.{in_use};
 ghost use Rattle.lock_world.specs.SlotHolds.{is_slot_of};
 ghost use Rattle.lock_model.specs.SlotLooks.{is_slot_to_grant};
 
-use super::lock_bits::{EXCLUSIVE, PAST_HOLDERS};
+use super::lw_words::put;
 use super::slot_looks::relation_of;
 use super::state::{Machine, has_a_mark};
 use lock_table::Move;
 use lock_world::Word;
-use lw_word::SlotWord;
+use lw_word::{LwMode, SlotWord};
 use modes_core::{Mode, SessionId, Tag, is_eligible};
 
 /// Whether a slot is in use.
@@ -62,9 +62,11 @@ impl Machine {
     {
         let index = usize::from(owner.number());
         let whose = usize::from(session.number());
-        if self.makes_steps(session) && self.words.fast[index] % PAST_HOLDERS == 0 {
-            self.words.fast[index] += EXCLUSIVE;
-            self.locks.fast_holders[index][whose] = true;
+        if self.makes_steps(session) {
+            if let Some(word) = self.words.fast[index].attempt(LwMode::Exclusive) {
+                self.words.fast[index] = word;
+                self.locks.fast_holders[index][whose] = true;
+            }
         }
     }
 
@@ -79,8 +81,7 @@ impl Machine {
             && self.makes_steps(session)
             && self.locks.fast_holders[index][whose]
         {
-            // A word that is held shows it, so that nothing is cut off here.
-            self.words.fast[index] = self.words.fast[index].saturating_sub(EXCLUSIVE);
+            self.words.fast[index] = put(self.words.fast[index], LwMode::Exclusive);
             self.locks.fast_holders[index][whose] = false;
             if index == whose {
                 self.fast_path.zeros[whose] = None;

@@ -4,13 +4,12 @@ ghost use Rattle.lock_table.specs.Parts.{part_at, contents_in};
 ghost use Rattle.lock_model.specs.Shows.{has_a_mark};
 
 use super::hands::InHand;
-use super::lock_bits::RELEASE_OK;
 use super::own_waits::Awaited;
 use super::plain::{Hold, Plain};
 use super::plain_lists::{gather_holds, gather_waits};
 use lock_table::{NoMemory, PlainPart, empty_parts};
 use lock_world::{Event, Step};
-use lw_word::{LwWaiter, SlotWord};
+use lw_word::{LwWaiter, LwWord, SlotWord};
 use modes_core::{Mode, SessionId, Tag};
 use std::alloc::Global;
 
@@ -28,9 +27,9 @@ pub struct Numbers {
 #[derive(Clone, Copy, Debug)]
 pub struct Words {
     /// The lightweight lock of each partition.
-    pub partitions: [u32; 16],
+    pub partitions: [LwWord; 16],
     /// The lightweight lock of each session's fast-path slots.
-    pub fast: [u32; 64],
+    pub fast: [LwWord; 64],
     /// The wait word of each session.
     pub waits: [u8; 64],
 }
@@ -190,8 +189,8 @@ impl Machine {
                 kept_by: [None; 64],
             },
             words: Words {
-                partitions: [RELEASE_OK; 16],
-                fast: [RELEASE_OK; 64],
+                partitions: [LwWord::opening(); 16],
+                fast: [LwWord::opening(); 64],
                 waits: [0; 64],
             },
             locks: Locks {

@@ -19,7 +19,7 @@ use Rattle.lock_world.specs.WaitWord.{wait_state, granted_word}
 use Rattle.lock_world.specs.World.{World, recorded_in, is_unmarked}
 use Rattle.lock_world.specs.Counted.{IsCountedFor}
 use Rattle.lock_world.specs.Happens.Partitions.{MayMove}
-use Rattle.lock_world.specs.Happens.Waits.{MayMark, unmarked_but, after_marking_first, after_marking_next, HappensMarkingIn}
+use Rattle.lock_world.specs.Happens.Waits.{MayMark, unmarked_but, after_marking_first, after_marking_next, HappensMarkingIn, HappensMarking}
 use Rattle.lock_world.specs.SafeWorld.{SafeWorld}
 use Rattle.lock_model.specs.Shows.{Shows, is_unmarked_in, names_in, hand_of, awaits, IsWaking, IsOwnFor, CannotMake}
 use Rattle.lock_model.proofs.Shows.Changes.{wait_word-set, hand-set, part-set}
@@ -33,6 +33,19 @@ use Rattle.lock_model.proofs.Shows.Looks.{HasInHand, recorded_from, unmarked_fro
 -- From this World, the marking leads on to one that the machine shows, or it isn't lawful and the machine shows the same.
 abbrev pub Marks : World → ℕ → ℕ → ℕ → Move → Machine → Type 0
 Marks w s k p done n = (v : World) × (HappensMarkingIn w s k p done v ⊎ (((u : World) × HappensMarkingIn w s k p done u → ⊥) × (v ≡ w))) × Shows n v
+
+-- What every marking asks of the other session and its word.
+may_mark_in : (w : World) (s k p : ℕ) (done : Move) (v : World) → HappensMarkingIn w s k p done v → MayMark w s k
+may_mark_in w s k p done v (inl first) = first.2.may_mark
+may_mark_in w s k p done v (inr next) = next.0.may_mark
+
+pub may_mark_from : (w : World) (s k : ℕ) (done : Move) (v : World) → HappensMarking w s k done v → MayMark w s k
+may_mark_from w s k Keep v never = absurd never
+may_mark_from w s k (Grant t n) v never = absurd never
+may_mark_from w s k (Join t n) v never = absurd never
+may_mark_from w s k (Release t n) v marks = may_mark_in w s k _ (Release t n) v marks
+may_mark_from w s k (Leave t) v marks = may_mark_in w s k _ (Leave t) v marks
+may_mark_from w s k (Adopt owner slot) v never = absurd never
 
 -- the machine, once it has marked the session
 abbrev pub marked_by : Machine → ℕ → InHand → ℕ → Move → List Bool → Machine

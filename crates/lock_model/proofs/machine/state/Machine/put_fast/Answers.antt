@@ -2,6 +2,7 @@ use Rattle.std.proofs.Common.{◌≡◌, ◌≢◌, ◌<◌, false, [], get_or, 
 use Rattle.lock_table.specs.declared.moves.Move.TheVariants.{Keep}
 use Rattle.lock_table.proofs.MoveTests.{move_eq-same}
 use Rattle.lock_model.proofs.Follows.Slots.{was_put_fast, was_put_own}
+use Rattle.lock_model.proofs.Shows.Looks.{fast_word_from}
 use Rattle.lock_model.proofs.machine.state.Machine.put_fast.Goals as goal
 
 pub returns-then-index-whose : goal.returns-then-index-whose
@@ -12,11 +13,12 @@ returns-then-index-whose c = λ w safe shows.
     let below : c.args.session < 64 = omega arith in
     let exists : c.args.owner < 64 = omega arith in
     let kept : c.args.done ≡ Keep = move_eq-same c.args.done Keep (sym c.if-is_same.ensures) in
-    rw (c.saturating_sub.ensures, place, whose, kept)
-    (was_put_own now w safe shows c.args.session c.args.owner (sym c.if-makes_steps.ensures) below exists
+    rw (place, whose, kept)
+    (was_put_own now w safe shows c.args.session c.args.owner _ c.put.result (sym c.if-makes_steps.ensures) below exists
+    (fast_word_from now w safe shows c.from-index.result c.args.owner c.index-self-index.result place exists)
     (ap (λ i. get_or (get_or now.locks.fast_holders i []) c.args.session false) (sym place)
     ∙ ap (λ k. get_or (get_or now.locks.fast_holders c.from-index.result []) k false) (sym whose) ∙ c.if-self-index.true)
-    (sym place ∙ c.if-index-whose.true ∙ whose))
+    c.put.ensures (sym place ∙ c.if-index-whose.true ∙ whose))
 
 pub returns-else-index-whose : goal.returns-else-index-whose
 returns-else-index-whose c = λ w safe shows.
@@ -27,7 +29,8 @@ returns-else-index-whose c = λ w safe shows.
     let exists : c.args.owner < 64 = omega arith in
     let kept : c.args.done ≡ Keep = move_eq-same c.args.done Keep (sym c.if-is_same.ensures) in
     let other : c.args.owner ≢ c.args.session = λ same. c.if-index-whose.false (place ∙ same ∙ sym whose) in
-    rw (c.saturating_sub.ensures, place, whose, kept)
-    (was_put_fast now w safe shows c.args.session c.args.owner (sym c.if-makes_steps.ensures) below exists
+    rw (place, whose, kept)
+    (was_put_fast now w safe shows c.args.session c.args.owner _ c.put.result (sym c.if-makes_steps.ensures) below exists
+    (fast_word_from now w safe shows c.from-index.result c.args.owner c.index-self-index.result place exists)
     (ap (λ i. get_or (get_or now.locks.fast_holders i []) c.args.session false) (sym place)
-    ∙ ap (λ k. get_or (get_or now.locks.fast_holders c.from-index.result []) k false) (sym whose) ∙ c.if-self-index.true) other)
+    ∙ ap (λ k. get_or (get_or now.locks.fast_holders c.from-index.result []) k false) (sym whose) ∙ c.if-self-index.true) c.put.ensures other)

@@ -1,23 +1,28 @@
-use Rattle.std.proofs.Common.{◌≡◌, ◌+◌, ◌*◌, ◌<◌, get_or, sym, ap, ◌∙◌, arith}
+use Rattle.std.proofs.Common.{◌≡◌, ◌+◌, ◌*◌, ◌<◌, sym, ap, ◌∙◌, arith}
+use Rattle.std.proofs.lemmas.List.{get_or_default}
+use Rattle.lw_word.specs.LockState.{word_of}
 use Rattle.lock_world.specs.declared.events.Step.TheVariants.{SetHasWaiters}
 use Rattle.lock_world.specs.declared.events.Word.TheVariants.{Fast}
 use Rattle.lock_world.specs.WaitLists.{fast_lock}
 use Rattle.lock_model.specs.ListWords.{has_list}
 use Rattle.lock_model.proofs.Follows.Skipped.{skipped}
-use Rattle.lock_model.proofs.Follows.ListWords.{has_waiters_in_fast, not_fast_word, has_not}
+use Rattle.lock_model.proofs.Follows.ListWords.{has_waiters_in_fast, not_its_word, has_not}
+use Rattle.lock_model.proofs.Shows.Looks.{fast_word_from}
 use Rattle.lock_model.proofs.machine.state.Machine.set_fast_has_waiters.Goals as goal
-use Rattle.lock_model.proofs.machine.state.Machine.set_fast_has_waiters.Goals.{else-has_list-via-then-has_list+else-shown-from, else-has_list-via-else-has_list}
+use Rattle.lock_model.proofs.machine.state.Machine.set_fast_has_waiters.Goals.{else-has_list-via-then-has_list+else-shown-number, else-has_list-via-else-has_list}
 
-pub returns-then-shown-from : goal.returns-then-shown-from
-returns-then-shown-from c = λ w safe shows.
+pub returns-then-shown-number : goal.returns-then-shown-number
+returns-then-shown-number c = λ w safe shows.
     let now = c.args.self.now in
     let place : c.from-index.result ≡ c.args.owner = c.from-index.ensures ∙ c.number.ensures.value in
     let lock : c.number-2.result ≡ c.args.owner = c.number-2.ensures.value in
     let exists : c.args.owner < 64 = omega arith in
     rw place
-    (has_waiters_in_fast now w safe shows c.args.session c.args.owner c.args.shown
+    (has_waiters_in_fast now w safe shows c.args.session c.args.owner c.args.shown _ c.set_has_waiters.result
     (ap (λ n. has_list now c.args.session (2 * n + 1)) (sym lock) ∙ sym c.if-has_list.ensures) exists
-    (c.if-shown-from.true ∙ c.from.ensures ∙ ap (λ i. get_or now.words.fast i 0) place))
+    (fast_word_from now w safe shows c.from-index.result c.args.owner c.index-self-index-then-shown-number.result place exists)
+    (c.if-shown-number.true ∙ c.number-then-has_list.ensures.value ∙ ap word_of (get_or_default now.words.fast c.from-index.result c.index-self-index.result c.index-self-index-then-shown-number.result (omega arith)))
+    c.set_has_waiters.ensures.after)
 
 pub returns-else-has_list : goal.returns-else-has_list
 returns-else-has_list c = λ w safe shows.
@@ -27,9 +32,9 @@ returns-else-has_list c = λ w safe shows.
     let exists : c.args.owner < 64 = omega arith in
     skipped now w safe shows c.args.session (SetHasWaiters (Fast c.args.owner) c.args.shown)
     (λ lawful. elim c.else-has_list.branch [
-      | else-has_list-via-then-has_list+else-shown-from b ↦
-          not_fast_word now w safe shows c.args.owner c.args.shown exists
-          (λ is. b.if-shown-from.false (is ∙ ap (λ i. get_or now.words.fast i 0) (sym place) ∙ sym b.from.ensures)) lawful.1.0.is_word
+      | else-has_list-via-then-has_list+else-shown-number b ↦
+          not_its_word now w safe shows c.args.shown _ _ (fast_word_from now w safe shows c.from-index.result c.args.owner b.index-self-index.result place exists)
+          (λ is. b.if-shown-number.false (is ∙ sym b.number-then-has_list.ensures.value)) lawful.1.0.is_word
       | else-has_list-via-else-has_list b ↦
           has_not now w safe shows c.args.session (fast_lock c.args.owner)
           (ap (λ n. has_list now c.args.session (2 * n + 1)) (sym lock) ∙ sym b.if-has_list.ensures) lawful.1.0.has

@@ -1,13 +1,36 @@
-use Rattle.std.proofs.Common.{◌≡◌, ◌<◌, length, get_or, sym, ap, ◌∙◌, arith}
-use Rattle.lock_model.proofs.Follows.ListWords.{release_ok_in_partition}
+use Rattle.std.proofs.Common.{◌≡◌, ◌<◌, length, sym, ap, ◌∙◌, arith}
+use Rattle.std.proofs.lemmas.List.{get_or_default}
+use Rattle.lw_word.specs.LockState.{word_of}
+use Rattle.lock_world.specs.declared.events.Step.TheVariants.{SetReleaseOk}
+use Rattle.lock_world.specs.declared.events.Word.TheVariants.{Partition}
+use Rattle.lock_model.proofs.Follows.Skipped.{skipped}
+use Rattle.lock_model.proofs.Follows.ListWords.{release_ok_in_partition, not_its_word}
+use Rattle.lock_model.proofs.Shows.Looks.{steps_not, partition_word_from}
 use Rattle.lock_model.proofs.machine.state.Machine.set_partition_release_ok.Goals as goal
+use Rattle.lock_model.proofs.machine.state.Machine.set_partition_release_ok.Goals.{else-index-lt16-via-then-index-lt16+then-makes_steps+else-shown-number, else-index-lt16-via-then-index-lt16+else-makes_steps, else-index-lt16-via-else-index-lt16}
 
-pub returns-then-shown-from : goal.returns-then-shown-from
-returns-then-shown-from c = λ w safe shows.
+pub returns-then-shown-number : goal.returns-then-shown-number
+returns-then-shown-number c = λ w safe shows.
     let now = c.args.self.now in
     let place : c.from-index.result ≡ c.args.partition = c.from-index.ensures in
     let exists : c.args.partition < 16 = omega arith in
     let in_words : c.args.partition < length now.words.partitions = omega arith in
     rw place
-    (release_ok_in_partition now w safe shows c.args.session c.args.partition c.args.shown (sym c.if-makes_steps.ensures) exists in_words
-    (c.if-shown-from.true ∙ c.from.ensures ∙ ap (λ i. get_or now.words.partitions i 0) place))
+    (release_ok_in_partition now w safe shows c.args.session c.args.partition c.args.shown _ c.set_release_ok.result (sym c.if-makes_steps.ensures) exists in_words
+    (partition_word_from now w safe shows c.from-index.result c.args.partition c.index-self-index-then-shown-number.result place in_words)
+    (c.if-shown-number.true ∙ c.number.ensures.value ∙ ap word_of (get_or_default now.words.partitions c.from-index.result c.index-self-index.result c.index-self-index-then-shown-number.result (omega arith)))
+    c.set_release_ok.ensures.after)
+
+pub returns-else-index-lt16 : goal.returns-else-index-lt16
+returns-else-index-lt16 c = λ w safe shows.
+    let now = c.args.self.now in
+    let place : c.from-index.result ≡ c.args.partition = c.from-index.ensures in
+    skipped now w safe shows c.args.session (SetReleaseOk (Partition c.args.partition) c.args.shown)
+    (λ lawful. elim c.else-index-lt16.branch [
+      | else-index-lt16-via-then-index-lt16+then-makes_steps+else-shown-number b ↦
+          let in_words : c.args.partition < length now.words.partitions = omega arith in
+          not_its_word now w safe shows c.args.shown _ _ (partition_word_from now w safe shows c.from-index.result c.args.partition b.index-self-index.result place in_words)
+          (λ is. b.if-shown-number.false (is ∙ sym b.number.ensures.value)) lawful.1.1.is_word
+      | else-index-lt16-via-then-index-lt16+else-makes_steps b ↦ steps_not now w safe shows c.args.session (sym b.if-makes_steps.ensures) lawful.1.1.steps
+      | else-index-lt16-via-else-index-lt16 b ↦ let exists = lawful.1.0 in absurd (omega (arith, exists))
+    ])

@@ -1,6 +1,7 @@
 use Rattle.std.proofs.Common.{◌≡◌, ◌+◌, ◌*◌, ◌<◌, sym, ap, ◌∙◌, arith}
 use Rattle.lock_model.specs.ListWords.{has_list}
 use Rattle.lock_model.proofs.Follows.ListWords.{unlocked_fast_list}
+use Rattle.lock_model.proofs.Shows.Looks.{fast_word_from}
 use Rattle.lock_model.proofs.machine.state.Machine.unlock_fast_list.Goals as goal
 
 pub returns-then-has_list : goal.returns-then-has_list
@@ -11,6 +12,7 @@ returns-then-has_list c = λ w safe shows.
     let whose : c.from.result ≡ c.args.session = c.from.ensures ∙ c.number-then-has_list.ensures.value in
     let below : c.args.session < 64 = omega arith in
     let exists : c.args.owner < 64 = omega arith in
-    rw (c.unlocked.ensures, place, whose)
-    (unlocked_fast_list now w safe shows c.args.session c.args.owner c.args.has_waiters c.args.release_ok below exists
-    (ap (λ n. has_list now c.args.session (2 * n + 1)) (sym lock) ∙ sym c.if-has_list.ensures))
+    rw (place, whose)
+    (unlocked_fast_list now w safe shows c.args.session c.args.owner c.args.has_waiters c.args.release_ok _ c.unlocked.result below exists
+    (fast_word_from now w safe shows c.from-index.result c.args.owner c.index-self-index.result place exists)
+    (ap (λ n. has_list now c.args.session (2 * n + 1)) (sym lock) ∙ sym c.if-has_list.ensures) c.unlocked.ensures)

@@ -4,6 +4,7 @@ use Rattle.lock_world.specs.declared.events.Word.TheVariants.{Partition}
 use Rattle.lock_world.specs.WaitLists.{partition_lock}
 use Rattle.lock_model.proofs.Follows.Skipped.{skipped}
 use Rattle.lock_model.proofs.Follows.ListWords.{unlocked_partition_list, has_not, no_such_list}
+use Rattle.lock_model.proofs.Shows.Looks.{partition_word_from}
 use Rattle.lock_model.proofs.machine.state.Machine.unlock_partition_list.Goals as goal
 use Rattle.lock_model.proofs.machine.state.Machine.unlock_partition_list.Goals.{else-index-lt16-via-then-index-lt16+else-has_list, else-index-lt16-via-else-index-lt16}
 
@@ -14,8 +15,9 @@ returns-then-has_list c = λ w safe shows.
     let whose : c.from.result ≡ c.args.session = c.from.ensures ∙ c.number.ensures.value in
     let below : c.args.session < 64 = omega arith in
     let in_words : c.args.partition < length now.words.partitions = omega arith in
-    rw (c.unlocked.ensures, place, whose)
-    (unlocked_partition_list now w safe shows c.args.session c.args.partition c.args.has_waiters c.args.release_ok below in_words (sym c.if-has_list.ensures))
+    rw (place, whose)
+    (unlocked_partition_list now w safe shows c.args.session c.args.partition c.args.has_waiters c.args.release_ok _ c.unlocked.result below in_words
+    (partition_word_from now w safe shows c.from-index.result c.args.partition c.index-self-index.result place in_words) (sym c.if-has_list.ensures) c.unlocked.ensures)
 
 pub returns-else-index-lt16 : goal.returns-else-index-lt16
 returns-else-index-lt16 c = λ w safe shows.
