@@ -20,8 +20,8 @@ use Rattle.shared_rule.specs.History.{slots_here}
 use Rattle.shared_rule.specs.Slots.{TakesFast}
 use Rattle.fast_path.specs.declared.slot_words.SeenSlot.{SeenSlot}
 use Rattle.fast_path.specs.declared.slot_words.Sighting.{Sighting}
-use Rattle.fast_path.specs.Slots.{account_loading, account_tried, slot_loads, IsHighestUnused, IsSeenOf, IsSeenUnused, Sights}
-use Rattle.fast_path.specs.Slots.{IsReady}
+use Rattle.fast_path.specs.Slots.{account_loading, account_tried, slot_loads, IsReady}
+use Rattle.fast_path.specs.Slots.{IsHighestUnused, IsSeenOf, IsSeenUnused, Sights}
 use Rattle.fast_path.specs.Grants.{GrantsInSlot, HasOwnSlots, without_slots}
 
 -- A grant by the fast path, through its steps.
@@ -260,7 +260,8 @@ module _ (number : ℕ) (a : Account) (uses : ℕ) (tag : Tag) (mode : Mode) (ha
 
     -- In the slot that the relation has the use count stays,
     pub done-its :
-        seen.of_relation ≡ Some slot → GrantsInSlot number (without_slots a) a.trace uses tag mode e uses × IsReady e uses
+        seen.of_relation ≡ Some slot
+        → GrantsInSlot number (without_slots a) a.trace uses tag mode e uses × IsReady e uses
     done-its is =
         let its : IsSeenOf has.slots.word (relation_of tag) slot =
         subst (λ found. IfSome found (IsSeenOf has.slots.word (relation_of tag))) is sights.found in

@@ -1,4 +1,5 @@
-use Rattle.std.proofs.Common.{◌≡◌, ◌≢◌, ℕ, ◌+◌, ◌<◌, Bool, true, false, nat_eq, suc, Option, Some, None, refl, sym, ap, ◌∙◌, subst, inl, inr, arith}
+use Rattle.std.proofs.Common.{◌≡◌, ◌≢◌, ℕ, ◌+◌, ◌<◌, Bool, true, false, nat_eq, suc, Option, Some, None}
+use Rattle.std.proofs.Common.{refl, sym, ap, ◌∙◌, subst, inl, inr, arith}
 use Rattle.std.specs.Prelude.{◌&&◌, if◌then◌else◌, IfSome, IfNone}
 use Rattle.std.proofs.lemmas.Bool.{cases_eq, and_from, eq-eqb, ne_eqb, cond-true, cond-false}
 use Rattle.lw_word.specs.SlotWord.{in_use, relation_in}
@@ -45,7 +46,8 @@ sights-none word relation = record {
 -- Among all is what a look through them finds.
 pub sights-all :
     (word : ℕ → ℕ) (relation : ℕ) (seen : Sighting)
-    → SightsBelow word relation slot_count seen.of_relation seen.highest_unused seen.used_count → Sights word relation seen
+    → SightsBelow word relation slot_count seen.of_relation seen.highest_unused seen.used_count
+    → Sights word relation seen
 sights-all word relation seen all = record {
   found = found seen.of_relation all.found;
   none = all.none;

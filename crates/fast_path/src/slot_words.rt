@@ -69,8 +69,8 @@ pub(crate) struct Sighting {
     pub(crate) used_count: u8,
 }
 
-/// Loads the words of a session's slots, whose lock is in hand, one after another, and keeps of them only what a grant, a
-/// release or a transfer of a lock on the relation asks for.
+/// Loads the words of a session's slots, whose lock is in hand, one after another, and keeps of them only what a grant,
+/// a release or a transfer of a lock on the relation asks for.
 #[inline(always)]
 pub(crate) fn look_through<T: PartTable, B: Board<T>>(
     board: &mut B,

@@ -3,7 +3,8 @@ use Rattle.shared_rule.specs.History.{slots_here}
 use Rattle.fast_path.proofs.Loading.{loading-begun, loading-next, loading-shows}
 use Rattle.fast_path.proofs.Looking.{sights-none, sights-its, sights-other, sights-unused, sights-same}
 use Rattle.fast_path.proofs.slot_words.look_through.Goals as goal
-use Rattle.fast_path.proofs.slot_words.look_through.Goals.{then-in_use+then-relation, then-in_use+else-relation, else-in_use}
+use Rattle.fast_path.proofs.slot_words.look_through.Goals.{then-in_use+then-relation, then-in_use+else-relation}
+use Rattle.fast_path.proofs.slot_words.look_through.Goals.{else-in_use}
 
 pub loop-place-init : goal.loop-place-init
 loop-place-init g c =
