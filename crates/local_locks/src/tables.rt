@@ -176,13 +176,11 @@ impl LocalTable {
                     Ok(())
                 }
             }
-            Spot::Free(hash) => {
+            Spot::Free(_) => {
                 if self.len as u64 == u64::from(self.max_local) {
                     Err(Refusal::LocalFull)
                 } else {
-                    self.make_room()?;
-                    self.missing = Some(Missing { tag, mode, hash });
-                    Ok(())
+                    self.make_room()
                 }
             }
         }
