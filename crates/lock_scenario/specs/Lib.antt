@@ -1,8 +1,1 @@
-pub mod Bytes
-pub mod Command
-pub mod Crew
-pub mod Fault
-pub mod Lines
-pub mod Names
 pub mod Stage
-pub mod Words

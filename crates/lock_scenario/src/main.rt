@@ -2,17 +2,10 @@
 #![tactic(auto)]
 
 pub mod arguments;
-pub mod bytes;
-pub mod command;
-pub mod crew;
-pub mod faults;
-pub mod lines;
-pub mod names;
 pub mod output;
 pub mod program;
 pub mod script;
 pub mod stage;
-pub mod words;
 
 use program::run_program;
 use std::process::ExitCode;

@@ -1,9 +1,8 @@
 //! What the lines of a script print.
-use crate::faults::Fault;
-use crate::names::{Name, Names};
 use lock_manager::{
     Acquired, Asked, How, Listing, Mode, Refusal, SessionId, SlotRow, TableRow, Tag, Unlocked,
 };
+use lock_script::{Fault, Name, Names};
 use std::io::{self, Write};
 
 /// The printed answers of a script. Each line goes to the writer at once, and `flush` passes them on.

@@ -1,16 +1,12 @@
 //! Scripts: a line is read, run and answered before the next one is read.
 ghost use Rattle.std.specs.Prelude.{◌≡◌, ◌≤◌, ◌<◌, [], true, length, Ok};
-ghost use Rattle.lock_scenario.specs.Command.{Addresses, NamesCounter};
-ghost use Rattle.lock_scenario.specs.Crew.{IsThere, MayAct};
+ghost use Rattle.lock_script.specs.Command.{Addresses, NamesCounter};
+ghost use Rattle.lock_script.specs.Crew.{IsThere, MayAct};
 
-use crate::command::{Command, Target, parse};
-use crate::crew::{Opened, Speaker};
-use crate::faults::Fault;
-use crate::lines::LineReader;
-use crate::names::Name;
 use crate::output::Output;
 use crate::stage::{Began, Looked, Stage};
 use lock_manager::{Config, Manager, Owner, Refusal};
+use lock_script::{Command, Fault, LineReader, Name, Opened, Speaker, Target, parse};
 use std::io::{Read, Write};
 use std::sync::Wait;
 

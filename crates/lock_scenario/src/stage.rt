@@ -2,12 +2,11 @@
 ghost use Rattle.std.specs.Prelude.{◌≡◌, ◌≤◌, ◌<◌, ◌+◌, [], All, length, IfOk};
 ghost use Rattle.lock_manager.specs.Managers.{IsOpenerOf};
 
-use crate::crew::{Crew, Named, Place};
-use crate::names::{Name, Names};
 use lock_manager::{
     Acquired, Asked, Cancelled, Listing, Manager, Mode, Opener, Owner, Polled, Refusal, Session,
     SessionId, Started, Tag, Unlocked, Waiting,
 };
+use lock_script::{Crew, Name, Named, Names, Place};
 use lock_table::PlainPart;
 use shared_rule::board::Board;
 use shared_rule::seat_board::SeatBoard;
@@ -53,7 +52,7 @@ pub struct Stage<'a> {
 }
 
 impl<'a> Stage<'a> {
-    ghost use Rattle.lock_scenario.specs.Crew.{IsThere, MayAct};
+    ghost use Rattle.lock_script.specs.Crew.{IsThere, MayAct};
     ghost use Rattle.lock_scenario.specs.Stage.{going_on};
 
     /// A manager that has no session yet, with its opener.

@@ -1,59 +1,14 @@
-//! Every text that a script can print or end with, by variant.
-use crate::faults::{Defect, Fault};
-use crate::names::{Name, Names};
+//! Every text that a script can print, by variant.
 use crate::output::Output;
 use lock_manager::{
     Acquired, Asked, How, Listing, Mode, Refusal, SessionId, SlotRow, TableRow, Tag, Unlocked,
 };
+use lock_script::{Fault, Name, Names};
 use std::process::Abort;
 use std::test::Fail;
 
 fn name(rt: &impl Abort, text: &str) -> Name {
     Name::from(text).expect(rt, "a name")
-}
-
-/// Checks what a fault prints and the status for it.
-fn expect_fault(
-    rt: &(impl Abort + AllocGlobal),
-    fault: Fault,
-    text: &str,
-    status: u8,
-) -> Result<(), Fail> {
-    let printed = format!(in rt.alloc(); "{fault}")?;
-    assert_eq!(rt; printed.as_str(), text);
-    assert_eq!(rt; fault.status(), status, "the status of {text:?}");
-    Ok(())
-}
-
-#[test]
-fn a_fault_has_its_text_and_status(rt: HostRuntime) -> Result<(), Fail> {
-    let bad = |what| Fault::BadLine { line: 7, what };
-    for (fault, text, status) in [
-        (bad(Defect::TooManyLines), "line 7: too many lines", 3),
-        (bad(Defect::LineTooLong), "line 7: line too long", 3),
-        (bad(Defect::NotAsciiText), "line 7: not ASCII text", 3),
-        (bad(Defect::UnknownCommand), "line 7: unknown command", 3),
-        (
-            bad(Defect::WrongNumberOfWords),
-            "line 7: wrong number of words",
-            3,
-        ),
-        (bad(Defect::BadName), "line 7: bad name", 3),
-        (bad(Defect::SessionExists), "line 7: session exists", 3),
-        (bad(Defect::NoSuchSession), "line 7: no such session", 3),
-        (bad(Defect::SessionWaits), "line 7: session waits", 3),
-        (bad(Defect::BadNumber), "line 7: bad number", 3),
-        (bad(Defect::BadObject), "line 7: bad object", 3),
-        (bad(Defect::BadMode), "line 7: bad mode", 3),
-        (bad(Defect::BadOwner), "line 7: bad owner", 3),
-        (Fault::ReadFailed, "read failed", 1),
-        (Fault::WriteFailed, "write failed", 1),
-        (Fault::NoMemory, "no memory", 1),
-        (Fault::GateHeld, "gate held", 1),
-    ] {
-        expect_fault(&rt, fault, text, status)?;
-    }
-    Ok(())
 }
 
 #[test]

@@ -1,5 +1,5 @@
 use Rattle.std.proofs.Common.{◌≡◌, arith}
-use Rattle.lock_scenario.proofs.CrewLemmas.{All-left, length-left}
+use Rattle.lock_script.proofs.CrewLemmas.{All-left, length-left}
 use Rattle.lock_scenario.proofs.stage.Stage.close.Goals as goal
 
 pub invariant_of-self : goal.invariant_of-self

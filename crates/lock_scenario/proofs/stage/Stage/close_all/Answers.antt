@@ -1,6 +1,6 @@
 use Rattle.std.proofs.Common.{◌≡◌, ◌∙◌, ap, arith}
 use Rattle.shared_rule.specs.Boards.{Seated}
-use Rattle.lock_scenario.proofs.CrewLemmas.{All-first, All-rest, length-rest, All-put, length-put}
+use Rattle.lock_script.proofs.CrewLemmas.{All-first, All-rest, length-rest, All-put, length-put}
 use Rattle.lock_scenario.proofs.stage.Stage.close_all.Goals as goal
 
 pub invariant_of-self-clause-counted : goal.invariant_of-self-clause-counted

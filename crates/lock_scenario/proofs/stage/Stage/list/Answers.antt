@@ -1,6 +1,6 @@
 use Rattle.std.proofs.Common.{◌≡◌, ℕ, ◌+◌, ◌∙◌, ap, length, sym}
 use Rattle.shared_rule.specs.Boards.{Seated}
-use Rattle.lock_scenario.proofs.CrewLemmas.{All-put_back, length-put_back}
+use Rattle.lock_script.proofs.CrewLemmas.{All-put_back, length-put_back}
 use Rattle.lock_scenario.proofs.stage.Stage.list.Goals as goal
 
 pub invariant_of-self-clause-counted : goal.invariant_of-self-clause-counted

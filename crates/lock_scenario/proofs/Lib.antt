@@ -1,7 +1,0 @@
-mod CrewLemmas
-mod Gathering
-mod Known
-mod NameOrder
-mod NameLemmas
-mod TextBytes
-mod WordLemmas

@@ -1,7 +1,0 @@
-use Rattle.std.proofs.Common.{rules}
-use Rattle.lock_scenario.specs.Words.{is_slash}
-use Rattle.lock_scenario.proofs.WordLemmas.{parts-at}
-use Rattle.lock_scenario.proofs.words.cut_at_slash.Goals as goal
-
-pub returns : goal.returns
-returns c = parts-at is_slash c.args.word.now c.split_once.result (search rules)

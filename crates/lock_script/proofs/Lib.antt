@@ -1,0 +1,7 @@
+pub mod CrewLemmas
+mod Gathering
+mod Known
+mod NameOrder
+mod NameLemmas
+mod TextBytes
+mod WordLemmas

@@ -1,0 +1,292 @@
+//! The commands of the script language, and the parse of their words.
+ghost use Rattle.std.specs.Prelude.{◌≡◌, ◌≢◌, ◌<◌, ◌↔◌, ◌⊎◌, length, map, take, None, Some, IfOk, IfErr, IfSome, IsErrOf, MatchOption};
+ghost use Rattle.std.specs.List.{HoldsAt};
+ghost use Rattle.modes_core.specs.Mode.{name_of};
+ghost use Rattle.lock_script.specs.Command.{Addresses, IsBarred, IsNoTarget, IsUnnamed, NamesCounter, NamesOneThatMayAct, NamesOpen, NamesSpeaker};
+ghost use Rattle.lock_script.specs.Crew.{IsThere, IsUnknown, MayAct};
+ghost use Rattle.lock_script.specs.Meaning.{IsCommandOf, IsSilent, Means, NamesActor, NamesBoth, NamesCount, NamesLone, NamesNew, NamesOwned, NamesTag};
+ghost use Rattle.lock_script.specs.Words.{strong_index_in, tag_of, words_of};
+
+use crate::crew::{Crew, Opened, Place, Speaker};
+use crate::faults::Defect;
+use crate::names::Name;
+use crate::words::{
+    parse_name, parse_number, parse_owner, parse_strong_index, parse_tag, split_words,
+};
+use modes_core::{Mode, Owner, Tag};
+
+/// Which lock a line is about, and whose.
+#[derive(Clone, Copy, Debug, PartialEq, Eq)]
+pub struct Target {
+    pub speaker: Speaker,
+    pub tag: Tag,
+    pub mode: Mode,
+}
+
+/// What a line asks for.
+#[derive(Clone, Copy, Debug, PartialEq, Eq)]
+pub enum Command {
+    /// `session NAME DB`
+    Session { name: Name, database: u32 },
+    /// `try NAME TAG MODE OWNER`
+    Try(Target, Owner),
+    /// `fast NAME TAG MODE OWNER`
+    Fast(Target, Owner),
+    /// `lock NAME TAG MODE OWNER`
+    Lock(Target, Owner),
+    /// `unlock NAME TAG MODE OWNER`
+    Unlock(Target, Owner),
+    /// `commit NAME`
+    Commit(Speaker),
+    /// `abort NAME`
+    Abort(Speaker),
+    /// `owned NAME TAG MODE`
+    Owned(Target),
+    /// `waiters NAME TAG MODE`
+    Waiters(Target),
+    /// `cancel BY NAME`
+    Cancel(Speaker, Opened),
+    /// `list NAME`
+    List(Speaker),
+    /// `count NAME INDEX`
+    Count(Speaker, u16),
+    /// `hash TAG`
+    Hash(Tag),
+    /// `close NAME`
+    Close(Speaker),
+}
+
+/// What the line asks for, or `None` of a line with no word and of a comment. The first six words say it, since no
+/// command has as many.
+pub fn parse<S: Drop, W: Drop>(line: &str, crew: &Crew<S, W>) -> Result<Option<Command>, Defect>
+    ensures addressed { IfOk result (λ command. IfSome command (Addresses crew.now)) }
+    ensures counter { IfOk result (λ command. IfSome command NamesCounter) }
+    ensures meaning { IfOk result (λ command. MatchOption command (IsSilent (take 6 (words_of line.now)))
+        (Means crew.now (take 6 (words_of line.now)))) }
+{
+    let words = split_words(line);
+    let Some((verb, words)) = words.as_slice().split_first() else {
+        return Ok(None);
+    };
+    if verb.starts_with('#') {
+        return Ok(None);
+    }
+    parse_command(*verb, words, crew).map(Some)
+}
+
+/// The command of this first word and the words behind it.
+fn parse_command<S: Drop, W: Drop>(
+    verb: &str,
+    words: &[&str],
+    crew: &Crew<S, W>,
+) -> Result<Command, Defect>
+    ensures addressed { IfOk result (Addresses crew.now) }
+    ensures counter { IfOk result NamesCounter }
+    ensures meaning { IfOk result (IsCommandOf crew.now verb.now (map (λ word. word.now) words.now)) }
+{
+    match verb {
+        "session" => {
+            let (name, database) = parse_session(words, crew)?;
+            Ok(Command::Session { name, database })
+        }
+        "try" => {
+            let (target, owner) = parse_owned_target(words, crew)?;
+            Ok(Command::Try(target, owner))
+        }
+        "fast" => {
+            let (target, owner) = parse_owned_target(words, crew)?;
+            Ok(Command::Fast(target, owner))
+        }
+        "lock" => {
+            let (target, owner) = parse_owned_target(words, crew)?;
+            Ok(Command::Lock(target, owner))
+        }
+        "unlock" => {
+            let (target, owner) = parse_owned_target(words, crew)?;
+            Ok(Command::Unlock(target, owner))
+        }
+        "cancel" => {
+            let (by, other) = parse_cancel(words, crew)?;
+            Ok(Command::Cancel(by, other))
+        }
+        "count" => {
+            let (speaker, index) = parse_count(words, crew)?;
+            Ok(Command::Count(speaker, index))
+        }
+        "commit" => Ok(Command::Commit(parse_lone_speaker(words, crew)?)),
+        "abort" => Ok(Command::Abort(parse_lone_speaker(words, crew)?)),
+        "owned" => Ok(Command::Owned(parse_lone_target(words, crew)?)),
+        "waiters" => Ok(Command::Waiters(parse_lone_target(words, crew)?)),
+        "list" => Ok(Command::List(parse_lone_speaker(words, crew)?)),
+        "hash" => Ok(Command::Hash(parse_hash(words)?)),
+        "close" => Ok(Command::Close(parse_lone_speaker(words, crew)?)),
+        _ => Err(Defect::UnknownCommand),
+    }
+}
+
+/// The words behind `session`: a name that no open session has, and a number.
+fn parse_session<S: Drop, W: Drop>(words: &[&str], crew: &Crew<S, W>) -> Result<(Name, u32), Defect>
+    ensures free { IfOk result (λ parsed. IsUnknown crew.now parsed.0.bytes) }
+    ensures named { IfOk result (λ parsed.
+        NamesNew crew.now (map (λ word. word.now) words.now) parsed.0 parsed.1) }
+{
+    let [name, database] = words else {
+        return Err(Defect::WrongNumberOfWords);
+    };
+    let name = parse_name(name).ok_or(Defect::BadName)?;
+    if crew.place_called(&name).is_some() {
+        return Err(Defect::SessionExists);
+    }
+    let database = parse_number(database).ok_or(Defect::BadNumber)?;
+    Ok((name, database))
+}
+
+/// The words behind `try`, `fast`, `lock` and `unlock`. Where there is no fourth one the owner is the transaction.
+fn parse_owned_target<S: Drop, W: Drop>(
+    words: &[&str],
+    crew: &Crew<S, W>,
+) -> Result<(Target, Owner), Defect>
+    ensures may_act { IfOk result (λ parsed. MayAct crew.now parsed.0.speaker.place) }
+    ensures named { IfOk result (λ parsed.
+        NamesOwned crew.now (map (λ word. word.now) words.now) parsed.0 parsed.1) }
+{
+    match words {
+        [name, tag, mode] => {
+            let target = parse_target(name, tag, mode, crew)?;
+            Ok((target, Owner::Transaction))
+        }
+        [name, tag, mode, owner] => {
+            let target = parse_target(name, tag, mode, crew)?;
+            let owner = parse_owner(owner).ok_or(Defect::BadOwner)?;
+            Ok((target, owner))
+        }
+        _ => Err(Defect::WrongNumberOfWords),
+    }
+}
+
+/// The words behind `owned` and `waiters`.
+fn parse_lone_target<S: Drop, W: Drop>(words: &[&str], crew: &Crew<S, W>) -> Result<Target, Defect>
+    ensures may_act { IfOk result (λ target. MayAct crew.now target.speaker.place) }
+    ensures named { IfOk result (NamesLone crew.now (map (λ word. word.now) words.now)) }
+{
+    let [name, tag, mode] = words else {
+        return Err(Defect::WrongNumberOfWords);
+    };
+    parse_target(name, tag, mode, crew)
+}
+
+/// Which lock three words are about, and whose.
+fn parse_target<S: Drop, W: Drop>(
+    name: &str,
+    tag: &str,
+    mode: &str,
+    crew: &Crew<S, W>,
+) -> Result<Target, Defect>
+    ensures may_act { IfOk result (λ target. MayAct crew.now target.speaker.place) }
+    ensures named { IfOk result (λ target. NamesSpeaker crew.now name.now target.speaker) }
+    ensures tag { IfOk result (λ target. tag_of tag.now ≡ Some target.tag) }
+    ensures mode { IfOk result (λ target. name_of target.mode ≡ mode.now) }
+    ensures refused { IfErr result (IsNoTarget crew.now name.now tag.now mode.now) }
+{
+    let speaker = parse_speaker(name, crew)?;
+    let tag = parse_tag(tag).ok_or(Defect::BadObject)?;
+    let mode = Mode::from_name(mode).ok_or(Defect::BadMode)?;
+    Ok(Target { speaker, tag, mode })
+}
+
+/// The word behind a command that takes a session's name alone.
+fn parse_lone_speaker<S: Drop, W: Drop>(
+    words: &[&str],
+    crew: &Crew<S, W>,
+) -> Result<Speaker, Defect>
+    ensures may_act { IfOk result (λ speaker. MayAct crew.now speaker.place) }
+    ensures named { IfOk result (NamesActor crew.now (map (λ word. word.now) words.now)) }
+{
+    let [name] = words else {
+        return Err(Defect::WrongNumberOfWords);
+    };
+    parse_speaker(name, crew)
+}
+
+/// The word behind `hash`.
+fn parse_hash(words: &[&str]) -> Result<Tag, Defect>
+    ensures { IfOk result (NamesTag (map (λ word. word.now) words.now)) }
+{
+    let [tag] = words else {
+        return Err(Defect::WrongNumberOfWords);
+    };
+    parse_tag(tag).ok_or(Defect::BadObject)
+}
+
+/// The words behind `count`: who looks, and at which strong lock counter.
+fn parse_count<S: Drop, W: Drop>(
+    words: &[&str],
+    crew: &Crew<S, W>,
+) -> Result<(Speaker, u16), Defect>
+    ensures may_act { IfOk result (λ parsed. MayAct crew.now parsed.0.place) }
+    ensures exists { IfOk result (λ parsed. parsed.1 < 1024) }
+    ensures named { IfOk result (λ parsed.
+        NamesCount crew.now (map (λ word. word.now) words.now) parsed.0 parsed.1) }
+    ensures wrong_number { IsErrOf result Defect.WrongNumberOfWords ↔ (length words.now ≢ 2) }
+    ensures refused { IfErr result (λ defect. defect ≢ Defect.WrongNumberOfWords →
+        HoldsAt (λ word. IsBarred crew.now word.now defect) words.now 0
+        ⊎ ((defect ≡ Defect.BadNumber)
+        × HoldsAt (λ word. NamesOneThatMayAct crew.now word.now) words.now 0
+        × HoldsAt (λ word. strong_index_in word.now ≡ None) words.now 1)) }
+{
+    let [name, index] = words else {
+        return Err(Defect::WrongNumberOfWords);
+    };
+    let speaker = parse_speaker(name, crew)?;
+    let index = parse_strong_index(index).ok_or(Defect::BadNumber)?;
+    Ok((speaker, index))
+}
+
+/// The words behind `cancel`: who asks, and the session that is asked, which may wait.
+fn parse_cancel<S: Drop, W: Drop>(
+    words: &[&str],
+    crew: &Crew<S, W>,
+) -> Result<(Speaker, Opened), Defect>
+    ensures addressed { IfOk result (λ parsed.
+        MayAct crew.now parsed.0.place × IsThere crew.now parsed.1.place) }
+    ensures named { IfOk result (λ parsed.
+        NamesBoth crew.now (map (λ word. word.now) words.now) parsed.0 parsed.1) }
+    ensures wrong_number { IsErrOf result Defect.WrongNumberOfWords ↔ (length words.now ≢ 2) }
+    ensures refused { IfErr result (λ defect. defect ≢ Defect.WrongNumberOfWords →
+        HoldsAt (λ word. IsBarred crew.now word.now defect) words.now 0
+        ⊎ (HoldsAt (λ word. NamesOneThatMayAct crew.now word.now) words.now 0
+        × HoldsAt (λ word. IsUnnamed crew.now word.now defect) words.now 1)) }
+{
+    let [by, other] = words else {
+        return Err(Defect::WrongNumberOfWords);
+    };
+    let by = parse_speaker(by, crew)?;
+    let other = parse_opened(other, crew)?;
+    Ok((by, other))
+}
+
+/// The session that a word names. It may not wait.
+fn parse_speaker<S: Drop, W: Drop>(name: &str, crew: &Crew<S, W>) -> Result<Speaker, Defect>
+    ensures may_act { IfOk result (λ speaker. MayAct crew.now speaker.place) }
+    ensures named { IfOk result (NamesSpeaker crew.now name.now) }
+    ensures refused { IfErr result (IsBarred crew.now name.now) }
+{
+    let Opened { name, place } = parse_opened(name, crew)?;
+    match place {
+        Place::Resting(place) => Ok(Speaker { name, place }),
+        Place::Waiting(_) => Err(Defect::SessionWaits),
+    }
+}
+
+/// The session that a word names, whether it waits or not.
+fn parse_opened<S: Drop, W: Drop>(name: &str, crew: &Crew<S, W>) -> Result<Opened, Defect>
+    ensures named { IfOk result (NamesOpen crew.now name.now) }
+    ensures there { IfOk result (λ opened. IsThere crew.now opened.place) }
+    ensures refused { IfErr result (IsUnnamed crew.now name.now) }
+{
+    let name = parse_name(name).ok_or(Defect::BadName)?;
+    match crew.place_called(&name) {
+        Some(place) => Ok(Opened { name, place }),
+        None => Err(Defect::NoSuchSession),
+    }
+}

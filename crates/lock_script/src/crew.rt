@@ -1,0 +1,184 @@
+//! The open sessions of a script, by their names: those that wait, and those that don't.
+ghost use Rattle.std.specs.Prelude.{◌≡◌, ℕ, ◌<◌, ◌≤◌, [], ◌∷◌, length, remove, slice_index_or, IfOk, IfSome, IfNone, MatchOption};
+ghost use Rattle.std.specs.List.{HoldsAt};
+ghost use Rattle.lock_script.specs.Names.{IsByName, IsCalled, IsFree, NotAfter, PutsIn};
+
+use crate::names::Name;
+use modes_core::sessions::SESSIONS;
+use std::alloc::{AllocError, Global};
+use std::marker::Model;
+
+/// How many sessions there are at most.
+const MOST: usize = SESSIONS as usize;
+
+/// A session under its name.
+#[derive(Drop)]
+pub struct Named<S> {
+    pub name: Name,
+    pub session: S,
+}
+
+/// Sessions in the byte order of their names. Contracts see them as a list. It has room for as many as there can be,
+/// so that only its making takes memory.
+#[derive(Drop)]
+pub struct ByName<S> {
+    sessions: Vec<Named<S>>,
+}
+
+impl<S> Model for ByName<S> {
+    ghost use Rattle.std.specs.Prelude.{◌≤◌, List, vec_capacity};
+    ghost use Rattle.lock_script.specs.declared.crew.Named.{Named};
+    ghost use Rattle.lock_script.specs.Names.{IsByName};
+
+    ghost Value = { List (Named S) };
+
+    ghost view = { λ those. those.sessions.items };
+
+    ghost invariant = { λ those. IsByName those.sessions.items × (64 ≤ vec_capacity those.sessions) };
+}
+
+impl<S: Drop> ByName<S> {
+    ghost use Rattle.lock_script.specs.declared.crew.Named.{Named};
+
+    /// No session. It is refused where memory is wanting.
+    pub fn new(alloc: Global) -> Result<Self, AllocError>
+        ensures { IfOk result (λ made. made ≡ []) }
+    {
+        let sessions = Vec::with_capacity(alloc, MOST)?;
+        Ok(ByName { sessions })
+    }
+
+    /// How many there are.
+    pub fn len(&self) -> usize
+        ensures { result ≡ length self.now }
+    {
+        self.sessions.len()
+    }
+
+    /// Where the session of this name stands, if it is one of these.
+    pub fn place_called(&self, name: &Name) -> Option<usize>
+        ensures called { IfSome result (IsCalled self.now name.now.bytes) }
+        ensures free { IfNone result (IsFree self.now name.now.bytes) }
+    {
+        for (place, other) in self.sessions.iter().enumerate() {
+            if other.name.as_str() == name.as_str() {
+                return Some(place);
+            }
+        }
+        None
+    }
+
+    /// The one at this place.
+    pub fn at(&self, place: usize) -> &Named<S>
+        requires { place < length self.now }
+        ensures { HoldsAt (λ one. result.now ≡ one) self.now place }
+    {
+        &self.sessions[place]
+    }
+
+    /// Puts a session in at its place in the order of the names.
+    pub fn put(&mut self, name: Name, session: S)
+        requires { length self.old < 64 }
+        ensures { PutsIn self.old (record { name = name; session = session }) self.new }
+    {
+        let place = self.place_of(&name);
+        // There is room, so it takes no memory and is not refused.
+        let _ = self.sessions.insert(place, Named { name, session });
+    }
+
+    /// How many have a name that does not come after this one.
+    fn place_of(&self, name: &Name) -> usize
+        ensures within { result ≤ length self.now }
+        ensures before { (k : ℕ) (d : Named S) → k < result →
+            NotAfter (slice_index_or self.now k d).name.bytes name.now.bytes }
+        ensures after { (k : ℕ) (d : Named S) → result ≤ k → k < length self.now →
+            NotAfter name.now.bytes (slice_index_or self.now k d).name.bytes }
+    {
+        for (place, other) in self.sessions.iter().enumerate() {
+            if *name < other.name {
+                return place;
+            }
+        }
+        self.sessions.len()
+    }
+
+    /// Takes the one at this place out.
+    pub fn take(&mut self, place: usize) -> Named<S>
+        requires { place < length self.old }
+        ensures taken { HoldsAt (λ one. result ≡ one) self.old place }
+        ensures left { self.new ≡ remove self.old place }
+    {
+        self.sessions.remove(place)
+    }
+
+    /// Takes the one out whose name comes first, if there is any.
+    pub fn take_first(&mut self) -> Option<Named<S>>
+        ensures first { MatchOption result (self.old ≡ []) (λ first. self.old ≡ first ∷ self.new) }
+        ensures none { IfNone result (self.new ≡ []) }
+        ensures in_order { IsByName self.old }
+    {
+        if self.sessions.is_empty() {
+            return None;
+        }
+        Some(self.sessions.remove(0))
+    }
+}
+
+/// The open sessions: those that don't wait, and those that do.
+#[derive(Drop)]
+pub struct Crew<S, W> {
+    pub resting: ByName<S>,
+    pub waiting: ByName<W>,
+}
+
+/// Where an open session stands.
+#[derive(Clone, Copy, Debug, PartialEq, Eq)]
+pub enum Place {
+    /// At this place of those that don't wait.
+    Resting(usize),
+    /// At this place of those that wait.
+    Waiting(usize),
+}
+
+/// A session that doesn't wait: its name, and its place.
+#[derive(Clone, Copy, Debug, PartialEq, Eq)]
+pub struct Speaker {
+    pub name: Name,
+    pub place: usize,
+}
+
+/// An open session: its name, and its place.
+#[derive(Clone, Copy, Debug, PartialEq, Eq)]
+pub struct Opened {
+    pub name: Name,
+    pub place: Place,
+}
+
+impl<S: Drop, W: Drop> Crew<S, W> {
+    ghost use Rattle.lock_script.specs.Crew.{IsAt, IsUnknown};
+
+    /// Nobody. It is refused where memory is wanting.
+    pub fn new(alloc: Global) -> Result<Self, AllocError>
+        ensures resting { IfOk result (λ crew. crew.resting ≡ []) }
+        ensures waiting { IfOk result (λ crew. crew.waiting ≡ []) }
+    {
+        Ok(Crew {
+            resting: ByName::new(alloc)?,
+            waiting: ByName::new(alloc)?,
+        })
+    }
+
+    /// Where the open session of this name stands, if there is one.
+    pub fn place_called(&self, name: &Name) -> Option<Place>
+        ensures called { IfSome result (IsAt self.now name.now.bytes) }
+        ensures free { IfNone result (IsUnknown self.now name.now.bytes) }
+    {
+        if let Some(place) = self.resting.place_called(name) {
+            return Some(Place::Resting(place));
+        }
+        match self.waiting.place_called(name) {
+            Some(place) => Some(Place::Waiting(place)),
+            None => None,
+        }
+    }
+}

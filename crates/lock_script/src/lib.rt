@@ -1,0 +1,24 @@
+//! The language of scripts of lock calls: the lines of a reader, their words, the open sessions by their names, and the
+//! command that a line is. It knows nothing of a lock manager: what a session is, is left to whoever runs scripts.
+#![tactic(auto)]
+
+pub mod bytes;
+pub mod command;
+pub mod crew;
+pub mod faults;
+pub mod lines;
+pub mod names;
+pub mod words;
+
+pub use bytes::ByteSource;
+pub use command::{Command, Target, parse};
+pub use crew::{ByName, Crew, Named, Opened, Place, Speaker};
+pub use faults::{Defect, Fault};
+pub use lines::{Line, LineReader};
+pub use names::{Name, Names};
+pub use words::{
+    parse_name, parse_number, parse_owner, parse_strong_index, parse_tag, split_words,
+};
+
+#[cfg(test)]
+mod tests;

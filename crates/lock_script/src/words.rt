@@ -1,0 +1,187 @@
+//! The words of a line, and what they mean.
+ghost use Rattle.std.specs.Prelude.{◌≡◌, ◌<◌, [], ◌∷◌, ◌++◌, length, take, map, filter, position, IfSome, MatchOption, is_some, IsUtf8};
+ghost use Rattle.std.specs.List.{list_all, slice_split};
+ghost use Rattle.std.specs.Char.{is_ascii_digit};
+ghost use Rattle.lock_script.specs.Words.{is_blank, is_word, words_of, is_name_byte, is_name, number_in, is_slash, strong_index_in, tag_of_numbers, tag_of, owner_of};
+
+use crate::names::Name;
+use arrayvec::ArrayVec;
+use modes_core::tags::STRONG_COUNTERS;
+use modes_core::{Owner, Tag};
+
+/// The first six words of a line: what spaces and tabs part. No command has as many.
+pub fn split_words(line: &str) -> ArrayVec<&str, 6>
+    ensures { map (λ word. word.now) result.items ≡ take 6 (words_of line.now) }
+{
+    let mut words = ArrayVec::new();
+    let mut rest = line;
+    while let Some((word, after)) = cut_at_blank(rest) {
+        keep_word(&mut words, word);
+        rest = after;
+    }
+    keep_word(&mut words, rest);
+    words
+}
+
+/// Adds what stands between two blanks, where it is a word and there is room.
+fn keep_word<'a>(words: &mut ArrayVec<&'a str, 6>, part: &'a str)
+    ensures { map (λ word. word.now) words.new.items
+        ≡ take 6 (map (λ word. word.now) words.old.items ++ filter is_word (part.now ∷ [])) }
+{
+    if words.is_full() {
+        return;
+    }
+    if part.is_empty() {
+        return;
+    }
+    words.push(part);
+}
+
+/// What stands before and after the first blank.
+fn cut_at_blank(text: &str) -> Option<(&str, &str)>
+    ensures parts { MatchOption result (slice_split is_blank text.now ≡ text.now ∷ [])
+        (λ parts. slice_split is_blank text.now ≡ parts.0.now ∷ slice_split is_blank parts.1.now) }
+    ensures shorter { IfSome result (λ parts. length parts.1.now < length text.now) }
+    ensures text { IfSome result (λ parts. IsUtf8 parts.1.now) }
+{
+    match first_blank(text) {
+        Some(end) => Some((&text[..end], &text[end + 1..])),
+        None => None,
+    }
+}
+
+/// Where the first blank is.
+fn first_blank(text: &str) -> Option<usize>
+    ensures { result ≡ position is_blank text.now }
+{
+    text.as_bytes()
+        .iter()
+        .position(|byte| matches!(*byte, b' ' | b'\t'))
+}
+
+/// A name: 1 to 16 characters of `a` to `z`, `0` to `9` and `_`.
+pub fn parse_name(word: &str) -> Option<Name>
+    ensures variant { is_some result ≡ is_name word.now }
+    ensures value { IfSome result (λ name. name.bytes ≡ word.now) }
+{
+    if word.is_empty() || !has_name_bytes(word) {
+        return None;
+    }
+    match Name::from(word) {
+        Ok(name) => Some(name),
+        Err(_) => None,
+    }
+}
+
+/// Whether each character may stand in a name.
+fn has_name_bytes(word: &str) -> bool
+    ensures { result ≡ list_all is_name_byte word.now }
+{
+    word.as_bytes()
+        .iter()
+        .all(|byte| matches!(*byte, b'a'..=b'z' | b'0'..=b'9' | b'_'))
+}
+
+/// A number: 1 to 10 decimal digits, at most 4294967295.
+pub fn parse_number(word: &str) -> Option<u32>
+    ensures { result ≡ number_in word.now }
+{
+    if word.len() > 10 || !has_digits(word) {
+        return None;
+    }
+    match word.parse::<u32>() {
+        Ok(number) => Some(number),
+        Err(_) => None,
+    }
+}
+
+/// The index of a strong lock counter: a number below 1,024.
+pub fn parse_strong_index(word: &str) -> Option<u16>
+    ensures value { result ≡ strong_index_in word.now }
+    ensures exists { IfSome result (λ index. index < 1024) }
+{
+    match parse_number(word) {
+        Some(number) if number < STRONG_COUNTERS => Some(number as u16),
+        _ => None,
+    }
+}
+
+/// Whether each character is a decimal digit.
+fn has_digits(word: &str) -> bool
+    ensures { result ≡ list_all is_ascii_digit word.now }
+{
+    word.as_bytes().iter().all(|byte| byte.is_ascii_digit())
+}
+
+/// A tag: `DB/REL` is a relation, `DB/CLASS/OBJ/SUB` an object, whose sub-object is at most 65535.
+pub fn parse_tag(word: &str) -> Option<Tag>
+    ensures { result ≡ tag_of word.now }
+{
+    let Some((database, rest)) = cut_at_slash(word) else {
+        return None;
+    };
+    let Some((class, rest)) = cut_at_slash(rest) else {
+        return relation_tag(parse_number(database), parse_number(rest));
+    };
+    let Some((object, sub_object)) = cut_at_slash(rest) else {
+        return None;
+    };
+    if let Some(_) = cut_at_slash(sub_object) {
+        return None;
+    }
+    object_tag(
+        parse_number(database),
+        parse_number(class),
+        parse_number(object),
+        parse_number(sub_object),
+    )
+}
+
+/// An owner other than the transaction: the word `session`.
+pub fn parse_owner(word: &str) -> Option<Owner>
+    ensures { result ≡ owner_of word.now }
+{
+    if word == "session" {
+        Some(Owner::Session)
+    } else {
+        None
+    }
+}
+
+/// What stands before and after the first slash.
+fn cut_at_slash(word: &str) -> Option<(&str, &str)>
+    ensures { MatchOption result (slice_split is_slash word.now ≡ word.now ∷ [])
+        (λ parts. slice_split is_slash word.now ≡ parts.0.now ∷ slice_split is_slash parts.1.now) }
+{
+    word.split_once('/')
+}
+
+/// The relation that two numbers are.
+fn relation_tag(database: Option<u32>, relation: Option<u32>) -> Option<Tag>
+    ensures { result ≡ tag_of_numbers (database ∷ relation ∷ []) }
+{
+    match (database, relation) {
+        (Some(database), Some(relation)) => Some(Tag::relation(database, relation)),
+        _ => None,
+    }
+}
+
+/// The object that four numbers are.
+fn object_tag(
+    database: Option<u32>,
+    class: Option<u32>,
+    object: Option<u32>,
+    sub_object: Option<u32>,
+) -> Option<Tag>
+    ensures { result ≡ tag_of_numbers (database ∷ class ∷ object ∷ sub_object ∷ []) }
+{
+    match (database, class, object, sub_object) {
+        (Some(database), Some(class), Some(object), Some(sub_object)) => {
+            match u16::try_from(sub_object) {
+                Ok(sub_object) => Some(Tag::object(database, class, object, sub_object)),
+                Err(_) => None,
+            }
+        }
+        _ => None,
+    }
+}
