@@ -2,10 +2,7 @@
 #![tactic(auto)]
 
 pub mod arguments;
-pub mod output;
 pub mod program;
-pub mod script;
-pub mod stage;
 
 use program::run_program;
 use std::process::ExitCode;

@@ -1,8 +1,8 @@
 //! Scripts with what they print, as the language says. They are rows; what plays them is proved once.
 use crate::arguments::parse_arguments;
-use crate::script::run_script;
 use lock_manager::{Config, MOST_LOCAL, MOST_SESSIONS};
 use lock_script::{Defect, Fault};
+use lock_stage::run_script;
 use std::alloc::Global;
 use std::io::{self, ErrorKind, Read, Write};
 use std::process::Abort;

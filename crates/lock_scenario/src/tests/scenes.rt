@@ -1,8 +1,7 @@
 //! Scripts of as many sessions as there can be, and what is left when a script has ended.
 use super::{ALL_SESSIONS, expect_run};
-use crate::script::Scene;
-use crate::stage::Stage;
 use lock_manager::Manager;
+use lock_stage::{Scene, Stage};
 use std::alloc::Global;
 use std::test::Fail;
 

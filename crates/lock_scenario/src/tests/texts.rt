@@ -1,9 +1,9 @@
 //! Every text that a script can print, by variant.
-use crate::output::Output;
 use lock_manager::{
     Acquired, Asked, How, Listing, Mode, Refusal, SessionId, SlotRow, TableRow, Tag, Unlocked,
 };
 use lock_script::{Fault, Name, Names};
+use lock_stage::Output;
 use std::process::Abort;
 use std::test::Fail;
 

@@ -1,9 +1,0 @@
-use Rattle.std.specs.Prelude.{ℕ}
-use Rattle.lock_scenario.specs.declared.stage.Looked.{Looked}
-use Rattle.lock_scenario.specs.declared.stage.Looked.TheVariants.{Waits, Granted, Cancelled}
-
--- how many go on that waited, by a look at one of them
-abbrev pub going_on : Looked → ℕ
-going_on Waits = 0
-going_on (Granted name) = 1
-going_on (Cancelled name) = 1
