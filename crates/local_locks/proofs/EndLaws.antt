@@ -28,15 +28,7 @@ is_ended-after_end Close e = refl
 abbrev pub Keeps : End → Entry → Type 0
 Keeps end e = (is_ended end e ≡ false) × (after_end end e ≡ e)
 
--- what one end keeps it keeps after another
-pub Keeps-after_end : (one other : End) (e : Entry) → Keeps one e → is_ended other e ≡ false → Keeps one (after_end other e)
-Keeps-after_end Commit Commit e keeps stays = (keeps.0, refl)
-Keeps-after_end Commit Abort e keeps stays = absurd (false≢true (sym stays))
-Keeps-after_end Commit Close e keeps stays = absurd (false≢true (sym stays))
-Keeps-after_end Abort other e keeps stays = absurd (false≢true (sym keeps.0))
-Keeps-after_end Close other e keeps stays = absurd (false≢true (sym keeps.0))
-
--- and after a release that leaves a count
+-- what an end keeps it keeps after a release that leaves a count
 pub Keeps-lowered : (end : End) (owner : Owner) (e : Entry) → Keeps end e → 0 < count_for owner e → count_in_all e ≢ 1 → Keeps end (lowered owner e)
 Keeps-lowered Commit Session e keeps some more =
     let none : 0 ≡ e.transaction = ap (λ x. x.transaction) keeps.1 in

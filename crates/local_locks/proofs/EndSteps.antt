@@ -11,9 +11,8 @@ use Rattle.local_locks.specs.declared.records.Entry.{Entry}
 use Rattle.local_locks.specs.declared.ends.End.{End}
 use Rattle.local_locks.specs.declared.ends.End.TheVariants.{Commit, Abort, Close}
 use Rattle.local_locks.specs.declared.ends.Progress.{Progress}
-use Rattle.local_locks.specs.declared.looks.Missing.{Missing}
 use Rattle.local_locks.specs.Owned.{IsCounted, is_ended, after_end, with_next_ended}
-use Rattle.local_locks.specs.Slots.{Slots, opened, entry_at, slot_at, present, key_at, IsIndexed, IsPast, IsKept, IsTable, reached, with_reached, at_start}
+use Rattle.local_locks.specs.Slots.{Slots, opened, entry_at, slot_at, present, key_at, IsIndexed, IsPast, IsKept, IsTable, reached, came_to, at_start}
 use Rattle.local_locks.proofs.SlotLaws.{and_some, slot_at-set, slot_at-set_other, slot_at-within}
 use Rattle.local_locks.proofs.EndLaws.{Stopped, Passed, present-same, present-stopped, find-stopped}
 use Rattle.local_locks.proofs.IndexLaws.{indexed-alike}
@@ -152,14 +151,14 @@ length-present_alike (Some x ∷ a) (None ∷ b) number alike = absurd (false≢
 
 pub kept-walked :
     (end : End) (old new : Slots) (place : ℕ) (index : Notes) (len max_local : ℕ) (progress : Progress) →
-    Walked end old new place → IsKept old index len max_local progress → IsKept new index len max_local (with_reached end place progress)
+    Walked end old new place → IsKept old index len max_local progress → IsKept new index len max_local (came_to end place)
 kept-walked end old new place index len max_local progress walked kept =
     record {
       indexed = indexed-alike old new index (walked_keys end old new place walked) kept.indexed;
       counted = walked-counted end old new place walked kept.counted;
       number = kept.number ∙ sym (length-present_alike old new walked.number (walked_alike end old new place walked));
       within = kept.within;
-      past = λ other. past-settled end other old new place progress walked.kept walked.settled walked.others kept.past;
+      past = λ other. past-settled end other old new place walked.kept walked.settled;
     }
 
 -- it found an entry that it takes away, which is then taken out
@@ -251,7 +250,7 @@ kept-index slots slots' index index' len max_local progress kept same notes =
 
 -- ---- nothing at all
 
-pub table-empty : (index : Notes) (max_local : ℕ) → ((h p : ℕ) → times index h p ≡ 0) → IsTable [] index 0 max_local at_start None
+pub table-empty : (index : Notes) (max_local : ℕ) → ((h p : ℕ) → times index h p ≡ 0) → IsTable [] index 0 max_local at_start
 table-empty index max_local none =
     record {
       kept = record {
@@ -262,7 +261,6 @@ table-empty index max_local none =
         past = at_first;
       };
       few = omega arith;
-      remembered = tt;
     } where
       no_entry : (k : ℕ) (e : Entry) → slot_at [] k ≡ Some e → ⊥
       no_entry k e at = (let bad : None ≡ Some e = at in cc)
@@ -277,12 +275,11 @@ table-empty index max_local none =
 
 -- the same slots, and an index with the same places
 pub table-index :
-    (es es' : List Entry) (index index' : Notes) (len max_local : ℕ) (progress : Progress) (missing : Option Missing) →
-    IsTable es index len max_local progress missing → es' ≡ es → HasSameNotes index index' → IsTable es' index' len max_local progress missing
-table-index es es' index index' len max_local progress missing table same notes =
-    subst (λ (l : List Entry). IsTable l index' len max_local progress missing) (sym same)
+    (es es' : List Entry) (index index' : Notes) (len max_local : ℕ) (progress : Progress) →
+    IsTable es index len max_local progress → es' ≡ es → HasSameNotes index index' → IsTable es' index' len max_local progress
+table-index es es' index index' len max_local progress table same notes =
+    subst (λ (l : List Entry). IsTable l index' len max_local progress) (sym same)
     (record {
       kept = kept-index (opened es) (opened es) index index' len max_local progress table.kept refl notes;
       few = table.few;
-      remembered = table.remembered;
     })

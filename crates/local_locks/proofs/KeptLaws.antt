@@ -1,8 +1,8 @@
-use Rattle.std.proofs.Common.{◌≡◌, ℕ, ◌<◌, ◌≤◌, false, List, [], ◌∷◌, suc, zero, min, refl, sym, subst, ◌∙◌, inl, inr, arith}
-use Rattle.std.specs.Prelude.{Option, Some, None, IfSome}
+use Rattle.std.proofs.Common.{◌≡◌, ℕ, ◌<◌, ◌≤◌, false, cond, List, [], ◌∷◌, suc, zero, min, refl, sym, subst, ◌∙◌, inl, inr, arith}
+use Rattle.std.specs.Prelude.{◌==◌, Option, Some, None, IfSome}
 use Rattle.std.specs.Option.{option_map}
 use Rattle.std.specs.List.{AllByRecursion, IsDistinct}
-use Rattle.std.proofs.lemmas.Bool.{cases_Bool, cases_lt}
+use Rattle.std.proofs.lemmas.Bool.{cases_Bool, eqb-true}
 use Rattle.std.proofs.lemmas.Map.Keys.{IsDistinct-cons}
 use Rattle.std.proofs.lemmas.List.Elements.{All-from_recursion}
 use Rattle.place_index.specs.Notes.{Notes}
@@ -11,10 +11,10 @@ use Rattle.local_locks.specs.declared.ends.End.{End}
 use Rattle.local_locks.specs.declared.ends.End.TheVariants.{Commit, Abort, Close}
 use Rattle.local_locks.specs.declared.ends.Progress.{Progress}
 use Rattle.local_locks.specs.Owned.{IsWellOwned, IsCounted, are_of_same, is_ended, after_end}
-use Rattle.local_locks.specs.Slots.{Slots, slot_at, present, IsPast, IsKept, reached, with_reached, back_to}
+use Rattle.local_locks.specs.Slots.{Slots, slot_at, present, IsPast, IsKept, number_of_end, reached, came_to, back_to}
 use Rattle.local_locks.proofs.SlotLaws.{if_some, at_some, is_of-own}
 use Rattle.local_locks.proofs.IndexLaws.{own_key}
-use Rattle.local_locks.proofs.EndLaws.{Keeps, Keeps-after_end, after_end-after_end, is_ended-after_end}
+use Rattle.local_locks.proofs.EndLaws.{Keeps, after_end-after_end, is_ended-after_end}
 
 -- ---- a table is well owned
 
@@ -62,57 +62,49 @@ past-fewer end old new n fewer past = λ k before.
 pub past-same : (end : End) (old new : Slots) (n : ℕ) → ((k : ℕ) → k < n → slot_at new k ≡ slot_at old k) → IsPast end old n → IsPast end new n
 past-same end old new n same past = λ k before. subst (λ o. IfSome o (Keeps end)) (sym (same k before)) (past k before)
 
-pub past-back_to : (end : End) (old new : Slots) (place : ℕ) (progress : Progress) → ((k : ℕ) → k < place → slot_at new k ≡ slot_at old k) → IsPast end old (reached end progress) → IsPast end new (reached end (back_to place progress))
-past-back_to Commit old new place progress same past = past-same Commit old new (min progress.commit place) (λ k before. same k (omega arith)) (past-le Commit old progress.commit (min progress.commit place) (omega arith) past)
-past-back_to Abort old new place progress same past = past-same Abort old new (min progress.abort place) (λ k before. same k (omega arith)) (past-le Abort old progress.abort (min progress.abort place) (omega arith) past)
-past-back_to Close old new place progress same past = past-same Close old new (min progress.close place) (λ k before. same k (omega arith)) (past-le Close old progress.close (min progress.close place) (omega arith) past)
-
 pub past-none : (end : End) (slots : Slots) → IsPast end slots 0
 past-none end slots = λ k before. absurd (omega arith)
 
+-- no end is past a place, before which the slots are the same
+pub past-back_to : (end : End) (old new : Slots) (place : ℕ) (progress : Progress) → ((k : ℕ) → k < place → slot_at new k ≡ slot_at old k) → IsPast end old (reached end progress) → IsPast end new (reached end (back_to place progress))
+past-back_to end old new place progress same past =
+    elim (cases_Bool (number_of_end progress.end == number_of_end end)) [
+      | inl its ↦
+          let to_place : IsPast end old progress.place = subst (λ b. IsPast end old (cond b progress.place 0)) its past in
+          subst (λ b. IsPast end new (cond b (min progress.place place) 0)) (sym its)
+          (past-same end old new (min progress.place place) (λ k before. same k (omega arith)) (past-le end old progress.place (min progress.place place) (omega arith) to_place))
+      | inr other ↦ subst (λ b. IsPast end new (cond b (min progress.place place) 0)) (sym other) (past-none end new)
+    ]
+
+number_of_end-same : (a b : End) → number_of_end a ≡ number_of_end b → a ≡ b
+number_of_end-same Commit Commit same = refl
+number_of_end-same Commit Abort same = absurd (omega arith)
+number_of_end-same Commit Close same = absurd (omega arith)
+number_of_end-same Abort Commit same = absurd (omega arith)
+number_of_end-same Abort Abort same = refl
+number_of_end-same Abort Close same = absurd (omega arith)
+number_of_end-same Close Commit same = absurd (omega arith)
+number_of_end-same Close Abort same = absurd (omega arith)
+number_of_end-same Close Close same = refl
+
 -- an end has come to a place: before it each entry is kept, with the counts that it leaves
-pub past-settled : (end other : End) (old new : Slots) (place : ℕ) (progress : Progress) →
+pub past-settled : (end other : End) (old new : Slots) (place : ℕ) →
     ((k : ℕ) → k < place → IfSome (slot_at old k) (λ x. is_ended end x ≡ false)) →
     ((k : ℕ) → k < place → slot_at new k ≡ option_map (after_end end) (slot_at old k)) →
-    ((k : ℕ) → place ≤ k → slot_at new k ≡ slot_at old k) →
-    ((e : End) → IsPast e old (reached e progress)) →
-    IsPast other new (reached other (with_reached end place progress))
-past-settled end other old new place progress kept settled others past = pick end other own (λ e. through e) where
-  mapped : (P Q : Entry → Type 0) (f : Entry → Entry) (o : Option Entry) → IfSome o P → ((x : Entry) → P x → Q (f x)) → IfSome (option_map f o) Q
-  mapped P Q f None holds step = tt
-  mapped P Q f (Some x) holds step = step x holds
+    IsPast other new (reached other (came_to end place))
+past-settled end other old new place kept settled =
+    elim (cases_Bool (number_of_end end == number_of_end other)) [
+      | inl same ↦
+          subst (λ b. IsPast other new (cond b place 0)) (sym same)
+          (subst (λ (e : End). IsPast e new place) (number_of_end-same end other (eqb-true (number_of_end end) (number_of_end other) same)) own)
+      | inr apart ↦ subst (λ b. IsPast other new (cond b place 0)) (sym apart) (past-none other new)
+    ] where
+      mapped : (o : Option Entry) → IfSome o (λ x. is_ended end x ≡ false) → IfSome (option_map (after_end end) o) (Keeps end)
+      mapped None holds = tt
+      mapped (Some x) stays = (is_ended-after_end end x ∙ stays, after_end-after_end end x)
 
-  both : (P Q : Entry → Type 0) (o : Option Entry) → IfSome o P → IfSome o Q → IfSome o (λ x. P x × Q x)
-  both P Q None p q = tt
-  both P Q (Some x) p q = (p, q)
-
-  own : IsPast end new place
-  own = λ k before.
-      subst (λ o. IfSome o (Keeps end)) (sym (settled k before))
-      (mapped (λ x. is_ended end x ≡ false) (Keeps end) (after_end end) (slot_at old k) (kept k before)
-      (λ x stays. (is_ended-after_end end x ∙ stays, after_end-after_end end x)))
-
-  through : (e : End) → IsPast e new (reached e progress)
-  through e = λ k before.
-      elim (cases_lt k place) [
-        | inl walked ↦
-            subst (λ o. IfSome o (Keeps e)) (sym (settled k walked))
-            (mapped (λ x. Keeps e x × (is_ended end x ≡ false)) (Keeps e) (after_end end) (slot_at old k)
-            (both (Keeps e) (λ x. is_ended end x ≡ false) (slot_at old k) (past e k before) (kept k walked))
-            (λ x holds. Keeps-after_end e end x holds.0 holds.1))
-        | inr beyond ↦ subst (λ o. IfSome o (Keeps e)) (sym (others k beyond)) (past e k before)
-      ]
-
-  pick : (end other : End) → IsPast end new place → ((e : End) → IsPast e new (reached e progress)) → IsPast other new (reached other (with_reached end place progress))
-  pick Commit Commit own rest = own
-  pick Commit Abort own rest = rest Abort
-  pick Commit Close own rest = rest Close
-  pick Abort Commit own rest = rest Commit
-  pick Abort Abort own rest = own
-  pick Abort Close own rest = rest Close
-  pick Close Commit own rest = rest Commit
-  pick Close Abort own rest = rest Abort
-  pick Close Close own rest = own
+      own : IsPast end new place
+      own = λ k before. subst (λ o. IfSome o (Keeps end)) (sym (settled k before)) (mapped (slot_at old k) (kept k before))
 
 -- nothing at all is well owned
 well_owned-nil : (room max_local : ℕ) → IsWellOwned (record { entries = []; room = room; max_local = max_local })

@@ -8,4 +8,5 @@ pub mod KeptLaws
 pub mod TableSteps
 pub mod EndSteps
 pub mod OwnedLaws
+pub mod NewLaws
 pub mod EntryLaws

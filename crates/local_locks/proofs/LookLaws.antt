@@ -1,5 +1,5 @@
-use Rattle.std.proofs.Common.{◌≡◌, ◌≢◌, ℕ, ◌<◌, true, false, sym, ap, ◌∙◌, inl, inr}
-use Rattle.std.specs.Prelude.{Some, None}
+use Rattle.std.proofs.Common.{◌≡◌, ◌≢◌, ℕ, ◌<◌, true, false, refl, sym, ap, ◌∙◌, inl, inr}
+use Rattle.std.specs.Prelude.{Option, Some, None, is_some}
 use Rattle.std.proofs.lemmas.Bool.{false≢true, cases_Bool}
 use Rattle.modes_core.specs.declared.sessions.Owner.{Owner}
 use Rattle.modes_core.specs.declared.sessions.Owner.TheVariants.{Session, Transaction}
@@ -8,8 +8,8 @@ use Rattle.modes_core.specs.declared.tags.Tag.{Tag}
 use Rattle.place_index.specs.Notes.{Notes, times}
 use Rattle.std.specs.Prelude.{List}
 use Rattle.local_locks.specs.declared.records.Entry.{Entry}
-use Rattle.local_locks.specs.Owned.{is_of, entry_for, new_entry}
-use Rattle.local_locks.specs.Slots.{opened, present, slot_at, entry_at, key_at, key_hash, IsIndexed, IsPlaceOf, IsMissing}
+use Rattle.local_locks.specs.Owned.{is_of, entry_for, has_entry, new_entry}
+use Rattle.local_locks.specs.Slots.{opened, present, slot_at, entry_at, key_at, key_hash, IsIndexed, IsPlaceOf}
 use Rattle.local_locks.proofs.SlotLaws.{is_of-same, is_of-own, entry_of-none, none_of, if_some}
 use Rattle.local_locks.proofs.IndexLaws.{found_entry, noted_some, some_key}
 use Rattle.local_locks.proofs.OpenLaws.{opened_some}
@@ -28,12 +28,9 @@ place_of es index indexed tag mode place there own =
 -- where no place that is noted under the hash has the object and mode, nothing has
 pub missing_of :
     (es : List Entry) (index : Notes) → IsIndexed (opened es) index → (tag : Tag) (mode : Mode) (hash : ℕ) → hash ≡ key_hash tag mode →
-    ((place : ℕ) → 0 < times index hash place → is_of tag mode (entry_at es place) ≡ false) → IsMissing es tag mode hash
+    ((place : ℕ) → 0 < times index hash place → is_of tag mode (entry_at es place) ≡ false) → entry_for (present (opened es)) tag mode ≡ None
 missing_of es index indexed tag mode hash hashed other =
-    record {
-      absent = entry_of-none tag mode (opened es) (λ k. if_some _ (slot_at (opened es) k) (none k));
-      hashed = hashed;
-    } where
+    entry_of-none tag mode (opened es) (λ k. if_some _ (slot_at (opened es) k) (none k)) where
       none : (k : ℕ) (x : Entry) → slot_at (opened es) k ≡ Some x → is_of tag mode x ≡ false
       none k x at =
           elim (cases_Bool (is_of tag mode x)) [
@@ -43,6 +40,13 @@ missing_of es index indexed tag mode hash hashed other =
                 ap (is_of tag mode) (sym (opened_some es k x at).1) ∙ other k some
             | inr apart ↦ apart
           ]
+
+-- what has no entry is not found
+pub no_entry : (es : List Entry) (tag : Tag) (mode : Mode) → has_entry es tag mode ≡ false → entry_for es tag mode ≡ None
+no_entry es tag mode none = at (entry_for es tag mode) none where
+  at : (found : Option Entry) → is_some found ≡ false → found ≡ None
+  at None none = refl
+  at (Some e) none = absurd (false≢true (sym none))
 
 -- an object and mode with no entry has no slot
 pub absent_key : (es : List Entry) (tag : Tag) (mode : Mode) → entry_for (present (opened es)) tag mode ≡ None → (k : ℕ) → key_at (opened es) k ≢ Some (tag, mode)

@@ -1,5 +1,5 @@
 use Rattle.std.proofs.Common.{◌≡◌, ◌≢◌, ℕ, ◌+◌, ◌-◌, ◌<◌, true, not, ◌&&◌, cond, List, [], ◌∷◌, ◌++◌, length, set, refl, sym, ap, subst, ◌∙◌, inl, inr, arith}
-use Rattle.std.specs.Prelude.{Option, Some, None, IfSome, is_some}
+use Rattle.std.specs.Prelude.{Some, None, IfSome, is_some}
 use Rattle.std.specs.Option.{option_map_or}
 use Rattle.std.proofs.lemmas.Bool.{cases_Bool, cases_eq, cases_lt, ne_eqb}
 use Rattle.modes_core.specs.declared.modes.Mode.{Mode}
@@ -12,7 +12,6 @@ use Rattle.place_index.specs.Notes.{Notes}
 use Rattle.local_locks.specs.declared.records.Entry.{Entry}
 use Rattle.local_locks.specs.declared.ends.End.{End}
 use Rattle.local_locks.specs.declared.ends.Progress.{Progress}
-use Rattle.local_locks.specs.declared.looks.Missing.{Missing}
 use Rattle.local_locks.specs.Owned.{IsCounted, count_for, count_in_all, raised, lowered, new_entry, max_count, is_of, entry_for, has_entry, owner_count_of, total_of, change, entries_but, with_one_more, with_one_less}
 use Rattle.local_locks.specs.Slots.{Slots, opened, entry_at, slot_at, present, IsIndexed, IsPlaceOf, IsPast, IsKept, IsTable, reached, back_to}
 use Rattle.local_locks.proofs.SlotLaws.{change-at, length-present_set, slot_at-set, slot_at-set_other, slot_at-push_before, slot_at-past, slot_at-push, slot_at-within, present-push}
@@ -106,17 +105,16 @@ kept-raised slots index len max_local progress place owner e kept at below =
 
 -- the table with it, in which the owner's count was not at its most
 pub IsTable-raised :
-    (es es' : List Entry) (index : Notes) (len max_local : ℕ) (progress : Progress) (missing : Option Missing) (tag : Tag) (mode : Mode) (place : ℕ) (owner : Owner) →
-    IsTable es index len max_local progress missing → IsPlaceOf es tag mode place → count_for owner (entry_at es place) ≢ max_count →
+    (es es' : List Entry) (index : Notes) (len max_local : ℕ) (progress : Progress) (tag : Tag) (mode : Mode) (place : ℕ) (owner : Owner) →
+    IsTable es index len max_local progress → IsPlaceOf es tag mode place → count_for owner (entry_at es place) ≢ max_count →
     opened es' ≡ set (opened es) place (Some (raised owner (entry_at es place))) → length es' ≡ length es →
-    IsTable es' index len max_local (back_to place progress) None
-IsTable-raised es es' index len max_local progress missing tag mode place owner table at limit raised_es number =
+    IsTable es' index len max_local (back_to place progress)
+IsTable-raised es es' index len max_local progress tag mode place owner table at limit raised_es number =
     record {
       kept = subst (λ (s : Slots). IsKept s index len max_local (back_to place progress)) (sym raised_es)
           (kept-raised (opened es) index len max_local progress place owner (entry_at es place) table.kept at.there
           (count_for-below owner (entry_at es place) (table.kept.counted place (entry_at es place) at.there) limit));
       few = omega (arith, number, table.few);
-      remembered = tt;
     }
 
 pub kept-lowered :

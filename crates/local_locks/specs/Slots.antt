@@ -1,4 +1,4 @@
-use Rattle.std.specs.Prelude.{◌≡◌, ℕ, ◌+◌, ◌*◌, ◌%◌, ◌^◌, ◌<◌, ◌≤◌, Bool, true, false, ◌&&◌, ◌==◌, List, map, filter_map, length, min, Option, Some, None, IfSome, slice_index_or, if◌then◌else◌}
+use Rattle.std.specs.Prelude.{◌≡◌, ℕ, ◌+◌, ◌*◌, ◌%◌, ◌^◌, ◌<◌, ◌≤◌, Bool, true, false, ◌&&◌, ◌==◌, List, map, filter_map, length, min, Option, Some, None, IfSome, ◌⊎◌, slice_index_or, if◌then◌else◌}
 use Rattle.std.specs.Option.{option_map}
 use Rattle.modes_core.specs.declared.modes.Mode.{Mode}
 use Rattle.modes_core.specs.declared.tags.Tag.{Tag}
@@ -8,9 +8,6 @@ use Rattle.modes_core.specs.Mode.{number_of, mode_eq}
 use Rattle.modes_core.specs.Tag.{hash_of, tag_eq}
 use Rattle.place_index.specs.Notes.{Notes, times, no_place}
 use Rattle.local_locks.specs.declared.records.Entry.{Entry}
-use Rattle.local_locks.specs.declared.looks.Spot.{Spot}
-use Rattle.local_locks.specs.declared.looks.Spot.TheVariants.{At, Free}
-use Rattle.local_locks.specs.declared.looks.Missing.{Missing}
 use Rattle.local_locks.specs.declared.ends.Progress.{Progress}
 use Rattle.local_locks.specs.declared.ends.End.{End}
 use Rattle.local_locks.specs.declared.ends.End.TheVariants.{Commit, Abort, Close}
@@ -69,43 +66,41 @@ pub record IsPlaceOf (slots : List Entry) (tag : Tag) (mode : Mode) (place : ℕ
   pub own : is_of tag mode (entry_at slots place) ≡ true
   pub found : entry_for (present (opened slots)) tag mode ≡ Some (entry_at slots place)
 
--- the object and mode has no entry, and this hash
-pub record IsMissing (slots : List Entry) (tag : Tag) (mode : Mode) (hash : ℕ) : Type 0 where
-  pub absent : entry_for (present (opened slots)) tag mode ≡ None
-  pub hashed : hash ≡ key_hash tag mode
-
 -- what a look finds
-abbrev pub IsSpot : List Entry → Tag → Mode → Spot → Type 0
-IsSpot slots tag mode (At place) = IsPlaceOf slots tag mode place
-IsSpot slots tag mode (Free hash) = IsMissing slots tag mode hash
+abbrev pub IsSpot : List Entry → Tag → Mode → Option ℕ → Type 0
+IsSpot slots tag mode (Some place) = IsPlaceOf slots tag mode place
+IsSpot slots tag mode None = entry_for (present (opened slots)) tag mode ≡ None
 
--- what a table remembers of a look that found nothing
-abbrev pub IsRemembered : List Entry → Option Missing → Type 0
-IsRemembered slots missing = IfSome missing (λ m. IsMissing slots m.tag m.mode m.hash)
+-- How many of so many slots stay where an entry at a place goes: all, or all but the last one, which was its slot, or some
+-- number of which nothing is asked where it was the only entry.
+abbrev pub IsCut : ℕ → ℕ → ℕ → ℕ → Type 0
+IsCut slots len place used = (used ≡ slots) ⊎ (((used ≡ place) × (place + 1 ≡ slots)) ⊎ (len ≡ 1))
 
 -- The end has nothing to do before this place: it keeps each entry there, with its counts.
 abbrev pub IsPast : End → Slots → ℕ → Type 0
 IsPast end slots past =
     (place : ℕ) → place < past → IfSome (slot_at slots place) (λ entry. (is_ended end entry ≡ false) × (after_end end entry ≡ entry))
 
--- how far an end has come
-abbrev pub reached : End → Progress → ℕ
-reached Commit progress = progress.commit
-reached Abort progress = progress.abort
-reached Close progress = progress.close
+-- the number of an end
+abbrev pub number_of_end : End → ℕ
+number_of_end Commit = 0
+number_of_end Abort = 1
+number_of_end Close = 2
 
--- the same, once it has come to this place
-abbrev pub with_reached : End → ℕ → Progress → Progress
-with_reached Commit place progress = record progress { commit = place }
-with_reached Abort place progress = record progress { abort = place }
-with_reached Close place progress = record progress { close = place }
+-- how far an end has come: nowhere, unless it took the last step
+abbrev pub reached : End → Progress → ℕ
+reached end progress = if number_of_end progress.end == number_of_end end then progress.place else 0
+
+-- it has come to this place
+abbrev pub came_to : End → ℕ → Progress
+came_to end place = record { end = end; place = place }
 
 -- no end is past this place
 abbrev pub back_to : ℕ → Progress → Progress
-back_to place progress = record { commit = min progress.commit place; abort = min progress.abort place; close = min progress.close place }
+back_to place progress = record progress { place = min progress.place place }
 
 abbrev pub at_start : Progress
-at_start = record { commit = 0; abort = 0; close = 0 }
+at_start = came_to Commit 0
 
 -- What a table keeps: the index is exact, each entry is counted, their number is known and not above the limit, and no end
 -- has anything to do before the place that it has come to.
@@ -116,8 +111,7 @@ pub record IsKept (slots : Slots) (index : Notes) (len max_local : ℕ) (progres
   pub within : len ≤ max_local
   pub past : (end : End) → IsPast end slots (reached end progress)
 
--- The same of a table, whose slots are few enough that each place can be noted, and what it remembers of a look.
-pub record IsTable (slots : List Entry) (index : Notes) (len max_local : ℕ) (progress : Progress) (missing : Option Missing) : Type 0 where
+-- The same of a table, whose slots are few enough that each place can be noted.
+pub record IsTable (slots : List Entry) (index : Notes) (len max_local : ℕ) (progress : Progress) : Type 0 where
   pub kept : IsKept (opened slots) index len max_local progress
   pub few : length slots ≤ no_place
-  pub remembered : IsRemembered slots missing

@@ -15,6 +15,15 @@ pub enum End {
 
 impl End {
     ghost use Rattle.local_locks.specs.Owned.{after_end};
+    ghost use Rattle.local_locks.specs.Slots.{number_of_end};
+
+    /// A number of its own for each.
+    #[inline(always)]
+    fn number(self) -> u8
+        ensures { result ≡ number_of_end self }
+    {
+        self as u8
+    }
 
     /// The entry with the counts that outlive the end.
     pub(crate) fn counts_left(self, entry: Entry) -> Entry
@@ -34,56 +43,41 @@ impl End {
     }
 }
 
-/// How far each end has come: before that slot it has nothing to do.
+/// How far the end has come that took the last step: before that slot it has nothing to do.
 #[derive(Clone, Copy, Debug)]
 pub(crate) struct Progress {
-    commit: usize,
-    abort: usize,
-    close: usize,
+    end: End,
+    place: usize,
 }
 
 impl Progress {
-    ghost use Rattle.local_locks.specs.Slots.{reached, with_reached, back_to, at_start};
+    ghost use Rattle.local_locks.specs.Slots.{reached, came_to, back_to, at_start};
 
     /// No end has come past the first slot.
     pub(crate) fn start() -> Self
         ensures { result ≡ at_start }
     {
         Progress {
-            commit: 0,
-            abort: 0,
-            close: 0,
+            end: End::Commit,
+            place: 0,
         }
     }
 
-    /// Where this end is.
+    /// The end has come to a slot.
+    pub(crate) fn came_to(end: End, place: usize) -> Self
+        ensures { result ≡ came_to end place }
+    {
+        Progress { end, place }
+    }
+
+    /// Where the end begins.
     pub(crate) fn reached(self, end: End) -> usize
         ensures { result ≡ reached end self }
     {
-        match end {
-            End::Commit => self.commit,
-            End::Abort => self.abort,
-            End::Close => self.close,
-        }
-    }
-
-    /// This end has come to a slot.
-    pub(crate) fn with_reached(self, end: End, place: usize) -> Self
-        ensures { result ≡ with_reached end place self }
-    {
-        match end {
-            End::Commit => Progress {
-                commit: place,
-                ..self
-            },
-            End::Abort => Progress {
-                abort: place,
-                ..self
-            },
-            End::Close => Progress {
-                close: place,
-                ..self
-            },
+        if self.end.number() == end.number() {
+            self.place
+        } else {
+            0
         }
     }
 
@@ -93,9 +87,8 @@ impl Progress {
         ensures { result ≡ back_to place self }
     {
         Progress {
-            commit: self.commit.min(place),
-            abort: self.abort.min(place),
-            close: self.close.min(place),
+            end: self.end,
+            place: self.place.min(place),
         }
     }
 }

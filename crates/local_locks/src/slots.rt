@@ -2,7 +2,7 @@ ghost use Rattle.std.specs.Prelude.{◌≡◌, ◌≢◌, ◌+◌, ◌-◌, ◌<
 ghost use Rattle.std.specs.Option.{option_map};
 ghost use Rattle.place_index.specs.Notes.{no_place};
 ghost use Rattle.local_locks.specs.Owned.{count_for, raised, lowered, max_count, count_in_all, entries_but, is_ended, after_end};
-ghost use Rattle.local_locks.specs.Slots.{opened, entry_at, slot_at, present, key_at, key_hash, IsIndexed, IsPast};
+ghost use Rattle.local_locks.specs.Slots.{opened, entry_at, slot_at, present, key_at, key_hash, IsCut, IsIndexed, IsPast};
 
 use crate::looks::key_hash;
 use crate::{End, Entry};
@@ -53,14 +53,31 @@ pub(crate) fn push_entry(slots: &mut Vec<Entry>, index: &mut PlaceIndex, hash: u
     ensures index_room { index.old.room ≡ index.new.room + 1 }
 {
     let place = slots.len();
-    let _ = slots.push(entry);
+    slots.push_reserved(entry);
     index.insert(hash, place as u32);
 }
 
-/// Takes the entry out of its slot, and the slot away if it is the last one.
+/// How many slots stay where the entry at a place goes: none with the only entry, and else all but the last one where
+/// that was its slot.
 #[inline(always)]
-pub(crate) fn take_out(slots: &mut Vec<Entry>, index: &mut PlaceIndex, place: usize)
+fn slots_left(slots: usize, len: usize, place: usize) -> usize
+    requires { place < slots }
+    ensures { IsCut slots len place result }
+{
+    if len == 1 {
+        return 0;
+    }
+    if place + 1 == slots {
+        return place;
+    }
+    slots
+}
+
+/// Takes the entry out of its slot, and the slot away if it is the last one; with the only entry all slots go.
+#[inline(always)]
+pub(crate) fn take_out(slots: &mut Vec<Entry>, index: &mut PlaceIndex, len: usize, place: usize)
     requires indexed { IsIndexed (opened slots.old.items) index.old }
+    requires len { len ≡ length (present (opened slots.old.items)) }
     requires there { slot_at (opened slots.old.items) place ≡ Some (entry_at slots.old.items place) }
     requires few { length slots.old.items ≤ no_place }
     ensures entries { present (opened slots.new.items)
@@ -79,11 +96,7 @@ pub(crate) fn take_out(slots: &mut Vec<Entry>, index: &mut PlaceIndex, place: us
     let slot = &mut slots[place];
     index.remove(key_hash(&slot.tag, slot.mode), place as u32);
     slot.clear();
-    let used = if place + 1 == slots.len() {
-        place
-    } else {
-        slots.len()
-    };
+    let used = slots_left(slots.len(), len, place);
     slots.truncate(used);
 }
 

@@ -1,8 +1,8 @@
-ghost use Rattle.std.specs.Prelude.{◌≡◌, ◌≢◌, ◌+◌, ◌<◌, ◌≤◌, ◌↔◌, ◌⊎◌, ◌∷◌, [], true, false, if◌then◌else◌, Some, None, IsErrOf, IsOkUnless, IfOk, IfErr, OnOk, OnErr, IfSome, IfNone, length};
+ghost use Rattle.std.specs.Prelude.{◌≡◌, ◌≢◌, ◌+◌, ◌<◌, ◌≤◌, ◌↔◌, ◌⊎◌, ◌∷◌, [], true, false, if◌then◌else◌, Some, None, IsErrOf, IsOkUnless, IfOk, IfErr, OnOk, OnErr, IfSome, IfNone, IsTrue, length};
 ghost use Rattle.local_locks.specs.Owned.{max_count, has_entry, owner_count_of, total_of, with_one_more, with_one_less, acquired_as, ended_by, left_by, with_next_ended, IsWellOwned, IsReserved};
 
 use crate::ends::Progress;
-use crate::looks::{Missing, Spot, look, look_again, look_up};
+use crate::looks::{key_hash, look, look_up};
 use crate::slots::{compact, lower, push_entry, raise, settle, take_out};
 use crate::{Acquired, End, Entries, Entry, Unlocked};
 use modes_core::{Mode, Owner, Refusal, Tag};
@@ -23,9 +23,8 @@ pub struct LocalTable {
     len: usize,
     max_local: u32,
     progress: Progress,
-    // Where the entry was that was looked for last, and what was looked for last and isn't there.
+    // Where the entry may be that is asked for next.
     last: usize,
-    missing: Option<Missing>,
 }
 
 impl Model for LocalTable {
@@ -42,7 +41,7 @@ impl Model for LocalTable {
       max_local = t.max_local;
     } };
 
-    ghost invariant = { λ t. IsTable t.slots.items t.index t.len t.max_local t.progress t.missing };
+    ghost invariant = { λ t. IsTable t.slots.items t.index t.len t.max_local t.progress };
 }
 
 impl LocalTable {
@@ -70,7 +69,6 @@ impl LocalTable {
             max_local,
             progress: Progress::start(),
             last: 0,
-            missing: None,
         })
     }
 
@@ -80,8 +78,8 @@ impl LocalTable {
         ensures well_owned { IsWellOwned self.now }
     {
         match look(&self.slots, &self.index, self.last, &tag, mode) {
-            Spot::At(place) => self.slots[place].sum(),
-            Spot::Free(_) => 0,
+            Some(place) => self.slots[place].sum(),
+            None => 0,
         }
     }
 
@@ -91,8 +89,8 @@ impl LocalTable {
         ensures well_owned { IsWellOwned self.now }
     {
         match look(&self.slots, &self.index, self.last, &tag, mode) {
-            Spot::At(place) => self.slots[place].count_for(owner),
-            Spot::Free(_) => 0,
+            Some(place) => self.slots[place].count_for(owner),
+            None => 0,
         }
     }
 
@@ -119,21 +117,12 @@ impl LocalTable {
         ensures max_local { self.new.max_local ≡ self.old.max_local }
         ensures well_owned { IsWellOwned self.new }
     {
-        let place = match look_up(&self.slots, &self.index, tag, mode) {
-            Spot::At(place) => place,
-            Spot::Free(hash) => {
-                self.missing = Some(Missing {
-                    tag: *tag,
-                    mode,
-                    hash,
-                });
-                return Ok(false);
-            }
+        let Some(place) = look_up(&self.slots, &self.index, tag, mode) else {
+            return Ok(false);
         };
         if self.slots[place].count_for(owner) == u16::MAX {
             return Err(Refusal::CountFull);
         }
-        self.missing = None;
         self.last = place;
         raise(&mut self.slots, place, owner);
         self.progress = self.progress.back_to(place);
@@ -160,15 +149,8 @@ impl LocalTable {
         ensures max_local { self.new.max_local ≡ self.old.max_local }
         ensures well_owned { IsWellOwned self.new }
     {
-        match look_again(
-            &self.slots,
-            &self.index,
-            self.last,
-            &self.missing,
-            &tag,
-            mode,
-        ) {
-            Spot::At(place) => {
+        match look(&self.slots, &self.index, self.last, &tag, mode) {
+            Some(place) => {
                 self.last = place;
                 if self.slots[place].count_for(owner) == u16::MAX {
                     Err(Refusal::CountFull)
@@ -176,17 +158,47 @@ impl LocalTable {
                     Ok(())
                 }
             }
-            Spot::Free(_) => {
-                if self.len as u64 == u64::from(self.max_local) {
-                    Err(Refusal::LocalFull)
-                } else {
-                    self.make_room()
-                }
-            }
+            None => self.reserve_new(),
         }
     }
 
+    /// Makes room for one more entry, which `add_new` then enters, with no look for it: `reserve` for an object and
+    /// mode that `add_held` told to have none.
+    pub fn reserve_new(&mut self) -> Result<(), Refusal>
+        ensures allowed { OnOk result (length self.new.entries < self.new.max_local) }
+        ensures roomy { OnOk result (0 < self.new.room) }
+
+        // The refusals, in this order.
+        ensures local_full { IsErrOf result Refusal.LocalFull ↔ (length self.old.entries ≡ self.old.max_local) }
+        ensures no_memory { IsErrOf result Refusal.NoMemory → self.old.room ≡ 0 }
+        ensures no_other { IfErr result (λ refusal. (refusal ≡ Refusal.LocalFull) ⊎ (refusal ≡ Refusal.NoMemory)) }
+
+        // What stands after it, whatever the answer.
+        ensures entries { self.new.entries ≡ self.old.entries }
+        ensures room { self.old.room ≤ self.new.room }
+        ensures max_local { self.new.max_local ≡ self.old.max_local }
+        ensures well_owned { IsWellOwned self.new }
+    {
+        if self.len as u64 == u64::from(self.max_local) {
+            return Err(Refusal::LocalFull);
+        }
+        if self.has_room() {
+            return Ok(());
+        }
+        self.make_room()
+    }
+
+    /// Whether one more entry can be made with no growth.
+    #[inline(always)]
+    fn has_room(&self) -> bool
+        ensures { IsTrue result → 0 < self.now.room }
+    {
+        let used = self.slots.len();
+        used < self.slots.capacity() && used < MAX_SLOTS && self.index.has_room()
+    }
+
     /// Makes room for one more entry.
+    #[cold]
     #[inline(never)]
     fn make_room(&mut self) -> Result<(), Refusal>
         ensures ok { OnOk result (0 < self.new.room) }
@@ -220,7 +232,6 @@ impl LocalTable {
         if slots == MAX_SLOTS || slots == self.slots.capacity() && self.len <= slots / 2 {
             compact(&mut self.slots, &mut self.index);
             self.progress = Progress::start();
-            self.missing = None;
         }
     }
 
@@ -233,32 +244,38 @@ impl LocalTable {
         ensures max_local { self.new.max_local ≡ self.old.max_local }
         ensures well_owned { IsWellOwned self.new }
     {
-        match look_again(
-            &self.slots,
-            &self.index,
-            self.last,
-            &self.missing,
-            &tag,
-            mode,
-        ) {
-            Spot::At(place) => {
-                self.missing = None;
+        match look(&self.slots, &self.index, self.last, &tag, mode) {
+            Some(place) => {
                 self.last = place;
                 raise(&mut self.slots, place, owner);
                 self.progress = self.progress.back_to(place);
                 Acquired::AlreadyHeld
             }
-            Spot::Free(hash) => {
-                let place = self.slots.len();
-                let entry = Entry::new(tag, mode, owner);
-                self.missing = None;
-                push_entry(&mut self.slots, &mut self.index, hash, entry);
-                self.len += 1;
-                self.last = place;
-                self.progress = self.progress.back_to(place);
+            None => {
+                self.add_new(&tag, mode, owner);
                 Acquired::Granted
             }
         }
+    }
+
+    /// Enters the first acquire of an object and mode, for which room was reserved, with no look for it (`GrantLockLocal`
+    /// in lock.c after `LockAcquireExtended` made the entry).
+    pub fn add_new(&mut self, tag: &Tag, mode: Mode, owner: Owner)
+        requires new { has_entry self.old.entries tag.now mode ≡ false }
+        requires allowed { length self.old.entries < self.old.max_local }
+        requires roomy { 0 < self.old.room }
+        ensures entries { self.new.entries ≡ with_one_more self.old.entries tag.now mode owner }
+        ensures room { self.old.room ≤ self.new.room + 1 }
+        ensures max_local { self.new.max_local ≡ self.old.max_local }
+        ensures well_owned { IsWellOwned self.new }
+    {
+        let place = self.slots.len();
+        let hash = key_hash(tag, mode);
+        let entry = Entry::new(*tag, mode, owner);
+        push_entry(&mut self.slots, &mut self.index, hash, entry);
+        self.len += 1;
+        self.last = place;
+        self.progress = self.progress.back_to(place);
     }
 
     /// Takes one count of this owner back (`LockRelease` in lock.c, where it touches the local lock
@@ -274,7 +291,7 @@ impl LocalTable {
         ensures max_local { self.new.max_local ≡ self.old.max_local }
         ensures well_owned { IsWellOwned self.new }
     {
-        let Spot::At(place) = look(&self.slots, &self.index, self.last, &tag, mode) else {
+        let Some(place) = look(&self.slots, &self.index, self.last, &tag, mode) else {
             return Err(Refusal::NotHeld);
         };
         let entry = &self.slots[place];
@@ -282,10 +299,11 @@ impl LocalTable {
             return Err(Refusal::NotHeld);
         }
         let total = entry.sum();
-        self.missing = None;
         if total == 1 {
-            take_out(&mut self.slots, &mut self.index, place);
+            take_out(&mut self.slots, &mut self.index, self.len, place);
             self.len -= 1;
+            // Locks are mostly released in the opposite order of their acquires.
+            self.last = place.wrapping_sub(1);
             Ok(Unlocked::Released)
         } else {
             lower(&mut self.slots, place, owner);
@@ -308,16 +326,15 @@ impl LocalTable {
         ensures max_local { self.new.max_local ≡ self.old.max_local }
         ensures well_owned { IsWellOwned self.new }
     {
-        self.missing = None;
         let from = self.progress.reached(end).min(self.slots.len());
         let place = settle(&mut self.slots, end, from);
-        self.progress = self.progress.with_reached(end, place);
+        self.progress = Progress::came_to(end, place);
         if place == self.slots.len() {
             return None;
         }
         let entry = &self.slots[place];
         let key = (entry.tag, entry.mode);
-        take_out(&mut self.slots, &mut self.index, place);
+        take_out(&mut self.slots, &mut self.index, self.len, place);
         self.len -= 1;
         Some(key)
     }

@@ -26,8 +26,9 @@ pub fn acquire(
     if table.add_held(&tag, mode, owner)? {
         return Ok(Acquired::AlreadyHeld);
     }
-    table.reserve(tag, mode, owner)?;
-    Ok(table.add(tag, mode, owner))
+    table.reserve_new()?;
+    table.add_new(&tag, mode, owner);
+    Ok(Acquired::Granted)
 }
 
 #[inline(never)]

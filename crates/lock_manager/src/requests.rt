@@ -53,7 +53,7 @@ pub fn acquire<T: PartTable, B: Board<T>, R: Wait>(
     if own.locals.add_held(&tag, mode, owner)? {
         return Ok(Acquired::AlreadyHeld);
     }
-    own.locals.reserve(tag, mode, owner)?;
+    own.locals.reserve_new()?;
     match request(
         rt,
         board,
@@ -63,7 +63,10 @@ pub fn acquire<T: PartTable, B: Board<T>, R: Wait>(
         mode,
         Kind::Conditional,
     ) {
-        Ok(_) => Ok(own.locals.add(tag, mode, owner)),
+        Ok(_) => {
+            own.locals.add_new(&tag, mode, owner);
+            Ok(Acquired::Granted)
+        }
         Err(refusal) => Err(refusal),
     }
 }
@@ -106,9 +109,12 @@ pub fn acquire_by_slot<T: PartTable, B: Board<T>>(
     if !is_eligible(own.database, tag, mode) {
         return Err(Refusal::NotEligible);
     }
-    own.locals.reserve(tag, mode, owner)?;
+    own.locals.reserve_new()?;
     match try_grant(board, &mut own.uses, &tag, mode) {
-        Ok(()) => Ok(own.locals.add(tag, mode, owner)),
+        Ok(()) => {
+            own.locals.add_new(&tag, mode, owner);
+            Ok(Acquired::Granted)
+        }
         Err(refusal) => Err(refusal),
     }
 }

@@ -96,7 +96,7 @@ pub fn start<T: PartTable, B: Board<T>, R: Wait>(
     if own.locals.add_held(&tag, mode, owner)? {
         return Ok(Started::AlreadyHeld);
     }
-    own.locals.reserve(tag, mode, owner)?;
+    own.locals.reserve_new()?;
     match request(
         rt,
         board,
@@ -107,7 +107,7 @@ pub fn start<T: PartTable, B: Board<T>, R: Wait>(
         Kind::Waiting,
     ) {
         Ok(Decision::Granted) => {
-            own.locals.add(tag, mode, owner);
+            own.locals.add_new(&tag, mode, owner);
             Ok(Started::Granted)
         }
         Ok(Decision::Queued) => Ok(Started::Queued),

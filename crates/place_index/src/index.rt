@@ -1,4 +1,4 @@
-ghost use Rattle.std.specs.Prelude.{◌≡◌, ◌+◌, ◌<◌, ◌≤◌, ℕ, true, false, OnOk, OnErr, IfSome, IfNone};
+ghost use Rattle.std.specs.Prelude.{◌≡◌, ◌+◌, ◌<◌, ◌≤◌, ◌↔◌, ℕ, true, false, IsTrue, OnOk, OnErr, IfSome, IfNone};
 ghost use Rattle.place_index.specs.Notes.{no_place, times, IsOneMore, HasSameNotes};
 
 use crate::cells::Cell;
@@ -63,11 +63,15 @@ impl PlaceIndex {
         ensures room { self.old.room ≤ self.new.room }
         ensures notes { HasSameNotes self.old self.new }
     {
-        if self.len < self.limit {
-            Ok(())
-        } else {
-            self.grow()
-        }
+        if self.has_room() { Ok(()) } else { self.grow() }
+    }
+
+    /// Whether there is room for one more note.
+    #[inline(always)]
+    pub fn has_room(&self) -> bool
+        ensures { IsTrue result ↔ (0 < self.now.room) }
+    {
+        self.len < self.limit
     }
 
     /// Moves the notes into twice as many cells.

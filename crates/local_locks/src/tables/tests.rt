@@ -14,6 +14,21 @@ fn acquire(
     Ok(table.add(tag, mode, owner))
 }
 
+// The same with one look.
+fn acquire_in_one_look(
+    table: &mut LocalTable,
+    tag: Tag,
+    mode: Mode,
+    owner: Owner,
+) -> Result<Acquired, Refusal> {
+    if table.add_held(&tag, mode, owner)? {
+        return Ok(Acquired::AlreadyHeld);
+    }
+    table.reserve_new()?;
+    table.add_new(&tag, mode, owner);
+    Ok(Acquired::Granted)
+}
+
 fn count(table: &LocalTable) -> usize {
     let mut number = 0usize;
     for _ in table.entries() {
@@ -319,6 +334,14 @@ fn random_key(random: u32) -> (Tag, Mode, Owner) {
     (tag, mode, owner)
 }
 
+fn answer_by(list: &Plain, tag: Tag, mode: Mode) -> Acquired {
+    if at(list, tag, mode).is_some() {
+        Acquired::AlreadyHeld
+    } else {
+        Acquired::Granted
+    }
+}
+
 // Acquires it by `reserve` and `add`, and enters it in the list.
 fn acquire_both(
     rt: &impl Abort,
@@ -328,12 +351,26 @@ fn acquire_both(
     mode: Mode,
     owner: Owner,
 ) {
-    let answer = if at(list, tag, mode).is_some() {
-        Acquired::AlreadyHeld
-    } else {
-        Acquired::Granted
-    };
+    let answer = answer_by(list, tag, mode);
     assert_eq!(rt; acquire_again(rt, table, tag, mode, owner), Ok(answer));
+    plain_acquire(rt, list, tag, mode, owner);
+}
+
+// The same with one look.
+fn acquire_both_in_one_look(
+    rt: &impl Abort,
+    table: &mut LocalTable,
+    list: &mut Plain,
+    tag: Tag,
+    mode: Mode,
+    owner: Owner,
+) {
+    let answer = answer_by(list, tag, mode);
+    let answered = match acquire_in_one_look(table, tag, mode, owner) {
+        Err(Refusal::NoMemory) => acquire_in_one_look(table, tag, mode, owner),
+        answered => answered,
+    };
+    assert_eq!(rt; answered, Ok(answer));
     plain_acquire(rt, list, tag, mode, owner);
 }
 
@@ -364,11 +401,7 @@ fn random_calls_are_as_on_a_plain_list(rt: HostRuntime) {
         let (tag, mode, owner) = random_key(random);
         match random >> 27 & 7 {
             0..=1 => acquire_both(&rt, &mut table, &mut list, tag, mode, owner),
-            2..=3 => {
-                if !add_held_both(&rt, &mut table, &mut list, tag, mode, owner) {
-                    acquire_both(&rt, &mut table, &mut list, tag, mode, owner);
-                }
-            }
+            2..=3 => acquire_both_in_one_look(&rt, &mut table, &mut list, tag, mode, owner),
             4 => {
                 let _ = add_held_both(&rt, &mut table, &mut list, tag, mode, owner);
             }

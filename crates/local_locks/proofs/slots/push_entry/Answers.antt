@@ -1,5 +1,4 @@
-use Rattle.std.proofs.Common.{◌≡◌, ◌++◌, ◌∷◌, [], sym, ap, cond, ◌∙◌, subst, length, true, arith}
-use Rattle.std.specs.Prelude.{is_ok}
+use Rattle.std.proofs.Common.{◌≡◌, ◌++◌, ◌∷◌, [], sym, ap, ◌∙◌, subst, length}
 use Rattle.local_locks.specs.Slots.{Slots, IsIndexed, opened}
 use Rattle.local_locks.proofs.IndexLaws.{pushed-indexed}
 use Rattle.local_locks.proofs.OpenLaws.{length-opened, opened-push, entry_in-held}
@@ -7,8 +6,7 @@ use Rattle.local_locks.proofs.slots.push_entry.Goals as goal
 
 pub returns-clause-indexed : goal.returns-clause-indexed
 returns-clause-indexed c =
-    let ok : is_ok c.push.result ≡ true = c.push.ensures.succeeds (omega arith) in
-    let items = c.push.ensures.items ∙ ap (λ b. cond b (c.args.slots.now.items ++ c.args.entry ∷ []) c.args.slots.now.items) ok in
+    let items = c.push_reserved.ensures.items in
     let are = ap opened items ∙ (opened-push c.args.slots.now.items c.args.entry ∙ ap (λ o. opened c.args.slots.now.items ++ o ∷ []) (entry_in-held c.args.entry c.requires.held)) in
     let last : c.len-place.result ≡ length (opened c.args.slots.now.items) = c.len-place.ensures ∙ (c.args.slots.now.ok.0 ∙ sym (length-opened c.args.slots.now.items)) in
     subst (λ (s : Slots). IsIndexed s c.insert.new.self) (sym are)

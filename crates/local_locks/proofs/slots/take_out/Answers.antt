@@ -1,13 +1,12 @@
-use Rattle.std.proofs.Common.{◌≡◌, None, take, set, sym, ap, ◌∙◌, inl, inr, arith}
+use Rattle.std.proofs.Common.{◌≡◌, None, length, take, set, sym, ap, subst, ◌∙◌}
 use Rattle.std.specs.Option.{option_map}
 use Rattle.std.proofs.lemmas.List.{get_or_default}
 use Rattle.local_locks.specs.declared.records.Entry.{Entry}
-use Rattle.local_locks.specs.Slots.{opened, entry_in, entry_at, key_hash}
+use Rattle.local_locks.specs.Slots.{IsCut, opened, entry_in, entry_at, key_hash}
 use Rattle.local_locks.proofs.IndexLaws.{noted_some, indexed-cleared}
 use Rattle.local_locks.proofs.OpenLaws.{length-opened, opened-set, opened-take, opened_some}
-use Rattle.local_locks.proofs.SlotSteps.{IsCut, left-entries, left-number, left-gone, left-others}
+use Rattle.local_locks.proofs.SlotSteps.{left-entries, left-number, left-gone, left-others}
 use Rattle.local_locks.proofs.slots.take_out.Goals as goal
-use Rattle.local_locks.proofs.slots.take_out.Goals.{then-place-len, else-place-len}
 
 pub remove-requires : goal.remove-requires
 remove-requires c =
@@ -16,40 +15,39 @@ remove-requires c =
     let read = c.index_mut-slot.ensures.value ∙ get_or_default es c.args.place c.index_mut-slot.result.now _ within in
     noted_some (opened c.args.slots.now.items) c.args.index.now c.requires.indexed c.args.place c.key_hash.result (entry_at c.args.slots.now.items c.args.place) c.requires.there (c.key_hash.ensures ∙ ap (λ (x : Entry). key_hash x.tag x.mode) read)
 
--- the slots are cut at their end, or before the last one if that is the one left
-cut : (c : goal.After-truncate) → IsCut (opened c.args.slots.now.items) c.args.place c.if-place-len.used
-cut c = elim c.if-place-len.branch [
-  | then-place-len w ↦ inr (w.used-is, omega (arith, length-opened c.args.slots.now.items, w.if-place-len.true, c.len.ensures, c.args.slots.now.ok.0))
-  | else-place-len w ↦ inl (w.used-is ∙ (w.len-used.ensures ∙ (c.args.slots.now.ok.0 ∙ sym (length-opened c.args.slots.now.items))))
-]
+-- where the slots are cut
+cut : (c : goal.After-truncate) → IsCut (length (opened c.args.slots.now.items)) c.args.len c.args.place c.slots_left-used.result
+cut c =
+    let number : c.len.result ≡ length (opened c.args.slots.now.items) = c.len.ensures ∙ (c.args.slots.now.ok.0 ∙ sym (length-opened c.args.slots.now.items)) in
+    subst (λ slots. IsCut slots c.args.len c.args.place c.slots_left-used.result) number c.slots_left-used.ensures
 
 -- the slots that are left
-slots_are : (c : goal.After-truncate) → opened c.truncate.new.self.items ≡ take c.if-place-len.used (set (opened c.args.slots.now.items) c.args.place None)
+slots_are : (c : goal.After-truncate) → opened c.truncate.new.self.items ≡ take c.slots_left-used.result (set (opened c.args.slots.now.items) c.args.place None)
 slots_are c =
     ap opened c.truncate.ensures.items
-    ∙ (opened-take c.if-place-len.used (set c.args.slots.now.items c.args.place c.clear.new.self)
-    ∙ ap (take c.if-place-len.used)
+    ∙ (opened-take c.slots_left-used.result (set c.args.slots.now.items c.args.place c.clear.new.self)
+    ∙ ap (take c.slots_left-used.result)
     (opened-set c.args.slots.now.items c.args.place c.clear.new.self ∙ ap (λ o. set (opened c.args.slots.now.items) c.args.place o) (ap entry_in c.clear.ensures)))
 
 pub returns-clause-entries : goal.returns-clause-entries
 returns-clause-entries c =
-    left-entries (opened c.args.slots.now.items) (opened c.truncate.new.self.items) c.args.index.now c.args.place c.if-place-len.used (entry_at c.args.slots.now.items c.args.place)
-    c.requires.indexed c.requires.there (cut c) (slots_are c)
+    left-entries (opened c.args.slots.now.items) (opened c.truncate.new.self.items) c.args.index.now c.args.len c.args.place c.slots_left-used.result (entry_at c.args.slots.now.items c.args.place)
+    c.requires.indexed c.requires.there c.requires.len (cut c) (slots_are c)
 
 pub returns-clause-number : goal.returns-clause-number
 returns-clause-number c =
-    left-number (opened c.args.slots.now.items) (opened c.truncate.new.self.items) c.args.index.now c.args.place c.if-place-len.used (entry_at c.args.slots.now.items c.args.place)
-    c.requires.indexed c.requires.there (cut c) (slots_are c)
+    left-number (opened c.args.slots.now.items) (opened c.truncate.new.self.items) c.args.index.now c.args.len c.args.place c.slots_left-used.result (entry_at c.args.slots.now.items c.args.place)
+    c.requires.indexed c.requires.there c.requires.len (cut c) (slots_are c)
 
 pub returns-clause-gone : goal.returns-clause-gone
 returns-clause-gone c =
-    left-gone (opened c.args.slots.now.items) (opened c.truncate.new.self.items) c.args.index.now c.args.place c.if-place-len.used (entry_at c.args.slots.now.items c.args.place)
-    c.requires.indexed c.requires.there (cut c) (slots_are c)
+    left-gone (opened c.args.slots.now.items) (opened c.truncate.new.self.items) c.args.index.now c.args.len c.args.place c.slots_left-used.result (entry_at c.args.slots.now.items c.args.place)
+    c.requires.indexed c.requires.there c.requires.len (cut c) (slots_are c)
 
 pub returns-clause-others : goal.returns-clause-others
 returns-clause-others c =
-    left-others (opened c.args.slots.now.items) (opened c.truncate.new.self.items) c.args.index.now c.args.place c.if-place-len.used (entry_at c.args.slots.now.items c.args.place)
-    c.requires.indexed c.requires.there (cut c) (slots_are c)
+    left-others (opened c.args.slots.now.items) (opened c.truncate.new.self.items) c.args.index.now c.args.len c.args.place c.slots_left-used.result (entry_at c.args.slots.now.items c.args.place)
+    c.requires.indexed c.requires.there c.requires.len (cut c) (slots_are c)
 
 pub returns-clause-indexed : goal.returns-clause-indexed
 returns-clause-indexed c =

@@ -1,7 +1,7 @@
 use Rattle.std.proofs.Common.{List, ap, sym, ◌∙◌}
 use Rattle.modes_core.specs.Tag.{is_eligible_for}
 use Rattle.local_locks.specs.declared.records.Entry.{Entry}
-use Rattle.local_locks.specs.Owned.{with_one_more}
+use Rattle.local_locks.specs.Owned.{has_entry, with_one_more}
 use Rattle.lock_manager.proofs.Holding.{rest-database, held_again, not_held_yet, rest-granted, rest-held_again}
 use Rattle.lock_manager.proofs.Slotting.{by_slot-account}
 use Rattle.lock_manager.proofs.requests.acquire_by_slot.Goals as goal
@@ -14,6 +14,11 @@ returns-then-branch-clause-rest g c =
     rest-held_again (g.B.Board.seat c.args.board.now).limit c.args.own.now.database c.args.own.now.uses (g.B.Board.view c.args.board.now) (g.B.Board.stack c.args.board.now) c.args.own.now.locals.entries
     c.add_held.new.self.entries c.args.tag c.args.mode c.args.owner again.0 again.1 c.requires.rest
 
+pub add_new-requires-clause-new : goal.add_new-requires-clause-new
+add_new-requires-clause-new g c =
+    let yet = not_held_yet c.args.own.now.locals c.add_held.new.self c.args.tag c.args.mode c.add_held.result c.in_ok-add_held.field-0 (c.in_ok-add_held.was {u = tt}) c.if-branch.false c.add_held.ensures.not_held.0 c.add_held.ensures.same in
+    ap (λ (es : List Entry). has_entry es c.args.tag c.args.mode) (c.reserve_new.ensures.entries ∙ yet.1) ∙ yet.0
+
 pub returns-in-Ok-clause-rest : goal.returns-in-Ok-clause-rest
 returns-in-Ok-clause-rest g c =
     let yet = not_held_yet c.args.own.now.locals c.add_held.new.self c.args.tag c.args.mode c.add_held.result c.in_ok-add_held.field-0 (c.in_ok-add_held.was {u = tt}) c.if-branch.false c.add_held.ensures.not_held.0 c.add_held.ensures.same in
@@ -21,10 +26,10 @@ returns-in-Ok-clause-rest g c =
     let seat = g.B.Board.seat c.args.board.now in
     let its = g.B.Board.view c.args.board.now in
     rest-granted seat.limit c.args.own.now.database c.args.own.now.uses c.try_grant.new.uses its (g.B.Board.view c.try_grant.new.board) (g.B.Board.stack c.args.board.now)
-    (g.B.Board.stack c.try_grant.new.board) entries c.add.new.self.entries c.args.tag c.args.mode c.args.owner yet.0
+    (g.B.Board.stack c.try_grant.new.board) entries c.add_new.new.self.entries c.args.tag c.args.mode c.args.owner yet.0
     (by_slot-account seat.limit seat.number its (g.B.Board.view c.try_grant.new.board) _ c.args.own.now.uses c.try_grant.new.uses c.args.tag c.args.mode
     (ap (λ database. is_eligible_for database c.args.tag c.args.mode)
     (rest-database seat.limit c.args.own.now.database c.args.own.now.uses its (g.B.Board.stack c.args.board.now) entries c.requires.rest)
     ∙ sym c.if-not-is_eligible.ensures) c.in-Ok.ensures.granted.3)
     (record { enough = c.in-Ok.ensures.ready.enough; within = c.in-Ok.ensures.ready.within }) c.try_grant.ensures.stack
-    (c.add.ensures.entries ∙ ap (λ (es : List Entry). with_one_more es c.args.tag c.args.mode c.args.owner) (c.reserve.ensures.entries ∙ yet.1)) c.requires.rest
+    (c.add_new.ensures.entries ∙ ap (λ (es : List Entry). with_one_more es c.args.tag c.args.mode c.args.owner) (c.reserve_new.ensures.entries ∙ yet.1)) c.requires.rest

@@ -3,6 +3,7 @@ use Rattle.local_locks.specs.declared.records.Entry.{Entry}
 use Rattle.local_locks.specs.Owned.{has_entry, with_one_more}
 use Rattle.lock_world.specs.Happens.Counters.{most_counted}
 use Rattle.lock_manager.specs.Requests.{IsRequested}
+use Rattle.local_locks.proofs.NewLaws.{reserved-new}
 use Rattle.lock_manager.proofs.Holding.{held_again, not_held_yet, rest-not_counted, rest-few, rest-granted, rest-held_again}
 use Rattle.lock_manager.proofs.waiting.start.Goals as goal
 
@@ -24,19 +25,30 @@ pub request-requires-clause-countable : goal.request-requires-clause-countable
 request-requires-clause-countable g c =
     let yet = not_held_yet c.args.own.now.locals c.add_held.new.self c.args.tag c.args.mode c.add_held.result c.in_ok-add_held.field-0 (c.in_ok-add_held.was {u = tt}) c.if-branch.false c.add_held.ensures.not_held.0 c.add_held.ensures.same in
     let entries = c.args.own.now.locals.entries in
-    let same = c.reserve.ensures.entries ∙ yet.1 in
-    let room : length c.reserve.new.self.entries < c.reserve.new.self.max_local = c.in_ok-reserve.ensures.ok.allowed (ap (λ (es : List Entry). has_entry es c.args.tag c.args.mode) same ∙ yet.0) in
-    let number : length c.reserve.new.self.entries ≡ length entries = ap (λ (es : List Entry). length es) same in
-    let few : length entries < 65536 = omega (arith, room, number, c.reserve.ensures.max_local, c.add_held.ensures.max_local, c.requires.few_entries) in
+    let same = c.reserve_new.ensures.entries ∙ yet.1 in
+    let room : length c.reserve_new.new.self.entries < c.reserve_new.new.self.max_local = c.in_ok-reserve_new.ensures.allowed in
+    let number : length c.reserve_new.new.self.entries ≡ length entries = ap (λ (es : List Entry). length es) same in
+    let few : length entries < 65536 = omega (arith, room, number, c.reserve_new.ensures.max_local, c.add_held.ensures.max_local, c.requires.few_entries) in
     rest-few (g.B.Board.seat c.args.board.now).limit c.args.own.now.database c.args.own.now.uses most_counted (g.B.Board.view c.args.board.now) (g.B.Board.stack c.args.board.now) entries c.requires.rest few
+
+pub add_new-requires-clause-new : goal.add_new-requires-clause-new
+add_new-requires-clause-new g c =
+    let yet = not_held_yet c.args.own.now.locals c.add_held.new.self c.args.tag c.args.mode c.add_held.result c.in_ok-add_held.field-0 (c.in_ok-add_held.was {u = tt}) c.if-branch.false c.add_held.ensures.not_held.0 c.add_held.ensures.same in
+    ap (λ (es : List Entry). has_entry es c.args.tag c.args.mode) (c.reserve_new.ensures.entries ∙ yet.1) ∙ yet.0
 
 pub returns-in-Ok-Granted-clause-rest : goal.returns-in-Ok-Granted-clause-rest
 returns-in-Ok-Granted-clause-rest g c other =
     let yet = not_held_yet c.args.own.now.locals c.add_held.new.self c.args.tag c.args.mode c.add_held.result c.in_ok-add_held.field-0 (c.in_ok-add_held.was {u = tt}) c.if-branch.false c.add_held.ensures.not_held.0 c.add_held.ensures.same in
     let entries = c.args.own.now.locals.entries in
     rest-granted (g.B.Board.seat c.args.board.now).limit c.args.own.now.database c.args.own.now.uses c.request.new.uses (g.B.Board.view c.args.board.now) (g.B.Board.view c.request.new.board) (g.B.Board.stack c.args.board.now) (g.B.Board.stack c.request.new.board)
-    entries c.add.new.self.entries c.args.tag c.args.mode c.args.owner yet.0
+    entries c.add_new.new.self.entries c.args.tag c.args.mode c.args.owner yet.0
     (subst (λ decision. IsRequested (g.B.Board.seat c.args.board.now).limit (g.B.Board.view c.args.board.now) c.args.tag c.args.mode (Ok decision) (g.B.Board.view c.request.new.board))
     c.in-Ok-Granted.field-0-is
     c.in-Ok-Granted.ensures.account) c.request.ensures.use_count c.request.ensures.stack
-    (c.add.ensures.entries ∙ ap (λ (es : List Entry). with_one_more es c.args.tag c.args.mode c.args.owner) (c.reserve.ensures.entries ∙ yet.1)) c.requires.rest
+    (c.add_new.ensures.entries ∙ ap (λ (es : List Entry). with_one_more es c.args.tag c.args.mode c.args.owner) (c.reserve_new.ensures.entries ∙ yet.1)) c.requires.rest
+
+pub returns-in-Ok-Queued-clause-reserved : goal.returns-in-Ok-Queued-clause-reserved
+returns-in-Ok-Queued-clause-reserved g c queued =
+    let yet = not_held_yet c.args.own.now.locals c.add_held.new.self c.args.tag c.args.mode c.add_held.result c.in_ok-add_held.field-0 (c.in_ok-add_held.was {u = tt}) c.if-branch.false c.add_held.ensures.not_held.0 c.add_held.ensures.same in
+    reserved-new c.reserve_new.new.self c.args.tag c.args.mode c.args.owner
+    (ap (λ (es : List Entry). has_entry es c.args.tag c.args.mode) (c.reserve_new.ensures.entries ∙ yet.1) ∙ yet.0) c.in_ok-reserve_new.ensures.allowed c.in_ok-reserve_new.ensures.roomy

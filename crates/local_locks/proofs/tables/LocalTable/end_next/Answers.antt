@@ -1,9 +1,9 @@
-use Rattle.std.proofs.Common.{◌≡◌, ◌≢◌, ◌-◌, ◌∷◌, ◌++◌, Some, None, sym, ap, subst, ◌∙◌, length, take, drop, get_or, arith}
+use Rattle.std.proofs.Common.{◌≡◌, ◌≢◌, ◌-◌, ◌∷◌, ◌++◌, Some, sym, ap, subst, ◌∙◌, length, take, drop, get_or, arith}
 use Rattle.std.specs.Prelude.{List, find}
 use Rattle.std.proofs.lemmas.List.{take_at}
 use Rattle.local_locks.specs.declared.records.Entry.{Entry}
 use Rattle.local_locks.specs.Owned.{is_ended, ended_by, left_by, with_next_ended}
-use Rattle.local_locks.specs.Slots.{IsKept, IsIndexed, IsTable, opened, slot_at, present, with_reached}
+use Rattle.local_locks.specs.Slots.{IsKept, IsIndexed, IsTable, opened, slot_at, present, came_to}
 use Rattle.local_locks.specs.declared.ends.Progress.{Progress}
 use Rattle.local_locks.proofs.KeptLaws.{well_owned}
 use Rattle.local_locks.proofs.OpenLaws.{length-opened}
@@ -29,12 +29,11 @@ at_end c = c.if-place-len.true ∙ (c.len-2.ensures ∙ (c.self.inside.slots.ok.
 
 pub invariant_of-self : goal.invariant_of-self
 invariant_of-self c =
-    subst (λ (es : List Entry). IsTable es c.self.inside.index c.self.inside.len c.self.inside.max_local c.with_reached-self-inside.result None) (sym (slots_are c))
+    subst (λ (es : List Entry). IsTable es c.self.inside.index c.self.inside.len c.self.inside.max_local c.came_to-self-inside.result) (sym (slots_are c))
     (record {
-      kept = subst (λ (p : Progress). IsKept (opened c.settle-place.new.slots) c.self.inside.index c.self.inside.len c.self.inside.max_local p) (sym c.with_reached-self-inside.ensures)
+      kept = subst (λ (p : Progress). IsKept (opened c.settle-place.new.slots) c.self.inside.index c.self.inside.len c.self.inside.max_local p) (sym c.came_to-self-inside.ensures)
           (kept-walked c.args.end (opened c.self.inside.slots.items) (opened c.settle-place.new.slots) c.settle-place.result c.self.inside.index c.self.inside.len c.self.inside.max_local c.self.inside.progress (walked c) c.self.invariant.kept);
       few = omega (arith, c.settle-place.auto.slots, c.deref_mut.ensures.len, c.self.inside.slots.ok.0, c.self.invariant.few);
-      remembered = tt;
     })
 
 pub returns-then-place-len-clause-well_owned : goal.returns-then-place-len-clause-well_owned
@@ -79,6 +78,14 @@ take_out-requires-clause-indexed c =
     let kept = kept-walked c.args.end (opened c.self.inside.slots.items) (opened c.settle-place.new.slots) c.settle-place.result c.self.inside.index c.self.inside.len c.self.inside.max_local c.self.inside.progress walked c.self.invariant.kept in
     subst (λ (es : List Entry). IsIndexed (opened es) c.self.inside.index) (sym is) kept.indexed
 
+pub take_out-requires-clause-len : goal.take_out-requires-clause-len
+take_out-requires-clause-len c =
+    let walked = walked-slots c.args.end c.deref_mut.result.now c.self.inside.slots.items c.settle-place.new.slots c.settle-place.result c.deref_mut.ensures.value
+    c.settle-place.auto.slots c.settle-place.ensures.within c.settle-place.ensures.kept c.settle-place.ensures.settled c.settle-place.ensures.others c.settle-place.ensures.ended in
+    let is = take_at c.settle-place.new.slots (drop (length c.settle-place.new.slots) c.self.inside.slots.items) c.self.inside.slots.len (omega (arith, c.settle-place.auto.slots, c.deref_mut.ensures.len)) in
+    let kept = kept-walked c.args.end (opened c.self.inside.slots.items) (opened c.settle-place.new.slots) c.settle-place.result c.self.inside.index c.self.inside.len c.self.inside.max_local c.self.inside.progress walked c.self.invariant.kept in
+    kept.number ∙ sym (ap (λ (es : List Entry). length (present (opened es))) is)
+
 pub overflow_sub-self : goal.overflow_sub-self
 overflow_sub-self c =
     let walked = walked-slots c.args.end c.deref_mut.result.now c.self.inside.slots.items c.settle-place.new.slots c.settle-place.result c.deref_mut.ensures.value
@@ -96,18 +103,17 @@ invariant_of-self-2 c =
     let kept = kept-walked c.args.end (opened c.self.inside.slots.items) (opened c.settle-place.new.slots) c.settle-place.result c.self.inside.index c.self.inside.len c.self.inside.max_local c.self.inside.progress walked c.self.invariant.kept in
     let number = sym (ap (λ (es : List Entry). length (present (opened es))) is) ∙ c.take_out.ensures.number in
     record {
-      kept = subst (λ (p : Progress). IsKept (opened c.take_out.new.slots.items) c.take_out.new.index (c.self.inside.len - 1) c.self.inside.max_local p) (sym c.with_reached-self-inside.ensures)
-          (kept-taken (opened c.settle-place.new.slots) (opened c.take_out.new.slots.items) c.self.inside.index c.take_out.new.index c.self.inside.len c.self.inside.max_local (with_reached c.args.end c.settle-place.result c.self.inside.progress) c.settle-place.result
+      kept = subst (λ (p : Progress). IsKept (opened c.take_out.new.slots.items) c.take_out.new.index (c.self.inside.len - 1) c.self.inside.max_local p) (sym c.came_to-self-inside.ensures)
+          (kept-taken (opened c.settle-place.new.slots) (opened c.take_out.new.slots.items) c.self.inside.index c.take_out.new.index c.self.inside.len c.self.inside.max_local (came_to c.args.end c.settle-place.result) c.settle-place.result
           kept c.take_out.ensures.indexed c.take_out.ensures.gone (λ k apart. c.take_out.ensures.others k apart ∙ ap (λ (es : List Entry). slot_at (opened es) k) is) number);
       few = omega (arith, c.take_out.ensures.shorter, ap (λ (es : List Entry). length es) is, c.settle-place.auto.slots, c.deref_mut.ensures.len, c.self.inside.slots.ok.0, c.self.invariant.few);
-      remembered = tt;
     }
 
 pub returns-clause-well_owned : goal.returns-clause-well_owned
 returns-clause-well_owned c = well_owned _ _ _ _ _ _ (invariant_of-self-2 c).kept
 
 -- the entry that the end takes away next, and the entries without it
-stepped : (c : goal.After-self-4-1) →
+stepped : (c : goal.After-self-3-1) →
     (present (opened c.take_out.new.slots.items) ≡ with_next_ended c.args.end (present (opened c.self.inside.slots.items))) × (find (is_ended c.args.end) (present (opened c.self.inside.slots.items)) ≡ Some c.index-entry.result.now)
 stepped c =
     let walked = walked-slots c.args.end c.deref_mut.result.now c.self.inside.slots.items c.settle-place.new.slots c.settle-place.result c.deref_mut.ensures.value

@@ -9,18 +9,18 @@ returns-then-len-eq-MAX_SLOTS-clause-well_owned c = subst IsWellOwned c.self.vie
 
 pub returns-then-is_err-clause-well_owned : goal.returns-then-is_err-clause-well_owned
 returns-then-is_err-clause-well_owned c =
-    well_owned _ _ _ _ _ _ (table-index c.self.inside.slots.items c.reserve.new.self.items c.self.inside.index c.self.inside.index _ _ _ _ c.self.invariant c.reserve.ensures.items (λ h p. refl)).kept
+    well_owned _ _ _ _ _ _ (table-index c.self.inside.slots.items c.reserve.new.self.items c.self.inside.index c.self.inside.index _ _ _ c.self.invariant c.reserve.ensures.items (λ h p. refl)).kept
 
 pub invariant_of-self-then-is_err-2 : goal.invariant_of-self-then-is_err-2
 invariant_of-self-then-is_err-2 c =
-    table-index c.self.inside.slots.items c.reserve.new.self.items c.self.inside.index c.reserve-2.new.self _ _ _ _ c.self.invariant c.reserve.ensures.items c.reserve-2.ensures.notes
+    table-index c.self.inside.slots.items c.reserve.new.self.items c.self.inside.index c.reserve-2.new.self _ _ _ c.self.invariant c.reserve.ensures.items c.reserve-2.ensures.notes
 
 pub returns-then-is_err-2-clause-well_owned : goal.returns-then-is_err-2-clause-well_owned
 returns-then-is_err-2-clause-well_owned c = well_owned _ _ _ _ _ _ (invariant_of-self-then-is_err-2 c).kept
 
 pub invariant_of-self-2 : goal.invariant_of-self-2
 invariant_of-self-2 c =
-    table-index c.self.inside.slots.items c.reserve.new.self.items c.self.inside.index c.reserve-2.new.self _ _ _ _ c.self.invariant c.reserve.ensures.items c.reserve-2.ensures.notes
+    table-index c.self.inside.slots.items c.reserve.new.self.items c.self.inside.index c.reserve-2.new.self _ _ _ c.self.invariant c.reserve.ensures.items c.reserve-2.ensures.notes
 
 pub returns-clause-well_owned : goal.returns-clause-well_owned
 returns-clause-well_owned c = well_owned _ _ _ _ _ _ (invariant_of-self-2 c).kept

@@ -1,4 +1,4 @@
-use Rattle.std.proofs.Common.{◌∙◌, ap, sym, subst, List, None}
+use Rattle.std.proofs.Common.{◌∙◌, ap, sym, subst, List}
 use Rattle.local_locks.specs.declared.records.Entry.{Entry}
 use Rattle.local_locks.specs.declared.ends.Progress.{Progress}
 use Rattle.local_locks.specs.Slots.{opened, present, IsTable, at_start}
@@ -8,8 +8,8 @@ use Rattle.local_locks.proofs.tables.LocalTable.new.Goals as goal
 
 pub invariant_of-result : goal.invariant_of-result
 invariant_of-result c =
-    subst (λ (p : Progress). IsTable c.in-Ok.slots.items c.reserve.new.self 0 c.args.max_local p None) (sym c.start.ensures)
-    (subst (λ (es : List Entry). IsTable es c.reserve.new.self 0 c.args.max_local at_start None) (sym (c.in-Ok.ensures {u = tt}).items)
+    subst (λ (p : Progress). IsTable c.in-Ok.slots.items c.reserve.new.self 0 c.args.max_local p) (sym c.start.ensures)
+    (subst (λ (es : List Entry). IsTable es c.reserve.new.self 0 c.args.max_local at_start) (sym (c.in-Ok.ensures {u = tt}).items)
     (table-empty c.reserve.new.self c.args.max_local (λ h p. c.reserve.ensures.notes h p ∙ c.new-index.ensures.empty h p)))
 
 pub returns-clause-well_owned : goal.returns-clause-well_owned

@@ -1,10 +1,5 @@
-use Rattle.std.proofs.Common.{subst}
-use Rattle.local_locks.specs.Owned.{IsWellOwned}
 use Rattle.local_locks.proofs.KeptLaws.{well_owned}
 use Rattle.local_locks.proofs.tables.LocalTable.reserve.Goals as goal
 
 pub returns-after-count_for-clause-well_owned : goal.returns-after-count_for-clause-well_owned
 returns-after-count_for-clause-well_owned c = well_owned _ _ _ _ _ _ c.self.invariant.kept
-
-pub returns-then-self-from-clause-well_owned : goal.returns-then-self-from-clause-well_owned
-returns-then-self-from-clause-well_owned c = subst IsWellOwned c.self.view_is (well_owned _ _ _ _ _ _ c.self.invariant.kept)

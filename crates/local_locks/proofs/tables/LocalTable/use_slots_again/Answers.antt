@@ -13,5 +13,4 @@ invariant_of-self c =
           (kept-compact (opened c.self.inside.slots.items) (opened c.compact.new.slots.items) c.self.inside.index c.compact.new.index c.self.inside.len c.self.inside.max_local c.self.inside.progress
           c.self.invariant.kept c.compact.ensures.indexed c.compact.ensures.entries);
       few = omega (arith, c.compact.ensures.full, c.self.invariant.few, length-present-le (opened c.self.inside.slots.items), length-opened c.self.inside.slots.items);
-      remembered = tt;
     }
