@@ -7,8 +7,9 @@ ghost use Rattle.lock_world.specs.World.{TraceEntry};
 ghost use Rattle.fast_path.specs.Slots.{IsReady, MayTry};
 ghost use Rattle.fast_path.specs.Grants.{Grants, TriesGrant, GrantsHeld, HasOwnSlots};
 
-use crate::slot_words::{SLOTS, Sighting, look_through, relation_of};
+use crate::slot_words::{SLOTS, Sighting, look_through};
 use lock_table::PartTable;
+use lock_world::relation_of;
 use modes_core::{Mode, Refusal, Tag};
 use shared_rule::board::Board;
 use std::sync::Wait;
@@ -90,7 +91,7 @@ fn grant_with_slots<T: PartTable, B: Board<T>>(
         of_relation,
         highest_unused,
         ..
-    } = look_through(board, own, relation_of(tag));
+    } = look_through(board, own, relation_of(*tag));
     if let Some(slot) = of_relation {
         board.set_slot(slot.place, slot.word, tag, mode);
         board.put_fast(own);

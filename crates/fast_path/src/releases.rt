@@ -6,8 +6,9 @@ ghost use Rattle.lock_world.specs.SlotHolds.{slot_holds};
 ghost use Rattle.fast_path.specs.Slots.{IsReady};
 ghost use Rattle.fast_path.specs.Releases.{Ungrants};
 
-use crate::slot_words::{Sighting, look_through, relation_of};
+use crate::slot_words::{Sighting, look_through};
 use lock_table::PartTable;
+use lock_world::relation_of;
 use modes_core::{Mode, Tag};
 use shared_rule::board::Board;
 use std::sync::Wait;
@@ -41,7 +42,7 @@ pub fn ungrant<T: PartTable, B: Board<T>, R: Wait>(
         of_relation,
         used_count,
         ..
-    } = look_through(board, own, relation_of(tag));
+    } = look_through(board, own, relation_of(*tag));
     if let Some(slot) = of_relation {
         if slot.word.has(mode) {
             board.clear_slot(slot.place, slot.word, tag, mode);

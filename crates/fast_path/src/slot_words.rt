@@ -1,36 +1,18 @@
 //! The words of a session's sixteen slots, as one who has their lock in hand loads them.
 
 ghost use Rattle.std.specs.Prelude.{◌≡◌, ◌<◌, ◌≤◌, Some};
-ghost use Rattle.lock_world.specs.SlotHolds.{slot_count, relation_of};
+ghost use Rattle.lock_world.specs.SlotHolds.{slot_count};
 ghost use Rattle.lock_world.specs.Account.{SlotsInHand};
 ghost use Rattle.shared_rule.specs.History.{slots_here};
 ghost use Rattle.fast_path.specs.Slots.{account_loading, AreWords, Sights};
 
 use lock_table::PartTable;
 use lw_word::SlotWord;
-use modes_core::{SessionId, Tag};
+use modes_core::SessionId;
 use shared_rule::board::Board;
 
 /// How many fast-path slots a session has (`FP_LOCK_SLOTS_PER_BACKEND` in proc.h).
 pub const SLOTS: u8 = 16;
-
-/// The relation of a relation's tag, and 0 of any other object's.
-pub(crate) fn relation_of(tag: &Tag) -> u32
-    ensures { result ≡ relation_of tag.now }
-{
-    match *tag {
-        Tag::Relation {
-            database: _,
-            relation,
-        } => relation,
-        Tag::Object {
-            database: _,
-            class: _,
-            object: _,
-            sub_object: _,
-        } => 0,
-    }
-}
 
 /// Loads the words of a session's slots, whose lock is in hand.
 pub(crate) fn load_slots<T: PartTable, B: Board<T>>(

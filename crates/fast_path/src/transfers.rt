@@ -8,8 +8,9 @@ ghost use Rattle.lock_world.specs.Happens.Counters.{most_counted};
 ghost use Rattle.fast_path.specs.Turns.{IsUnlocked, BeginsTurn, HasSlots, HasSlotsAndPart, MovesOrNot, AdoptsOrNot};
 ghost use Rattle.fast_path.specs.Transfers.{database_of, TransfersOrNot, PassesOrNot};
 
-use crate::slot_words::{Sighting, look_through, relation_of};
+use crate::slot_words::{Sighting, look_through};
 use lock_table::{Move, NoMemory, PartTable};
+use lock_world::relation_of;
 use lw_word::SlotWord;
 use modes_core::{Mode, SessionId, Tag};
 use shared_rule::board::Board;
@@ -113,7 +114,7 @@ fn pass_in_database<T: PartTable, B: Board<T>, R: Wait>(
     ensures stack { B.stack board.new ≡ B.stack board.old }
     ensures seat { B.seat board.new ≡ B.seat board.old }
 {
-    let Sighting { of_relation, .. } = look_through(board, owner, relation_of(tag));
+    let Sighting { of_relation, .. } = look_through(board, owner, relation_of(*tag));
     let Some(slot) = of_relation else {
         board.pass_fast(owner, tag, mode);
         return Ok(());

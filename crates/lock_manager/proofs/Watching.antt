@@ -1,14 +1,21 @@
-use Rattle.std.proofs.Common.{◌≡◌, ℕ, List, [], ◌∷◌, ◌++◌, Result, Ok, Err, refl, sym, ap, ◌∙◌, subst, append_assoc, append-nil, inl, inr}
+use Rattle.std.proofs.Common.{◌≡◌, ℕ, ◌==◌, Bool, true, false, List, [], ◌∷◌, ◌++◌, Result, Ok, Err, refl, sym, ap, ◌∙◌, subst, append_assoc, append-nil, inl, inr}
+use Rattle.std.specs.Prelude.{if◌then◌else◌}
+use Rattle.std.proofs.lemmas.Bool.{false≢true, eq-eqb}
 use Rattle.modes_core.specs.declared.modes.Mode.{Mode}
 use Rattle.modes_core.specs.declared.tags.Tag.{Tag}
 use Rattle.modes_core.specs.declared.refusals.Refusal.{Refusal}
 use Rattle.modes_core.specs.declared.refusals.Refusal.TheVariants.{Cancelled}
+use Rattle.local_locks.specs.declared.records.Entry.{Entry}
 use Rattle.lock_world.specs.declared.events.Word.TheVariants.{Wait}
+use Rattle.lock_world.specs.WaitWord.{wait_state, is_asked}
 use Rattle.lock_world.specs.World.{TraceEntry, Loaded}
+use Rattle.lock_world.specs.Account.{Account}
+use Rattle.shared_rule.specs.Lawful.{HasJustLooked}
 use Rattle.lock_manager.specs.declared.waiting.Polled.{Polled}
 use Rattle.lock_manager.specs.declared.waiting.Polled.TheVariants.{Granted, Still, CancelAsked}
 use Rattle.lock_manager.specs.declared.waiting.Cancelled.TheVariants.{Removed, WasGranted}
-use Rattle.lock_manager.specs.Waiting.{polled_as, IsWatch, EndsWait, Waits, Cancels}
+use Rattle.lock_manager.specs.Waiting.{polled_as, IsWaiting, IsWatch, EndsWait, Waits, Cancels}
+use Rattle.lock_manager.proofs.Polling.{own_wait}
 
 -- A session that looks at its wait word again and again.
 
@@ -65,3 +72,26 @@ module _ (number : ℕ) (before now looked : List TraceEntry) (shown : ℕ) (so_
 -- Looking on is another answer than the grant.
 pub still_not_granted : (◌≡◌ {A = Polled} Still Granted) → ⊥
 still_not_granted e = cc
+
+-- Whoever looks on has seen neither a grant nor that it was asked to cancel,
+seen-neither : (granted asked : Bool) → ◌≡◌ {A = Polled} (if granted then Granted else (if asked then CancelAsked else Still)) Still → (granted ≡ false) × (asked ≡ false)
+seen-neither true asked still = absurd (cc (still))
+seen-neither false true still = absurd (cc (still))
+seen-neither false false still = (refl, refl)
+
+-- and may sleep on what it saw.
+pub just_looked :
+    (limit database uses number : ℕ) (a : Account) (stack : List ℕ) (entries : List Entry) (tag : Tag) (mode : Mode) (shown : ℕ) (before : List TraceEntry)
+    → IsWaiting limit database uses a stack entries tag mode → a.trace ≡ before ++ Loaded (Wait number) shown ∷ [] → polled_as shown ≡ Still → HasJustLooked number a shown
+just_looked limit database uses number a stack entries tag mode shown before waiting looked still =
+    let neither = seen-neither (wait_state shown == 2) (is_asked shown) still in
+    record {
+      wait = own_wait tag mode waiting.held;
+      waits = ap (λ (x : Account). x.awaited) waiting.account;
+      no_partition = ap (λ (x : Account). x.hand) waiting.account;
+      no_slots = ap (λ (x : Account). x.fast.slots) waiting.account;
+      before = before;
+      looked = looked;
+      not_granted = λ two. false≢true (sym neither.0 ∙ eq-eqb (wait_state shown) 2 two);
+      not_asked = neither.1;
+    }

@@ -4,5 +4,7 @@
 
 pub mod events;
 pub mod laws;
+pub mod slot_holds;
 
 pub use events::{Event, Step, Word};
+pub use slot_holds::relation_of;

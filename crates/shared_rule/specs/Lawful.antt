@@ -1,10 +1,13 @@
-use Rattle.std.specs.Prelude.{◌≡◌, ◌⊎◌, ℕ, List}
+use Rattle.std.specs.Prelude.{◌≡◌, ◌≢◌, ◌⊎◌, ℕ, false, List, [], ◌∷◌, ◌++◌, Some, None}
 use Rattle.modes_core.specs.Tag.{partition_of}
 use Rattle.lock_table.specs.declared.moves.Move.{Move}
 use Rattle.lock_table.specs.declared.moves.Move.TheVariants.{Keep, Grant, Join, Release, Leave, Adopt}
 use Rattle.lock_table.specs.Content.{Wait, Content}
-use Rattle.lock_world.specs.Account.{Account, InHand}
 use Rattle.lock_table.specs.OwnWait.{OwnWait}
+use Rattle.lock_world.specs.declared.events.Word.TheVariants as word
+use Rattle.lock_world.specs.WaitWord.{wait_state, is_asked}
+use Rattle.lock_world.specs.World.{TraceEntry, Loaded}
+use Rattle.lock_world.specs.Account.{Account, InHand}
 use Rattle.lock_world.specs.AccountLaw.{MayPutBy, MayPutRecordedBy, MayMarkFirstBy, MayMarkNextBy}
 use Rattle.lock_world.specs.AccountLaw.{MayClearSeenBy, MayClearInHandBy}
 
@@ -42,3 +45,15 @@ MayPutPart limit number a partition mine done content =
 -- Clearing the own wait word: the grant was seen, or the wait is gone from the content in hand.
 abbrev pub MayClearBy : ℕ → Account → OwnWait → Type 0
 MayClearBy number a wait = MayClearSeenBy a wait ⊎ ((mine : InHand) × MayClearInHandBy number a wait mine)
+
+-- Sleeping on the own wait word, which is no step: the session waits and has no word in hand, and its trace ends with a
+-- load of that word, which showed this: neither a grant nor that it was asked to cancel.
+pub record HasJustLooked (number : ℕ) (a : Account) (shown : ℕ) : Type 0 where
+  pub wait : OwnWait
+  pub waits : a.awaited ≡ Some wait
+  pub no_partition : a.hand ≡ (λ _. None)
+  pub no_slots : a.fast.slots ≡ (λ _. None)
+  pub before : List TraceEntry
+  pub looked : a.trace ≡ before ++ Loaded (word.Wait number) shown ∷ []
+  pub not_granted : wait_state shown ≢ 2
+  pub not_asked : is_asked shown ≡ false

@@ -26,7 +26,7 @@ ghost use Rattle.shared_rule.specs.History.{taken_of, slots_here, in_hand, sessi
 ghost use Rattle.shared_rule.specs.History.{account_granting, account_cleared, account_left};
 ghost use Rattle.shared_rule.specs.Slots.{TakesFast, TriesFast};
 ghost use Rattle.shared_rule.specs.Boards.{Seated};
-ghost use Rattle.shared_rule.specs.Lawful.{MayPutPart, IsGrantingIn, MayMarkBy, MayClearBy};
+ghost use Rattle.shared_rule.specs.Lawful.{MayPutPart, IsGrantingIn, MayMarkBy, MayClearBy, HasJustLooked};
 
 use crate::busy::Busy;
 use lock_table::{Move, PartTable, Woken};
@@ -264,8 +264,10 @@ pub trait Board<T: PartTable> {
         ensures stack { stack self.new ≡ stack self.old };
 
     /// Sleeps while the own wait word shows this, until somebody wakes the session; it may also return for no reason
-    /// (`WaitLatch` in `ProcSleep` of proc.c).
-    fn sleep<R: Wait>(&self, rt: &R, shown: u64);
+    /// (`WaitLatch` in `ProcSleep` of proc.c). The session has loaded that number just before, so no grant and no
+    /// request to cancel that came since is slept through.
+    fn sleep<R: Wait>(&self, rt: &R, shown: u64)
+        requires looked { HasJustLooked (seat self.now).number (view self.now) shown };
 
     /// Wakes a session that sleeps so (`SetLatch` in `ProcWakeup` of proc.c). It is no step.
     fn wake(&self, other: SessionId);

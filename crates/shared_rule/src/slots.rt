@@ -8,7 +8,7 @@ ghost use Rattle.atomic_table.specs.Table.{Allows, step};
 ghost use Rattle.lw_word.specs.LightweightWord.{IsHeldByNobody, taken_word};
 ghost use Rattle.lock_table.specs.Content.{add_hold};
 ghost use Rattle.lock_world.specs.declared.events.Word.{Word};
-ghost use Rattle.lock_world.specs.SlotHolds.{relation_of, slot_holds};
+ghost use Rattle.lock_world.specs.SlotHolds.{slot_holds};
 ghost use Rattle.lock_world.specs.Account.{InHand, SlotsInHand};
 ghost use Rattle.lock_world.specs.AccountLaw.{MaySetSlotBy, MayClearSlotBy, MayTransferBy};
 ghost use Rattle.shared_rule.specs.declared.history.Mark.TheVariants.{LoadedDatabase, LoadedSlot, LoadedFast};
@@ -30,20 +30,11 @@ use crate::steps::{load_as, taken};
 use crate::waits::store_as;
 use crossbeam_utils::Backoff;
 use lock_table::PartTable;
+use lock_world::relation_of;
 use lw_word::SlotWord;
 use modes_core::{Mode, SessionId, Tag};
 use std::marker::Brand;
 use std::sync::Wait;
-
-// The relation of a relation's tag; no other object has a slot.
-fn relation(tag: &Tag) -> u32
-    ensures { result ≡ relation_of tag.now }
-{
-    match *tag {
-        Tag::Relation { relation, .. } => relation,
-        Tag::Object { .. } => 0,
-    }
-}
 
 fn look_as<T: PartTable, M: Marking<T>>(top: &Top<T>, place: &mut Place<T>, word: usize) -> u64
     requires table { FitsTable place.old top.now.table_id × (word < top.now.table_id.words) }
@@ -279,7 +270,7 @@ pub(crate) fn set_slot<T: PartTable, M: Marking<T>>(
     ensures seat { IsSameSeat place.old place.new }
     ensures side { place.new.me ≡ (noting place.old.me.0 (SetSlot slot tag.now mode), place.old.me.1) }
 {
-    let word = shown.with(relation(tag), mode);
+    let word = shown.with(relation_of(*tag), mode);
     store_as::<T, M>(top, place, slot_word(number, slot), word.number());
 }
 

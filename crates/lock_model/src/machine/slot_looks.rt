@@ -3,29 +3,11 @@
 ghost use Rattle.std.specs.Prelude.{◌≡◌};
 ghost use Rattle.std.specs.List.{list_any};
 ghost use Rattle.lw_word.specs.SlotWord.{shows};
-ghost use Rattle.lock_world.specs.SlotHolds.{relation_of};
 
 use super::state::Machine;
+use lock_world::relation_of;
 use lw_word::SlotWord;
 use modes_core::{Mode, SessionId, Tag, is_eligible};
-
-/// The relation of a relation's tag, and 0 of any other object's.
-pub fn relation_of(tag: Tag) -> u32
-    ensures { result ≡ relation_of tag }
-{
-    match tag {
-        Tag::Relation {
-            database: _,
-            relation,
-        } => relation,
-        Tag::Object {
-            database: _,
-            class: _,
-            object: _,
-            sub_object: _,
-        } => 0,
-    }
-}
 
 /// Whether one of the slots shows the mode of the relation.
 fn some_slot_shows(slots: &[SlotWord], relation: u32, mode: Mode) -> bool

@@ -7,10 +7,9 @@ ghost use Rattle.lock_world.specs.SlotHolds.{is_slot_of};
 ghost use Rattle.lock_model.specs.SlotLooks.{is_slot_to_grant};
 
 use super::lw_words::put;
-use super::slot_looks::relation_of;
 use super::state::{Machine, has_a_mark};
 use lock_table::Move;
-use lock_world::Word;
+use lock_world::{Word, relation_of};
 use lw_word::{LwMode, SlotWord};
 use modes_core::{Mode, SessionId, Tag, is_eligible};
 

@@ -1,8 +1,8 @@
 //! The plain machine's step that moves a mode from a session's slot to the lock table.
 
-use super::slot_looks::relation_of;
 use super::state::Machine;
 use lock_table::{Move, NoMemory, PartTable};
+use lock_world::relation_of;
 use modes_core::{Mode, SessionId, Tag, is_eligible};
 
 impl Machine {

@@ -5,7 +5,7 @@ use Rattle.lock_world.specs.declared.events.Word.TheVariants.{Wait}
 use Rattle.lock_world.specs.World.{Loaded}
 use Rattle.lock_manager.specs.declared.sessions.Own.{Own}
 use Rattle.lock_manager.specs.Waiting.{IsWaiting}
-use Rattle.lock_manager.proofs.Watching.{watching-next, still_not_granted}
+use Rattle.lock_manager.proofs.Watching.{watching-next, still_not_granted, just_looked}
 use Rattle.lock_manager.proofs.waiting.wait.Goals as goal
 
 pub loop-preserved : goal.loop-preserved
@@ -25,4 +25,16 @@ loop-preserved g c =
           (g.B.Board.view c.take_up.new.board).trace c.in-Still.ensures.no_step (sym c.in-Still.ensures.answer);
       own = own;
       seat = c.take_up.ensures.seat ∙ seat;
+    }
+
+pub sleep-requires : goal.sleep-requires
+sleep-requires g c =
+    let now = g.B.Board.view c.loop.board in
+    let seat = c.take_up.ensures.seat ∙ c.load_wait-shown.ensures.seat in
+    record {
+      looked = just_looked _ _ _ (g.B.Board.seat c.take_up.new.board).number (g.B.Board.view c.take_up.new.board) _ _ _ _ c.load_wait-shown.result now.trace
+          (c.in-Still.ensures.waiting still_not_granted)
+          (c.in-Still.ensures.no_step ∙ ap (λ (a : Account). a.trace) c.load_wait-shown.ensures.view
+          ∙ ap (λ (s : Seated). now.trace ++ Loaded (Wait s.number) c.load_wait-shown.result ∷ []) (sym seat))
+          (sym c.in-Still.ensures.answer);
     }
