@@ -1,87 +1,79 @@
-//! Each test opens a pair of sessions, tells a story on it, and closes it.
+//! Each test makes a manager, tells a story of its sessions, and finishes it.
 
-ghost use Rattle.std.specs.Prelude.{◌≡◌};
+ghost use Rattle.std.specs.Prelude.{◌≡◌, IfOk};
+ghost use Rattle.lock_manager.specs.Managers.{IsNew};
+ghost use Rattle.lock_manager_tests.specs.Crews.{SeatsAre};
 
 mod conflicts;
+mod desk;
 mod listings;
 mod memory;
 mod pair;
 mod queues;
 mod races;
+mod scenes;
 mod threads;
 mod turn_lists;
 mod turns;
 mod waits;
 
-use lock_manager::{Config, Final, Manager, Mode, Refusal};
-use lock_table::PlainPart;
+use desk::{Desk, ManagerDesk};
+use lock_manager::{Config, Final, Manager, Mode, Opener, OwnSession, Refusal};
+use lock_table::PartTable;
 use pair::Pair;
 use races::Race;
+use scenes::{Scene, perform};
 use shared_rule::board::Board;
 use std::alloc::Global;
 use std::process::Abort;
 use std::sync::Wait;
 use std::test::Fail;
 use std::thread::Threads;
-use turns::Turn;
+use threads::Plan;
 
-/// What two sessions do.
+/// What the sessions of a manager do.
 #[derive(Clone, Copy)]
 enum Story<'a> {
-    /// They take turns, over and over.
-    Turns(&'a [Turn], u32),
-    EachModeBesideEach,
-    LeavesAsAsked,
-    CancelsTooLate,
-    LooksTooLate,
-    WaitsAsAsked,
-    WaitsForNothing,
-    AnsweredAtOnce,
-    SimpleDeadlock,
-    /// One sleeps until the other one gives back, or asks it to cancel.
-    Sleeps { asks: bool },
-    ListsMany,
-    /// They race for something, over and over.
-    Races(Race, u32),
-    FindsSlotsBusy,
+    OfTwo(Scene<'a>),
+    /// One takes many modes and gives them back, where memory may be wanting once.
+    GoesOn,
+    /// So many ask for the same objects, each in a thread of its own.
+    Asks(u32, Plan),
+    /// They sleep in one queue, each in a thread of its own.
+    Queue,
 }
 
-/// Tells a story of two sessions.
-fn tell<B: Board<PlainPart> + Drop + Send, R: Abort + Threads + Wait + Sync>(
-    rt: &R,
-    mut pair: Pair<B>,
-    story: Story<'_>,
-) -> Pair<B>
-    ensures first { B.seat result.first.board ≡ B.seat pair.first.board }
-    ensures second { B.seat result.second.board ≡ B.seat pair.second.board }
+/// Tells a story, with sessions from a desk.
+fn tell<
+    T: PartTable + Drop + Send,
+    B: Board<T> + Drop + Send,
+    D: Desk<OwnSession<T, B>>,
+    R: Abort + Threads + Wait + Sync,
+>(rt: &R, alloc: Global, desk: &mut D, story: Story<'_>)
+    requires seats { SeatsAre B.seat D.seat }
+    ensures manager { D.manager desk.new ≡ D.manager desk.old }
+    ensures live { D.live desk.new ≡ D.live desk.old }
 {
     match story {
-        Story::Turns(turns, rounds) => {
-            turns::play_often(rt, &mut pair, turns, rounds);
-            pair
+        Story::OfTwo(scene) => {
+            let pair = Pair::open(rt, desk);
+            assert_eq!(rt; desk.live(), 2);
+            let pair = perform(rt, pair, scene).meet(desk);
+            pair.close(rt, desk);
         }
-        Story::EachModeBesideEach => {
-            conflicts::ask_for_all(rt, &mut pair);
-            pair
-        }
-        Story::LeavesAsAsked => waits::leave_as_asked(rt, pair),
-        Story::CancelsTooLate => waits::cancel_too_late(rt, pair),
-        Story::LooksTooLate => waits::look_too_late(rt, pair),
-        Story::WaitsAsAsked => waits::wait_as_asked(rt, pair),
-        Story::WaitsForNothing => waits::wait_for_nothing(rt, pair),
-        Story::AnsweredAtOnce => waits::answer_at_once(rt, pair),
-        Story::SimpleDeadlock => waits::refuse_a_simple_deadlock(rt, pair),
-        Story::Sleeps { asks } => waits::sleep_in_a_thread(rt, pair, asks),
-        Story::ListsMany => {
-            listings::list_many(rt, &mut pair);
-            pair
-        }
-        Story::Races(race, rounds) => races::race_often(rt, pair, race, rounds),
-        Story::FindsSlotsBusy => {
-            races::find_slots_busy(rt, &mut pair);
-            races::see_nothing(rt, &mut pair.first);
-            pair
-        }
+        Story::GoesOn => memory::go_on(rt, desk),
+        Story::Asks(number, plan) => threads::ask_in_threads(rt, alloc, desk, number, plan),
+        Story::Queue => queues::wake_one_by_one(rt, alloc, desk),
+    }
+}
+
+/// A manager and its opener, at the second attempt where memory was wanting.
+fn make_at_last(alloc: Global, config: Config) -> Result<(Manager, Opener), Refusal>
+    ensures new { IfOk result (λ made. IsNew made.0 made.1 config) }
+{
+    match Manager::new(alloc, config) {
+        Ok(made) => Ok(made),
+        Err(_) => Manager::new(alloc, config),
     }
 }
 
@@ -92,11 +84,10 @@ fn run<R: Abort + Threads + Wait + Sync>(
     config: Config,
     story: Story<'_>,
 ) -> Result<(), Fail> {
-    let (manager, mut opener) = Manager::new(alloc, config)?;
-    let pair = Pair::open(rt, &manager, &mut opener);
-    assert_eq!(rt; opener.live(), 2);
-    let pair = tell(rt, pair, story).meet();
-    pair.close(rt, &mut opener);
+    let (manager, opener) = make_at_last(alloc, config)?;
+    let mut desk = ManagerDesk::new(&manager, opener);
+    tell(rt, alloc, &mut desk, story);
+    let opener = desk.into_opener();
     let Final {
         fast,
         table,
@@ -173,27 +164,29 @@ fn turns_are_answered_as_the_lists_say(rt: HostRuntime) -> Result<(), Fail> {
         ),
     ] {
         println!(rt; "{name}")?;
-        run(&rt, rt.alloc(), config, Story::Turns(turns, rounds))?;
+        let story = Story::OfTwo(Scene::Turns(turns, rounds));
+        run(&rt, rt.alloc(), config, story)?;
     }
     Ok(())
 }
 
 #[test]
-fn two_sessions_do_as_the_stories_say(rt: HostRuntime) -> Result<(), Fail> {
-    for story in [
-        Story::EachModeBesideEach,
-        Story::LeavesAsAsked,
-        Story::CancelsTooLate,
-        Story::LooksTooLate,
-        Story::WaitsAsAsked,
-        Story::WaitsForNothing,
-        Story::AnsweredAtOnce,
-        Story::SimpleDeadlock,
-        Story::Sleeps { asks: false },
-        Story::Sleeps { asks: true },
-        Story::ListsMany,
+fn two_sessions_do_as_the_scenes_say(rt: HostRuntime) -> Result<(), Fail> {
+    for scene in [
+        Scene::EachModeBesideEach,
+        Scene::LeavesAsAsked,
+        Scene::CancelsTooLate,
+        Scene::LooksTooLate,
+        Scene::WaitsAsAsked,
+        Scene::WaitsForNothing,
+        Scene::AnsweredAtOnce,
+        Scene::SimpleDeadlock,
+        Scene::Sleeps { asks: false },
+        Scene::Sleeps { asks: true },
+        Scene::ListsMany,
     ] {
-        run(&rt, rt.alloc(), two(listings::MANY), story)?;
+        let config = two(listings::MANY);
+        run(&rt, rt.alloc(), config, Story::OfTwo(scene))?;
     }
     Ok(())
 }
@@ -201,15 +194,65 @@ fn two_sessions_do_as_the_stories_say(rt: HostRuntime) -> Result<(), Fail> {
 #[test]
 fn a_thousand_races_end_as_one_of_the_two_had_won(rt: HostRuntime) -> Result<(), Fail> {
     let rounds = 1_000;
-    for race in [
-        Race::WeakAgainstStrong(Mode::AccessShare, Mode::AccessExclusive),
-        Race::WeakAgainstStrong(Mode::RowExclusive, Mode::Share),
-        Race::StrongOverWeak(Mode::RowExclusive, Mode::Share),
-        Race::CancelAgainstRelease(Mode::AccessExclusive, Mode::AccessShare),
-        Race::CancelAgainstRelease(Mode::Share, Mode::AccessExclusive),
-        Race::AskAgainstSleep,
+    for scene in [
+        Scene::Races(
+            Race::WeakAgainstStrong(Mode::AccessShare, Mode::AccessExclusive),
+            rounds,
+        ),
+        Scene::Races(
+            Race::WeakAgainstStrong(Mode::RowExclusive, Mode::Share),
+            rounds,
+        ),
+        Scene::Races(
+            Race::StrongOverWeak(Mode::RowExclusive, Mode::Share),
+            rounds,
+        ),
+        Scene::Races(
+            Race::CancelAgainstRelease(Mode::AccessExclusive, Mode::AccessShare),
+            rounds,
+        ),
+        Scene::Races(
+            Race::CancelAgainstRelease(Mode::Share, Mode::AccessExclusive),
+            rounds,
+        ),
+        Scene::Races(Race::AskAgainstSleep, rounds),
+        Scene::FindsSlotsBusy,
     ] {
-        run(&rt, rt.alloc(), two(8), Story::Races(race, rounds))?;
+        run(&rt, rt.alloc(), two(8), Story::OfTwo(scene))?;
     }
-    run(&rt, rt.alloc(), two(8), Story::FindsSlotsBusy)
+    Ok(())
+}
+
+#[test]
+fn many_sessions_do_as_the_stories_say(rt: HostRuntime) -> Result<(), Fail> {
+    for (sessions, story) in [
+        (4, Story::Asks(4, Plan::of(10_000, 4, false))),
+        (4, Story::Asks(4, Plan::of(10_000, 1, false))),
+        (4, Story::Asks(4, Plan::of(10_000, 1, true))),
+        (8, Story::Asks(8, Plan::of(3_000, 2, true))),
+        (queues::MANY + 1, Story::Queue),
+    ] {
+        let config = Config {
+            sessions,
+            max_local: 8,
+        };
+        run(&rt, rt.alloc(), config, story)?;
+    }
+    Ok(())
+}
+
+/// Run it under `rt try --test --fail-alloc N` for an allocation that fails.
+#[test]
+fn sessions_go_on_where_memory_was_wanting_once(rt: HostRuntime) -> Result<(), Fail> {
+    let one = Config {
+        sessions: 1,
+        max_local: memory::MANY,
+    };
+    for (config, story) in [
+        (one, Story::GoesOn),
+        (two(memory::MOVED), Story::OfTwo(Scene::MovesAtLast)),
+    ] {
+        run(&rt, rt.alloc(), config, story)?;
+    }
+    Ok(())
 }

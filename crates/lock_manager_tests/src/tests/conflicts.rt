@@ -4,7 +4,7 @@ ghost use Rattle.std.specs.Prelude.{◌≡◌, ◌<◌};
 
 use super::pair::Pair;
 use lock_manager::{Acquired, How, Mode, OwnSession, Owner, Refusal, SessionId, Tag, Unlocked};
-use lock_table::PlainPart;
+use lock_table::PartTable;
 use shared_rule::board::Board;
 use std::process::Abort;
 use std::sync::Wait;
@@ -31,9 +31,9 @@ pub fn conflicts(asked: usize, held: usize) -> bool
 }
 
 /// Asks for a mode and gives it back where it is granted. Why not, where it isn't.
-fn refusal_of<B: Board<PlainPart>, R: Abort + Wait>(
+fn refusal_of<T: PartTable, B: Board<T>, R: Abort + Wait>(
     rt: &R,
-    asker: &mut OwnSession<PlainPart, B>,
+    asker: &mut OwnSession<T, B>,
     tag: Tag,
     mode: Mode,
 ) -> Option<Refusal>
@@ -51,9 +51,9 @@ fn refusal_of<B: Board<PlainPart>, R: Abort + Wait>(
 }
 
 /// Asks for each mode while another session has one, given by its place.
-fn ask_for_each<B: Board<PlainPart>, R: Abort + Wait>(
+fn ask_for_each<T: PartTable, B: Board<T>, R: Abort + Wait>(
     rt: &R,
-    asker: &mut OwnSession<PlainPart, B>,
+    asker: &mut OwnSession<T, B>,
     tag: Tag,
     session: SessionId,
     held: usize,
@@ -75,10 +75,10 @@ fn ask_for_each<B: Board<PlainPart>, R: Abort + Wait>(
 }
 
 /// One session takes each mode in turn, and the other asks for each while that is held.
-pub fn ask_for_each_beside_each<B: Board<PlainPart>, R: Abort + Wait>(
+pub fn ask_for_each_beside_each<T: PartTable, B: Board<T>, R: Abort + Wait>(
     rt: &R,
-    holder: &mut OwnSession<PlainPart, B>,
-    asker: &mut OwnSession<PlainPart, B>,
+    holder: &mut OwnSession<T, B>,
+    asker: &mut OwnSession<T, B>,
     tag: Tag,
 )
     ensures holder { B.seat holder.new.board ≡ B.seat holder.old.board }
@@ -94,7 +94,7 @@ pub fn ask_for_each_beside_each<B: Board<PlainPart>, R: Abort + Wait>(
 }
 
 /// Of an object and of a relation, each session beside the other.
-pub fn ask_for_all<B: Board<PlainPart>, R: Abort + Wait>(rt: &R, pair: &mut Pair<B>)
+pub fn ask_for_all<T: PartTable, B: Board<T>, R: Abort + Wait>(rt: &R, pair: &mut Pair<T, B>)
     ensures first { B.seat pair.new.first.board ≡ B.seat pair.old.first.board }
     ensures second { B.seat pair.new.second.board ≡ B.seat pair.old.second.board }
 {

@@ -4,7 +4,7 @@ ghost use Rattle.std.specs.Prelude.{◌≡◌};
 
 use super::pair::Pair;
 use lock_manager::{Acquired, Mode, OwnSession, Owner, TableRow, Tag};
-use lock_table::PlainPart;
+use lock_table::PartTable;
 use shared_rule::board::Board;
 use std::process::Abort;
 use std::sync::Wait;
@@ -12,7 +12,7 @@ use std::sync::Wait;
 pub const MANY: u32 = 200;
 
 /// Shares many objects, which it names neither in rising nor in falling order.
-fn share_many<B: Board<PlainPart>, R: Abort + Wait>(rt: &R, session: &mut OwnSession<PlainPart, B>)
+fn share_many<T: PartTable, B: Board<T>, R: Abort + Wait>(rt: &R, session: &mut OwnSession<T, B>)
     ensures seat { B.seat session.new.board ≡ B.seat session.old.board }
 {
     for number in 0..MANY {
@@ -38,7 +38,7 @@ fn expect_order<R: Abort>(rt: &R, rows: &[TableRow]) {
 }
 
 /// Two sessions share as many objects, and one of them lists.
-pub fn list_many<B: Board<PlainPart>, R: Abort + Wait>(rt: &R, pair: &mut Pair<B>)
+pub fn list_many<T: PartTable, B: Board<T>, R: Abort + Wait>(rt: &R, pair: &mut Pair<T, B>)
     ensures first { B.seat pair.new.first.board ≡ B.seat pair.old.first.board }
     ensures second { B.seat pair.new.second.board ≡ B.seat pair.old.second.board }
 {

@@ -1,43 +1,20 @@
 //! Want of memory is an answer, after which nothing is lost.
 
-ghost use Rattle.std.specs.Prelude.{◌≡◌, ◌+◌, ◌<◌, IfOk, OnOk};
-ghost use Rattle.lock_manager.specs.Managers.{IsNew, IsOpenerOf};
+ghost use Rattle.std.specs.Prelude.{◌≡◌, ◌<◌};
+ghost use Rattle.lock_manager_tests.specs.Crews.{SeatsAre};
 
+use super::desk::{Desk, open};
+use super::pair::Pair;
 use lock_manager::{
-    Acquired, Config, How, Listing, Manager, Mode, Opener, OwnSession, Owner, Refusal, Session,
-    SessionId, Tag, Unlocked,
+    Acquired, How, Listing, Mode, OwnSession, Owner, Refusal, SessionId, Tag, Unlocked,
 };
-use lock_table::PlainPart;
+use lock_table::PartTable;
 use shared_rule::board::Board;
-use std::alloc::Global;
 use std::process::Abort;
 use std::sync::Wait;
-use std::test::Fail;
 
-const MANY: u32 = 300;
-
-/// A session, at the second attempt where memory was wanting.
-fn open_at_last<'a>(opener: &mut Opener, manager: &'a Manager) -> Result<Session<'a>, Refusal>
-    requires own { IsOpenerOf opener.old manager.now }
-    ensures table { IfOk result (λ session. session.board.table.now.table_id ≡ opener.old.table) }
-    ensures own { IsOpenerOf opener.new manager.now }
-    ensures live { OnOk result (opener.new.live ≡ opener.old.live + 1) }
-{
-    match opener.session(manager, 5) {
-        Ok(session) => Ok(session),
-        Err(_) => opener.session(manager, 5),
-    }
-}
-
-/// A manager and its opener, at the second attempt where memory was wanting.
-fn make_at_last(alloc: Global, config: Config) -> Result<(Manager, Opener), Refusal>
-    ensures new { IfOk result (λ made. IsNew made.0 made.1 config) }
-{
-    match Manager::new(alloc, config) {
-        Ok(made) => Ok(made),
-        Err(_) => Manager::new(alloc, config),
-    }
-}
+/// How many modes the one session takes.
+pub const MANY: u32 = 300;
 
 /// The object has its own mode, none of which is in the way of another.
 fn object(number: u32) -> (Tag, Mode) {
@@ -46,9 +23,9 @@ fn object(number: u32) -> (Tag, Mode) {
 }
 
 /// Takes the mode, and again where memory was wanting. A refusal leaves what the session had.
-fn take_at_last<B: Board<PlainPart>, R: Abort + Wait>(
+fn take_at_last<T: PartTable, B: Board<T>, R: Abort + Wait>(
     rt: &R,
-    session: &mut OwnSession<PlainPart, B>,
+    session: &mut OwnSession<T, B>,
     tag: Tag,
     mode: Mode,
 )
@@ -63,7 +40,7 @@ fn take_at_last<B: Board<PlainPart>, R: Abort + Wait>(
     assert!(rt; answer == Ok(Acquired::Granted), "{tag}");
 }
 
-fn take_many<B: Board<PlainPart>, R: Abort + Wait>(rt: &R, session: &mut OwnSession<PlainPart, B>)
+fn take_many<T: PartTable, B: Board<T>, R: Abort + Wait>(rt: &R, session: &mut OwnSession<T, B>)
     ensures seat { B.seat session.new.board ≡ B.seat session.old.board }
 {
     for number in 0..MANY {
@@ -73,9 +50,9 @@ fn take_many<B: Board<PlainPart>, R: Abort + Wait>(rt: &R, session: &mut OwnSess
 }
 
 /// A listing, at the second attempt where memory was wanting.
-fn list_at_last<B: Board<PlainPart>, R: Abort + Wait>(
+fn list_at_last<T: PartTable, B: Board<T>, R: Abort + Wait>(
     rt: &R,
-    session: &mut OwnSession<PlainPart, B>,
+    session: &mut OwnSession<T, B>,
 ) -> Listing
     ensures seat { B.seat session.new.board ≡ B.seat session.old.board }
 {
@@ -87,9 +64,9 @@ fn list_at_last<B: Board<PlainPart>, R: Abort + Wait>(
 }
 
 /// Gives the mode back.
-fn give_back<B: Board<PlainPart>, R: Abort + Wait>(
+fn give_back<T: PartTable, B: Board<T>, R: Abort + Wait>(
     rt: &R,
-    session: &mut OwnSession<PlainPart, B>,
+    session: &mut OwnSession<T, B>,
     tag: Tag,
     mode: Mode,
 )
@@ -100,9 +77,9 @@ fn give_back<B: Board<PlainPart>, R: Abort + Wait>(
 }
 
 /// All that were taken are held, each is listed, and each goes.
-fn give_many_back<B: Board<PlainPart>, R: Abort + Wait>(
+fn give_many_back<T: PartTable, B: Board<T>, R: Abort + Wait>(
     rt: &R,
-    session: &mut OwnSession<PlainPart, B>,
+    session: &mut OwnSession<T, B>,
 )
     ensures seat { B.seat session.new.board ≡ B.seat session.old.board }
 {
@@ -114,21 +91,19 @@ fn give_many_back<B: Board<PlainPart>, R: Abort + Wait>(
     }
 }
 
-/// Run it under `rt try --test --fail-alloc N` for an allocation that fails.
-#[test]
-fn a_session_goes_on_where_memory_was_wanting_once(rt: HostRuntime) -> Result<(), Fail> {
-    let config = Config {
-        sessions: 1,
-        max_local: MANY,
-    };
-    let (manager, mut opener) = make_at_last(rt.alloc(), config)?;
-    let mut session = open_at_last(&mut opener, &manager).expect(&rt, "a session at last");
-    take_many(&rt, &mut session);
-    give_many_back(&rt, &mut session);
-    session.close(&rt, &mut opener);
-    let stood = manager.finish(opener);
-    assert_eq!(rt; stood.table, 0);
-    Ok(())
+/// A session of a desk takes many modes and gives them back.
+pub fn go_on<T: PartTable + Drop, B: Board<T> + Drop, D: Desk<OwnSession<T, B>>, R: Abort + Wait>(
+    rt: &R,
+    desk: &mut D,
+)
+    requires seats { SeatsAre B.seat D.seat }
+    ensures manager { D.manager desk.new ≡ D.manager desk.old }
+    ensures live { D.live desk.new ≡ D.live desk.old }
+{
+    let mut session = open(rt, desk);
+    take_many(rt, &mut session);
+    give_many_back(rt, &mut session);
+    desk.close(rt, session);
 }
 
 const TABLE: Tag = Tag::Relation {
@@ -142,6 +117,9 @@ const TRANSFERS: u32 = 6;
 /// How many locks more are in its partition each time: so its list has to grow now for the first mode that is moved, now
 /// for the second one, now for the strong mode itself.
 const BESIDE: u32 = 3;
+
+/// How many entries the second session has at the end.
+pub const MOVED: u32 = TRANSFERS * BESIDE + 1;
 
 /// Each weak mode of the table is listed once, in a slot or in the table.
 fn expect_once<R: Abort>(rt: &R, listing: &Listing, mode: Mode) {
@@ -160,10 +138,7 @@ fn expect_once<R: Abort>(rt: &R, listing: &Listing, mode: Mode) {
 }
 
 /// Nothing of a strong mode is left that was refused, and the weak ones are where they may be.
-fn see_no_trace<B: Board<PlainPart>, R: Abort + Wait>(
-    rt: &R,
-    session: &mut OwnSession<PlainPart, B>,
-)
+fn see_no_trace<T: PartTable, B: Board<T>, R: Abort + Wait>(rt: &R, session: &mut OwnSession<T, B>)
     ensures seat { B.seat session.new.board ≡ B.seat session.old.board }
 {
     assert_eq!(rt; session.strong_count(TABLE.strong_index()), 0);
@@ -173,9 +148,9 @@ fn see_no_trace<B: Board<PlainPart>, R: Abort + Wait>(
 }
 
 /// Asks for a strong mode, which another session's weak ones are in the way of.
-fn ask_for_strong<B: Board<PlainPart>, R: Abort + Wait>(
+fn ask_for_strong<T: PartTable, B: Board<T>, R: Abort + Wait>(
     rt: &R,
-    session: &mut OwnSession<PlainPart, B>,
+    session: &mut OwnSession<T, B>,
     other: SessionId,
 )
     ensures seat { B.seat session.new.board ≡ B.seat session.old.board }
@@ -196,14 +171,11 @@ fn ask_for_strong<B: Board<PlainPart>, R: Abort + Wait>(
 }
 
 /// The first session has two weak modes in a slot, the second one asks for a strong one, and the first one gives back.
-fn move_once<B: Board<PlainPart>, R: Abort + Wait>(
-    rt: &R,
-    first: &mut OwnSession<PlainPart, B>,
-    second: &mut OwnSession<PlainPart, B>,
-)
-    ensures first { B.seat first.new.board ≡ B.seat first.old.board }
-    ensures second { B.seat second.new.board ≡ B.seat second.old.board }
+fn move_once<T: PartTable, B: Board<T>, R: Abort + Wait>(rt: &R, pair: &mut Pair<T, B>)
+    ensures first { B.seat pair.new.first.board ≡ B.seat pair.old.first.board }
+    ensures second { B.seat pair.new.second.board ≡ B.seat pair.old.second.board }
 {
+    let Pair { first, second } = pair;
     take_at_last(rt, first, TABLE, Mode::AccessShare);
     take_at_last(rt, first, TABLE, Mode::RowExclusive);
     assert_eq!(rt; list_at_last(rt, first).fast.len(), 2);
@@ -213,9 +185,9 @@ fn move_once<B: Board<PlainPart>, R: Abort + Wait>(
 }
 
 /// Takes further locks in the partition of the table.
-fn take_beside<B: Board<PlainPart>, R: Abort + Wait>(
+fn take_beside<T: PartTable, B: Board<T>, R: Abort + Wait>(
     rt: &R,
-    session: &mut OwnSession<PlainPart, B>,
+    session: &mut OwnSession<T, B>,
     transfer: u32,
 )
     requires few { transfer < 6 }
@@ -228,36 +200,14 @@ fn take_beside<B: Board<PlainPart>, R: Abort + Wait>(
     }
 }
 
-/// Again and again, while the table's partition fills.
-fn move_often<B: Board<PlainPart>, R: Abort + Wait>(
-    rt: &R,
-    first: &mut OwnSession<PlainPart, B>,
-    second: &mut OwnSession<PlainPart, B>,
-)
-    ensures first { B.seat first.new.board ≡ B.seat first.old.board }
-    ensures second { B.seat second.new.board ≡ B.seat second.old.board }
+/// Again and again, while the table's partition fills. At the end nobody has the table, and the second one takes it.
+pub fn move_often<T: PartTable, B: Board<T>, R: Abort + Wait>(rt: &R, pair: &mut Pair<T, B>)
+    ensures first { B.seat pair.new.first.board ≡ B.seat pair.old.first.board }
+    ensures second { B.seat pair.new.second.board ≡ B.seat pair.old.second.board }
 {
     'transfers: for transfer in 0..TRANSFERS {
-        move_once(rt, first, second);
-        take_beside(rt, second, transfer);
+        move_once(rt, pair);
+        take_beside(rt, &mut pair.second, transfer);
     }
-}
-
-/// Run it as the one above.
-#[test]
-fn a_transfer_goes_on_where_memory_was_wanting_once(rt: HostRuntime) -> Result<(), Fail> {
-    let config = Config {
-        sessions: 2,
-        max_local: TRANSFERS * BESIDE + 1,
-    };
-    let (manager, mut opener) = make_at_last(rt.alloc(), config)?;
-    let mut first = open_at_last(&mut opener, &manager).expect(&rt, "a session at last");
-    let mut second = open_at_last(&mut opener, &manager).expect(&rt, "a session at last");
-    move_often(&rt, &mut first, &mut second);
-    take_at_last(&rt, &mut second, TABLE, Mode::AccessExclusive);
-    first.close(&rt, &mut opener);
-    second.close(&rt, &mut opener);
-    let stood = manager.finish(opener);
-    assert_eq!(rt; stood.table, 0);
-    Ok(())
+    take_at_last(rt, &mut pair.second, TABLE, Mode::AccessExclusive);
 }

@@ -1,22 +1,25 @@
 //! Sessions in one queue, each asleep in a thread of its own, and each woken by the one before it.
 
-ghost use Rattle.std.specs.Prelude.{◌≡◌};
-ghost use Rattle.lock_manager.specs.Managers.{IsOpenerOf};
+ghost use Rattle.std.specs.Prelude.{◌≡◌, ◌+◌, vec_len};
+ghost use denote.Param.Send.{IsSync, IsSend};
+ghost use Rattle.lock_manager.specs.Managers.{ManagerView};
+ghost use Rattle.lock_manager_tests.specs.Crews.{AreOf, SeatsAre, WaitAt};
 
-use super::waits::{OWNER, TABLE, give_back, queue, take};
-use lock_manager::{Config, Manager, Mode, Opener, OwnSession, OwnWaiting, Waited, Waiting};
-use lock_table::PlainPart;
+use super::desk::{Desk, close_many, open};
+use super::races::see_nothing;
+use super::waits::{give_back, queue, take};
+use lock_manager::{Mode, OwnSession, OwnWaiting, Waited};
+use lock_table::PartTable;
 use shared_rule::board::Board;
 use std::alloc::Global;
 use std::process::Abort;
 use std::sync::Wait;
 use std::sync::atomic::{AtomicU64, Ordering};
-use std::test::Fail;
 use std::thread;
 use std::thread::{Threads, join, map_vec};
 
 /// How many wait.
-const MANY: u32 = 32;
+pub const MANY: u32 = 32;
 
 /// How many of them have begun to sleep, and how many were woken.
 #[derive(Drop)]
@@ -25,27 +28,31 @@ struct Tally {
     woken: AtomicU64,
 }
 
-/// Sleeps until the wait is granted, and gives the mode back to the next one. How many were woken before it.
-fn sleep_and_pass_on<B: Board<PlainPart> + Drop, R: Abort + Wait>(
+/// Sleeps until the wait is granted, and gives the mode back to the next one. So many were woken before it as its number
+/// says: the holder's is 0, and those in the queue follow in its order.
+fn sleep_and_pass_on<T: PartTable + Drop, B: Board<T> + Drop, R: Abort + Wait>(
     rt: &R,
     tally: &Tally,
-    waiting: OwnWaiting<PlainPart, B>,
-) -> u64 {
+    waiting: OwnWaiting<T, B>,
+) -> OwnSession<T, B>
+    ensures seat { B.seat result.board ≡ B.seat waiting.board }
+{
     tally.begun.fetch_add(1, Ordering::SeqCst);
     let Waited::Granted(mut session) = waiting.wait(rt) else {
         panic!(rt; "not granted")
     };
     let before = tally.woken.fetch_add(1, Ordering::SeqCst);
+    assert_eq!(rt; before.saturating_add(1), u64::from(session.id().number()));
     give_back(rt, &mut session, Mode::AccessExclusive);
-    before
+    session
 }
 
 /// Gives the mode back once all are about to sleep.
-fn release_once_asleep<B: Board<PlainPart> + Drop, R: Abort + Wait>(
+fn release_once_asleep<T: PartTable + Drop, B: Board<T> + Drop, R: Abort + Wait>(
     rt: &R,
     tally: &Tally,
-    mut session: OwnSession<PlainPart, B>,
-) -> OwnSession<PlainPart, B>
+    mut session: OwnSession<T, B>,
+) -> OwnSession<T, B>
     ensures seat { B.seat result.board ≡ B.seat session.board }
 {
     for _ in rt.forever() {
@@ -59,69 +66,85 @@ fn release_once_asleep<B: Board<PlainPart> + Drop, R: Abort + Wait>(
     unreachable!()
 }
 
+/// Those that wait sleep, each in a thread of its own, and pass the mode on.
+fn sleep_side_by_side<
+    T: PartTable + Drop + Send,
+    B: Board<T> + Drop + Send,
+    R: Abort + Threads + Wait + Sync,
+>(rt: &R, tally: &Tally, queued: Vec<OwnWaiting<T, B>>) -> Vec<OwnSession<T, B>>
+    ensures len { vec_len result ≡ vec_len queued }
+    ensures own { (manager : ManagerView) → WaitAt B.seat manager queued.items → AreOf B.seat manager result.items }
+{
+    map_vec(rt, queued, &|waiting| sleep_and_pass_on(rt, tally, waiting)).expect(
+        rt,
+        "memory for a list of sessions",
+    )
+}
+
 /// One gives the mode back that all others wait for, who stand in the queue in their order in the list.
-fn wake_all<B: Board<PlainPart> + Drop + Send, R: Abort + Threads + Wait + Sync>(
+fn wake_all<
+    T: PartTable + Drop + Send,
+    B: Board<T> + Drop + Send,
+    R: Abort + Threads + Wait + Sync,
+>(
     rt: &R,
-    holder: OwnSession<PlainPart, B>,
-    queued: Vec<OwnWaiting<PlainPart, B>>,
-) -> OwnSession<PlainPart, B>
-    ensures seat { B.seat result.board ≡ B.seat holder.board }
+    holder: OwnSession<T, B>,
+    queued: Vec<OwnWaiting<T, B>>,
+) -> (OwnSession<T, B>, Vec<OwnSession<T, B>>)
+    ensures seat { B.seat result.0.board ≡ B.seat holder.board }
+    ensures len { vec_len result.1 ≡ vec_len queued }
+    ensures own { (manager : ManagerView) → WaitAt B.seat manager queued.items → AreOf B.seat manager result.1.items }
 {
     let tally = Tally {
         begun: AtomicU64::new(0),
         woken: AtomicU64::new(0),
     };
-    let (holder, turns) = join(
-        rt,
-        || release_once_asleep(rt, &tally, holder),
-        || map_vec(
-            rt,
-            queued,
-            &|waiting| sleep_and_pass_on(rt, &tally, waiting),
-        ),
-    );
-    let turns = turns.expect(rt, "memory for a list of turns");
-    assert_eq!(rt; turns.len(), MANY as usize);
-    let mut expected = 0u64;
-    for turn in &turns {
-        assert_eq!(rt; *turn, expected);
-        expected = expected.saturating_add(1);
-    }
-    holder
+    let sleepers = || -> Vec<OwnSession<T, B>>
+        requires { IsSync R.row × IsSend T.row × IsSend B.row }
+        ensures len { vec_len result ≡ vec_len queued }
+        ensures own { (manager : ManagerView) → WaitAt B.seat manager queued.items → AreOf B.seat manager result.items }
+    { sleep_side_by_side(rt, &tally, queued) };
+    let (holder, woken) = join(rt, || release_once_asleep(rt, &tally, holder), sleepers);
+    assert_eq!(rt; tally.woken.load(Ordering::SeqCst), u64::from(MANY));
+    (holder, woken)
 }
 
 /// Sessions that wait for the table, the first of them first.
-fn queue_many<'a, R: Abort + Wait>(
+fn queue_many<T: PartTable + Drop, B: Board<T> + Drop, D: Desk<OwnSession<T, B>>, R: Abort + Wait>(
     rt: &R,
     alloc: Global,
-    manager: &'a Manager,
-    opener: &mut Opener,
-) -> Vec<Waiting<'a>>
-    requires own { IsOpenerOf opener.old manager.now }
-    ensures table { opener.new.table ≡ opener.old.table }
+    desk: &mut D,
+) -> Vec<OwnWaiting<T, B>>
+    requires seats { SeatsAre B.seat D.seat }
+    ensures manager { D.manager desk.new ≡ D.manager desk.old }
+    ensures own { WaitAt B.seat (D.manager desk.old) result.items }
+    ensures live { D.live desk.new ≡ D.live desk.old + vec_len result }
 {
     let mut queued = Vec::new(alloc);
-    for _ in 0..MANY {
-        let session = opener.session(manager, 5).expect(rt, "a session");
+    'queued: for _ in 0..MANY {
+        let session = open(rt, desk);
         let waiting = queue(rt, session, Mode::AccessExclusive);
         assert!(rt; queued.push(waiting).is_ok());
     }
     queued
 }
 
-#[test]
-fn sleepers_are_woken_one_by_one_in_the_order_of_their_queue(rt: HostRuntime) -> Result<(), Fail> {
-    let config = Config {
-        sessions: MANY + 1,
-        max_local: 8,
-    };
-    let (manager, mut opener) = Manager::new(rt.alloc(), config)?;
-    let mut holder = opener.session(&manager, 5)?;
-    take(&rt, &mut holder, Mode::AccessExclusive);
-    let queued = queue_many(&rt, rt.alloc(), &manager, &mut opener);
-    let mut holder = wake_all(&rt, holder, queued);
-    let listing = holder.list(&rt)?;
-    assert_eq!(rt; listing.table.len(), 0);
-    holder.close(&rt, &mut opener);
-    Ok(())
+/// One session has the table and all others wait for it: they are woken one by one, in the order of their queue.
+pub fn wake_one_by_one<
+    T: PartTable + Drop + Send,
+    B: Board<T> + Drop + Send,
+    D: Desk<OwnSession<T, B>>,
+    R: Abort + Threads + Wait + Sync,
+>(rt: &R, alloc: Global, desk: &mut D)
+    requires seats { SeatsAre B.seat D.seat }
+    ensures manager { D.manager desk.new ≡ D.manager desk.old }
+    ensures live { D.live desk.new ≡ D.live desk.old }
+{
+    let mut holder = open(rt, desk);
+    take(rt, &mut holder, Mode::AccessExclusive);
+    let queued = queue_many(rt, alloc, desk);
+    let (mut holder, woken) = wake_all(rt, holder, queued);
+    see_nothing(rt, &mut holder);
+    desk.close(rt, holder);
+    close_many(rt, desk, woken);
 }

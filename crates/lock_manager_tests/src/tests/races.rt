@@ -7,13 +7,13 @@ use super::waits::{OWNER, TABLE, give_back, queue, sleep, take};
 use lock_manager::{
     Acquired, Asked, Cancelled, How, Mode, OwnSession, OwnWaiting, Refusal, SessionId,
 };
-use lock_table::PlainPart;
+use lock_table::PartTable;
 use shared_rule::board::Board;
 use std::process::Abort;
 use std::sync::Wait;
 use std::sync::atomic::{AtomicBool, AtomicU64, Ordering};
 use std::thread;
-use std::thread::{Threads, join, join_mut};
+use std::thread::{Threads, join};
 
 /// What two sessions race for.
 #[derive(Clone, Copy)]
@@ -39,39 +39,39 @@ fn begin<R: Wait>(rt: &R, arrived: &AtomicU64) {
     }
 }
 
+/// What a request is answered.
+type Answer = Result<Acquired, Refusal>;
+
 /// Asks for a weak mode by a slot.
-fn try_weak<B: Board<PlainPart>, R: Wait>(
+fn try_weak<T: PartTable, B: Board<T>, R: Wait>(
     rt: &R,
     arrived: &AtomicU64,
-    session: &mut OwnSession<PlainPart, B>,
+    mut session: OwnSession<T, B>,
     mode: Mode,
-) -> Result<Acquired, Refusal>
-    ensures seat { B.seat session.new.board ≡ B.seat session.old.board }
+) -> (OwnSession<T, B>, Answer)
+    ensures seat { B.seat result.0.board ≡ B.seat session.board }
 {
     begin(rt, arrived);
-    session.try_fast(TABLE, mode, OWNER)
+    let answer = session.try_fast(TABLE, mode, OWNER);
+    (session, answer)
 }
 
 /// Asks for a strong mode.
-fn try_strong<B: Board<PlainPart>, R: Wait>(
+fn try_strong<T: PartTable, B: Board<T>, R: Wait>(
     rt: &R,
     arrived: &AtomicU64,
-    session: &mut OwnSession<PlainPart, B>,
+    mut session: OwnSession<T, B>,
     mode: Mode,
-) -> Result<Acquired, Refusal>
-    ensures seat { B.seat session.new.board ≡ B.seat session.old.board }
+) -> (OwnSession<T, B>, Answer)
+    ensures seat { B.seat result.0.board ≡ B.seat session.board }
 {
     begin(rt, arrived);
-    session.try_lock(rt, TABLE, mode, OWNER)
+    let answer = session.try_lock(rt, TABLE, mode, OWNER);
+    (session, answer)
 }
 
 /// A strong mode was refused, since the session holds this mode.
-fn expect_in_the_way<R: Abort>(
-    rt: &R,
-    answer: Result<Acquired, Refusal>,
-    session: SessionId,
-    mode: Mode,
-) {
+fn expect_in_the_way<R: Abort>(rt: &R, answer: Answer, session: SessionId, mode: Mode) {
     let how = How::Held;
     assert!(rt;
         answer == Err(Refusal::Conflict { session, mode, how }),
@@ -80,13 +80,7 @@ fn expect_in_the_way<R: Abort>(
 }
 
 /// One of the two is granted and the other one refused, since only what is granted stands in another's way.
-fn expect_one<R: Abort>(
-    rt: &R,
-    weak: Result<Acquired, Refusal>,
-    strong: Result<Acquired, Refusal>,
-    session: SessionId,
-    mode: Mode,
-) {
+fn expect_one<R: Abort>(rt: &R, weak: Answer, strong: Answer, session: SessionId, mode: Mode) {
     match weak {
         Ok(answer) => {
             assert!(rt; answer == Acquired::Granted);
@@ -99,45 +93,32 @@ fn expect_one<R: Abort>(
     }
 }
 
-/// Both ask at once.
-fn try_both<B: Board<PlainPart> + Send, R: Abort + Threads + Wait + Sync>(
-    rt: &R,
-    pair: &mut Pair<B>,
-    weak: Mode,
-    strong: Mode,
-) -> (Result<Acquired, Refusal>, Result<Acquired, Refusal>)
-    ensures first { B.seat pair.new.first.board ≡ B.seat pair.old.first.board }
-    ensures second { B.seat pair.new.second.board ≡ B.seat pair.old.second.board }
+/// One tries a weak mode by a slot, and the other one a strong one.
+fn try_weak_against_strong<
+    T: PartTable + Drop + Send,
+    B: Board<T> + Drop + Send,
+    R: Abort + Threads + Wait + Sync,
+>(rt: &R, pair: Pair<T, B>, weak: Mode, strong: Mode) -> Pair<T, B>
+    ensures first { B.seat result.first.board ≡ B.seat pair.first.board }
+    ensures second { B.seat result.second.board ≡ B.seat pair.second.board }
 {
     let arrived = AtomicU64::new(0);
     let Pair { first, second } = pair;
-    join_mut(
+    let ((mut first, for_weak), (mut second, for_strong)) = join(
         rt,
-        &mut || try_weak(rt, &arrived, first, weak),
-        &mut || try_strong(rt, &arrived, second, strong),
-    )
-}
-
-/// A weak mode by a slot against a strong one.
-fn try_weak_against_strong<B: Board<PlainPart> + Send, R: Abort + Threads + Wait + Sync>(
-    rt: &R,
-    pair: &mut Pair<B>,
-    weak: Mode,
-    strong: Mode,
-)
-    ensures first { B.seat pair.new.first.board ≡ B.seat pair.old.first.board }
-    ensures second { B.seat pair.new.second.board ≡ B.seat pair.old.second.board }
-{
-    let (for_weak, for_strong) = try_both(rt, pair, weak, strong);
-    expect_one(rt, for_weak, for_strong, pair.first.id(), weak);
-    pair.first.commit(rt);
-    pair.second.commit(rt);
+        || try_weak(rt, &arrived, first, weak),
+        || try_strong(rt, &arrived, second, strong),
+    );
+    expect_one(rt, for_weak, for_strong, first.id(), weak);
+    first.commit(rt);
+    second.commit(rt);
+    Pair { first, second }
 }
 
 /// Takes a weak mode by a slot.
-fn take_fast<B: Board<PlainPart>, R: Abort>(
+fn take_fast<T: PartTable, B: Board<T>, R: Abort>(
     rt: &R,
-    session: &mut OwnSession<PlainPart, B>,
+    session: &mut OwnSession<T, B>,
     mode: Mode,
 )
     ensures seat { B.seat session.new.board ≡ B.seat session.old.board }
@@ -149,50 +130,41 @@ fn take_fast<B: Board<PlainPart>, R: Abort>(
     );
 }
 
-/// Both ask for a strong mode at once.
-fn try_strong_both<B: Board<PlainPart> + Send, R: Abort + Threads + Wait + Sync>(
-    rt: &R,
-    pair: &mut Pair<B>,
-    strong: Mode,
-) -> (Result<Acquired, Refusal>, Result<Acquired, Refusal>)
-    ensures first { B.seat pair.new.first.board ≡ B.seat pair.old.first.board }
-    ensures second { B.seat pair.new.second.board ≡ B.seat pair.old.second.board }
+/// Both have a weak mode, and ask for a strong one.
+fn try_strong_over_weak<
+    T: PartTable + Drop + Send,
+    B: Board<T> + Drop + Send,
+    R: Abort + Threads + Wait + Sync,
+>(rt: &R, pair: Pair<T, B>, weak: Mode, strong: Mode) -> Pair<T, B>
+    ensures first { B.seat result.first.board ≡ B.seat pair.first.board }
+    ensures second { B.seat result.second.board ≡ B.seat pair.second.board }
 {
     let arrived = AtomicU64::new(0);
-    let Pair { first, second } = pair;
-    join_mut(
+    let Pair {
+        mut first,
+        mut second,
+    } = pair;
+    take_fast(rt, &mut first, weak);
+    take_fast(rt, &mut second, weak);
+    let ((mut first, for_first), (mut second, for_second)) = join(
         rt,
-        &mut || try_strong(rt, &arrived, first, strong),
-        &mut || try_strong(rt, &arrived, second, strong),
-    )
-}
-
-/// Both have a weak mode, and ask for a strong one.
-fn try_strong_over_weak<B: Board<PlainPart> + Drop + Send, R: Abort + Threads + Wait + Sync>(
-    rt: &R,
-    pair: &mut Pair<B>,
-    weak: Mode,
-    strong: Mode,
-)
-    ensures first { B.seat pair.new.first.board ≡ B.seat pair.old.first.board }
-    ensures second { B.seat pair.new.second.board ≡ B.seat pair.old.second.board }
-{
-    take_fast(rt, &mut pair.first, weak);
-    take_fast(rt, &mut pair.second, weak);
-    let (for_first, for_second) = try_strong_both(rt, pair, strong);
-    expect_in_the_way(rt, for_first, pair.second.id(), weak);
-    expect_in_the_way(rt, for_second, pair.first.id(), weak);
-    give_back(rt, &mut pair.first, weak);
-    give_back(rt, &mut pair.second, weak);
+        || try_strong(rt, &arrived, first, strong),
+        || try_strong(rt, &arrived, second, strong),
+    );
+    expect_in_the_way(rt, for_first, second.id(), weak);
+    expect_in_the_way(rt, for_second, first.id(), weak);
+    give_back(rt, &mut first, weak);
+    give_back(rt, &mut second, weak);
+    Pair { first, second }
 }
 
 /// Cancels the wait. Where it was granted the mode is given back.
-fn cancel<B: Board<PlainPart> + Drop, R: Abort + Wait>(
+fn cancel<T: PartTable + Drop, B: Board<T> + Drop, R: Abort + Wait>(
     rt: &R,
     arrived: &AtomicU64,
-    waiting: OwnWaiting<PlainPart, B>,
+    waiting: OwnWaiting<T, B>,
     mode: Mode,
-) -> OwnSession<PlainPart, B>
+) -> OwnSession<T, B>
     ensures seat { B.seat result.board ≡ B.seat waiting.board }
 {
     begin(rt, arrived);
@@ -206,12 +178,12 @@ fn cancel<B: Board<PlainPart> + Drop, R: Abort + Wait>(
 }
 
 /// Gives a mode back.
-fn release<B: Board<PlainPart> + Drop, R: Abort + Wait>(
+fn release<T: PartTable + Drop, B: Board<T> + Drop, R: Abort + Wait>(
     rt: &R,
     arrived: &AtomicU64,
-    mut session: OwnSession<PlainPart, B>,
+    mut session: OwnSession<T, B>,
     mode: Mode,
-) -> OwnSession<PlainPart, B>
+) -> OwnSession<T, B>
     ensures seat { B.seat result.board ≡ B.seat session.board }
 {
     begin(rt, arrived);
@@ -220,12 +192,11 @@ fn release<B: Board<PlainPart> + Drop, R: Abort + Wait>(
 }
 
 /// The second one waits for a mode that the first one's is in the way of.
-fn cancel_as_released<B: Board<PlainPart> + Drop + Send, R: Abort + Threads + Wait + Sync>(
-    rt: &R,
-    pair: Pair<B>,
-    held: Mode,
-    awaited: Mode,
-) -> Pair<B>
+fn cancel_as_released<
+    T: PartTable + Drop + Send,
+    B: Board<T> + Drop + Send,
+    R: Abort + Threads + Wait + Sync,
+>(rt: &R, pair: Pair<T, B>, held: Mode, awaited: Mode) -> Pair<T, B>
     ensures first { B.seat result.first.board ≡ B.seat pair.first.board }
     ensures second { B.seat result.second.board ≡ B.seat pair.second.board }
 {
@@ -244,12 +215,12 @@ fn cancel_as_released<B: Board<PlainPart> + Drop + Send, R: Abort + Threads + Wa
 }
 
 /// Asks the session to cancel until it is heard, which is once it waits.
-fn ask_until_heard<B: Board<PlainPart> + Drop, R: Wait>(
+fn ask_until_heard<T: PartTable + Drop, B: Board<T> + Drop, R: Wait>(
     rt: &R,
     arrived: &AtomicU64,
-    mut session: OwnSession<PlainPart, B>,
+    mut session: OwnSession<T, B>,
     number: SessionId,
-) -> OwnSession<PlainPart, B>
+) -> OwnSession<T, B>
     ensures seat { B.seat result.board ≡ B.seat session.board }
 {
     begin(rt, arrived);
@@ -262,11 +233,11 @@ fn ask_until_heard<B: Board<PlainPart> + Drop, R: Wait>(
 }
 
 /// Goes from a start to a sleep, out of which it is asked.
-fn go_to_sleep<B: Board<PlainPart> + Drop, R: Abort + Wait>(
+fn go_to_sleep<T: PartTable + Drop, B: Board<T> + Drop, R: Abort + Wait>(
     rt: &R,
     arrived: &AtomicU64,
-    session: OwnSession<PlainPart, B>,
-) -> OwnSession<PlainPart, B>
+    session: OwnSession<T, B>,
+) -> OwnSession<T, B>
     ensures seat { B.seat result.board ≡ B.seat session.board }
 {
     begin(rt, arrived);
@@ -274,10 +245,11 @@ fn go_to_sleep<B: Board<PlainPart> + Drop, R: Abort + Wait>(
 }
 
 /// The second one waits, and the first one asks it to cancel as soon as it does.
-fn ask_before_sleep<B: Board<PlainPart> + Drop + Send, R: Abort + Threads + Wait + Sync>(
-    rt: &R,
-    pair: Pair<B>,
-) -> Pair<B>
+fn ask_before_sleep<
+    T: PartTable + Drop + Send,
+    B: Board<T> + Drop + Send,
+    R: Abort + Threads + Wait + Sync,
+>(rt: &R, pair: Pair<T, B>) -> Pair<T, B>
     ensures first { B.seat result.first.board ≡ B.seat pair.first.board }
     ensures second { B.seat result.second.board ≡ B.seat pair.second.board }
 {
@@ -295,32 +267,26 @@ fn ask_before_sleep<B: Board<PlainPart> + Drop + Send, R: Abort + Threads + Wait
 }
 
 /// One round of a race, after which both hold what they held.
-fn race_once<B: Board<PlainPart> + Drop + Send, R: Abort + Threads + Wait + Sync>(
-    rt: &R,
-    mut pair: Pair<B>,
-    race: Race,
-) -> Pair<B>
+fn race_once<
+    T: PartTable + Drop + Send,
+    B: Board<T> + Drop + Send,
+    R: Abort + Threads + Wait + Sync,
+>(rt: &R, pair: Pair<T, B>, race: Race) -> Pair<T, B>
     ensures first { B.seat result.first.board ≡ B.seat pair.first.board }
     ensures second { B.seat result.second.board ≡ B.seat pair.second.board }
 {
     match race {
-        Race::WeakAgainstStrong(weak, strong) => {
-            try_weak_against_strong(rt, &mut pair, weak, strong);
-            pair
-        }
-        Race::StrongOverWeak(weak, strong) => {
-            try_strong_over_weak(rt, &mut pair, weak, strong);
-            pair
-        }
+        Race::WeakAgainstStrong(weak, strong) => try_weak_against_strong(rt, pair, weak, strong),
+        Race::StrongOverWeak(weak, strong) => try_strong_over_weak(rt, pair, weak, strong),
         Race::CancelAgainstRelease(held, awaited) => cancel_as_released(rt, pair, held, awaited),
         Race::AskAgainstSleep => ask_before_sleep(rt, pair),
     }
 }
 
 /// A session sees that nothing is held or awaited, and no strong mode counted.
-pub fn see_nothing<B: Board<PlainPart>, R: Abort + Wait>(
+pub fn see_nothing<T: PartTable, B: Board<T>, R: Abort + Wait>(
     rt: &R,
-    session: &mut OwnSession<PlainPart, B>,
+    session: &mut OwnSession<T, B>,
 )
     ensures seat { B.seat session.new.board ≡ B.seat session.old.board }
 {
@@ -331,12 +297,11 @@ pub fn see_nothing<B: Board<PlainPart>, R: Abort + Wait>(
 }
 
 /// Round after round, at the end of which nothing stands.
-pub fn race_often<B: Board<PlainPart> + Drop + Send, R: Abort + Threads + Wait + Sync>(
-    rt: &R,
-    pair: Pair<B>,
-    race: Race,
-    rounds: u32,
-) -> Pair<B>
+pub fn race_often<
+    T: PartTable + Drop + Send,
+    B: Board<T> + Drop + Send,
+    R: Abort + Threads + Wait + Sync,
+>(rt: &R, pair: Pair<T, B>, race: Race, rounds: u32) -> Pair<T, B>
     ensures first { B.seat result.first.board ≡ B.seat pair.first.board }
     ensures second { B.seat result.second.board ≡ B.seat pair.second.board }
 {
@@ -349,56 +314,61 @@ pub fn race_often<B: Board<PlainPart> + Drop + Send, R: Abort + Threads + Wait +
 }
 
 /// Tries a weak mode by a slot until the lock of the slots is found taken, which is not waited for.
-fn try_until_busy<B: Board<PlainPart>, R: Abort + Wait>(
+fn try_until_busy<T: PartTable + Drop, B: Board<T> + Drop, R: Abort + Wait>(
     rt: &R,
-    session: &mut OwnSession<PlainPart, B>,
+    mut session: OwnSession<T, B>,
     is_seen: &AtomicBool,
-)
-    ensures seat { B.seat session.new.board ≡ B.seat session.old.board }
+) -> OwnSession<T, B>
+    ensures seat { B.seat result.board ≡ B.seat session.board }
 {
     for _ in rt.forever() {
         let answer = session.try_fast(TABLE, Mode::AccessShare, OWNER);
         if answer == Err(Refusal::Busy) {
             is_seen.store(true, Ordering::SeqCst);
-            return;
+            return session;
         }
         let is_known = answer == Ok(Acquired::Granted) || answer == Err(Refusal::StrongCounted);
         assert!(rt; is_known);
         session.commit(rt);
     }
+    unreachable!()
 }
 
 /// Takes a strong mode over and over, for each of which it has the slots' locks of all sessions in hand in turn.
-fn take_until_seen<B: Board<PlainPart>, R: Abort + Wait>(
+fn take_until_seen<T: PartTable + Drop, B: Board<T> + Drop, R: Abort + Wait>(
     rt: &R,
-    session: &mut OwnSession<PlainPart, B>,
+    mut session: OwnSession<T, B>,
     is_seen: &AtomicBool,
-)
-    ensures seat { B.seat session.new.board ≡ B.seat session.old.board }
+) -> OwnSession<T, B>
+    ensures seat { B.seat result.board ≡ B.seat session.board }
 {
     for _ in rt.forever() {
         if is_seen.load(Ordering::SeqCst) {
-            return;
+            return session;
         }
         let answer = session.try_lock(rt, TABLE, Mode::Share, OWNER);
         assert!(rt; answer == Ok(Acquired::Granted), "no mode in the way");
         session.commit(rt);
     }
+    unreachable!()
 }
 
-/// One goes past the slots of the other, until that one finds them busy.
-pub fn find_slots_busy<B: Board<PlainPart> + Send, R: Abort + Threads + Wait + Sync>(
-    rt: &R,
-    pair: &mut Pair<B>,
-)
-    ensures first { B.seat pair.new.first.board ≡ B.seat pair.old.first.board }
-    ensures second { B.seat pair.new.second.board ≡ B.seat pair.old.second.board }
+/// One goes past the slots of the other, until that one finds them busy. At the end nothing stands.
+pub fn find_slots_busy<
+    T: PartTable + Drop + Send,
+    B: Board<T> + Drop + Send,
+    R: Abort + Threads + Wait + Sync,
+>(rt: &R, pair: Pair<T, B>) -> Pair<T, B>
+    ensures first { B.seat result.first.board ≡ B.seat pair.first.board }
+    ensures second { B.seat result.second.board ≡ B.seat pair.second.board }
 {
     let is_seen = AtomicBool::new(false);
     let Pair { first, second } = pair;
-    join_mut(
+    let (mut first, second) = join(
         rt,
-        &mut || try_until_busy(rt, first, &is_seen),
-        &mut || take_until_seen(rt, second, &is_seen),
+        || try_until_busy(rt, first, &is_seen),
+        || take_until_seen(rt, second, &is_seen),
     );
+    see_nothing(rt, &mut first);
+    Pair { first, second }
 }

@@ -4,7 +4,7 @@ ghost use Rattle.std.specs.Prelude.{◌≡◌};
 
 use super::pair::Pair;
 use lock_manager::{Acquired, How, Listing, Mode, OwnSession, Owner, Refusal, Tag, Unlocked};
-use lock_table::PlainPart;
+use lock_table::PartTable;
 use shared_rule::board::Board;
 use std::process::Abort;
 use std::sync::Wait;
@@ -102,9 +102,9 @@ fn relation(time: u32) -> Tag {
 }
 
 /// A call, and its answer.
-fn make<B: Board<PlainPart>, R: Wait>(
+fn make<T: PartTable, B: Board<T>, R: Wait>(
     rt: &R,
-    session: &mut OwnSession<PlainPart, B>,
+    session: &mut OwnSession<T, B>,
     call: Call,
     time: u32,
 ) -> Answer
@@ -132,9 +132,9 @@ fn make<B: Board<PlainPart>, R: Wait>(
 }
 
 /// A session's turn, the one at this place of its list.
-fn take_turn<B: Board<PlainPart>, R: Abort + Wait>(
+fn take_turn<T: PartTable, B: Board<T>, R: Abort + Wait>(
     rt: &R,
-    session: &mut OwnSession<PlainPart, B>,
+    session: &mut OwnSession<T, B>,
     times: u32,
     call: Call,
     answer: Answer,
@@ -149,7 +149,11 @@ fn take_turn<B: Board<PlainPart>, R: Abort + Wait>(
 }
 
 /// All turns, in order.
-pub fn play<B: Board<PlainPart>, R: Abort + Wait>(rt: &R, pair: &mut Pair<B>, turns: &[Turn])
+pub fn play<T: PartTable, B: Board<T>, R: Abort + Wait>(
+    rt: &R,
+    pair: &mut Pair<T, B>,
+    turns: &[Turn],
+)
     ensures first { B.seat pair.new.first.board ≡ B.seat pair.old.first.board }
     ensures second { B.seat pair.new.second.board ≡ B.seat pair.old.second.board }
 {
@@ -163,9 +167,9 @@ pub fn play<B: Board<PlainPart>, R: Abort + Wait>(rt: &R, pair: &mut Pair<B>, tu
 }
 
 /// All turns, over and over.
-pub fn play_often<B: Board<PlainPart>, R: Abort + Wait>(
+pub fn play_often<T: PartTable, B: Board<T>, R: Abort + Wait>(
     rt: &R,
-    pair: &mut Pair<B>,
+    pair: &mut Pair<T, B>,
     turns: &[Turn],
     rounds: u32,
 )

@@ -8,7 +8,7 @@ use lock_manager::{
     Acquired, Asked, Cancelled, Locked, Mode, OwnSession, OwnWaiting, Owner, Polled, Refusal,
     SessionId, Started, Tag, Unlocked, Waited,
 };
-use lock_table::PlainPart;
+use lock_table::PartTable;
 use shared_rule::board::Board;
 use std::process::Abort;
 use std::sync::Wait;
@@ -23,9 +23,9 @@ pub const TABLE: Tag = Tag::Relation {
 pub const OWNER: Owner = Owner::Transaction;
 
 /// Takes a mode on the table at once.
-pub fn take<B: Board<PlainPart> + Drop, R: Abort + Wait>(
+pub fn take<T: PartTable + Drop, B: Board<T> + Drop, R: Abort + Wait>(
     rt: &R,
-    session: &mut OwnSession<PlainPart, B>,
+    session: &mut OwnSession<T, B>,
     mode: Mode,
 )
     ensures seat { B.seat session.new.board ≡ B.seat session.old.board }
@@ -35,9 +35,9 @@ pub fn take<B: Board<PlainPart> + Drop, R: Abort + Wait>(
 }
 
 /// Gives it back.
-pub fn give_back<B: Board<PlainPart> + Drop, R: Abort + Wait>(
+pub fn give_back<T: PartTable + Drop, B: Board<T> + Drop, R: Abort + Wait>(
     rt: &R,
-    session: &mut OwnSession<PlainPart, B>,
+    session: &mut OwnSession<T, B>,
     mode: Mode,
 )
     ensures seat { B.seat session.new.board ≡ B.seat session.old.board }
@@ -47,11 +47,11 @@ pub fn give_back<B: Board<PlainPart> + Drop, R: Abort + Wait>(
 }
 
 /// Begins to wait for a mode on the table.
-pub fn queue<B: Board<PlainPart> + Drop, R: Abort + Wait>(
+pub fn queue<T: PartTable + Drop, B: Board<T> + Drop, R: Abort + Wait>(
     rt: &R,
-    session: OwnSession<PlainPart, B>,
+    session: OwnSession<T, B>,
     mode: Mode,
-) -> OwnWaiting<PlainPart, B>
+) -> OwnWaiting<T, B>
     ensures seat { B.seat result.board ≡ B.seat session.board }
 {
     match session.start(rt, TABLE, mode, OWNER) {
@@ -63,10 +63,10 @@ pub fn queue<B: Board<PlainPart> + Drop, R: Abort + Wait>(
 }
 
 /// Finds the wait granted.
-fn find_granted<B: Board<PlainPart> + Drop, R: Abort>(
+fn find_granted<T: PartTable + Drop, B: Board<T> + Drop, R: Abort>(
     rt: &R,
-    waiting: OwnWaiting<PlainPart, B>,
-) -> OwnSession<PlainPart, B>
+    waiting: OwnWaiting<T, B>,
+) -> OwnSession<T, B>
     ensures seat { B.seat result.board ≡ B.seat waiting.board }
 {
     match waiting.poll() {
@@ -76,11 +76,11 @@ fn find_granted<B: Board<PlainPart> + Drop, R: Abort>(
 }
 
 /// Finds that the wait goes on, and whether another session asked to cancel it.
-fn find_still<B: Board<PlainPart> + Drop, R: Abort>(
+fn find_still<T: PartTable + Drop, B: Board<T> + Drop, R: Abort>(
     rt: &R,
-    waiting: OwnWaiting<PlainPart, B>,
+    waiting: OwnWaiting<T, B>,
     is_asked: bool,
-) -> OwnWaiting<PlainPart, B>
+) -> OwnWaiting<T, B>
     ensures seat { B.seat result.board ≡ B.seat waiting.board }
 {
     let (waiting, was_asked) = match waiting.poll() {
@@ -93,7 +93,10 @@ fn find_still<B: Board<PlainPart> + Drop, R: Abort>(
 }
 
 /// A wait is seen by the holder, asked to cancel, and left; what was asked before it stands for nothing.
-pub fn leave_as_asked<B: Board<PlainPart> + Drop, R: Abort + Wait>(rt: &R, pair: Pair<B>) -> Pair<B>
+pub fn leave_as_asked<T: PartTable + Drop, B: Board<T> + Drop, R: Abort + Wait>(
+    rt: &R,
+    pair: Pair<T, B>,
+) -> Pair<T, B>
     ensures first { B.seat result.first.board ≡ B.seat pair.first.board }
     ensures second { B.seat result.second.board ≡ B.seat pair.second.board }
 {
@@ -110,9 +113,9 @@ pub fn leave_as_asked<B: Board<PlainPart> + Drop, R: Abort + Wait>(rt: &R, pair:
 }
 
 /// Asks a session to cancel.
-fn ask<B: Board<PlainPart> + Drop, R: Abort>(
+fn ask<T: PartTable + Drop, B: Board<T> + Drop, R: Abort>(
     rt: &R,
-    session: &mut OwnSession<PlainPart, B>,
+    session: &mut OwnSession<T, B>,
     number: SessionId,
     asked: Asked,
 )
@@ -122,9 +125,9 @@ fn ask<B: Board<PlainPart> + Drop, R: Abort>(
 }
 
 /// Sees that somebody waits for the table, in a mode that conflicts with the one that the session has.
-fn see_waiters<B: Board<PlainPart> + Drop, R: Abort + Wait>(
+fn see_waiters<T: PartTable + Drop, B: Board<T> + Drop, R: Abort + Wait>(
     rt: &R,
-    session: &mut OwnSession<PlainPart, B>,
+    session: &mut OwnSession<T, B>,
     mode: Mode,
 )
     ensures seat { B.seat session.new.board ≡ B.seat session.old.board }
@@ -135,10 +138,10 @@ fn see_waiters<B: Board<PlainPart> + Drop, R: Abort + Wait>(
 }
 
 /// Takes the wait out of the queue.
-fn leave<B: Board<PlainPart> + Drop, R: Abort + Wait>(
+fn leave<T: PartTable + Drop, B: Board<T> + Drop, R: Abort + Wait>(
     rt: &R,
-    waiting: OwnWaiting<PlainPart, B>,
-) -> OwnSession<PlainPart, B>
+    waiting: OwnWaiting<T, B>,
+) -> OwnSession<T, B>
     ensures seat { B.seat result.board ≡ B.seat waiting.board }
 {
     match waiting.cancel(rt) {
@@ -148,10 +151,10 @@ fn leave<B: Board<PlainPart> + Drop, R: Abort + Wait>(
 }
 
 /// A wait that is cancelled after it was granted has the mode.
-pub fn cancel_too_late<B: Board<PlainPart> + Drop, R: Abort + Wait>(
+pub fn cancel_too_late<T: PartTable + Drop, B: Board<T> + Drop, R: Abort + Wait>(
     rt: &R,
-    pair: Pair<B>,
-) -> Pair<B>
+    pair: Pair<T, B>,
+) -> Pair<T, B>
     ensures first { B.seat result.first.board ≡ B.seat pair.first.board }
     ensures second { B.seat result.second.board ≡ B.seat pair.second.board }
 {
@@ -169,7 +172,10 @@ pub fn cancel_too_late<B: Board<PlainPart> + Drop, R: Abort + Wait>(
 }
 
 /// A wait that was granted before it looks is found granted.
-pub fn look_too_late<B: Board<PlainPart> + Drop, R: Abort + Wait>(rt: &R, pair: Pair<B>) -> Pair<B>
+pub fn look_too_late<T: PartTable + Drop, B: Board<T> + Drop, R: Abort + Wait>(
+    rt: &R,
+    pair: Pair<T, B>,
+) -> Pair<T, B>
     ensures first { B.seat result.first.board ≡ B.seat pair.first.board }
     ensures second { B.seat result.second.board ≡ B.seat pair.second.board }
 {
@@ -183,7 +189,10 @@ pub fn look_too_late<B: Board<PlainPart> + Drop, R: Abort + Wait>(rt: &R, pair: 
 }
 
 /// A wait that was asked to cancel is over at once.
-pub fn wait_as_asked<B: Board<PlainPart> + Drop, R: Abort + Wait>(rt: &R, pair: Pair<B>) -> Pair<B>
+pub fn wait_as_asked<T: PartTable + Drop, B: Board<T> + Drop, R: Abort + Wait>(
+    rt: &R,
+    pair: Pair<T, B>,
+) -> Pair<T, B>
     ensures first { B.seat result.first.board ≡ B.seat pair.first.board }
     ensures second { B.seat result.second.board ≡ B.seat pair.second.board }
 {
@@ -200,10 +209,10 @@ pub fn wait_as_asked<B: Board<PlainPart> + Drop, R: Abort + Wait>(rt: &R, pair: 
 }
 
 /// So is one that was granted.
-pub fn wait_for_nothing<B: Board<PlainPart> + Drop, R: Abort + Wait>(
+pub fn wait_for_nothing<T: PartTable + Drop, B: Board<T> + Drop, R: Abort + Wait>(
     rt: &R,
-    pair: Pair<B>,
-) -> Pair<B>
+    pair: Pair<T, B>,
+) -> Pair<T, B>
     ensures first { B.seat result.first.board ≡ B.seat pair.first.board }
     ensures second { B.seat result.second.board ≡ B.seat pair.second.board }
 {
@@ -219,7 +228,10 @@ pub fn wait_for_nothing<B: Board<PlainPart> + Drop, R: Abort + Wait>(
 }
 
 /// What needs no wait is answered at once.
-pub fn answer_at_once<B: Board<PlainPart> + Drop, R: Abort + Wait>(rt: &R, pair: Pair<B>) -> Pair<B>
+pub fn answer_at_once<T: PartTable + Drop, B: Board<T> + Drop, R: Abort + Wait>(
+    rt: &R,
+    pair: Pair<T, B>,
+) -> Pair<T, B>
     ensures first { B.seat result.first.board ≡ B.seat pair.first.board }
     ensures second { B.seat result.second.board ≡ B.seat pair.second.board }
 {
@@ -241,10 +253,10 @@ pub fn answer_at_once<B: Board<PlainPart> + Drop, R: Abort + Wait>(rt: &R, pair:
 }
 
 /// Two that have a mode and want a higher one: the second that asks is refused, and the first one is granted.
-pub fn refuse_a_simple_deadlock<B: Board<PlainPart> + Drop, R: Abort + Wait>(
+pub fn refuse_a_simple_deadlock<T: PartTable + Drop, B: Board<T> + Drop, R: Abort + Wait>(
     rt: &R,
-    pair: Pair<B>,
-) -> Pair<B>
+    pair: Pair<T, B>,
+) -> Pair<T, B>
     ensures first { B.seat result.first.board ≡ B.seat pair.first.board }
     ensures second { B.seat result.second.board ≡ B.seat pair.second.board }
 {
@@ -267,9 +279,9 @@ pub fn refuse_a_simple_deadlock<B: Board<PlainPart> + Drop, R: Abort + Wait>(
 }
 
 /// Whether the session's wait for the table shows in a listing.
-fn shows_wait<B: Board<PlainPart> + Drop, R: Wait>(
+fn shows_wait<T: PartTable + Drop, B: Board<T> + Drop, R: Wait>(
     rt: &R,
-    session: &mut OwnSession<PlainPart, B>,
+    session: &mut OwnSession<T, B>,
     number: SessionId,
 ) -> bool
     ensures seat { B.seat session.new.board ≡ B.seat session.old.board }
@@ -287,9 +299,9 @@ fn shows_wait<B: Board<PlainPart> + Drop, R: Wait>(
 }
 
 /// Lists until the session's wait shows.
-fn see_wait<B: Board<PlainPart> + Drop, R: Wait>(
+fn see_wait<T: PartTable + Drop, B: Board<T> + Drop, R: Wait>(
     rt: &R,
-    session: &mut OwnSession<PlainPart, B>,
+    session: &mut OwnSession<T, B>,
     number: SessionId,
 )
     ensures seat { B.seat session.new.board ≡ B.seat session.old.board }
@@ -303,12 +315,12 @@ fn see_wait<B: Board<PlainPart> + Drop, R: Wait>(
 }
 
 /// What a session in a thread of its own does once another one waits: it asks that one to cancel, or gives back.
-fn act_once_awaited<B: Board<PlainPart> + Drop, R: Abort + Wait>(
+fn act_once_awaited<T: PartTable + Drop, B: Board<T> + Drop, R: Abort + Wait>(
     rt: &R,
-    mut session: OwnSession<PlainPart, B>,
+    mut session: OwnSession<T, B>,
     number: SessionId,
     asks: bool,
-) -> OwnSession<PlainPart, B>
+) -> OwnSession<T, B>
     ensures seat { B.seat result.board ≡ B.seat session.board }
 {
     see_wait(rt, &mut session, number);
@@ -321,11 +333,11 @@ fn act_once_awaited<B: Board<PlainPart> + Drop, R: Abort + Wait>(
 }
 
 /// The session sleeps until the wait is over, which is granted or not.
-pub fn sleep<B: Board<PlainPart> + Drop, R: Abort + Wait>(
+pub fn sleep<T: PartTable + Drop, B: Board<T> + Drop, R: Abort + Wait>(
     rt: &R,
-    session: OwnSession<PlainPart, B>,
+    session: OwnSession<T, B>,
     is_granted: bool,
-) -> OwnSession<PlainPart, B>
+) -> OwnSession<T, B>
     ensures seat { B.seat result.board ≡ B.seat session.board }
 {
     match session.lock(rt, TABLE, Mode::AccessShare, OWNER) {
@@ -343,11 +355,11 @@ pub fn sleep<B: Board<PlainPart> + Drop, R: Abort + Wait>(
 }
 
 /// A session sleeps in its thread until the other one, in another thread, gives back or asks it to cancel.
-pub fn sleep_in_a_thread<B: Board<PlainPart> + Drop + Send, R: Abort + Threads + Wait + Sync>(
-    rt: &R,
-    pair: Pair<B>,
-    asks: bool,
-) -> Pair<B>
+pub fn sleep_in_a_thread<
+    T: PartTable + Drop + Send,
+    B: Board<T> + Drop + Send,
+    R: Abort + Threads + Wait + Sync,
+>(rt: &R, pair: Pair<T, B>, asks: bool) -> Pair<T, B>
     ensures first { B.seat result.first.board ≡ B.seat pair.first.board }
     ensures second { B.seat result.second.board ≡ B.seat pair.second.board }
 {

@@ -3,6 +3,6 @@ use Rattle.lock_manager_tests.proofs.tests.memory.move_often.Given as goal
 
 abbrev pub invariant-transfers : goal.invariant-transfers
 invariant-transfers g l = record {
-  first : g.B.Board.seat l.first.board ≡ g.B.Board.seat l.fn.first.board;
-  second : g.B.Board.seat l.second.board ≡ g.B.Board.seat l.fn.second.board;
+  first : g.B.Board.seat l.pair.first.board ≡ g.B.Board.seat l.fn.pair.first.board;
+  second : g.B.Board.seat l.pair.second.board ≡ g.B.Board.seat l.fn.pair.second.board;
 }

@@ -1,0 +1,75 @@
+//! Scenes of two sessions: what is done with a pair, which comes back.
+
+ghost use Rattle.std.specs.Prelude.{◌≡◌};
+
+use super::pair::Pair;
+use super::races::Race;
+use super::turns::Turn;
+use super::{conflicts, listings, memory, races, turns, waits};
+use lock_table::PartTable;
+use shared_rule::board::Board;
+use std::process::Abort;
+use std::sync::Wait;
+use std::thread::Threads;
+
+/// What two sessions do.
+#[derive(Clone, Copy)]
+pub enum Scene<'a> {
+    /// They take turns, over and over.
+    Turns(&'a [Turn], u32),
+    EachModeBesideEach,
+    LeavesAsAsked,
+    CancelsTooLate,
+    LooksTooLate,
+    WaitsAsAsked,
+    WaitsForNothing,
+    AnsweredAtOnce,
+    SimpleDeadlock,
+    /// One sleeps until the other one gives back, or asks it to cancel.
+    Sleeps { asks: bool },
+    ListsMany,
+    /// They race for something, over and over.
+    Races(Race, u32),
+    FindsSlotsBusy,
+    /// One's strong mode moves the other's weak ones, where memory may be wanting once.
+    MovesAtLast,
+}
+
+/// Plays a scene.
+pub fn perform<
+    T: PartTable + Drop + Send,
+    B: Board<T> + Drop + Send,
+    R: Abort + Threads + Wait + Sync,
+>(rt: &R, mut pair: Pair<T, B>, scene: Scene<'_>) -> Pair<T, B>
+    ensures first { B.seat result.first.board ≡ B.seat pair.first.board }
+    ensures second { B.seat result.second.board ≡ B.seat pair.second.board }
+{
+    match scene {
+        Scene::Turns(turns, rounds) => {
+            turns::play_often(rt, &mut pair, turns, rounds);
+            pair
+        }
+        Scene::EachModeBesideEach => {
+            conflicts::ask_for_all(rt, &mut pair);
+            pair
+        }
+        Scene::LeavesAsAsked => waits::leave_as_asked(rt, pair),
+        Scene::CancelsTooLate => waits::cancel_too_late(rt, pair),
+        Scene::LooksTooLate => waits::look_too_late(rt, pair),
+        Scene::WaitsAsAsked => waits::wait_as_asked(rt, pair),
+        Scene::WaitsForNothing => waits::wait_for_nothing(rt, pair),
+        Scene::AnsweredAtOnce => waits::answer_at_once(rt, pair),
+        Scene::SimpleDeadlock => waits::refuse_a_simple_deadlock(rt, pair),
+        Scene::Sleeps { asks } => waits::sleep_in_a_thread(rt, pair, asks),
+        Scene::ListsMany => {
+            listings::list_many(rt, &mut pair);
+            pair
+        }
+        Scene::Races(race, rounds) => races::race_often(rt, pair, race, rounds),
+        Scene::FindsSlotsBusy => races::find_slots_busy(rt, pair),
+        Scene::MovesAtLast => {
+            memory::move_often(rt, &mut pair);
+            pair
+        }
+    }
+}
