@@ -16,9 +16,11 @@ pub record ManagerView : Type 0 where
 pub record OpenerView : Type 0 where
   pub table : TableId
   pub limit : ℕ
-  -- how many sessions it has given out, and how many of these are not closed
+  -- how many sessions it has given out, how many of these are not closed, and the numbers of those that are, the last
+  -- one first
   pub issued : ℕ
   pub live : ℕ
+  pub closed : List ℕ
 
 -- whether a manager can have this many sessions and local entries
 abbrev pub is_in_range : Config → Bool
@@ -38,6 +40,7 @@ pub record IsNew (manager : ManagerView) (opener : OpenerView) (config : Config)
   pub max_local : manager.max_local ≡ config.max_local
   pub issued : opener.issued ≡ 0
   pub live : opener.live ≡ 0
+  pub none_closed : opener.closed ≡ []
 
 -- What is always so of an opener: it has given out no more than it may, and what isn't closed was given out.
 pub record IsCounted (issued limit live : ℕ) : Type 0 where

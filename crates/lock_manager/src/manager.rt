@@ -1,6 +1,6 @@
 //! The manager, which has the shared table, and the opener, who gives sessions out and takes them back.
 
-ghost use Rattle.std.specs.Prelude.{◌≡◌, ◌<◌, ◌+◌, ◌-◌, ◌↔◌, [], true, false, IfOk, IsErrOf, IsOkUnless, OnOk, OnErr};
+ghost use Rattle.std.specs.Prelude.{◌≡◌, ◌<◌, ◌+◌, ◌-◌, ◌↔◌, [], ◌∷◌, true, false, IfOk, IsErrOf, IsOkUnless, OnOk, OnErr};
 ghost use Rattle.shared_rule.specs.Seats.{MayCloseBy};
 ghost use Rattle.lock_manager.specs.Managers.{IsNew, IsOpenerOf, IsOpened, is_in_range};
 
@@ -50,7 +50,7 @@ impl Model for Manager {
 }
 
 /// Gives the sessions of a manager out and takes them back. Contracts see at which table, how many sessions it has given
-/// out and may give out, and how many of them are not closed.
+/// out and may give out, how many of them are not closed, and the numbers of those that are.
 #[derive(Drop)]
 pub struct Opener {
     numbers: NumberOpener<PlainPart>,
@@ -70,6 +70,7 @@ impl Model for Opener {
       limit = opener.sessions;
       issued = opener.issued;
       live = opener.live;
+      closed = opener.numbers.closed;
     } };
 
     ghost invariant = { λ opener. (opener.numbers.issued ≡ opener.issued) × (opener.numbers.limit ≡ opener.sessions)
@@ -176,7 +177,10 @@ impl Opener {
         requires table { (⟦<SeatBoard<'a, PlainPart> as Board<PlainPart>>⟧.seat board).table ≡ self.old.table }
         requires stack { ⟦<SeatBoard<'a, PlainPart> as Board<PlainPart>>⟧.stack board ≡ [] }
         requires lawful { MayCloseBy (⟦<SeatBoard<'a, PlainPart> as Board<PlainPart>>⟧.view board) }
-        ensures { self.new ≡ record (self.old) { live = self.old.live - 1 } }
+        ensures closed { let B = ⟦<SeatBoard<'a, PlainPart> as Board<PlainPart>>⟧ in self.new ≡ record (self.old) {
+          live = self.old.live - 1;
+          closed = (B.seat board.entry).number ∷ self.old.closed;
+        } }
     {
         self.numbers.close(board);
         self.live = self.live.saturating_sub(1);

@@ -297,11 +297,14 @@ impl<'a> OwnSession<PlainPart, SeatBoard<'a, PlainPart>> {
         OwnSession { board, own, parts }
     }
 
-    /// Ends the session: all that it holds is released, in the order of making, and its number is not given out again
-    /// (`ProcKill` in proc.c).
+    /// Ends the session: all that it holds is released, in the order of making, and its number is that of a closed
+    /// session from then on, which is not given out again (`ProcKill` in proc.c).
     pub fn close<R: Wait>(self, rt: &R, opener: &mut Opener)
         requires own_opener { (⟦<SeatBoard<'a, PlainPart> as Board<PlainPart>>⟧.seat self.board).table ≡ opener.old.table }
-        ensures closed { opener.new ≡ record (opener.old) { live = opener.old.live - 1 } }
+        ensures closed { let B = ⟦<SeatBoard<'a, PlainPart> as Board<PlainPart>>⟧ in opener.new ≡ record (opener.old) {
+          live = opener.old.live - 1;
+          closed = (B.seat self.entry.board).number ∷ opener.old.closed;
+        } }
     {
         let OwnSession {
             mut board,

@@ -22,7 +22,7 @@ use Rattle.shared_rule.specs.declared.history.History.{History}
 use Rattle.shared_rule.specs.declared.history.View.{View}
 use Rattle.shared_rule.specs.Shown.{WordsAreShown}
 use Rattle.shared_rule.specs.History.{noted, told, noting_first, noting, keeper}
-use Rattle.shared_rule.specs.Ruled.{NoneBeyondSlots, ContentsAreHome, HistoryIsShown, IsBehind, SeatsAreShown, Ruled}
+use Rattle.shared_rule.specs.Ruled.{NoneBeyondSlots, ContentsAreHome, IsClosed, HistoryIsShown, IsBehind, SeatsAreShown, Ruled}
 
 -- A step of the session that goes on by itself at a seat, noted there, keeps the rule.
 
@@ -155,6 +155,14 @@ module _ {T : Type 0} (content : T → Content) (w v : World) (views : List (Vie
         | inr other ↦ let old = seats.next i u n other.1 says in (old.0, old.1 ∙ sym (ap (λ (z : Numbers). z.issued) numbers))
       ]
 
+  closed : (i j : ℕ) (u : View T) (n : ℕ) → get_elem? (slice_set views id (noting view mark)) i ≡ some u → slice_get u.closed j ≡ Some n → IsClosed v.numbers n
+  closed i j u n there says =
+      subst (λ (z : Numbers). IsClosed z n) (sym numbers)
+      (elim (at_set views id i (noting view mark) u there) [
+        | inl one ↦ seats.closed id j view n at (ap (λ (z : View T). slice_get z.closed j) one.1 ∙ says)
+        | inr other ↦ seats.closed i j u n other.1 says
+      ])
+
   pub seats-noted : SeatsAreShown content (slice_set views id (noting view mark)) v
   seats-noted = record {
     seat_of = seats.seat_of;
@@ -163,6 +171,7 @@ module _ {T : Type 0} (content : T → Content) (w v : World) (views : List (Vie
     behind = behind;
     opener = seats.opener;
     next = next;
+    closed = closed;
     not_issued = λ n not_yet.
         let old_issued : w.numbers.issued ≤ n = subst (λ (z : Numbers). z.issued ≤ n) numbers not_yet in
         let young = issued x.number own.live in

@@ -13,7 +13,7 @@ use Rattle.shared_rule.specs.declared.history.Mark.{Mark}
 use Rattle.shared_rule.specs.declared.history.History.{History}
 use Rattle.shared_rule.specs.declared.history.View.{View}
 use Rattle.shared_rule.specs.History.{keeper, lone, spent_view}
-use Rattle.shared_rule.specs.Ruled.{HistoryIsShown, IsBehind, SeatsAreShown}
+use Rattle.shared_rule.specs.Ruled.{IsClosed, HistoryIsShown, IsBehind, SeatsAreShown}
 use Rattle.shared_rule.proofs.Frame.{there-within, there-one}
 use Rattle.shared_rule.proofs.Views.{there-snoc, one-get, still-shown, history-alone, nobody-behind}
 
@@ -35,7 +35,7 @@ module _ {T : Type 0} (content : T → Content) (w : World) (views : List (View 
   second = record { number = b; marks = others }
 
   abbrev both : View T
-  both = record { next = None; sessions = first ∷ second ∷ [] }
+  both = record { next = None; closed = []; sessions = first ∷ second ∷ [] }
 
   abbrev joined : List (View T)
   joined = slice_set (slice_set views id both) other spent_view
@@ -145,9 +145,19 @@ module _ {T : Type 0} (content : T → Content) (w : World) (views : List (View 
         ]
       ]
 
+  met-closed : (i j : ℕ) (u : View T) (m : ℕ) → get_elem? joined i ≡ some u → slice_get u.closed j ≡ Some m → IsClosed w.numbers m
+  met-closed i j u m stands says =
+      elim (at_set (slice_set views id both) other i spent_view u stands) [
+        | inl here ↦ let never : ◌≡◌ {A = Option ℕ} None (Some m) = ap (λ (z : View T). slice_get z.closed j) here.1 ∙ says in absurd (cc (never))
+        | inr else ↦ elim (at_set views id i both u else.1) [
+          | inl here ↦ let never : ◌≡◌ {A = Option ℕ} None (Some m) = ap (λ (z : View T). slice_get z.closed j) here.1 ∙ says in absurd (cc (never))
+          | inr elsewhere ↦ seats.closed i j u m elsewhere.1 says
+        ]
+      ]
+
   pub seats-met :
       SeatsAreShown content
-      (slice_set (slice_set views id (record { next = None; sessions = record { number = a; marks = its } ∷ record { number = b; marks = others } ∷ [] })) other spent_view)
+      (slice_set (slice_set views id (record { next = None; closed = []; sessions = record { number = a; marks = its } ∷ record { number = b; marks = others } ∷ [] })) other spent_view)
       (after_keeping_apart w b a)
   seats-met = record {
     seat_of = seat_of;
@@ -156,17 +166,18 @@ module _ {T : Type 0} (content : T → Content) (w : World) (views : List (View 
     behind = met-behind;
     opener = seats.opener;
     next = met-next;
+    closed = met-closed;
     not_issued = seats.not_issued;
   }
 
 -- The session behind the other at a seat goes on by itself.
 module _ {T : Type 0} (content : T → Content) (w : World) (views : List (View T)) (id : ℕ) (x y : History T)
-    (at : get_elem? views id ≡ some (record { next = None; sessions = x ∷ y ∷ [] })) (seats : SeatsAreShown content views w) where
+    (at : get_elem? views id ≡ some (record { next = None; closed = []; sessions = x ∷ y ∷ [] })) (seats : SeatsAreShown content views w) where
   pub one-shown : HistoryIsShown content w seats.seat_of seats.place_in id 0 (x ∷ y ∷ []) x
-  one-shown = seats.history id 0 (record { next = None; sessions = x ∷ y ∷ [] }) x at refl
+  one-shown = seats.history id 0 (record { next = None; closed = []; sessions = x ∷ y ∷ [] }) x at refl
 
   pub two-shown : HistoryIsShown content w seats.seat_of seats.place_in id 1 (x ∷ y ∷ []) y
-  two-shown = seats.history id 1 (record { next = None; sessions = x ∷ y ∷ [] }) y at refl
+  two-shown = seats.history id 1 (record { next = None; closed = []; sessions = x ∷ y ∷ [] }) y at refl
 
   -- They are two sessions.
   pub are-two_behind : x.number ≢ y.number
@@ -177,10 +188,10 @@ module _ {T : Type 0} (content : T → Content) (w : World) (views : List (View 
       omega (arith, first, second, one)
 
   abbrev kept_view : View T
-  kept_view = record { next = None; sessions = x ∷ [] }
+  kept_view = record { next = None; closed = []; sessions = x ∷ [] }
 
   abbrev given_view : View T
-  given_view = record { next = None; sessions = y ∷ [] }
+  given_view = record { next = None; closed = []; sessions = y ∷ [] }
 
   abbrev parted_views : List (View T)
   parted_views = slice_set views id kept_view ++ given_view ∷ []
@@ -239,7 +250,7 @@ module _ {T : Type 0} (content : T → Content) (w : World) (views : List (View 
   only-behind : (k by : ℕ) → k ≢ y.number → w.numbers.kept_by k ≡ Some by → seats.seat_of by ≢ id
   only-behind k by another kept same =
       let old = seats.behind k by kept in
-      let one : old.view ≡ record { next = None; sessions = x ∷ y ∷ [] } = there-one views id old.view (record { next = None; sessions = x ∷ y ∷ [] }) (ap (get_elem? views) (sym same) ∙ old.there) at in
+      let one : old.view ≡ record { next = None; closed = []; sessions = x ∷ y ∷ [] } = there-one views id old.view (record { next = None; closed = []; sessions = x ∷ y ∷ [] }) (ap (get_elem? views) (sym same) ∙ old.there) at in
       let behind : seats.place_in by < seats.place_in k = old.behind in
       elim (two-get x y (seats.place_in k) old.history (ap (λ (v : View T). slice_get v.sessions (seats.place_in k)) (sym one) ∙ old.stands)) [
         | inl first ↦ let zeroth : seats.place_in k ≡ 0 = first.0 in omega (arith, behind, zeroth)
@@ -279,8 +290,18 @@ module _ {T : Type 0} (content : T → Content) (w : World) (views : List (View 
         | inr last ↦ let never : ◌≡◌ {A = Option ℕ} None (Some m) = ap (λ (z : View T). z.next) last.1 ∙ says in absurd (cc (never))
       ]
 
+  parted-closed : (i j : ℕ) (u : View T) (m : ℕ) → get_elem? parted_views i ≡ some u → slice_get u.closed j ≡ Some m → IsClosed w.numbers m
+  parted-closed i j u m stands says =
+      elim (there-snoc (slice_set views id kept_view) given_view u i stands) [
+        | inl there ↦ elim (at_set views id i kept_view u there) [
+          | inl here ↦ let never : ◌≡◌ {A = Option ℕ} None (Some m) = ap (λ (z : View T). slice_get z.closed j) here.1 ∙ says in absurd (cc (never))
+          | inr else ↦ seats.closed i j u m else.1 says
+        ]
+        | inr last ↦ let never : ◌≡◌ {A = Option ℕ} None (Some m) = ap (λ (z : View T). slice_get z.closed j) last.1 ∙ says in absurd (cc (never))
+      ]
+
   pub seats-parted :
-      SeatsAreShown content (slice_set views id (record { next = None; sessions = x ∷ [] }) ++ record { next = None; sessions = y ∷ [] } ∷ []) (after_going_on w y.number)
+      SeatsAreShown content (slice_set views id (record { next = None; closed = []; sessions = x ∷ [] }) ++ record { next = None; closed = []; sessions = y ∷ [] } ∷ []) (after_going_on w y.number)
   seats-parted = record {
     seat_of = seat_after;
     place_in = place_after;
@@ -288,5 +309,6 @@ module _ {T : Type 0} (content : T → Content) (w : World) (views : List (View 
     behind = parted-behind;
     opener = seats.opener;
     next = parted-next;
+    closed = parted-closed;
     not_issued = seats.not_issued;
   }

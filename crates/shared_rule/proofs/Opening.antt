@@ -58,6 +58,8 @@ module _ {T : Type 0} (content : T → Content) (begun : T → Option Request) (
         let both : Some 0 ≡ Some number = ap (λ (z : View T). z.next) only.1 ∙ says in
         let same : ◌≡◌ {A = ℕ} 0 number = cc (both) in
         (only.0, sym same);
+    closed = λ seat place view number there says.
+        let never : ◌≡◌ {A = Option ℕ} None (Some number) = ap (λ (z : View T). slice_get z.closed place) (only-one seat view there).1 ∙ says in absurd (cc (never));
     not_issued = λ number later. refl;
   }
 

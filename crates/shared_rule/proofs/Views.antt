@@ -1,6 +1,7 @@
 use Rattle.std.proofs.Common.{◌≡◌, ◌≢◌, ◌⊎◌, ℕ, zero, suc, true, false, ◌+◌, ◌<◌, ◌≤◌, List, [], ◌∷◌, ◌++◌, length, Option, Some, None, refl, sym, ap, ◌∙◌, subst, inl, inr, arith, length-set}
 use Rattle.std.specs.Prelude.{slice_get, slice_set}
 use Rattle.std.proofs.lemmas.Bool.{cases_eq}
+use Rattle.std.proofs.lemmas.List.{set_comm}
 use mathlib.Core.Option.{some, some-injective, some-ne-none}
 use lib.ListN.{get_elem?}
 use Rattle.atomic_table.specs.Table.{State}
@@ -18,7 +19,7 @@ use Rattle.shared_rule.specs.declared.history.Mark.{Mark}
 use Rattle.shared_rule.specs.declared.history.History.{History}
 use Rattle.shared_rule.specs.declared.history.View.{View}
 use Rattle.shared_rule.specs.History.{blank_account, keeper, lone, spent_view}
-use Rattle.shared_rule.specs.Ruled.{HistoryIsShown, IsBehind, SeatsAreShown, Ruled}
+use Rattle.shared_rule.specs.Ruled.{IsClosed, HistoryIsShown, IsBehind, SeatsAreShown, Ruled}
 use Rattle.shared_rule.proofs.Frame.{there-within, there-one}
 
 -- Views that are cut in two and joined show what the World after it has.
@@ -66,7 +67,7 @@ module _ {T : Type 0} (content : T → Content) (w : World) (numbers : Numbers) 
 module _ {T : Type 0} (content : T → Content) (w : World) (views : List (View T)) (id : ℕ) (view : View T) (n : ℕ)
     (at : get_elem? views id ≡ some view) (gives : view.next ≡ Some n) (order : NumbersAreInOrder w.numbers) (seats : SeatsAreShown content views w) where
   abbrev left : View T
-  left = record { next = Some (n + 1); sessions = view.sessions }
+  left = record { next = Some (n + 1); closed = view.closed; sessions = view.sessions }
 
   abbrev new : History T
   new = record { number = n; marks = [] }
@@ -165,7 +166,25 @@ module _ {T : Type 0} (content : T → Content) (w : World) (views : List (View 
         | inr last ↦ let never : ◌≡◌ {A = Option ℕ} None (Some m) = ap (λ (z : View T). z.next) last.1 ∙ says in absurd (cc (never))
       ]
 
-  pub seats-opened : SeatsAreShown content (slice_set views id (record { next = Some (n + 1); sessions = view.sessions }) ++ lone n [] ∷ []) (after_issuing w n)
+  -- whoever has closed has another number
+  still-closed : (m : ℕ) → IsClosed w.numbers m → IsClosed (after_issuing w n).numbers m
+  still-closed m old =
+      let young : m < w.numbers.issued = old.0 in
+      let next : n ≡ w.numbers.issued = is_next in
+      let within : m < n + 1 = omega (arith, young, next) in
+      (within, set_at-else w.numbers.live n true m (λ e. let same : ◌≡◌ {A = ℕ} m n = e in omega (arith, young, same, next)) ∙ old.1)
+
+  closed : (i j : ℕ) (u : View T) (m : ℕ) → get_elem? (slice_set views id left ++ lone n [] ∷ []) i ≡ some u → slice_get u.closed j ≡ Some m → IsClosed (after_issuing w n).numbers m
+  closed i j u m there says =
+      elim (there-snoc (slice_set views id left) (lone n []) u i there) [
+        | inl old ↦ elim (at_set views id i left u old) [
+          | inl here ↦ still-closed m (seats.closed id j view m at (ap (λ (z : View T). slice_get z.closed j) here.1 ∙ says))
+          | inr else ↦ still-closed m (seats.closed i j u m else.1 says)
+        ]
+        | inr last ↦ let never : ◌≡◌ {A = Option ℕ} None (Some m) = ap (λ (z : View T). slice_get z.closed j) last.1 ∙ says in absurd (cc (never))
+      ]
+
+  pub seats-opened : SeatsAreShown content (slice_set views id (record { next = Some (n + 1); closed = view.closed; sessions = view.sessions }) ++ lone n [] ∷ []) (after_issuing w n)
   seats-opened = record {
     seat_of = seat_of;
     place_in = place_in;
@@ -173,7 +192,76 @@ module _ {T : Type 0} (content : T → Content) (w : World) (views : List (View 
     behind = behind;
     opener = seats.opener;
     next = next;
+    closed = closed;
     not_issued = λ m not_yet. let next : n ≡ w.numbers.issued = is_next in let later : n + 1 ≤ m = not_yet in seats.not_issued m (omega (arith, next, later));
+  }
+
+-- A view has the number of one more closed session.
+module _ {T : Type 0} (content : T → Content) (w : World) (views : List (View T)) (id : ℕ) (view : View T) (k : ℕ) (at : get_elem? views id ≡ some view)
+    (is_closed : IsClosed w.numbers k) (seats : SeatsAreShown content views w) where
+  abbrev more : View T
+  more = record { next = view.next; closed = k ∷ view.closed; sessions = view.sessions }
+
+  more-shown : (i j : ℕ) (u : View T) (y : History T) → get_elem? (slice_set views id more) i ≡ some u → slice_get u.sessions j ≡ Some y → HistoryIsShown content w seats.seat_of seats.place_in i j u.sessions y
+  more-shown i j u y there get =
+      elim (at_set views id i more u there) [
+        | inl here ↦
+            subst (λ m. HistoryIsShown content w seats.seat_of seats.place_in m j u.sessions y) (sym here.0)
+            (subst (λ (z : View T). HistoryIsShown content w seats.seat_of seats.place_in id j z.sessions y) here.1
+            (seats.history id j view y at (ap (λ (z : View T). slice_get z.sessions j) here.1 ∙ get)))
+        | inr else ↦ seats.history i j u y else.1 get
+      ]
+
+  more-behind : (j by : ℕ) → w.numbers.kept_by j ≡ Some by → IsBehind content (slice_set views id more) seats.seat_of seats.place_in j by
+  more-behind j by kept =
+      let old = seats.behind j by kept in
+      let there : (z : View T) × (get_elem? (slice_set views id more) (seats.seat_of by) ≡ some z) × (z.sessions ≡ old.view.sessions) =
+      elim (cases_eq (seats.seat_of by) id) [
+        | inl same ↦ (
+          more,
+          ap (get_elem? (slice_set views id more)) same ∙ set_here views id more (there-within views id view at),
+          ap (λ (z : View T). z.sessions) (there-one views id view old.view at (ap (get_elem? views) (sym same) ∙ old.there)),
+        )
+        | inr other ↦ (old.view, set_else views id (seats.seat_of by) more other ∙ old.there, refl)
+      ] in
+      record {
+        view = there.0;
+        there = there.1;
+        same_seat = old.same_seat;
+        history = old.history;
+        stands = ap (λ (z : List (History T)). slice_get z (seats.place_in j)) there.2 ∙ old.stands;
+        whose = old.whose;
+        behind = old.behind;
+      }
+
+  one-more : (j m : ℕ) → slice_get (k ∷ view.closed) j ≡ Some m → IsClosed w.numbers m
+  one-more zero m says = let same : ◌≡◌ {A = ℕ} k m = cc (says) in subst (IsClosed w.numbers) same is_closed
+  one-more (suc j) m says = seats.closed id j view m at says
+
+  more-closed : (i j : ℕ) (u : View T) (m : ℕ) → get_elem? (slice_set views id more) i ≡ some u → slice_get u.closed j ≡ Some m → IsClosed w.numbers m
+  more-closed i j u m there says =
+      elim (at_set views id i more u there) [
+        | inl here ↦ one-more j m (ap (λ (z : View T). slice_get z.closed j) here.1 ∙ says)
+        | inr else ↦ seats.closed i j u m else.1 says
+      ]
+
+  more-next : (i : ℕ) (u : View T) (m : ℕ) → get_elem? (slice_set views id more) i ≡ some u → u.next ≡ Some m → (i ≡ seats.opener) × (m ≡ w.numbers.issued)
+  more-next i u m there says =
+      elim (at_set views id i more u there) [
+        | inl here ↦ let old = seats.next id view m at (ap (λ (z : View T). z.next) here.1 ∙ says) in (here.0 ∙ old.0, old.1)
+        | inr else ↦ seats.next i u m else.1 says
+      ]
+
+  pub seats-with_closed : SeatsAreShown content (slice_set views id (record { next = view.next; closed = k ∷ view.closed; sessions = view.sessions })) w
+  seats-with_closed = record {
+    seat_of = seats.seat_of;
+    place_in = seats.place_in;
+    history = more-shown;
+    behind = more-behind;
+    opener = seats.opener;
+    next = more-next;
+    closed = more-closed;
+    not_issued = seats.not_issued;
   }
 
 -- A session closes.
@@ -232,8 +320,16 @@ module _ {T : Type 0} (content : T → Content) (w : World) (views : List (View 
             }
       ]
 
-  pub seats-closed : SeatsAreShown content (slice_set views other spent_view) (after_closing w k)
-  seats-closed = record {
+  closed-still : (m : ℕ) → IsClosed w.numbers m → IsClosed (after_closing w k).numbers m
+  closed-still m old =
+      elim (cases_eq m k) [
+        | inl same ↦ (old.0, set_at-here w.numbers.live k false m same)
+        | inr another ↦ (old.0, set_at-else w.numbers.live k false m another ∙ old.1)
+      ]
+
+  -- what the views show where no view has it as closed yet
+  left-closed : SeatsAreShown content (slice_set views other spent_view) (after_closing w k)
+  left-closed = record {
     seat_of = seats.seat_of;
     place_in = seats.place_in;
     history = closed-shown;
@@ -254,8 +350,23 @@ module _ {T : Type 0} (content : T → Content) (w : World) (views : List (View 
           | inl here ↦ let never : ◌≡◌ {A = Option ℕ} None (Some m) = ap (λ (z : View T). z.next) here.1 ∙ says in absurd (cc (never))
           | inr else ↦ seats.next i u m else.1 says
         ];
+    closed = λ i j u m there says.
+        elim (at_set views other i spent_view u there) [
+          | inl here ↦ let never : ◌≡◌ {A = Option ℕ} None (Some m) = ap (λ (z : View T). slice_get z.closed j) here.1 ∙ says in absurd (cc (never))
+          | inr else ↦ closed-still m (seats.closed i j u m else.1 says)
+        ];
     not_issued = λ m not_yet. closed-blank m (seats.not_issued m not_yet);
   }
+
+  -- The opener's view has it as closed.
+  pub seats-closed :
+      (id : ℕ) (opener : View T) → get_elem? views id ≡ some opener → other ≢ id → NumbersAreInOrder w.numbers
+      → SeatsAreShown content (slice_set (slice_set views id (record { next = opener.next; closed = k ∷ opener.closed; sessions = opener.sessions })) other spent_view) (after_closing w k)
+  seats-closed id opener stands apart order =
+      subst (λ (all : List (View T)). SeatsAreShown content all (after_closing w k))
+      (sym (set_comm views id other (record { next = opener.next; closed = k ∷ opener.closed; sessions = opener.sessions }) spent_view (λ e. apart (sym e))))
+      (seats-with_closed content (after_closing w k) (slice_set views other spent_view) id opener k
+      (set_else views other id spent_view (λ e. apart (sym e)) ∙ stands) (order.live_is_issued k history-alone.live, set_at-here w.numbers.live k false k refl) left-closed)
 
 module _ {T : Type 0} (content : T → Content) (begun : T → Option Request) (limit : ℕ) (s : State (Option T) (View T)) (r : Ruled content begun limit s) where
   -- The rule holds in the World with other numbers,

@@ -171,15 +171,15 @@ module _ {T : Type 0} where
 
   -- the view with a step of its session
   abbrev pub noting : View T → Mark T → View T
-  noting view mark = record { next = view.next; sessions = noting_first view.sessions mark }
+  noting view mark = record { next = view.next; closed = view.closed; sessions = noting_first view.sessions mark }
 
   -- the view of the opener's seat before the first session, and of one session's seat
   abbrev pub opening_view : View T
-  opening_view = record { next = Some 0; sessions = [] }
+  opening_view = record { next = Some 0; closed = []; sessions = [] }
 
   abbrev pub lone : ℕ → List (Mark T) → View T
-  lone number marks = record { next = None; sessions = record { number = number; marks = marks } ∷ [] }
+  lone number marks = record { next = None; closed = []; sessions = record { number = number; marks = marks } ∷ [] }
 
   -- the view of a seat that was joined to another
   abbrev pub spent_view : View T
-  spent_view = record { next = None; sessions = [] }
+  spent_view = record { next = None; closed = []; sessions = [] }

@@ -1,11 +1,11 @@
-use Rattle.std.specs.Prelude.{◌≡◌, ℕ, ◌<◌, ◌≤◌, true, List, length, slice_get, Option, Some, None}
+use Rattle.std.specs.Prelude.{◌≡◌, ℕ, ◌<◌, ◌≤◌, true, false, List, length, slice_get, Option, Some, None}
 use mathlib.Core.Option.{some}
 use mathlib.Core.Option as maybe
 use lib.ListN.{get_elem?}
 use Rattle.atomic_table.specs.Table.{State}
 use Rattle.lock_table.specs.declared.request.Request.{Request}
 use Rattle.lock_table.specs.Content.{Content}
-use Rattle.lock_world.specs.World.{World, Words, Contents, Hand}
+use Rattle.lock_world.specs.World.{World, Words, Contents, Hand, Numbers}
 use Rattle.lock_world.specs.SafeWorld.{SafeWorld}
 use Rattle.lock_world.specs.SlotHolds.{slot_count}
 use Rattle.lock_world.specs.Account.{account}
@@ -39,6 +39,10 @@ module _ {T : Type 0} (content : T → Content) (begun : T → Option Request) w
   abbrev pub ContentsAreHome : List (maybe.Option (Option T)) → Contents → Type 0
   ContentsAreHome homes contents =
       (p : ℕ) → p < 16 → IsHomeUnlessInHand (contents.hand p) (contents.now p) (get_elem? homes (content_slot_of p))
+
+-- The session of this number was opened, and has closed: the number was given out and is live no more.
+abbrev pub IsClosed : Numbers → ℕ → Type 0
+IsClosed numbers number = (number < numbers.issued) × (numbers.live number ≡ false)
 
 -- What the views of the seats show.
 module _ {T : Type 0} (content : T → Content) where
@@ -78,6 +82,10 @@ module _ {T : Type 0} (content : T → Content) where
     pub next :
         (seat : ℕ) (view : View T) (number : ℕ) → get_elem? views seat ≡ some view → view.next ≡ Some number
         → (seat ≡ opener) × (number ≡ w.numbers.issued)
+    -- whom a view has as closed is
+    pub closed :
+        (seat place : ℕ) (view : View T) (number : ℕ) → get_elem? views seat ≡ some view
+        → slice_get view.closed place ≡ Some number → IsClosed w.numbers number
     -- a number not yet given out has an account with nothing in it
     pub not_issued : (number : ℕ) → w.numbers.issued ≤ number → account w number ≡ blank_account
 

@@ -8,7 +8,7 @@ use Rattle.lock_world.specs.Account.{Account}
 use Rattle.shared_rule.specs.declared.history.History.{History}
 use Rattle.shared_rule.specs.declared.history.Mark.{Mark}
 use Rattle.shared_rule.specs.declared.history.View.{View}
-use Rattle.shared_rule.specs.History.{lone, first_account}
+use Rattle.shared_rule.specs.History.{lone, first_account, first_number}
 use Rattle.shared_rule.specs.Plays.{Side}
 
 -- Seats that are cut in two and joined: sessions open and close, and two of them meet.
@@ -56,21 +56,29 @@ module _ {T : Type 0} where
 
   -- the view of the opener's seat once it has given a number out, and the view of the session that got it
   abbrev pub opened : View T → View T
-  opened view = record { next = number_after view.next; sessions = view.sessions }
+  opened view = record { next = number_after view.next; closed = view.closed; sessions = view.sessions }
 
   abbrev pub newcomer : View T → View T
   newcomer view = lone (number_in view.next) []
 
+  -- the view of the opener's seat once it has taken a session's back, whose number is closed then
+  abbrev pub with_closed : View T → View T → View T
+  with_closed view session = record {
+    next = view.next;
+    closed = first_number session.sessions ∷ view.closed;
+    sessions = view.sessions;
+  }
+
   -- the view with another's histories behind its own
   abbrev pub met : View T → View T → View T
-  met view other = record { next = view.next; sessions = view.sessions ++ other.sessions }
+  met view other = record { next = view.next; closed = view.closed; sessions = view.sessions ++ other.sessions }
 
   -- the view with its first session alone, and the view of those behind it
   abbrev pub parted : View T → View T
-  parted view = record { next = view.next; sessions = first_of view.sessions }
+  parted view = record { next = view.next; closed = view.closed; sessions = first_of view.sessions }
 
   abbrev pub handed_back : View T → View T
-  handed_back view = record { next = None; sessions = behind_of view.sessions }
+  handed_back view = record { next = None; closed = []; sessions = behind_of view.sessions }
 
   -- The opener's seat gives out a number below the limit.
   pub record HasNumber (view : View T) (limit : ℕ) : Type 0 where
@@ -88,7 +96,7 @@ module _ {T : Type 0} where
   pub record IsForTwo (view : View T) : Type 0 where
     pub first : History T
     pub second : History T
-    pub two : view ≡ record { next = None; sessions = first ∷ second ∷ [] }
+    pub two : view ≡ record { next = None; closed = []; sessions = first ∷ second ∷ [] }
 
 module _ {T : Type 0} (content : T → Content) where
   -- Nothing changed, and no hold of the first session conflicts with a hold of the one behind it.

@@ -1,6 +1,6 @@
 //! The opener, who gives out session numbers and takes closed sessions back.
 
-ghost use Rattle.std.specs.Prelude.{◌≡◌, ◌<◌, ◌≤◌, ◌+◌, ◌↔◌, [], IfSome, IfNone, IsNone, OnSome};
+ghost use Rattle.std.specs.Prelude.{◌≡◌, ◌<◌, ◌≤◌, ◌+◌, ◌↔◌, [], ◌∷◌, IfSome, IfNone, IsNone, OnSome};
 ghost use Rattle.shared_rule.specs.History.{blank_account, lone, opening_view};
 ghost use Rattle.shared_rule.specs.Plays.{FitsTable, IsSized};
 ghost use Rattle.shared_rule.specs.Seats.{MayCloseBy};
@@ -14,7 +14,7 @@ use modes_core::SessionId;
 use std::marker::Model;
 
 /// Gives out session numbers, each once, in rising order (`InitProcess` in proc.c). Contracts see at which table it is,
-/// how many numbers it has given out, and how many there can be.
+/// how many numbers it has given out, how many there can be, and which ones are of sessions that have closed.
 #[derive(Drop)]
 pub struct Opener<T: PartTable> {
     place: Place<T>,
@@ -29,8 +29,12 @@ impl<T: PartTable> Model for Opener<T> {
 
     ghost Value = { OpenerState };
 
-    ghost view = { λ opener.
-        record { table = opener.place.table_id; issued = opener.issued; limit = opener.sessions } };
+    ghost view = { λ opener. record {
+      table = opener.place.table_id;
+      issued = opener.issued;
+      limit = opener.sessions;
+      closed = opener.place.me.0.closed;
+    } };
 
     ghost invariant = { λ opener. (opener.place.me.0.next ≡ Some opener.issued) × (opener.issued ≤ opener.sessions)
         × (opener.sessions ≤ 64) × IsSized opener.place.table_id };
@@ -42,7 +46,7 @@ impl<T: PartTable> Opener<T> {
         requires first { place.me ≡ (opening_view, []) }
         requires sized { IsSized place.table_id }
         requires few { sessions ≤ 64 }
-        ensures { result ≡ record { table = place.table_id; issued = 0; limit = sessions } }
+        ensures { result ≡ record { table = place.table_id; issued = 0; limit = sessions; closed = [] } }
     {
         Opener {
             place,
@@ -72,7 +76,8 @@ impl<T: PartTable> Opener<T> {
         requires table { (self.old.table ≡ table.now.table_id) × (self.old.limit ≡ table.now.key) }
         ensures none { IsNone result ↔ (self.old.issued ≡ self.old.limit) }
         ensures unchanged { IfNone result (self.new ≡ self.old) }
-        ensures opener { (self.new.table ≡ self.old.table) × (self.new.limit ≡ self.old.limit) }
+        ensures opener { (self.new.table ≡ self.old.table) × (self.new.limit ≡ self.old.limit)
+            × (self.new.closed ≡ self.old.closed) }
         ensures issued { OnSome result (self.new.issued ≡ self.old.issued + 1) }
         ensures blank { IfSome result (λ board. ⟦<SeatBoard<'a, T> as Board<T>>⟧.view board ≡ blank_account) }
         ensures stack { IfSome result (λ board. ⟦<SeatBoard<'a, T> as Board<T>>⟧.stack board ≡ []) }
@@ -88,12 +93,14 @@ impl<T: PartTable> Opener<T> {
         Some(SeatBoard::at(table, place, number, self.sessions))
     }
 
-    /// Takes a session's board back, which has nothing any more (`ProcKill` in proc.c).
+    /// Takes a session's board back, which has nothing any more (`ProcKill` in proc.c). Its number is that of a closed
+    /// session from then on, and all else of the opener is as before.
     pub fn close<'a>(&mut self, board: SeatBoard<'a, T>)
         requires table { (⟦<SeatBoard<'a, T> as Board<T>>⟧.seat board).table ≡ self.old.table }
         requires stack { ⟦<SeatBoard<'a, T> as Board<T>>⟧.stack board ≡ [] }
         requires lawful { MayCloseBy (⟦<SeatBoard<'a, T> as Board<T>>⟧.view board) }
-        ensures same { self.new ≡ self.old }
+        ensures closed { let B = ⟦<SeatBoard<'a, T> as Board<T>>⟧ in
+            self.new ≡ record (self.old) { closed = (B.seat board.entry).number ∷ self.old.closed } }
     {
         let (table, place) = board.into_place();
         seats::close(table, &mut self.place, place);

@@ -5,7 +5,7 @@ ghost use Rattle.std.specs.Prelude.{◌≡◌, []};
 ghost use Rattle.shared_rule.specs.History.{first_account};
 ghost use Rattle.shared_rule.specs.Plays.{FitsTable, IsSameSeat};
 ghost use Rattle.shared_rule.specs.Seats.{MayCloseBy, MayBeKeptApartBy, DoNotConflict, HasNumber, IsForOne, IsForTwo};
-ghost use Rattle.shared_rule.specs.Seats.{behind_of, opened, newcomer, met, parted, handed_back};
+ghost use Rattle.shared_rule.specs.Seats.{behind_of, opened, newcomer, with_closed, met, parted, handed_back};
 
 use crate::history::View;
 use crate::plays::TellsApart;
@@ -24,13 +24,14 @@ impl<T> Split<View<T>> for Opens {
     ghost right = { newcomer };
 }
 
-/// A session closes: its seat goes to the opener's, and nothing stays of its history.
+/// A session closes: its seat goes to the opener's, which has its number as closed, and nothing stays of its history.
 struct Closes;
 
 impl<T> Join<View<T>> for Closes {
     ghost use Rattle.shared_rule.specs.History.{spent_view};
+    ghost use Rattle.shared_rule.specs.Seats.{with_closed};
 
-    ghost both = { λ view _. view };
+    ghost both = { with_closed };
 
     ghost spent = { spent_view };
 }
@@ -78,7 +79,7 @@ pub(crate) fn close<T: PartTable>(top: &Top<T>, opener: &mut Place<T>, session: 
     requires nothing_in_hand { session.me.1 ≡ [] }
     requires lawful { MayCloseBy (first_account T.content session.me.0.sessions) }
     ensures seat { IsSameSeat opener.old opener.new }
-    ensures side { opener.new.me ≡ opener.old.me }
+    ensures side { opener.new.me ≡ (with_closed opener.old.me.0 session.me.0, opener.old.me.1) }
 {
     top.join_seat::<Closes>(opener, session);
 }

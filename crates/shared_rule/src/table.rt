@@ -1,6 +1,6 @@
 //! The table with its memory, before the first step.
 
-ghost use Rattle.std.specs.Prelude.{◌≡◌, ◌<◌, ◌≤◌, ◌+◌, ◌/◌, ◌%◌, length, Some, IfOk, IfErr};
+ghost use Rattle.std.specs.Prelude.{◌≡◌, ◌<◌, ◌≤◌, ◌+◌, ◌/◌, ◌%◌, [], length, Some, IfOk, IfErr};
 ghost use Rattle.lock_world.specs.World.{opening};
 ghost use Rattle.shared_rule.specs.Shown.{WordsAreShown};
 ghost use Rattle.shared_rule.specs.Opening.{IsFirst, IsNew, AreNew, AreEmptyParts};
@@ -91,7 +91,7 @@ pub fn open<T: PartTable>(
     requires parts { AreNew T.content T.begun parts.items }
     ensures key { IfOk result (λ opened. opened.0.shared.key ≡ sessions) }
     ensures opener { IfOk result (λ opened.
-        opened.1 ≡ record { table = opened.0.shared.table_id; issued = 0; limit = sessions }) }
+        opened.1 ≡ record { table = opened.0.shared.table_id; issued = 0; limit = sessions; closed = [] }) }
     ensures refused { IfErr result (λ refused. refused.slots.items ≡ parts.items) }
 {
     let words = match first_words(alloc) {

@@ -3,7 +3,7 @@ use Rattle.std.specs.Prelude.{if◌then◌else◌, ◌==◌, slice_set}
 use mathlib.Core.Option.{some}
 use lib.ListN.{get_elem?}
 use Rattle.atomic_table.specs.Table.{Step, keeps, Allows, Splits, Joins}
-use Rattle.atomic_table.proofs.Lists.{set_again, set_else}
+use Rattle.atomic_table.proofs.Lists.{set_else}
 use Rattle.lw_word.specs.declared.wait_lists.LwWaiter.{LwWaiter}
 use Rattle.lock_table.specs.declared.request.Request.{Request}
 use Rattle.lock_table.specs.Content.{Content}
@@ -18,7 +18,7 @@ use Rattle.shared_rule.specs.declared.history.View.{View}
 use Rattle.shared_rule.specs.History.{lone, spent_view, first_account}
 use Rattle.shared_rule.specs.Ruled.{Ruled}
 use Rattle.shared_rule.specs.Plays.{Side}
-use Rattle.shared_rule.specs.Seats.{MayCloseBy, MayBeKeptApartBy, DoNotConflict, HasNumber, IsForOne, IsForTwo, number_in, number_after, behind_of, opened, newcomer, met, parted, handed_back, ToldApart}
+use Rattle.shared_rule.specs.Seats.{MayCloseBy, MayBeKeptApartBy, DoNotConflict, HasNumber, IsForOne, IsForTwo, number_in, number_after, behind_of, opened, newcomer, with_closed, met, parted, handed_back, ToldApart}
 use Rattle.shared_rule.proofs.Views.{ruled-numbered, ruled-closed, seats-opened, seats-closed, history-alone, keeps-nobody}
 use Rattle.shared_rule.proofs.Meetings.{first-shown, second-shown, are-two, seats-met, one-shown, two-shown, are-two_behind, seats-parted}
 use Rattle.shared_rule.proofs.Events.Marks.{nothing-changes}
@@ -60,7 +60,7 @@ module _ {T : Type 0} (content : T → Content) (begun : T → Option Request) (
   -- A session opens.
   pub opens : (id : ℕ) (view : View T) → HasNumber view limit → Splits (Ruled content begun limit) id view (opened view) (newcomer view)
   opens id view has =
-      subst (λ (o : Option ℕ). Splits (Ruled content begun limit) id view (record { next = number_after o; sessions = view.sessions }) (lone (number_in o) [])) (sym has.next)
+      subst (λ (o : Option ℕ). Splits (Ruled content begun limit) id view (record { next = number_after o; closed = view.closed; sessions = view.sessions }) (lone (number_in o) [])) (sym has.next)
       (λ s r at.
       let seats = seats-opened content r.world s.views id view has.number at has.next r.safe.but_slots.table.carriers.numbers r.seats in
       let within : has.number < r.world.numbers.limit = subst (λ (n : ℕ). has.number < n) (sym r.is_limit) has.within in
@@ -69,17 +69,17 @@ module _ {T : Type 0} (content : T → Content) (begun : T → Option Request) (
 
   -- A session closes.
   pub closes : (id : ℕ) (opener : View T) (other : ℕ) (view : View T) → IsForOne view → MayCloseBy (first_account content view.sessions)
-      → Joins (Ruled content begun limit) id opener other view opener spent_view
+      → Joins (Ruled content begun limit) id opener other view (with_closed opener view) spent_view
   closes id opener other view one may s r at apart there =
       let k = one.number in
-      let same : slice_set s.views id opener ≡ s.views = set_again s.views id opener at in
-      let stands : get_elem? s.views other ≡ some (lone k one.marks) = ap (λ (views : List (View T)). get_elem? views other) (sym same) ∙ there ∙ ap some one.one in
+      let same : with_closed opener view ≡ with_closed opener (lone k one.marks) = ap (λ (z : View T). with_closed opener z) one.one in
+      let stands : get_elem? s.views other ≡ some (lone k one.marks) = sym (set_else s.views id other (with_closed opener view) apart) ∙ there ∙ ap some one.one in
       let shown = history-alone content r.world s.views other k one.marks stands r.seats in
       let may_by : MayCloseBy (account r.world k) = subst MayCloseBy (ap (λ (z : View T). first_account content z.sessions) one.one ∙ shown.account) may in
       let may_close = closing-lawful r.world r.safe k (record { live = shown.live; by_itself = shown.kept_by }) (keeps-nobody content r.world s.views other k one.marks stands r.seats) may_by in
-      subst (λ (views : List (View T)). Ruled content begun limit (record { words = s.words; homes = s.homes; views = slice_set views other spent_view })) (sym same)
-      (ruled-closed content begun limit s r k (slice_set s.views other spent_view) (closing-safe_world r.world k r.safe may_close)
-      (seats-closed content r.world s.views other k one.marks stands r.seats))
+      subst (λ (v : View T). Ruled content begun limit (record { words = s.words; homes = s.homes; views = slice_set (slice_set s.views id v) other spent_view })) (sym same)
+      (ruled-closed content begun limit s r k _ (closing-safe_world r.world k r.safe may_close)
+      (seats-closed content r.world s.views other k one.marks stands r.seats id opener at apart r.safe.but_slots.table.carriers.numbers))
 
   -- A session is kept apart.
   pub keeps_apart : (id : ℕ) (view : View T) (other : ℕ) (theirs : View T) → IsForOne view → IsForOne theirs → MayBeKeptApartBy (first_account content theirs.sessions)
