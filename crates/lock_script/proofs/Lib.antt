@@ -5,3 +5,4 @@ mod NameOrder
 mod NameLemmas
 mod TextBytes
 mod WordLemmas
+pub mod Lending

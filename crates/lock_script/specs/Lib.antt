@@ -6,3 +6,4 @@ pub mod Lines
 pub mod Meaning
 pub mod Names
 pub mod Words
+pub mod Lending

@@ -1,5 +1,6 @@
 //! The open sessions of a script, by their names: those that wait, and those that don't.
 ghost use Rattle.std.specs.Prelude.{◌≡◌, ℕ, ◌<◌, ◌≤◌, [], ◌∷◌, length, remove, slice_index_or, IfOk, IfSome, IfNone, MatchOption};
+ghost use Rattle.std.specs.Borrow.{sem};
 ghost use Rattle.std.specs.List.{HoldsAt};
 ghost use Rattle.lock_script.specs.Names.{IsByName, IsCalled, IsFree, NotAfter, PutsIn};
 
@@ -39,6 +40,7 @@ impl<S> Model for ByName<S> {
 
 impl<S: Drop> ByName<S> {
     ghost use Rattle.lock_script.specs.declared.crew.Named.{Named};
+    ghost use Rattle.lock_script.specs.Lending.{LendsSession};
 
     /// No session. It is refused where memory is wanting.
     pub fn new(alloc: Global) -> Result<Self, AllocError>
@@ -74,6 +76,15 @@ impl<S: Drop> ByName<S> {
         ensures { HoldsAt (λ one. result.now ≡ one) self.now place }
     {
         &self.sessions[place]
+    }
+
+    /// The session at this place, to make a call. Its name and the others stay as they are.
+    pub fn session_mut(&mut self, place: usize) -> &mut S
+        requires { place < length self.old }
+        ensures* writes_back { sem 𝓛 (LendsSession S.row self.entry place result) }
+        ensures value { HoldsAt (λ one. result.now ≡ one.session) self.old place }
+    {
+        &mut self.sessions[place].session
     }
 
     /// Puts a session in at its place in the order of the names.

@@ -132,10 +132,10 @@ impl<'a, T: PartTable + Drop, B: Board<T> + Drop> Stage<'a, T, B> {
         requires { MayAct self.old.crew place }
         ensures manager { self.new.manager.now ≡ self.old.manager.now }
     {
-        let Named { name, mut session } = self.crew.resting.take(place);
-        let answer = session.try_lock(rt, tag, mode, owner);
-        self.crew.resting.put(name, session);
-        answer
+        self.crew
+            .resting
+            .session_mut(place)
+            .try_lock(rt, tag, mode, owner)
     }
 
     /// Takes a mode on an object for an owner in one of the session's slots, or refuses at once.
@@ -149,10 +149,10 @@ impl<'a, T: PartTable + Drop, B: Board<T> + Drop> Stage<'a, T, B> {
         requires { MayAct self.old.crew place }
         ensures manager { self.new.manager.now ≡ self.old.manager.now }
     {
-        let Named { name, mut session } = self.crew.resting.take(place);
-        let answer = session.try_fast(tag, mode, owner);
-        self.crew.resting.put(name, session);
-        answer
+        self.crew
+            .resting
+            .session_mut(place)
+            .try_fast(tag, mode, owner)
     }
 
     /// Takes a mode on an object for an owner, or begins to wait for it.
@@ -199,10 +199,10 @@ impl<'a, T: PartTable + Drop, B: Board<T> + Drop> Stage<'a, T, B> {
         requires { MayAct self.old.crew place }
         ensures manager { self.new.manager.now ≡ self.old.manager.now }
     {
-        let Named { name, mut session } = self.crew.resting.take(place);
-        let answer = session.has_waiters(rt, tag, mode);
-        self.crew.resting.put(name, session);
-        answer
+        self.crew
+            .resting
+            .session_mut(place)
+            .has_waiters(rt, tag, mode)
     }
 
     /// Gives one count of an owner back.
@@ -217,10 +217,10 @@ impl<'a, T: PartTable + Drop, B: Board<T> + Drop> Stage<'a, T, B> {
         requires { MayAct self.old.crew place }
         ensures manager { self.new.manager.now ≡ self.old.manager.now }
     {
-        let Named { name, mut session } = self.crew.resting.take(place);
-        let answer = session.unlock(rt, tag, mode, owner);
-        self.crew.resting.put(name, session);
-        answer
+        self.crew
+            .resting
+            .session_mut(place)
+            .unlock(rt, tag, mode, owner)
     }
 
     /// Ends a transaction that succeeded.
@@ -228,9 +228,7 @@ impl<'a, T: PartTable + Drop, B: Board<T> + Drop> Stage<'a, T, B> {
         requires { MayAct self.old.crew place }
         ensures manager { self.new.manager.now ≡ self.old.manager.now }
     {
-        let Named { name, mut session } = self.crew.resting.take(place);
-        session.commit(rt);
-        self.crew.resting.put(name, session);
+        self.crew.resting.session_mut(place).commit(rt);
     }
 
     /// Ends a transaction that failed.
@@ -238,9 +236,7 @@ impl<'a, T: PartTable + Drop, B: Board<T> + Drop> Stage<'a, T, B> {
         requires { MayAct self.old.crew place }
         ensures manager { self.new.manager.now ≡ self.old.manager.now }
     {
-        let Named { name, mut session } = self.crew.resting.take(place);
-        session.abort(rt);
-        self.crew.resting.put(name, session);
+        self.crew.resting.session_mut(place).abort(rt);
     }
 
     /// How often the owner has the object in the mode.
@@ -259,10 +255,7 @@ impl<'a, T: PartTable + Drop, B: Board<T> + Drop> Stage<'a, T, B> {
         requires { MayAct self.old.crew place }
         ensures manager { self.new.manager.now ≡ self.old.manager.now }
     {
-        let Named { name, mut session } = self.crew.resting.take(place);
-        let answer = session.list(rt);
-        self.crew.resting.put(name, session);
-        answer
+        self.crew.resting.session_mut(place).list(rt)
     }
 
     /// What the strong lock counter with this index shows.
@@ -271,10 +264,7 @@ impl<'a, T: PartTable + Drop, B: Board<T> + Drop> Stage<'a, T, B> {
         requires exists { index < 1024 }
         ensures manager { self.new.manager.now ≡ self.old.manager.now }
     {
-        let Named { name, mut session } = self.crew.resting.take(place);
-        let shown = session.strong_count(index);
-        self.crew.resting.put(name, session);
-        shown
+        self.crew.resting.session_mut(place).strong_count(index)
     }
 
     /// One session asks another one to cancel its wait.
@@ -284,10 +274,7 @@ impl<'a, T: PartTable + Drop, B: Board<T> + Drop> Stage<'a, T, B> {
         ensures manager { self.new.manager.now ≡ self.old.manager.now }
     {
         let number = self.number_at(other);
-        let Named { name, mut session } = self.crew.resting.take(place);
-        let asked = session.ask_cancel(number);
-        self.crew.resting.put(name, session);
-        asked
+        self.crew.resting.session_mut(place).ask_cancel(number)
     }
 
     /// The number of the session that stands there.

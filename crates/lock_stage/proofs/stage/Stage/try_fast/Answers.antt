@@ -1,17 +1,14 @@
 use Rattle.std.proofs.Common.{◌≡◌, ℕ, ◌+◌, ◌∙◌, ap, length, sym}
 use Rattle.shared_rule.specs.Boards.{Seated}
-use Rattle.lock_script.proofs.CrewLemmas.{All-put_back, length-put_back}
+use Rattle.lock_script.proofs.Lending.{All-called, length-with_session}
 use Rattle.lock_stage.proofs.stage.Stage.try_fast.Goals as goal
 
 pub invariant_of-self-clause-counted : goal.invariant_of-self-clause-counted
 invariant_of-self-clause-counted g c =
-    c.args.self.now.counted ∙ ap (λ (n : ℕ). n + length c.args.self.now.crew.waiting)
-    (sym (length-put_back c.args.self.now.crew.resting c.take-name.new.self c.put.new.self c.args.place
-    (record { name = c.take-name.result.name; session = c.try_fast-answer.new.self }) c.requires c.take-name.ensures.left c.put.ensures))
+    c.args.self.now.counted ∙ ap (λ (n : ℕ). n + length c.args.self.now.crew.waiting) (sym (length-with_session c.args.self.now.crew.resting c.args.place c.try_fast.new.self))
 
 pub invariant_of-self-clause-resting : goal.invariant_of-self-clause-resting
 invariant_of-self-clause-resting g c =
-    All-put_back c.args.self.now.crew.resting c.take-name.new.self c.put.new.self c.args.place c.take-name.result
-    (record { name = c.take-name.result.name; session = c.try_fast-answer.new.self }) c.requires c.take-name.ensures.taken c.take-name.ensures.left c.put.ensures
-    (λ one. (g.B.Board.seat one.session.board).table ≡ c.args.self.now.opener.table) c.args.self.now.resting
-    (λ h. ap (λ (seat : Seated). seat.table) c.try_fast-answer.ensures.same.seat_ ∙ h)
+    All-called c.args.self.now.crew.resting c.args.place c.session_mut.result.now c.try_fast.new.self c.requires c.session_mut.ensures.value
+    (λ session. (g.B.Board.seat session.board).table ≡ c.args.self.now.opener.table) c.args.self.now.resting
+    (λ h. ap (λ (seat : Seated). seat.table) c.try_fast.ensures.same.seat_ ∙ h)
