@@ -14,7 +14,7 @@ use std::collections::HashMap;
 const NEW_KEYS: u32 = 1_000;
 
 /// A row of the table of times.
-#[derive(Clone, Copy, Debug, PartialEq, Eq)]
+#[derive(Clone, Copy, PartialEq, Eq)]
 pub enum Row {
     OneEmptyCall,
     TwoEmptyCalls,

@@ -1,16 +1,15 @@
 //! Sessions in threads of their own, and the same work on a map in a mutex.
 
-ghost use Rattle.std.specs.Prelude.{◌≡◌, ◌+◌, ◌-◌, IfOk, OnOk};
-ghost use Rattle.lock_manager.specs.Managers.{IsOpenerOf};
+ghost use Rattle.std.specs.Prelude.{◌≡◌};
 
 use crate::keys::Key;
+use crate::pair::Pair;
 use crate::session_loops::lock_pairs;
 use crate::shared_map::{SharedMap, map_pairs};
-use lock_manager::{Manager, Opener, OwnSession, Refusal};
+use lock_manager::{OwnSession, Refusal};
 use lock_table::PlainPart;
 use modes_core::Owner;
 use shared_rule::board::Board;
-use shared_rule::seat_board::SeatBoard;
 use std::sync::Wait;
 use std::thread::{Threads, join, join_mut};
 
@@ -31,120 +30,36 @@ impl Job {
     }
 }
 
-/// Four sessions.
+/// Four sessions of one manager.
 pub struct Crew<B: Board<PlainPart>> {
-    first: OwnSession<PlainPart, B>,
-    second: OwnSession<PlainPart, B>,
-    third: OwnSession<PlainPart, B>,
-    fourth: OwnSession<PlainPart, B>,
+    pub left: Pair<PlainPart, B>,
+    pub right: Pair<PlainPart, B>,
 }
 
-impl<'a> Crew<SeatBoard<'a, PlainPart>> {
-    /// Four sessions of a manager.
-    pub fn open<R: Wait>(
-        rt: &R,
-        manager: &'a Manager,
-        opener: &mut Opener,
-        database: u32,
-    ) -> Result<Self, Refusal>
-        requires own { IsOpenerOf opener.old manager.now }
-        ensures first { let B = ⟦<SeatBoard<'a, PlainPart> as Board<PlainPart>>⟧ in
-            IfOk result (λ crew. (B.seat crew.first.board).table ≡ opener.old.table) }
-        ensures second { let B = ⟦<SeatBoard<'a, PlainPart> as Board<PlainPart>>⟧ in
-            IfOk result (λ crew. (B.seat crew.second.board).table ≡ opener.old.table) }
-        ensures third { let B = ⟦<SeatBoard<'a, PlainPart> as Board<PlainPart>>⟧ in
-            IfOk result (λ crew. (B.seat crew.third.board).table ≡ opener.old.table) }
-        ensures fourth { let B = ⟦<SeatBoard<'a, PlainPart> as Board<PlainPart>>⟧ in
-            IfOk result (λ crew. (B.seat crew.fourth.board).table ≡ opener.old.table) }
-        ensures live { OnOk result (opener.new.live ≡ opener.old.live + 4) }
-        ensures own { IsOpenerOf opener.new manager.now }
+impl<B: Board<PlainPart>> Crew<B> {
+    /// What the table has, by the first session.
+    pub fn holds<R: Wait>(&mut self, rt: &R) -> Result<usize, Refusal>
+        ensures first { B.seat self.new.left.first.board ≡ B.seat self.old.left.first.board }
+        ensures second { self.new.left.second ≡ self.old.left.second }
+        ensures right { self.new.right ≡ self.old.right }
     {
-        let first = opener.session(manager, database)?;
-        let second = match opener.session(manager, database) {
-            Ok(second) => second,
-            Err(refusal) => {
-                first.close(rt, opener);
-                return Err(refusal);
-            }
-        };
-        let third = match opener.session(manager, database) {
-            Ok(third) => third,
-            Err(refusal) => {
-                first.close(rt, opener);
-                second.close(rt, opener);
-                return Err(refusal);
-            }
-        };
-        let fourth = match opener.session(manager, database) {
-            Ok(fourth) => fourth,
-            Err(refusal) => {
-                first.close(rt, opener);
-                second.close(rt, opener);
-                third.close(rt, opener);
-                return Err(refusal);
-            }
-        };
-        Ok(Crew {
-            first,
-            second,
-            third,
-            fourth,
-        })
-    }
-
-    /// Closes all four.
-    pub fn close<R: Wait>(self, rt: &R, opener: &mut Opener)
-        requires first { (⟦<SeatBoard<'a, PlainPart> as Board<PlainPart>>⟧.seat self.first.board).table ≡ opener.old.table }
-        requires second { (⟦<SeatBoard<'a, PlainPart> as Board<PlainPart>>⟧.seat self.second.board).table ≡ opener.old.table }
-        requires third { (⟦<SeatBoard<'a, PlainPart> as Board<PlainPart>>⟧.seat self.third.board).table ≡ opener.old.table }
-        requires fourth { (⟦<SeatBoard<'a, PlainPart> as Board<PlainPart>>⟧.seat self.fourth.board).table ≡ opener.old.table }
-        ensures live { opener.new.live ≡ opener.old.live - 4 }
-        ensures table { opener.new.table ≡ opener.old.table }
-        ensures limit { opener.new.limit ≡ opener.old.limit }
-    {
-        let Crew {
-            first,
-            second,
-            third,
-            fourth,
-        } = self;
-        first.close(rt, opener);
-        second.close(rt, opener);
-        third.close(rt, opener);
-        fourth.close(rt, opener);
+        Ok(self.left.first.list(rt)?.table.len())
     }
 }
 
 impl<B: Board<PlainPart> + Send> Crew<B> {
     /// The work of the first of them, in this thread, of two in two or of all in four. Whether nothing was refused.
     pub fn work<R: Threads + Wait + Sync>(&mut self, rt: &R, job: &Job, threads: u32) -> bool
-        ensures first { B.seat self.new.first.board ≡ B.seat self.old.first.board }
-        ensures second { B.seat self.new.second.board ≡ B.seat self.old.second.board }
-        ensures third { B.seat self.new.third.board ≡ B.seat self.old.third.board }
-        ensures fourth { B.seat self.new.fourth.board ≡ B.seat self.old.fourth.board }
+        ensures first { B.seat self.new.left.first.board ≡ B.seat self.old.left.first.board }
+        ensures second { B.seat self.new.left.second.board ≡ B.seat self.old.left.second.board }
+        ensures third { B.seat self.new.right.first.board ≡ B.seat self.old.right.first.board }
+        ensures fourth { B.seat self.new.right.second.board ≡ B.seat self.old.right.second.board }
     {
         match threads {
-            1 => in_one(rt, &mut self.first, job, 0),
-            2 => in_two(rt, &mut self.first, &mut self.second, job, 0),
-            _ => in_four(
-                rt,
-                &mut self.first,
-                &mut self.second,
-                &mut self.third,
-                &mut self.fourth,
-                job,
-            ),
+            1 => in_one(rt, &mut self.left.first, job, 0),
+            2 => in_two(rt, &mut self.left, job, 0),
+            _ => in_four(rt, &mut self.left, &mut self.right, job),
         }
-    }
-
-    /// What the table has, by the first session.
-    pub fn holds<R: Wait>(&mut self, rt: &R) -> Result<usize, Refusal>
-        ensures first { B.seat self.new.first.board ≡ B.seat self.old.first.board }
-        ensures second { self.new.second ≡ self.old.second }
-        ensures third { self.new.third ≡ self.old.third }
-        ensures fourth { self.new.fourth ≡ self.old.fourth }
-    {
-        Ok(self.first.list(rt)?.table.len())
     }
 }
 
@@ -163,15 +78,15 @@ fn in_one<B: Board<PlainPart>, R: Wait>(
 /// The work of two sessions in two threads, with the lists of this number and of the next.
 fn in_two<B: Board<PlainPart> + Send, R: Threads + Wait + Sync>(
     rt: &R,
-    first: &mut OwnSession<PlainPart, B>,
-    second: &mut OwnSession<PlainPart, B>,
+    pair: &mut Pair<PlainPart, B>,
     job: &Job,
     thread: usize,
 ) -> bool
-    ensures first { B.seat first.new.board ≡ B.seat first.old.board }
-    ensures second { B.seat second.new.board ≡ B.seat second.old.board }
+    ensures first { B.seat pair.new.first.board ≡ B.seat pair.old.first.board }
+    ensures second { B.seat pair.new.second.board ≡ B.seat pair.old.second.board }
 {
     let next = thread.wrapping_add(1);
+    let Pair { first, second } = pair;
     let (left, right) = join_mut(
         rt,
         &mut || in_one(rt, first, job, thread),
@@ -183,21 +98,19 @@ fn in_two<B: Board<PlainPart> + Send, R: Threads + Wait + Sync>(
 /// The work of four sessions in four threads.
 fn in_four<B: Board<PlainPart> + Send, R: Threads + Wait + Sync>(
     rt: &R,
-    first: &mut OwnSession<PlainPart, B>,
-    second: &mut OwnSession<PlainPart, B>,
-    third: &mut OwnSession<PlainPart, B>,
-    fourth: &mut OwnSession<PlainPart, B>,
+    first: &mut Pair<PlainPart, B>,
+    second: &mut Pair<PlainPart, B>,
     job: &Job,
 ) -> bool
-    ensures first { B.seat first.new.board ≡ B.seat first.old.board }
-    ensures second { B.seat second.new.board ≡ B.seat second.old.board }
-    ensures third { B.seat third.new.board ≡ B.seat third.old.board }
-    ensures fourth { B.seat fourth.new.board ≡ B.seat fourth.old.board }
+    ensures first { B.seat first.new.first.board ≡ B.seat first.old.first.board }
+    ensures second { B.seat first.new.second.board ≡ B.seat first.old.second.board }
+    ensures third { B.seat second.new.first.board ≡ B.seat second.old.first.board }
+    ensures fourth { B.seat second.new.second.board ≡ B.seat second.old.second.board }
 {
     let (left, right) = join_mut(
         rt,
-        &mut || in_two(rt, first, second, job, 0),
-        &mut || in_two(rt, third, fourth, job, 2),
+        &mut || in_two(rt, first, job, 0),
+        &mut || in_two(rt, second, job, 2),
     );
     left && right
 }

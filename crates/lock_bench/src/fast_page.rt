@@ -1,144 +1,112 @@
 //! The page of the fast path.
 
-ghost use Rattle.std.specs.Prelude.{◌≡◌};
-
-use crate::fast_bed::{FastBed, ROWS, Row};
-use crate::rounds::{ROUNDS, Spread, Times, print_ratio};
+use crate::rounds::ROUNDS;
+use crate::session_page::{Page, print_size};
+use crate::session_rows::{KeyList, Row, Size, Work};
 use anyhow::Result;
-use lock_manager::{Config, Manager, OwnSession};
-use lock_table::PlainPart;
 use modes_core::Owner;
-use shared_rule::board::Board;
 use std::sync::Wait;
 use std::time::CpuClock;
 
-/// How many sessions there can be.
-const SIZES: [u32; 2] = [8, 64];
+/// How many locks a commit ends, how many the session has that takes held ones again, and how many are refused.
+const FEW: u32 = 10;
 
-/// How many steps a round has, at least.
-const STEPS: u32 = 100_000;
+const SIZES: [Size; 2] = [
+    Size {
+        sessions: 8,
+        of_other: 0,
+        few: FEW,
+    },
+    Size {
+        sessions: 64,
+        of_other: 0,
+        few: FEW,
+    },
+];
 
-/// The time of each row, by its place among them.
-type Spreads = Vec<(Row, Spread)>;
+const ONE_CALL: &str = "empty loop of one call";
 
-/// Times every row, each once in a round.
-fn time_rows<B: Board<PlainPart>, R: Wait + CpuClock + AllocGlobal>(
-    rt: &R,
-    session: &mut OwnSession<PlainPart, B>,
-    other: &mut OwnSession<PlainPart, B>,
-    bed: &FastBed,
-) -> Result<Spreads>
-    ensures seat { B.seat session.new.board ≡ B.seat session.old.board }
-    ensures its_seat { B.seat other.new.board ≡ B.seat other.old.board }
-{
-    let mut taken = Vec::new(rt.alloc());
-    for row in ROWS {
-        taken.push((row, Times::new(rt.alloc())))?;
-    }
-    'rounds: for _ in 0..ROUNDS {
-        'rows: for (row, times) in &mut taken {
-            let (nanos, _) = bed.time(rt, session, other, *row)?;
-            times.add(0, nanos, bed.steps(*row))?;
-        }
-    }
-    let mut spreads = Vec::new(rt.alloc());
-    for (row, times) in taken {
-        spreads.push((row, times.spread()))?;
-    }
-    Ok(spreads)
-}
+const TWO_CALLS: &str = "empty loop of two calls";
 
-fn spread_of(spreads: &[(Row, Spread)], row: Row) -> Spread {
-    for (other, spread) in spreads {
-        if *other == row {
-            return *spread;
-        }
-    }
-    Spread::default()
-}
+const PAIR_FLOOR: &str = "floor: atomic steps of a pair by a slot";
 
-/// The row's time with that of its empty row taken off.
-fn above_empty(spreads: &[(Row, Spread)], row: Row) -> Spread {
-    let spread = spread_of(spreads, row);
-    match row.empty() {
-        Some(empty) => spread.above(spread_of(spreads, empty)),
-        None => spread,
-    }
-}
+const REFUSED_FLOOR: &str = "floor: atomic steps of a refused try";
 
-fn print_rows<R: Print>(rt: &R, spreads: &[(Row, Spread)]) -> Result<()> {
-    for row in ROWS {
-        let name = row.name();
-        let time = above_empty(spreads, row);
-        println!(rt; "        {name:<42} {time}")?;
-    }
-    println!(rt; "    to the floor")?;
-    for row in ROWS {
-        if let Some(floor) = row.floor() {
-            let name = row.name();
-            let steps = above_empty(spreads, floor);
-            print_ratio(rt, name, above_empty(spreads, row), steps)?;
-        }
-    }
-    Ok(())
-}
+const STRONG_FLOOR: &str = "floor: atomic steps of a strong pair";
 
-/// The rows' rounds, of which only one is made and told where `check` says so.
-fn print_sessions<B: Board<PlainPart>, R: Wait + CpuClock + AllocGlobal + Print>(
-    rt: &R,
-    session: &mut OwnSession<PlainPart, B>,
-    other: &mut OwnSession<PlainPart, B>,
-    bed: &FastBed,
-    check: bool,
-) -> Result<()>
-    ensures seat { B.seat session.new.board ≡ B.seat session.old.board }
-    ensures its_seat { B.seat other.new.board ≡ B.seat other.old.board }
-{
-    if !check {
-        let spreads = time_rows(rt, session, other, bed)?;
-        return print_rows(rt, spreads.as_slice());
-    }
-    'rows: for row in ROWS {
-        let (_, counted) = bed.time(rt, session, other, row)?;
-        let name = row.name();
-        let steps = bed.steps(row);
-        let left = session.list(rt)?.table.len();
-        println!(rt; "        {name}: {steps} steps, counted {counted}, holds {left}")?;
-    }
-    Ok(())
-}
-
-fn print_size<R: Wait + CpuClock + AllocGlobal + Print>(
-    rt: &R,
-    database: u32,
-    owner: Owner,
-    sessions: u32,
-    check: bool,
-) -> Result<()> {
-    let steps = if check { 1000 } else { STEPS };
-    let bed = FastBed::new(rt.alloc(), database, owner, sessions, steps)?;
-    let config = Config {
-        sessions,
-        max_local: 65536,
-    };
-    let (manager, mut opener) = Manager::new(rt.alloc(), config)?;
-    let mut session = opener.session(&manager, database)?;
-    let mut other = match opener.session(&manager, database) {
-        Ok(other) => other,
-        Err(refusal) => {
-            session.close(rt, &mut opener);
-            return Err(refusal.into());
-        }
-    };
-    let printed = match println!(rt; "{sessions} sessions") {
-        Ok(()) => print_sessions(rt, &mut session, &mut other, &bed, check),
-        Err(error) => Err(error.into()),
-    };
-    session.close(rt, &mut opener);
-    other.close(rt, &mut opener);
-    manager.finish(opener);
-    printed
-}
+/// Each row is compared with its atomic steps. A held pair has none, and is compared with those of a new one.
+const ROWS: [Row; 10] = [
+    Row {
+        name: ONE_CALL,
+        work: Work::OneEmptyCall,
+        list: KeyList::Weak,
+        empty: None,
+        beside: None,
+    },
+    Row {
+        name: TWO_CALLS,
+        work: Work::TwoEmptyCalls,
+        list: KeyList::Weak,
+        empty: None,
+        beside: None,
+    },
+    Row {
+        name: "new pair by a slot",
+        work: Work::Pair,
+        list: KeyList::Weak,
+        empty: Some(TWO_CALLS),
+        beside: Some(PAIR_FLOOR),
+    },
+    Row {
+        name: "ten by slots and a commit, for each",
+        work: Work::TakeAndCommit,
+        list: KeyList::Few,
+        empty: Some(ONE_CALL),
+        beside: Some(PAIR_FLOOR),
+    },
+    Row {
+        name: "held pair",
+        work: Work::HeldPair,
+        list: KeyList::Few,
+        empty: Some(TWO_CALLS),
+        beside: Some(PAIR_FLOOR),
+    },
+    Row {
+        name: "refused, a strong lock counted",
+        work: Work::RefusedBySlot,
+        list: KeyList::Few,
+        empty: Some(ONE_CALL),
+        beside: Some(REFUSED_FLOOR),
+    },
+    Row {
+        name: "strong pair",
+        work: Work::Pair,
+        list: KeyList::Strong,
+        empty: Some(TWO_CALLS),
+        beside: Some(STRONG_FLOOR),
+    },
+    Row {
+        name: PAIR_FLOOR,
+        work: Work::PairFloor,
+        list: KeyList::Weak,
+        empty: Some(TWO_CALLS),
+        beside: None,
+    },
+    Row {
+        name: REFUSED_FLOOR,
+        work: Work::RefusedFloor,
+        list: KeyList::Weak,
+        empty: Some(ONE_CALL),
+        beside: None,
+    },
+    Row {
+        name: STRONG_FLOOR,
+        work: Work::StrongFloor,
+        list: KeyList::Weak,
+        empty: Some(TWO_CALLS),
+        beside: None,
+    },
+];
 
 /// Prints the table of times, or with `check` what the same steps leave.
 pub fn print<R: Wait + CpuClock + AllocGlobal + Print>(
@@ -154,8 +122,16 @@ pub fn print<R: Wait + CpuClock + AllocGlobal + Print>(
             "fast path on one thread: nanoseconds of the thread's processor time with the empty loop taken off, median of {ROUNDS} rounds (smallest to largest)"
         )?;
     }
-    for sessions in SIZES {
-        print_size(rt, database, owner, sessions, check)?;
+    let rows = ROWS;
+    let page = Page {
+        rows: rows.as_slice(),
+        beside: "to the floor",
+        database,
+        owner,
+        check,
+    };
+    for size in SIZES {
+        print_size(rt, &page, size)?;
     }
     Ok(())
 }

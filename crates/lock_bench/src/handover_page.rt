@@ -1,7 +1,8 @@
 //! The page of handover.
 
+use crate::pair::Pair;
 use crate::rounds::{ROUNDS, Times, print_ratio, wall_nanos};
-use crate::turns::{Plan, Player, pass_lock, pass_turn};
+use crate::turns::{Plan, pass_lock, pass_turn};
 use anyhow::Result;
 use lock_manager::{Config, Manager};
 use modes_core::{Mode, Owner, Tag};
@@ -16,7 +17,7 @@ const TURNS: u32 = 5_000;
 const CHECKED_TURNS: u32 = 100;
 
 /// What a round of turns came to.
-#[derive(Clone, Copy, Debug)]
+#[derive(Clone, Copy)]
 struct Round {
     nanos: u64,
     granted: u64,
@@ -34,28 +35,15 @@ fn play<R: Threads + Wait + Clock + AllocGlobal + Sync>(
         max_local: 16,
     };
     let (manager, mut opener) = Manager::new(rt.alloc(), config)?;
-    let first = opener.session(&manager, database)?;
-    let second = match opener.session(&manager, database) {
-        Ok(second) => second,
-        Err(refusal) => {
-            first.close(rt, &mut opener);
-            return Err(refusal.into());
-        }
-    };
+    let pair = Pair::open(rt, &manager, &mut opener, database)?;
     let from = wall_nanos(rt);
-    let (first, second) = pass_lock(rt, first, second, plan);
+    let (pair, granted) = pass_lock(rt, pair, plan);
     let to = wall_nanos(rt);
-    let Player { session, granted } = first;
-    session.close(rt, &mut opener);
-    let Player {
-        session,
-        granted: its_granted,
-    } = second;
-    session.close(rt, &mut opener);
+    pair.close(rt, &mut opener);
     let left = manager.finish(opener).table;
     Ok(Round {
         nanos: to?.saturating_sub(from?),
-        granted: granted.wrapping_add(its_granted),
+        granted,
         left,
     })
 }

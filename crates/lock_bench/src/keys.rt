@@ -16,7 +16,7 @@ const MODES: [Mode; 8] = [
 ];
 
 /// What the keys are of.
-#[derive(Clone, Copy, Debug, PartialEq, Eq)]
+#[derive(Clone, Copy)]
 pub enum Kind {
     /// Relations, each in AccessShareLock.
     Relations,

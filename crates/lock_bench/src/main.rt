@@ -5,18 +5,20 @@
 mod bed;
 mod crew;
 mod doors;
-mod fast_bed;
 mod fast_page;
 mod floors;
 mod handover_page;
 mod keys;
 mod local_page;
 mod loops;
-mod manager_bed;
 mod manager_page;
+mod pair;
 mod rounds;
+mod session_bed;
 mod session_doors;
 mod session_loops;
+mod session_page;
+mod session_rows;
 mod shared_map;
 mod threads_page;
 mod turns;
@@ -43,7 +45,7 @@ const FAULT: u8 = 1;
 const REFUSED_WORDS: u8 = 2;
 
 /// What the words of the command line ask for.
-#[derive(Clone, Copy, Debug)]
+#[derive(Clone, Copy)]
 struct Wanted {
     check: bool,
     pages: [bool; 5],

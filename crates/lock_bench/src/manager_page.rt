@@ -1,175 +1,142 @@
 //! The page of the lock manager on one thread.
 
-ghost use Rattle.std.specs.Prelude.{◌≡◌};
-
-use crate::manager_bed::{Bed, ROWS, Row};
-use crate::rounds::{ROUNDS, Spread, Times, print_ratio};
-use crate::session_loops::lock_all;
+use crate::rounds::ROUNDS;
+use crate::session_page::{Page, print_size};
+use crate::session_rows::{KeyList, Row, Size, Work};
 use anyhow::Result;
-use lock_manager::{Config, Manager, OwnSession};
-use lock_table::PlainPart;
 use modes_core::Owner;
-use shared_rule::board::Board;
 use std::sync::Wait;
 use std::time::CpuClock;
 
-/// How many sessions there can be, and how many objects another session holds.
-#[derive(Clone, Copy, Debug)]
-struct Size {
-    sessions: u32,
-    of_other: u32,
-}
+/// How many relations the session has that takes held ones again.
+const HELD: u32 = 16;
 
 const SIZES: [Size; 3] = [
     Size {
         sessions: 2,
         of_other: 16,
+        few: HELD,
     },
     Size {
         sessions: 64,
         of_other: 16,
+        few: HELD,
     },
     Size {
         sessions: 64,
         of_other: 1600,
+        few: HELD,
     },
 ];
 
-/// How many steps a round has, at least.
-const STEPS: u32 = 100_000;
+const ONE_CALL: &str = "empty loop of one call";
 
-/// The time of each row, by its place among them.
-type Spreads = Vec<(Row, Spread)>;
+const TWO_CALLS: &str = "empty loop of two calls";
 
-/// Times every row, each once in a round.
-fn time_rows<B: Board<PlainPart>, R: Wait + CpuClock + AllocGlobal>(
-    rt: &R,
-    session: &mut OwnSession<PlainPart, B>,
-    bed: &Bed,
-) -> Result<Spreads>
-    ensures seat { B.seat session.new.board ≡ B.seat session.old.board }
-{
-    let mut taken = Vec::new(rt.alloc());
-    for row in ROWS {
-        taken.push((row, Times::new(rt.alloc())))?;
-    }
-    'rounds: for _ in 0..ROUNDS {
-        'rows: for (row, times) in &mut taken {
-            let (nanos, _) = bed.time(rt, session, *row)?;
-            times.add(0, nanos, bed.steps(*row))?;
-        }
-    }
-    let mut spreads = Vec::new(rt.alloc());
-    for (row, times) in taken {
-        spreads.push((row, times.spread()))?;
-    }
-    Ok(spreads)
-}
+const TWO_READINGS: &str = "two readings of the clock, for each of ten";
 
-fn spread_of(spreads: &[(Row, Spread)], row: Row) -> Spread {
-    for (other, spread) in spreads {
-        if *other == row {
-            return *spread;
-        }
-    }
-    Spread::default()
-}
+const MAP_PAIR: &str = "map in a mutex: new pair";
 
-/// The row's time with that of its empty row taken off.
-fn above_empty(spreads: &[(Row, Spread)], row: Row) -> Spread {
-    let spread = spread_of(spreads, row);
-    match row.empty() {
-        Some(empty) => spread.above(spread_of(spreads, empty)),
-        None => spread,
-    }
-}
+const MAP_HELD_PAIR: &str = "map in a mutex: held pair";
 
-fn print_rows<R: Print>(rt: &R, spreads: &[(Row, Spread)]) -> Result<()> {
-    for row in ROWS {
-        let name = row.name();
-        let time = above_empty(spreads, row);
-        println!(rt; "        {name:<42} {time}")?;
-    }
-    println!(rt; "    to the same work on the map")?;
-    for row in ROWS {
-        if let Some(on_map) = row.on_map() {
-            let name = row.name();
-            let same = above_empty(spreads, on_map);
-            print_ratio(rt, name, above_empty(spreads, row), same)?;
-        }
-    }
-    Ok(())
-}
+const MAP_LOOK_UP: &str = "map in a mutex: look-up";
 
-/// The rows' rounds, of which only one is made and told where `check` says so.
-fn print_session<B: Board<PlainPart>, R: Wait + CpuClock + AllocGlobal + Print>(
-    rt: &R,
-    session: &mut OwnSession<PlainPart, B>,
-    bed: &Bed,
-    check: bool,
-) -> Result<()>
-    ensures seat { B.seat session.new.board ≡ B.seat session.old.board }
-{
-    if !check {
-        let spreads = time_rows(rt, session, bed)?;
-        return print_rows(rt, spreads.as_slice());
-    }
-    'rows: for row in ROWS {
-        let (_, counted) = bed.time(rt, session, row)?;
-        let name = row.name();
-        let steps = bed.steps(row);
-        let left = session.list(rt)?.table.len();
-        println!(rt; "        {name}: {steps} steps, counted {counted}, holds {left}")?;
-    }
-    Ok(())
-}
+const MAP_COMMIT: &str = "map in a mutex: ten taken out, for each";
 
-fn print_bed<B: Board<PlainPart>, R: Wait + CpuClock + AllocGlobal + Print>(
-    rt: &R,
-    session: &mut OwnSession<PlainPart, B>,
-    other: &mut OwnSession<PlainPart, B>,
-    bed: &Bed,
-    check: bool,
-) -> Result<()>
-    ensures seat { B.seat session.new.board ≡ B.seat session.old.board }
-    ensures its_seat { B.seat other.new.board ≡ B.seat other.old.board }
-{
-    lock_all(rt, other, bed.of_other(), Owner::Session)?;
-    print_session(rt, session, bed, check)
-}
-
-fn print_size<R: Wait + CpuClock + AllocGlobal + Print>(
-    rt: &R,
-    database: u32,
-    owner: Owner,
-    size: Size,
-    check: bool,
-) -> Result<()> {
-    let steps = if check { 1000 } else { STEPS };
-    let bed = Bed::new(rt, database, owner, size.of_other, steps)?;
-    let config = Config {
-        sessions: size.sessions,
-        max_local: 65536,
-    };
-    let (manager, mut opener) = Manager::new(rt.alloc(), config)?;
-    let mut session = opener.session(&manager, database)?;
-    let mut other = match opener.session(&manager, database) {
-        Ok(other) => other,
-        Err(refusal) => {
-            session.close(rt, &mut opener);
-            return Err(refusal.into());
-        }
-    };
-    let Size { sessions, of_other } = size;
-    let printed = match println!(rt; "{sessions} sessions, {of_other} holds of another") {
-        Ok(()) => print_bed(rt, &mut session, &mut other, &bed, check),
-        Err(error) => Err(error.into()),
-    };
-    session.close(rt, &mut opener);
-    other.close(rt, &mut opener);
-    manager.finish(opener);
-    printed
-}
+/// Each row is compared with the same work on the map.
+const ROWS: [Row; 13] = [
+    Row {
+        name: ONE_CALL,
+        work: Work::OneEmptyCall,
+        list: KeyList::Objects,
+        empty: None,
+        beside: None,
+    },
+    Row {
+        name: TWO_CALLS,
+        work: Work::TwoEmptyCalls,
+        list: KeyList::Objects,
+        empty: None,
+        beside: None,
+    },
+    Row {
+        name: "new pair of an object",
+        work: Work::Pair,
+        list: KeyList::Objects,
+        empty: Some(TWO_CALLS),
+        beside: Some(MAP_PAIR),
+    },
+    Row {
+        name: "new pair of a relation, weak mode",
+        work: Work::Pair,
+        list: KeyList::Weak,
+        empty: Some(TWO_CALLS),
+        beside: Some(MAP_PAIR),
+    },
+    Row {
+        name: "new pair of a relation, strong mode",
+        work: Work::Pair,
+        list: KeyList::Strong,
+        empty: Some(TWO_CALLS),
+        beside: Some(MAP_PAIR),
+    },
+    Row {
+        name: "held pair",
+        work: Work::HeldPair,
+        list: KeyList::Few,
+        empty: Some(TWO_CALLS),
+        beside: Some(MAP_HELD_PAIR),
+    },
+    Row {
+        name: "refused attempt",
+        work: Work::Refused,
+        list: KeyList::Refused,
+        empty: Some(ONE_CALL),
+        beside: Some(MAP_LOOK_UP),
+    },
+    Row {
+        name: TWO_READINGS,
+        work: Work::TwoReadings,
+        list: KeyList::Ten,
+        empty: None,
+        beside: None,
+    },
+    Row {
+        name: "commit of ten, for each",
+        work: Work::Commit,
+        list: KeyList::Ten,
+        empty: Some(TWO_READINGS),
+        beside: Some(MAP_COMMIT),
+    },
+    Row {
+        name: MAP_PAIR,
+        work: Work::MapPair,
+        list: KeyList::Objects,
+        empty: Some(TWO_CALLS),
+        beside: None,
+    },
+    Row {
+        name: MAP_HELD_PAIR,
+        work: Work::MapPair,
+        list: KeyList::Few,
+        empty: Some(TWO_CALLS),
+        beside: None,
+    },
+    Row {
+        name: MAP_LOOK_UP,
+        work: Work::MapLookUp,
+        list: KeyList::OfOther,
+        empty: Some(ONE_CALL),
+        beside: None,
+    },
+    Row {
+        name: MAP_COMMIT,
+        work: Work::MapCommit,
+        list: KeyList::Ten,
+        empty: Some(TWO_READINGS),
+        beside: None,
+    },
+];
 
 /// Prints the table of times, or with `check` what the same steps leave.
 pub fn print<R: Wait + CpuClock + AllocGlobal + Print>(
@@ -185,8 +152,16 @@ pub fn print<R: Wait + CpuClock + AllocGlobal + Print>(
             "lock manager on one thread: nanoseconds of the thread's processor time with the empty loop taken off, median of {ROUNDS} rounds (smallest to largest)"
         )?;
     }
+    let rows = ROWS;
+    let page = Page {
+        rows: rows.as_slice(),
+        beside: "to the same work on the map",
+        database,
+        owner,
+        check,
+    };
     for size in SIZES {
-        print_size(rt, database, owner, size, check)?;
+        print_size(rt, &page, size)?;
     }
     Ok(())
 }

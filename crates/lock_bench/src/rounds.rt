@@ -59,7 +59,7 @@ impl Times {
 }
 
 /// The median of several rounds, with the smallest and the largest beside it.
-#[derive(Clone, Copy, Debug, Default)]
+#[derive(Clone, Copy, Default)]
 pub struct Spread {
     pub median: u64,
     pub least: u64,

@@ -3,15 +3,15 @@
 ghost use Rattle.std.specs.Prelude.{◌≡◌};
 
 use lock_manager::{Acquired, OwnSession, Unlocked};
-use lock_table::PlainPart;
+use lock_table::PartTable;
 use modes_core::{Mode, Owner, Refusal, Tag};
 use shared_rule::board::Board;
 use std::sync::Wait;
 
 #[inline(never)]
-pub fn try_lock<B: Board<PlainPart>, R: Wait>(
+pub fn try_lock<T: PartTable, B: Board<T>, R: Wait>(
     rt: &R,
-    session: &mut OwnSession<PlainPart, B>,
+    session: &mut OwnSession<T, B>,
     tag: Tag,
     mode: Mode,
     owner: Owner,
@@ -22,8 +22,8 @@ pub fn try_lock<B: Board<PlainPart>, R: Wait>(
 }
 
 #[inline(never)]
-pub fn try_fast<B: Board<PlainPart>>(
-    session: &mut OwnSession<PlainPart, B>,
+pub fn try_fast<T: PartTable, B: Board<T>>(
+    session: &mut OwnSession<T, B>,
     tag: Tag,
     mode: Mode,
     owner: Owner,
@@ -34,9 +34,9 @@ pub fn try_fast<B: Board<PlainPart>>(
 }
 
 #[inline(never)]
-pub fn unlock<B: Board<PlainPart>, R: Wait>(
+pub fn unlock<T: PartTable, B: Board<T>, R: Wait>(
     rt: &R,
-    session: &mut OwnSession<PlainPart, B>,
+    session: &mut OwnSession<T, B>,
     tag: Tag,
     mode: Mode,
     owner: Owner,
@@ -47,7 +47,7 @@ pub fn unlock<B: Board<PlainPart>, R: Wait>(
 }
 
 #[inline(never)]
-pub fn commit<B: Board<PlainPart>, R: Wait>(rt: &R, session: &mut OwnSession<PlainPart, B>)
+pub fn commit<T: PartTable, B: Board<T>, R: Wait>(rt: &R, session: &mut OwnSession<T, B>)
     ensures seat { B.seat session.new.board ≡ B.seat session.old.board }
 {
     session.commit(rt);

@@ -7,16 +7,16 @@ use crate::rounds::cpu_nanos;
 use crate::session_doors::{commit, try_fast, try_lock, unlock};
 use anyhow::Result;
 use lock_manager::OwnSession;
-use lock_table::PlainPart;
+use lock_table::PartTable;
 use modes_core::{Owner, Refusal};
 use shared_rule::board::Board;
 use std::sync::Wait;
 use std::time::CpuClock;
 
 /// Takes each and releases it at once.
-pub fn lock_pairs<B: Board<PlainPart>, R: Wait>(
+pub fn lock_pairs<T: PartTable, B: Board<T>, R: Wait>(
     rt: &R,
-    session: &mut OwnSession<PlainPart, B>,
+    session: &mut OwnSession<T, B>,
     keys: &[Key],
     owner: Owner,
     laps: u32,
@@ -33,9 +33,9 @@ pub fn lock_pairs<B: Board<PlainPart>, R: Wait>(
 }
 
 /// Takes each.
-pub fn lock_all<B: Board<PlainPart>, R: Wait>(
+pub fn lock_all<T: PartTable, B: Board<T>, R: Wait>(
     rt: &R,
-    session: &mut OwnSession<PlainPart, B>,
+    session: &mut OwnSession<T, B>,
     keys: &[Key],
     owner: Owner,
 ) -> Result<(), Refusal>
@@ -48,9 +48,9 @@ pub fn lock_all<B: Board<PlainPart>, R: Wait>(
 }
 
 /// Asks for each, and gives how many were refused.
-pub fn count_refused<B: Board<PlainPart>, R: Wait>(
+pub fn count_refused<T: PartTable, B: Board<T>, R: Wait>(
     rt: &R,
-    session: &mut OwnSession<PlainPart, B>,
+    session: &mut OwnSession<T, B>,
     keys: &[Key],
     owner: Owner,
     laps: u32,
@@ -68,8 +68,8 @@ pub fn count_refused<B: Board<PlainPart>, R: Wait>(
 }
 
 /// Asks for each by a slot alone, and gives how often a strong lock was counted.
-pub fn count_strong_counted<B: Board<PlainPart>>(
-    session: &mut OwnSession<PlainPart, B>,
+pub fn count_strong_counted<T: PartTable, B: Board<T>>(
+    session: &mut OwnSession<T, B>,
     keys: &[Key],
     owner: Owner,
     laps: u32,
@@ -88,9 +88,9 @@ pub fn count_strong_counted<B: Board<PlainPart>>(
 }
 
 /// Takes all and commits, over and over.
-pub fn lock_and_end<B: Board<PlainPart>, R: Wait>(
+pub fn lock_and_end<T: PartTable, B: Board<T>, R: Wait>(
     rt: &R,
-    session: &mut OwnSession<PlainPart, B>,
+    session: &mut OwnSession<T, B>,
     keys: &[Key],
     laps: u32,
 ) -> Result<(), Refusal>
@@ -104,9 +104,9 @@ pub fn lock_and_end<B: Board<PlainPart>, R: Wait>(
 }
 
 /// Takes all and commits, over and over; gives the nanoseconds of the commits alone.
-pub fn lock_and_commit<B: Board<PlainPart>, R: Wait + CpuClock>(
+pub fn lock_and_commit<T: PartTable, B: Board<T>, R: Wait + CpuClock>(
     rt: &R,
-    session: &mut OwnSession<PlainPart, B>,
+    session: &mut OwnSession<T, B>,
     keys: &[Key],
     laps: u32,
 ) -> Result<u64>

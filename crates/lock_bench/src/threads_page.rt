@@ -4,6 +4,7 @@ ghost use Rattle.std.specs.Prelude.{◌≡◌};
 
 use crate::crew::{Crew, Job, on_map};
 use crate::keys::{Key, Kind, keys, keys_of_partition};
+use crate::pair::Pair;
 use crate::rounds::{ROUNDS, Spread, Times, print_ratio, wall_nanos};
 use crate::shared_map::SharedMap;
 use anyhow::Result;
@@ -18,7 +19,7 @@ use std::thread::Threads;
 use std::time::Clock;
 
 /// What the threads take.
-#[derive(Clone, Copy, Debug, PartialEq, Eq)]
+#[derive(Clone, Copy)]
 enum Case {
     OneObject,
     OnePartition,
@@ -99,10 +100,10 @@ fn print_case<B: Board<PlainPart> + Send, R: Threads + Wait + Clock + AllocGloba
     case: Case,
     threads: u32,
 ) -> Result<Spread>
-    ensures first { B.seat crew.new.first.board ≡ B.seat crew.old.first.board }
-    ensures second { B.seat crew.new.second.board ≡ B.seat crew.old.second.board }
-    ensures third { B.seat crew.new.third.board ≡ B.seat crew.old.third.board }
-    ensures fourth { B.seat crew.new.fourth.board ≡ B.seat crew.old.fourth.board }
+    ensures first { B.seat crew.new.left.first.board ≡ B.seat crew.old.left.first.board }
+    ensures second { B.seat crew.new.left.second.board ≡ B.seat crew.old.left.second.board }
+    ensures third { B.seat crew.new.right.first.board ≡ B.seat crew.old.right.first.board }
+    ensures fourth { B.seat crew.new.right.second.board ≡ B.seat crew.old.right.second.board }
 {
     let map: SharedMap = Mutex::new(HashMap::new(rt.alloc()));
     let acquires = case.steps(job.laps).wrapping_mul(u64::from(threads));
@@ -142,10 +143,10 @@ fn check_case<B: Board<PlainPart> + Send, R: Threads + Wait + AllocGlobal + Prin
     case: Case,
     threads: u32,
 ) -> Result<()>
-    ensures first { B.seat crew.new.first.board ≡ B.seat crew.old.first.board }
-    ensures second { B.seat crew.new.second.board ≡ B.seat crew.old.second.board }
-    ensures third { B.seat crew.new.third.board ≡ B.seat crew.old.third.board }
-    ensures fourth { B.seat crew.new.fourth.board ≡ B.seat crew.old.fourth.board }
+    ensures first { B.seat crew.new.left.first.board ≡ B.seat crew.old.left.first.board }
+    ensures second { B.seat crew.new.left.second.board ≡ B.seat crew.old.left.second.board }
+    ensures third { B.seat crew.new.right.first.board ≡ B.seat crew.old.right.first.board }
+    ensures fourth { B.seat crew.new.right.second.board ≡ B.seat crew.old.right.second.board }
 {
     let map: SharedMap = Mutex::new(HashMap::new(rt.alloc()));
     let acquires = case.steps(job.laps).wrapping_mul(u64::from(threads));
@@ -167,10 +168,10 @@ fn print_crew<B: Board<PlainPart> + Send, R: Threads + Wait + Clock + AllocGloba
     owner: Owner,
     check: bool,
 ) -> Result<()>
-    ensures first { B.seat crew.new.first.board ≡ B.seat crew.old.first.board }
-    ensures second { B.seat crew.new.second.board ≡ B.seat crew.old.second.board }
-    ensures third { B.seat crew.new.third.board ≡ B.seat crew.old.third.board }
-    ensures fourth { B.seat crew.new.fourth.board ≡ B.seat crew.old.fourth.board }
+    ensures first { B.seat crew.new.left.first.board ≡ B.seat crew.old.left.first.board }
+    ensures second { B.seat crew.new.left.second.board ≡ B.seat crew.old.left.second.board }
+    ensures third { B.seat crew.new.right.first.board ≡ B.seat crew.old.right.first.board }
+    ensures fourth { B.seat crew.new.right.second.board ≡ B.seat crew.old.right.second.board }
 {
     let steps = if check { 1_600 } else { STEPS };
     let mut alone = Vec::new(rt.alloc());
@@ -211,9 +212,19 @@ pub fn print<R: Threads + Wait + Clock + AllocGlobal + Print + Sync>(
         max_local: 1_024,
     };
     let (manager, mut opener) = Manager::new(rt.alloc(), config)?;
-    let mut crew = Crew::open(rt, &manager, &mut opener, database)?;
+    let left = Pair::open(rt, &manager, &mut opener, database)?;
+    let right = match Pair::open(rt, &manager, &mut opener, database) {
+        Ok(right) => right,
+        Err(refusal) => {
+            left.close(rt, &mut opener);
+            return Err(refusal.into());
+        }
+    };
+    let mut crew = Crew { left, right };
     let printed = print_crew(rt, &mut crew, database, owner, check);
-    crew.close(rt, &mut opener);
+    let Crew { left, right } = crew;
+    left.close(rt, &mut opener);
+    right.close(rt, &mut opener);
     manager.finish(opener);
     printed
 }

@@ -3,9 +3,10 @@
 ghost use Rattle.std.specs.Prelude.{◌≡◌};
 
 use crate::keys::Key;
+use crate::pair::Pair;
 use crossbeam_utils::Backoff;
 use lock_manager::{Locked, OwnSession};
-use lock_table::PlainPart;
+use lock_table::PartTable;
 use modes_core::Owner;
 use shared_rule::board::Board;
 use std::sync::atomic::{AtomicU64, Ordering};
@@ -13,7 +14,7 @@ use std::sync::{Condvar, Mutex, Wait};
 use std::thread::{Threads, join};
 
 /// What the two take, and how often each.
-#[derive(Clone, Copy, Debug)]
+#[derive(Clone, Copy)]
 pub struct Plan {
     pub key: Key,
     pub owner: Owner,
@@ -21,18 +22,18 @@ pub struct Plan {
 }
 
 /// A session that has taken its turns, and how many of them were granted.
-pub struct Player<B: Board<PlainPart>> {
-    pub session: OwnSession<PlainPart, B>,
-    pub granted: u64,
+struct Player<T: PartTable, B: Board<T>> {
+    session: OwnSession<T, B>,
+    granted: u64,
 }
 
 /// The session with the lock, and whether it has it.
 #[inline(never)]
-fn lock<B: Board<PlainPart>, R: Wait>(
+fn lock<T: PartTable, B: Board<T>, R: Wait>(
     rt: &R,
-    session: OwnSession<PlainPart, B>,
+    session: OwnSession<T, B>,
     plan: Plan,
-) -> (OwnSession<PlainPart, B>, bool)
+) -> (OwnSession<T, B>, bool)
     ensures seat { B.seat result.0.board ≡ B.seat session.board }
 {
     let (tag, mode) = plan.key;
@@ -44,9 +45,9 @@ fn lock<B: Board<PlainPart>, R: Wait>(
 }
 
 /// Looks until the other one awaits the lock, or plays no more.
-fn see_other<B: Board<PlainPart>, R: Wait>(
+fn see_other<T: PartTable, B: Board<T>, R: Wait>(
     rt: &R,
-    session: &mut OwnSession<PlainPart, B>,
+    session: &mut OwnSession<T, B>,
     plan: Plan,
     playing: &AtomicU64,
 )
@@ -65,12 +66,12 @@ fn see_other<B: Board<PlainPart>, R: Wait>(
 }
 
 /// Locks over and over, and unlocks each time as soon as the other one awaits it.
-fn take_turns<B: Board<PlainPart>, R: Wait>(
+fn take_turns<T: PartTable, B: Board<T>, R: Wait>(
     rt: &R,
-    mut session: OwnSession<PlainPart, B>,
+    mut session: OwnSession<T, B>,
     plan: Plan,
     playing: &AtomicU64,
-) -> Player<B>
+) -> Player<T, B>
     ensures seat { B.seat result.session.board ≡ B.seat session.board }
 {
     let (tag, mode) = plan.key;
@@ -88,23 +89,32 @@ fn take_turns<B: Board<PlainPart>, R: Wait>(
     Player { session, granted }
 }
 
-/// Both sessions' turns, each in a thread.
-pub fn pass_lock<B: Board<PlainPart> + Drop + Send, R: Threads + Wait + Sync>(
+/// Both sessions' turns, each in a thread, and how many of them were granted.
+pub fn pass_lock<T: PartTable + Drop + Send, B: Board<T> + Drop + Send, R: Threads + Wait + Sync>(
     rt: &R,
-    first: OwnSession<PlainPart, B>,
-    second: OwnSession<PlainPart, B>,
+    pair: Pair<T, B>,
     plan: Plan,
-) -> (Player<B>, Player<B>)
-    ensures first { B.seat result.0.session.board ≡ B.seat first.board }
-    ensures second { B.seat result.1.session.board ≡ B.seat second.board }
+) -> (Pair<T, B>, u64)
+    ensures first { B.seat result.0.first.board ≡ B.seat pair.first.board }
+    ensures second { B.seat result.0.second.board ≡ B.seat pair.second.board }
 {
     let players = AtomicU64::new(2);
     let playing = &players;
-    join(
+    let Pair { first, second } = pair;
+    let (first, second) = join(
         rt,
         || take_turns(rt, first, plan, playing),
         || take_turns(rt, second, plan, playing),
-    )
+    );
+    let Player {
+        session: first,
+        granted,
+    } = first;
+    let Player {
+        session: second,
+        granted: its_granted,
+    } = second;
+    (Pair { first, second }, granted.wrapping_add(its_granted))
 }
 
 /// Waits for the turn and passes it on, over and over. It is the other one's at the end.

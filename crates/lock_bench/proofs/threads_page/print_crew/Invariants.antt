@@ -3,16 +3,16 @@ use Rattle.lock_bench.proofs.threads_page.print_crew.Given as goal
 
 abbrev pub invariant-threads : goal.invariant-threads
 invariant-threads g l = record {
-  first : g.B.Board.seat l.crew.first.board ≡ g.B.Board.seat l.fn.crew.first.board;
-  second : g.B.Board.seat l.crew.second.board ≡ g.B.Board.seat l.fn.crew.second.board;
-  third : g.B.Board.seat l.crew.third.board ≡ g.B.Board.seat l.fn.crew.third.board;
-  fourth : g.B.Board.seat l.crew.fourth.board ≡ g.B.Board.seat l.fn.crew.fourth.board;
+  first : g.B.Board.seat l.crew.left.first.board ≡ g.B.Board.seat l.fn.crew.left.first.board;
+  second : g.B.Board.seat l.crew.left.second.board ≡ g.B.Board.seat l.fn.crew.left.second.board;
+  third : g.B.Board.seat l.crew.right.first.board ≡ g.B.Board.seat l.fn.crew.right.first.board;
+  fourth : g.B.Board.seat l.crew.right.second.board ≡ g.B.Board.seat l.fn.crew.right.second.board;
 }
 
 abbrev pub invariant-cases : goal.invariant-cases
 invariant-cases g l = record {
-  first : g.B.Board.seat l.crew.first.board ≡ g.B.Board.seat l.fn.crew.first.board;
-  second : g.B.Board.seat l.crew.second.board ≡ g.B.Board.seat l.fn.crew.second.board;
-  third : g.B.Board.seat l.crew.third.board ≡ g.B.Board.seat l.fn.crew.third.board;
-  fourth : g.B.Board.seat l.crew.fourth.board ≡ g.B.Board.seat l.fn.crew.fourth.board;
+  first : g.B.Board.seat l.crew.left.first.board ≡ g.B.Board.seat l.fn.crew.left.first.board;
+  second : g.B.Board.seat l.crew.left.second.board ≡ g.B.Board.seat l.fn.crew.left.second.board;
+  third : g.B.Board.seat l.crew.right.first.board ≡ g.B.Board.seat l.fn.crew.right.first.board;
+  fourth : g.B.Board.seat l.crew.right.second.board ≡ g.B.Board.seat l.fn.crew.right.second.board;
 }

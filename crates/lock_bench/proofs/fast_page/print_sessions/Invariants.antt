@@ -1,8 +1,0 @@
-use Rattle.std.proofs.Common.{◌≡◌}
-use Rattle.lock_bench.proofs.fast_page.print_sessions.Given as goal
-
-abbrev pub invariant-rows : goal.invariant-rows
-invariant-rows g l = record {
-  seat : g.B.Board.seat l.session.board ≡ g.B.Board.seat l.fn.session.board;
-  its_seat : g.B.Board.seat l.other.board ≡ g.B.Board.seat l.fn.other.board;
-}

@@ -1,0 +1,58 @@
+//! Pairs of sessions of one manager.
+
+ghost use Rattle.std.specs.Prelude.{◌≡◌, ◌+◌, ◌-◌, IfOk, OnOk, OnErr};
+ghost use Rattle.lock_manager.specs.Managers.{IsOpenerOf};
+
+use lock_manager::{Manager, Opener, OwnSession, Refusal};
+use lock_table::{PartTable, PlainPart};
+use shared_rule::board::Board;
+use shared_rule::seat_board::SeatBoard;
+use std::sync::Wait;
+
+/// Two sessions of one manager, over any board.
+pub struct Pair<T: PartTable, B: Board<T>> {
+    pub first: OwnSession<T, B>,
+    pub second: OwnSession<T, B>,
+}
+
+impl<'a> Pair<PlainPart, SeatBoard<'a, PlainPart>> {
+    /// Two sessions of a manager. Where one of them is refused none of them is open.
+    pub fn open<R: Wait>(
+        rt: &R,
+        manager: &'a Manager,
+        opener: &mut Opener,
+        database: u32,
+    ) -> Result<Self, Refusal>
+        requires own { IsOpenerOf opener.old manager.now }
+        ensures first { let B = ⟦<SeatBoard<'a, PlainPart> as Board<PlainPart>>⟧ in
+            IfOk result (λ pair. (B.seat pair.first.board).table ≡ opener.old.table) }
+        ensures second { let B = ⟦<SeatBoard<'a, PlainPart> as Board<PlainPart>>⟧ in
+            IfOk result (λ pair. (B.seat pair.second.board).table ≡ opener.old.table) }
+        ensures live { OnOk result (opener.new.live ≡ opener.old.live + 2) }
+        ensures refused { OnErr result (opener.new.live ≡ opener.old.live) }
+        ensures own { IsOpenerOf opener.new manager.now }
+        ensures table { opener.new.table ≡ opener.old.table }
+    {
+        let first = opener.session(manager, database)?;
+        match opener.session(manager, database) {
+            Ok(second) => Ok(Pair { first, second }),
+            Err(refusal) => {
+                first.close(rt, opener);
+                Err(refusal)
+            }
+        }
+    }
+
+    /// Closes both.
+    pub fn close<R: Wait>(self, rt: &R, opener: &mut Opener)
+        requires first { (⟦<SeatBoard<'a, PlainPart> as Board<PlainPart>>⟧.seat self.first.board).table ≡ opener.old.table }
+        requires second { (⟦<SeatBoard<'a, PlainPart> as Board<PlainPart>>⟧.seat self.second.board).table ≡ opener.old.table }
+        ensures live { opener.new.live ≡ opener.old.live - 2 }
+        ensures table { opener.new.table ≡ opener.old.table }
+        ensures limit { opener.new.limit ≡ opener.old.limit }
+    {
+        let Pair { first, second } = self;
+        first.close(rt, opener);
+        second.close(rt, opener);
+    }
+}
