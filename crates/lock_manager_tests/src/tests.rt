@@ -184,6 +184,7 @@ fn two_sessions_do_as_the_scenes_say(rt: HostRuntime) -> Result<(), Fail> {
         Scene::Sleeps { asks: false },
         Scene::Sleeps { asks: true },
         Scene::ListsMany,
+        Scene::FindsSlotsBusy,
     ] {
         let config = two(listings::MANY);
         run(&rt, rt.alloc(), config, Story::OfTwo(scene))?;
@@ -194,31 +195,16 @@ fn two_sessions_do_as_the_scenes_say(rt: HostRuntime) -> Result<(), Fail> {
 #[test]
 fn a_thousand_races_end_as_one_of_the_two_had_won(rt: HostRuntime) -> Result<(), Fail> {
     let rounds = 1_000;
-    for scene in [
-        Scene::Races(
-            Race::WeakAgainstStrong(Mode::AccessShare, Mode::AccessExclusive),
-            rounds,
-        ),
-        Scene::Races(
-            Race::WeakAgainstStrong(Mode::RowExclusive, Mode::Share),
-            rounds,
-        ),
-        Scene::Races(
-            Race::StrongOverWeak(Mode::RowExclusive, Mode::Share),
-            rounds,
-        ),
-        Scene::Races(
-            Race::CancelAgainstRelease(Mode::AccessExclusive, Mode::AccessShare),
-            rounds,
-        ),
-        Scene::Races(
-            Race::CancelAgainstRelease(Mode::Share, Mode::AccessExclusive),
-            rounds,
-        ),
-        Scene::Races(Race::AskAgainstSleep, rounds),
-        Scene::FindsSlotsBusy,
+    for race in [
+        Race::WeakAgainstStrong(Mode::AccessShare, Mode::AccessExclusive),
+        Race::WeakAgainstStrong(Mode::RowExclusive, Mode::Share),
+        Race::StrongOverWeak(Mode::RowExclusive, Mode::Share),
+        Race::CancelAgainstRelease(Mode::AccessExclusive, Mode::AccessShare),
+        Race::CancelAgainstRelease(Mode::Share, Mode::AccessExclusive),
+        Race::AskAgainstSleep,
     ] {
-        run(&rt, rt.alloc(), two(8), Story::OfTwo(scene))?;
+        let story = Story::OfTwo(Scene::Races(race, rounds));
+        run(&rt, rt.alloc(), two(8), story)?;
     }
     Ok(())
 }

@@ -54,12 +54,10 @@ pub fn queue<T: PartTable + Drop, B: Board<T> + Drop, R: Abort + Wait>(
 ) -> OwnWaiting<T, B>
     ensures seat { B.seat result.board ≡ B.seat session.board }
 {
-    match session.start(rt, TABLE, mode, OWNER) {
-        Started::Queued(waiting) => waiting,
-        Started::Granted(_) | Started::AlreadyHeld(_) | Started::Refused(_, _) => {
-            panic!(rt; "{mode} is not queued")
-        }
-    }
+    let Started::Queued(waiting) = session.start(rt, TABLE, mode, OWNER) else {
+        panic!(rt; "{mode} is not queued")
+    };
+    waiting
 }
 
 /// Finds the wait granted.
@@ -69,10 +67,10 @@ fn find_granted<T: PartTable + Drop, B: Board<T> + Drop, R: Abort>(
 ) -> OwnSession<T, B>
     ensures seat { B.seat result.board ≡ B.seat waiting.board }
 {
-    match waiting.poll() {
-        Polled::Granted(session) => session,
-        Polled::Still(_) | Polled::CancelAsked(_) => panic!(rt; "not granted"),
-    }
+    let Polled::Granted(session) = waiting.poll() else {
+        panic!(rt; "not granted")
+    };
+    session
 }
 
 /// Finds that the wait goes on, and whether another session asked to cancel it.
@@ -144,10 +142,10 @@ fn leave<T: PartTable + Drop, B: Board<T> + Drop, R: Abort + Wait>(
 ) -> OwnSession<T, B>
     ensures seat { B.seat result.board ≡ B.seat waiting.board }
 {
-    match waiting.cancel(rt) {
-        Cancelled::Removed(session) => session,
-        Cancelled::WasGranted(_) => panic!(rt; "granted"),
-    }
+    let Cancelled::Removed(session) = waiting.cancel(rt) else {
+        panic!(rt; "granted")
+    };
+    session
 }
 
 /// A wait that is cancelled after it was granted has the mode.
