@@ -1,9 +1,7 @@
 //! Grants by the fast path (`FastPathGrantRelationLock` in lock.c).
 
-ghost use Rattle.std.specs.Prelude.{◌≡◌, ◌≢◌, ◌<◌, ◌≤◌, ℕ, List, Some};
+ghost use Rattle.std.specs.Prelude.{◌≡◌, ◌<◌, Some};
 ghost use Rattle.lock_world.specs.SlotHolds.{slot_count};
-ghost use Rattle.lock_world.specs.Account.{SlotsInHand};
-ghost use Rattle.lock_world.specs.World.{TraceEntry};
 ghost use Rattle.fast_path.specs.Slots.{IsReady, MayTry};
 ghost use Rattle.fast_path.specs.Grants.{Grants, TriesGrant, GrantsHeld, HasOwnSlots};
 

@@ -1,7 +1,7 @@
 //! Sessions: the calls that a server's thread makes.
 
 ghost use Rattle.std.specs.Prelude.{◌≡◌, ◌≢◌, ◌<◌, ◌≤◌, ◌-◌, ◌↔◌, [], ◌∷◌, ◌++◌, length, true, false};
-ghost use Rattle.std.specs.Prelude.{IsErrOf, IsOkUnless, IfOk, OnOk, OnErr};
+ghost use Rattle.std.specs.Prelude.{IsErrOf, IsOkUnless, OnOk, OnErr};
 ghost use Rattle.modes_core.specs.ModeSet.{set_has};
 ghost use Rattle.modes_core.specs.Tag.{is_eligible_for};
 ghost use Rattle.local_locks.specs.Owned.{has_entry, owner_count_of, total_of, max_count, with_one_more, with_one_less, ended_by, left_by, IsWellOwned};

@@ -1,7 +1,6 @@
 //! Sessions that wait: how a wait begins, is seen by others, and ends, on one thread and between two.
 
 ghost use Rattle.std.specs.Prelude.{◌≡◌};
-ghost use Rattle.lock_manager.specs.Waits.{session_locked};
 
 use super::pair::Pair;
 use lock_manager::{
