@@ -6,6 +6,7 @@ ghost use Rattle.lock_manager.specs.Managers.{IsNew, IsOpenerOf, IsOpened, is_in
 
 use crate::config::Config;
 use crate::sessions::{Own, OwnSession, Session};
+use crossbeam_utils::CachePadded;
 use local_locks::LocalTable;
 use lock_table::{PlainPart, empty_parts};
 use modes_core::Refusal;
@@ -157,10 +158,12 @@ impl Opener {
         }
         let locals = LocalTable::new(manager.alloc, manager.max_local)?;
         let own = Own {
+            before: CachePadded::new(()),
             locals,
             database,
             uses: 0,
             alloc: manager.alloc,
+            after: CachePadded::new(()),
         };
         let Ok(own) = Box::new(manager.alloc, own) else {
             return Err(Refusal::NoMemory);

@@ -18,6 +18,7 @@ use crate::listing::{Listing, list};
 use crate::manager::Opener;
 use crate::releases::{end_all, release_hold};
 use crate::requests::{acquire, acquire_by_slot};
+use crossbeam_utils::CachePadded;
 use local_locks::{Acquired, End, LocalTable, Unlocked};
 use lock_table::{PartTable, PlainPart};
 use modes_core::{Mode, ModeSet, Owner, Refusal, SessionId, Tag};
@@ -30,15 +31,19 @@ use std::sync::Wait;
 /// A session of a manager.
 pub type Session<'a> = OwnSession<PlainPart, SeatBoard<'a, PlainPart>>;
 
-// What a session has of its own, which no other session sees.
+// What a session has of its own, which no other session sees. It is written in each call, so it has padding round it,
+// which keeps it off the cache lines of what the allocator puts beside it: that may be another thread's session.
 #[derive(Drop)]
+#[repr(C)]
 pub struct Own {
+    pub(crate) before: CachePadded<()>,
     pub(crate) locals: LocalTable,
     // Its database (`MyDatabaseId` in globals.c).
     pub(crate) database: u32,
     // No less than how many of its fast-path slots are in use (`FastPathLocalUseCount` in lock.c).
     pub(crate) uses: u8,
     pub(crate) alloc: Global,
+    pub(crate) after: CachePadded<()>,
 }
 
 /// A session, over any board and any keeper of the partitions. Contracts see its board, its database, its use
