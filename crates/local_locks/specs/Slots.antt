@@ -1,11 +1,11 @@
-use Rattle.std.specs.Prelude.{◌≡◌, ℕ, ◌+◌, ◌*◌, ◌%◌, ◌^◌, ◌<◌, ◌≤◌, Bool, true, false, ◌&&◌, ◌==◌, List, map, filter_map, length, min, Option, Some, None, IfSome, ◌⊎◌, slice_index_or, if◌then◌else◌}
+use Rattle.std.specs.Prelude.{◌≡◌, ℕ, ◌+◌, ◌*◌, ◌/◌, ◌%◌, ◌^◌, ◌<◌, ◌≤◌, Bool, true, false, ◌&&◌, ◌==◌, List, map, filter_map, length, min, Option, Some, None, IfSome, ◌⊎◌, slice_index_or, if◌then◌else◌}
 use Rattle.std.specs.Option.{option_map}
 use Rattle.modes_core.specs.declared.modes.Mode.{Mode}
 use Rattle.modes_core.specs.declared.tags.Tag.{Tag}
-use Rattle.modes_core.specs.declared.tags.Tag.TheVariants.{Relation}
+use Rattle.modes_core.specs.declared.tags.Tag.TheVariants.{Relation, Object}
 use Rattle.modes_core.specs.declared.modes.Mode.TheVariants.{AccessShare}
 use Rattle.modes_core.specs.Mode.{number_of, mode_eq}
-use Rattle.modes_core.specs.Tag.{hash_of, tag_eq}
+use Rattle.modes_core.specs.Tag.{tag_eq}
 use Rattle.place_index.specs.Notes.{Notes, times, no_place}
 use Rattle.local_locks.specs.declared.records.Entry.{Entry}
 use Rattle.local_locks.specs.declared.ends.Progress.{Progress}
@@ -37,9 +37,19 @@ present slots = filter_map (λ slot. slot) slots
 abbrev pub is_key : Tag → Mode → Tag × Mode → Bool
 is_key tag mode key = tag_eq tag key.0 && mode_eq mode key.1
 
--- the hash of an object and mode: one step more of the object's
+-- what the numbers of an object and mode are multiplied by
+abbrev pub multiplier : ℕ
+multiplier = 11400714819323198485
+
+-- an object in 64 bits
+abbrev pub object_bits : Tag → ℕ
+object_bits (Relation database relation) = database * 2 ^ 32 + relation
+object_bits (Object database class object sub_object) =
+    ((class * 2 ^ 16 + sub_object) * multiplier % 2 ^ 64 + (database * 2 ^ 32 + object)) % 2 ^ 64
+
+-- the hash of an object and mode: the upper half of a product
 unfoldable pub key_hash : Tag → Mode → ℕ
-key_hash tag mode = (hash_of tag * 31 + number_of mode) % 2 ^ 32
+key_hash tag mode = (object_bits tag + number_of mode * 2 ^ 28) % 2 ^ 64 * multiplier % 2 ^ 64 / 2 ^ 32
 
 -- the object and mode of the entry at a place
 abbrev pub key_at : Slots → ℕ → Option (Tag × Mode)

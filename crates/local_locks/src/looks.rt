@@ -1,19 +1,42 @@
 ghost use Rattle.std.specs.Prelude.{◌≡◌, ◌<◌, length};
 ghost use Rattle.local_locks.specs.Owned.{is_of};
-ghost use Rattle.local_locks.specs.Slots.{key_hash, opened, entry_at, IsIndexed, IsSpot};
+ghost use Rattle.local_locks.specs.Slots.{key_hash, object_bits, opened, entry_at, IsIndexed, IsSpot};
 
 use crate::Entry;
 use modes_core::{Mode, Tag};
 use place_index::PlaceIndex;
 
-/// The hash of an object and mode.
+/// What a key is multiplied by: 2^64 divided by the golden ratio.
+const MULTIPLIER: u64 = 0x9E37_79B9_7F4A_7C15;
+
+/// An object in 64 bits, in which near objects are near numbers.
+#[inline(always)]
+fn object_bits(tag: &Tag) -> u64
+    ensures { result ≡ object_bits tag.now }
+{
+    match *tag {
+        Tag::Relation { database, relation } => (u64::from(database) << 32) + u64::from(relation),
+        Tag::Object {
+            database,
+            class,
+            object,
+            sub_object,
+        } => {
+            let part = (u64::from(class) << 16) + u64::from(sub_object);
+            let object = (u64::from(database) << 32) + u64::from(object);
+            part.wrapping_mul(MULTIPLIER).wrapping_add(object)
+        }
+    }
+}
+
+/// The hash of an object and mode: the upper half of a product, by which consecutive objects, and the modes of one, get
+/// hashes far apart. It takes one multiplication for a relation, and two for an object.
 #[inline(always)]
 pub(crate) fn key_hash(tag: &Tag, mode: Mode) -> u32
     ensures { result ≡ key_hash tag.now mode }
 {
-    tag.hash()
-        .wrapping_mul(31)
-        .wrapping_add(u32::from(mode.number()))
+    let key = object_bits(tag).wrapping_add(u64::from(mode.number()) << 28);
+    (key.wrapping_mul(MULTIPLIER) >> 32) as u32
 }
 
 /// The place of the entry of an object and mode, looked for through the index.

@@ -12,7 +12,7 @@ const MULTIPLIER: u64 = 0x9E37_79B9_7F4A_7C15;
 pub(crate) fn start_of(mask: usize, hash: u32) -> usize
     ensures { result ≡ start_of mask hash }
 {
-    (u64::from(hash ^ hash >> 15).wrapping_mul(MULTIPLIER) >> 32) as usize & mask
+    (u64::from(hash).wrapping_mul(MULTIPLIER) >> 32) as usize & mask
 }
 
 /// The place under this hash that is the one looked for.
