@@ -10,6 +10,10 @@ use place_index::PlaceIndex;
 use std::alloc::Global;
 use std::marker::Model;
 
+/// How many slots there are room for at first, as `LockMethodLocalHash` of lock.c has. Fewer would let the tables of two
+/// sessions share a cache line, which each of them writes in every call.
+const FIRST_SLOTS: usize = 16;
+
 /// How many slots there may be, so that the place of each can be noted.
 const MAX_SLOTS: usize = u32::MAX as usize;
 
@@ -45,7 +49,7 @@ impl Model for LocalTable {
 }
 
 impl LocalTable {
-    /// An empty table with room for one entry.
+    /// An empty table with room for its first entries.
     pub fn new(alloc: Global, max_local: u32) -> Result<Self, Refusal>
         requires from { 1 ≤ max_local }
         requires to { max_local ≤ 65536 }
@@ -55,7 +59,7 @@ impl LocalTable {
         ensures well_owned { IfOk result (λ table. IsWellOwned table) }
         ensures no_memory { IsOkUnless result Refusal.NoMemory }
     {
-        let Ok(slots) = Vec::with_capacity(alloc, 1) else {
+        let Ok(slots) = Vec::with_capacity(alloc, FIRST_SLOTS) else {
             return Err(Refusal::NoMemory);
         };
         let mut index = PlaceIndex::new(alloc);

@@ -7,7 +7,7 @@ use std::alloc::{AllocError, Global};
 use std::marker::Model;
 
 /// How many notes the smallest table has room for.
-const LEAST: usize = 4;
+const LEAST: usize = 16;
 
 /// Places in somebody else's list, each noted under a 32-bit hash. Contracts see how often a place is
 /// noted under a hash, and how many more notes there is room for.

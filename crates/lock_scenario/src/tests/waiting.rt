@@ -264,7 +264,7 @@ pub const WAITING_LINES: [BadRow<'static>; 23] = [
 ];
 
 /// Passes over more than a few who wait.
-pub const PASSES: [Row<'static>; 3] = [
+pub const PASSES: [Row<'static>; 4] = [
     // from name to name in their byte order
     (0, TWELVE_WAIT, TWELVE_WAKE, ""),
     // reads queue up behind an ALTER
@@ -297,6 +297,27 @@ pub const PASSES: [Row<'static>; 3] = [
         a: granted after waiting\nb: granted after waiting\ny: granted after waiting\n\
         z: granted after waiting\na: closed\nz: closed\ntable y 5/1 ShareLock granted\n\
         table b 5/1 ShareLock granted\nrows 2\n",
+        "",
+    ),
+    // ten go on waiting before the one that is granted
+    (
+        0,
+        "session m 5\nsession n 5\ntry m 5/1 AccessExclusiveLock\n\
+        try n 5/2 AccessExclusiveLock\nsession w0 5\nlock w0 5/1 ShareLock\nsession w1 5\n\
+        lock w1 5/1 ShareLock\nsession w2 5\nlock w2 5/1 ShareLock\nsession w3 5\n\
+        lock w3 5/1 ShareLock\nsession w4 5\nlock w4 5/1 ShareLock\nsession w5 5\n\
+        lock w5 5/1 ShareLock\nsession w6 5\nlock w6 5/1 ShareLock\nsession w7 5\n\
+        lock w7 5/1 ShareLock\nsession w8 5\nlock w8 5/1 ShareLock\nsession w9 5\n\
+        lock w9 5/1 ShareLock\nsession z 5\nlock z 5/2 ShareLock\ncommit n\n\
+        owned z 5/2 ShareLock\n",
+        "m: session 0 database 5\nn: session 1 database 5\nm: granted\nn: granted\n\
+        w0: session 2 database 5\nw0: waits\nw1: session 3 database 5\nw1: waits\n\
+        w2: session 4 database 5\nw2: waits\nw3: session 5 database 5\nw3: waits\n\
+        w4: session 6 database 5\nw4: waits\nw5: session 7 database 5\nw5: waits\n\
+        w6: session 8 database 5\nw6: waits\nw7: session 9 database 5\nw7: waits\n\
+        w8: session 10 database 5\nw8: waits\nw9: session 11 database 5\nw9: waits\n\
+        z: session 12 database 5\nz: waits\nn: committed\nz: granted after waiting\n\
+        z: transaction 1 session 0\n",
         "",
     ),
 ];
