@@ -83,12 +83,9 @@ impl Progress {
 
     /// No end is past this slot, whose entry changes.
     #[inline(always)]
-    pub(crate) fn back_to(self, place: usize) -> Self
-        ensures { result ≡ back_to place self }
+    pub(crate) fn go_back_to(&mut self, place: usize)
+        ensures { self.new ≡ back_to place self.old }
     {
-        Progress {
-            end: self.end,
-            place: self.place.min(place),
-        }
+        self.place = self.place.min(place);
     }
 }

@@ -71,5 +71,14 @@ pub(crate) fn look(
     if first < slots.len() && slots[first].is_of(tag, mode) && slots[first].is_held() {
         return Some(first);
     }
+    look_elsewhere(slots, index, tag, mode)
+}
+
+/// The same, where it isn't at that place: a call of its own, so that a look that finds it there stays short.
+#[inline(never)]
+fn look_elsewhere(slots: &[Entry], index: &PlaceIndex, tag: &Tag, mode: Mode) -> Option<usize>
+    requires { IsIndexed (opened slots.now) index.now }
+    ensures { IsSpot slots.now tag.now mode result }
+{
     look_up(slots, index, tag, mode)
 }

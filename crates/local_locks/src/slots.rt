@@ -74,7 +74,7 @@ fn slots_left(slots: usize, len: usize, place: usize) -> usize
 }
 
 /// Takes the entry out of its slot, and the slot away if it is the last one; with the only entry all slots go.
-#[inline(always)]
+#[inline(never)]
 pub(crate) fn take_out(slots: &mut Vec<Entry>, index: &mut PlaceIndex, len: usize, place: usize)
     requires indexed { IsIndexed (opened slots.old.items) index.old }
     requires len { len ≡ length (present (opened slots.old.items)) }

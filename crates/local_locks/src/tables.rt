@@ -108,6 +108,7 @@ impl LocalTable {
 
     /// Counts an object and mode that is held already once more for this owner, in one look, and answers whether it is
     /// (`LockAcquireExtended` in lock.c where it finds a local lock with `nLocks` above 0).
+    #[inline(always)]
     pub fn add_held(&mut self, tag: &Tag, mode: Mode, owner: Owner) -> Result<bool, Refusal>
         ensures held { (result ≡ Ok true) ↔ ((has_entry self.old.entries tag.now mode ≡ true)
             × (owner_count_of self.old.entries tag.now mode owner < max_count)) }
@@ -129,7 +130,7 @@ impl LocalTable {
         }
         self.last = place;
         raise(&mut self.slots, place, owner);
-        self.progress = self.progress.back_to(place);
+        self.progress.go_back_to(place);
         Ok(true)
     }
 
@@ -252,7 +253,7 @@ impl LocalTable {
             Some(place) => {
                 self.last = place;
                 raise(&mut self.slots, place, owner);
-                self.progress = self.progress.back_to(place);
+                self.progress.go_back_to(place);
                 Acquired::AlreadyHeld
             }
             None => {
@@ -279,7 +280,7 @@ impl LocalTable {
         push_entry(&mut self.slots, &mut self.index, hash, entry);
         self.len += 1;
         self.last = place;
-        self.progress = self.progress.back_to(place);
+        self.progress.go_back_to(place);
     }
 
     /// Takes one count of this owner back (`LockRelease` in lock.c, where it touches the local lock
@@ -295,7 +296,23 @@ impl LocalTable {
         ensures max_local { self.new.max_local ≡ self.old.max_local }
         ensures well_owned { IsWellOwned self.new }
     {
-        let Some(place) = look(&self.slots, &self.index, self.last, &tag, mode) else {
+        self.drop_held(&tag, mode, owner)
+    }
+
+    /// The same of an object that is lent, as `add_held` takes it.
+    #[inline(always)]
+    pub fn drop_held(&mut self, tag: &Tag, mode: Mode, owner: Owner) -> Result<Unlocked, Refusal>
+        ensures not_held { IsErrOf result Refusal.NotHeld ↔ (owner_count_of self.old.entries tag.now mode owner ≡ 0) }
+        ensures no_other { IsOkUnless result Refusal.NotHeld }
+        ensures answer { IfOk result (λ answer.
+            (answer ≡ Unlocked.StillHeld) ↔ (0 < total_of self.new.entries tag.now mode)) }
+        ensures entries { OnOk result (self.new.entries ≡ with_one_less self.old.entries tag.now mode owner) }
+        ensures refused { OnErr result (self.new ≡ self.old) }
+        ensures room { self.old.room ≤ self.new.room }
+        ensures max_local { self.new.max_local ≡ self.old.max_local }
+        ensures well_owned { IsWellOwned self.new }
+    {
+        let Some(place) = look(&self.slots, &self.index, self.last, tag, mode) else {
             return Err(Refusal::NotHeld);
         };
         let entry = &self.slots[place];

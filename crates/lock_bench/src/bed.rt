@@ -104,7 +104,7 @@ impl Bed {
         };
         acquire_all(&mut bed.table, bed.held.as_slice(), owner)?;
         for (tag, mode) in &bed.held {
-            insert(&mut bed.map, *tag, *mode, 0)?;
+            insert(&mut bed.map, tag, *mode, 0)?;
         }
         Ok(bed)
     }

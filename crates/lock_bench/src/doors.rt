@@ -9,8 +9,8 @@ pub type KeyMap = HashMap<(Tag, Mode), u32>;
 
 /// A call that counts what it gets, unless that is what no key is.
 #[inline(never)]
-pub fn pass(passed: u64, tag: Tag, mode: Mode, owner: Owner) -> u64 {
-    if tag != Tag::relation(0, 0) || mode != Mode::Share || owner != Owner::Session {
+pub fn pass(passed: u64, tag: &Tag, mode: Mode, owner: Owner) -> u64 {
+    if *tag != Tag::relation(0, 0) || mode != Mode::Share || owner != Owner::Session {
         return passed.wrapping_add(1);
     }
     passed
@@ -19,26 +19,26 @@ pub fn pass(passed: u64, tag: Tag, mode: Mode, owner: Owner) -> u64 {
 #[inline(never)]
 pub fn acquire(
     table: &mut LocalTable,
-    tag: Tag,
+    tag: &Tag,
     mode: Mode,
     owner: Owner,
 ) -> Result<Acquired, Refusal> {
-    if table.add_held(&tag, mode, owner)? {
+    if table.add_held(tag, mode, owner)? {
         return Ok(Acquired::AlreadyHeld);
     }
     table.reserve_new()?;
-    table.add_new(&tag, mode, owner);
+    table.add_new(tag, mode, owner);
     Ok(Acquired::Granted)
 }
 
 #[inline(never)]
 pub fn release(
     table: &mut LocalTable,
-    tag: Tag,
+    tag: &Tag,
     mode: Mode,
     owner: Owner,
 ) -> Result<Unlocked, Refusal> {
-    table.drop_one(tag, mode, owner)
+    table.drop_held(tag, mode, owner)
 }
 
 #[inline(never)]
@@ -47,17 +47,17 @@ pub fn end_next(table: &mut LocalTable, end: End) -> Option<(Tag, Mode)> {
 }
 
 #[inline(never)]
-pub fn look_up(map: &KeyMap, tag: Tag, mode: Mode) -> bool {
-    map.contains_key(&(tag, mode))
+pub fn look_up(map: &KeyMap, tag: &Tag, mode: Mode) -> bool {
+    map.contains_key(&(*tag, mode))
 }
 
 #[inline(never)]
-pub fn insert(map: &mut KeyMap, tag: Tag, mode: Mode, place: u32) -> Result<(), AllocError> {
-    map.insert((tag, mode), place)?;
+pub fn insert(map: &mut KeyMap, tag: &Tag, mode: Mode, place: u32) -> Result<(), AllocError> {
+    map.insert((*tag, mode), place)?;
     Ok(())
 }
 
 #[inline(never)]
-pub fn remove(map: &mut KeyMap, tag: Tag, mode: Mode) -> bool {
-    map.remove(&(tag, mode)).is_some()
+pub fn remove(map: &mut KeyMap, tag: &Tag, mode: Mode) -> bool {
+    map.remove(&(*tag, mode)).is_some()
 }

@@ -10,7 +10,7 @@ pub fn passes(keys: &[Key], owner: Owner, laps: u32) -> u64 {
     let mut passed = 0u64;
     for _ in 0..laps {
         for (tag, mode) in keys {
-            passed = pass(passed, *tag, *mode, owner);
+            passed = pass(passed, tag, *mode, owner);
         }
     }
     passed
@@ -21,8 +21,8 @@ pub fn double_passes(keys: &[Key], owner: Owner, laps: u32) -> u64 {
     let mut passed = 0u64;
     for _ in 0..laps {
         for (tag, mode) in keys {
-            passed = pass(passed, *tag, *mode, owner);
-            passed = pass(passed, *tag, *mode, owner);
+            passed = pass(passed, tag, *mode, owner);
+            passed = pass(passed, tag, *mode, owner);
         }
     }
     passed
@@ -32,8 +32,8 @@ pub fn double_passes(keys: &[Key], owner: Owner, laps: u32) -> u64 {
 pub fn pairs(table: &mut LocalTable, keys: &[Key], owner: Owner, laps: u32) -> Result<(), Refusal> {
     for _ in 0..laps {
         for (tag, mode) in keys {
-            acquire(table, *tag, *mode, owner)?;
-            release(table, *tag, *mode, owner)?;
+            acquire(table, tag, *mode, owner)?;
+            release(table, tag, *mode, owner)?;
         }
     }
     Ok(())
@@ -42,7 +42,7 @@ pub fn pairs(table: &mut LocalTable, keys: &[Key], owner: Owner, laps: u32) -> R
 /// Acquires each.
 pub fn acquire_all(table: &mut LocalTable, keys: &[Key], owner: Owner) -> Result<(), Refusal> {
     for (tag, mode) in keys {
-        acquire(table, *tag, *mode, owner)?;
+        acquire(table, tag, *mode, owner)?;
     }
     Ok(())
 }
@@ -57,7 +57,7 @@ pub fn in_order(
     for _ in 0..laps {
         acquire_all(table, keys, owner)?;
         for (tag, mode) in keys {
-            release(table, *tag, *mode, owner)?;
+            release(table, tag, *mode, owner)?;
         }
     }
     Ok(())
@@ -73,7 +73,7 @@ pub fn in_opposite_order(
     for _ in 0..laps {
         acquire_all(table, keys, owner)?;
         for (tag, mode) in keys.iter().rev() {
-            release(table, *tag, *mode, owner)?;
+            release(table, tag, *mode, owner)?;
         }
     }
     Ok(())
@@ -84,7 +84,7 @@ pub fn refusals(table: &mut LocalTable, keys: &[Key], owner: Owner, laps: u32) -
     let mut refused = 0u64;
     for _ in 0..laps {
         for (tag, mode) in keys {
-            refused = refused.wrapping_add(u64::from(release(table, *tag, *mode, owner).is_err()));
+            refused = refused.wrapping_add(u64::from(release(table, tag, *mode, owner).is_err()));
         }
     }
     refused
@@ -105,7 +105,7 @@ pub fn look_up_all(map: &KeyMap, keys: &[Key], laps: u32) -> u64 {
     let mut found = 0u64;
     for _ in 0..laps {
         for (tag, mode) in keys {
-            found = found.wrapping_add(u64::from(look_up(map, *tag, *mode)));
+            found = found.wrapping_add(u64::from(look_up(map, tag, *mode)));
         }
     }
     found
@@ -115,8 +115,8 @@ pub fn look_up_all(map: &KeyMap, keys: &[Key], laps: u32) -> u64 {
 pub fn map_pairs(map: &mut KeyMap, keys: &[Key], laps: u32) -> Result<()> {
     for _ in 0..laps {
         for (tag, mode) in keys {
-            insert(map, *tag, *mode, 0)?;
-            remove(map, *tag, *mode);
+            insert(map, tag, *mode, 0)?;
+            remove(map, tag, *mode);
         }
     }
     Ok(())

@@ -227,7 +227,7 @@ impl<T: PartTable, B: Board<T>> OwnSession<T, B> {
         ensures same { IsSame B.seat B.view B.stack self.old self.new }
     {
         let own: &mut Own = &mut self.own;
-        match own.locals.drop_one(tag, mode, owner)? {
+        match own.locals.drop_held(&tag, mode, owner)? {
             Unlocked::StillHeld => Ok(Unlocked::StillHeld),
             Unlocked::Released => {
                 release_hold(rt, &mut self.board, own.database, &mut own.uses, &tag, mode);
