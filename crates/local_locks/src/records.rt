@@ -22,14 +22,11 @@ impl Entry {
     pub(crate) fn new(tag: Tag, mode: Mode, owner: Owner) -> Self
         ensures { result ≡ new_entry tag mode owner }
     {
-        let (transaction, session) = match owner {
-            Owner::Session => (0, 1),
-            Owner::Transaction => (1, 0),
-        };
+        let session = u16::from(owner == Owner::Session);
         Entry {
             tag,
             mode,
-            transaction,
+            transaction: 1 - session,
             session,
         }
     }

@@ -1,4 +1,4 @@
-use Rattle.std.specs.Prelude.{◌≡◌, ℕ, ◌+◌, ◌*◌, ◌/◌, ◌%◌, ◌^◌, ◌<◌, ◌≤◌, Bool, true, false, not, ◌&&◌, ◌==◌, List, length, count_by, slice_index_or, bit_and, filter_map, Option, Some, None, if◌then◌else◌}
+use Rattle.std.specs.Prelude.{◌≡◌, ℕ, ◌+◌, ◌<◌, ◌≤◌, Bool, true, false, not, ◌&&◌, ◌==◌, List, length, count_by, slice_index_or, bit_and, filter_map, Option, Some, None, if◌then◌else◌}
 use Rattle.place_index.specs.declared.cells.Cell.{Cell}
 use Rattle.place_index.specs.Notes.{no_place}
 
@@ -37,9 +37,9 @@ notes_in cells = filter_map note_of cells
 abbrev pub times_in : List Cell → ℕ → ℕ → ℕ
 times_in cells hash place = count_by (is_note hash place) cells
 
--- where a probe starts, 0 to the mask: a multiplication spreads the hash over the cells
+-- where a probe starts, 0 to the mask: at the hash's lowest bits
 unfoldable pub start_of : ℕ → ℕ → ℕ
-start_of mask hash = bit_and (hash * 11400714819323198485 % 2 ^ 64 / 2 ^ 32) mask
+start_of mask hash = bit_and hash mask
 
 -- a probe that starts at one cell comes to another: all cells before it have notes
 abbrev pub Comes : List Cell → ℕ → ℕ → Type 0

@@ -4,15 +4,12 @@ ghost use Rattle.place_index.specs.Cells.{empty_cell, cell_at, is_full, is_note,
 
 use crate::cells::Cell;
 
-/// What a hash is multiplied by, so that near hashes start far apart: 2^64 divided by the golden ratio.
-const MULTIPLIER: u64 = 0x9E37_79B9_7F4A_7C15;
-
-/// Where a probe for the hash starts, 0 to the mask.
+/// Where a probe for the hash starts, 0 to the mask: its lowest bits.
 #[inline(always)]
 pub(crate) fn start_of(mask: usize, hash: u32) -> usize
     ensures { result ≡ start_of mask hash }
 {
-    (u64::from(hash).wrapping_mul(MULTIPLIER) >> 32) as usize & mask
+    hash as usize & mask
 }
 
 /// The place under this hash that is the one looked for.
