@@ -15,10 +15,10 @@ use Rattle.local_locks.specs.Owned.{IsCounted, is_ended, after_end, with_next_en
 use Rattle.local_locks.specs.Slots.{Slots, opened, entry_at, slot_at, present, key_at, IsIndexed, IsPast, IsKept, IsTable, reached, came_to, at_start}
 use Rattle.local_locks.proofs.SlotLaws.{and_some, slot_at-set, slot_at-set_other, slot_at-within}
 use Rattle.local_locks.proofs.EndLaws.{Stopped, Passed, present-same, present-stopped, find-stopped}
-use Rattle.local_locks.proofs.IndexLaws.{indexed-alike}
+use Rattle.local_locks.proofs.IndexLaws.{indexed-nil, indexed-alike}
 use Rattle.local_locks.proofs.OpenLaws.{length-opened, opened_some}
 use Rattle.std.proofs.lemmas.List.{get_or_default}
-use Rattle.local_locks.proofs.KeptLaws.{all_present, past-settled, past-none}
+use Rattle.local_locks.proofs.KeptLaws.{all_present, from_present, past-settled, past-none, past-all}
 
 -- the object and mode of an entry
 abbrev key_of : Entry → Tag × Mode
@@ -154,7 +154,7 @@ pub kept-walked :
     Walked end old new place → IsKept old index len max_local progress → IsKept new index len max_local (came_to end place)
 kept-walked end old new place index len max_local progress walked kept =
     record {
-      indexed = indexed-alike old new index (walked_keys end old new place walked) kept.indexed;
+      indexed = indexed-alike old new index walked.number (walked_keys end old new place walked) kept.indexed;
       counted = walked-counted end old new place walked kept.counted;
       number = kept.number ∙ sym (length-present_alike old new walked.number (walked_alike end old new place walked));
       within = kept.within;
@@ -210,28 +210,40 @@ walked_passed end old new place walked all =
 
 -- ---- the entries moved together
 
-from_present : (P : Entry → Type 0) (slots : Slots) → AllByRecursion P (present slots) → (k : ℕ) (e : Entry) → slot_at slots k ≡ Some e → P e
-from_present P [] all k e at = absurd (let bad : None ≡ Some e = at in cc)
-from_present P (None ∷ slots) all zero e at = absurd (let bad : None ≡ Some e = at in cc)
-from_present P (None ∷ slots) all (suc k) e at = from_present P slots all k e at
-from_present P (Some x ∷ slots) all zero e at = let same : x ≡ e = cc in subst P same all.0
-from_present P (Some x ∷ slots) all (suc k) e at = from_present P slots all.1 k e at
-
-pub kept-compact :
-    (old new : Slots) (index index' : Notes) (len max_local : ℕ) (progress : Progress) →
-    IsKept old index len max_local progress → IsIndexed new index' → present new ≡ present old → IsKept new index' len max_local at_start
-kept-compact old new index index' len max_local progress kept indexed same =
+kept-gathered :
+    (old new : Slots) (index index' : Notes) (len max_local : ℕ) (progress progress' : Progress) →
+    IsKept old index len max_local progress → IsIndexed new index' → present new ≡ present old →
+    ((end : End) → IsPast end new (reached end progress')) → IsKept new index' len max_local progress'
+kept-gathered old new index index' len max_local progress progress' kept indexed same past =
     record {
       indexed = indexed;
       counted = from_present IsCounted new (subst (λ l. AllByRecursion IsCounted l) (sym same) (all_present IsCounted old kept.counted));
       number = kept.number ∙ sym (ap (λ l. length l) same);
       within = kept.within;
-      past = at_first;
-    } where
-      at_first : (end : End) → IsPast end new (reached end at_start)
-      at_first Commit = past-none Commit new
-      at_first Abort = past-none Abort new
-      at_first Close = past-none Close new
+      past = past;
+    }
+
+past-start : (slots : Slots) (end : End) → IsPast end slots (reached end at_start)
+past-start slots Commit = past-none Commit slots
+past-start slots Abort = past-none Abort slots
+past-start slots Close = past-none Close slots
+
+pub kept-compact :
+    (old new : Slots) (index index' : Notes) (len max_local : ℕ) (progress : Progress) →
+    IsKept old index len max_local progress → IsIndexed new index' → present new ≡ present old → IsKept new index' len max_local at_start
+kept-compact old new index index' len max_local progress kept indexed same =
+    kept-gathered old new index index' len max_local progress at_start kept indexed same (past-start new)
+
+-- an end that has come past all slots is past them wherever the entries have moved
+pub kept-tidy :
+    (end : End) (old mid new : Slots) (place used : ℕ) (index index' : Notes) (len max_local : ℕ) (progress : Progress) →
+    Walked end old mid place → place ≡ length old → IsKept old index len max_local progress → IsIndexed new index' → present new ≡ present mid →
+    IsKept new index' len max_local (came_to end used)
+kept-tidy end old mid new place used index index' len max_local progress walked all kept indexed same =
+    let there = kept-walked end old mid place index len max_local progress walked kept in
+    kept-gathered mid new index index' len max_local (came_to end place) (came_to end used) there indexed same (past-all end mid new place used there.past same all_past) where
+      all_past : (k : ℕ) (e : Entry) → slot_at mid k ≡ Some e → k < place
+      all_past k e at = omega (arith, slot_at-within mid k e at, walked.number)
 
 -- ---- an index with the same places
 
@@ -241,7 +253,11 @@ pub kept-index :
 kept-index slots slots' index index' len max_local progress kept same notes =
     subst (λ (s : Slots). IsKept s index' len max_local progress) (sym same)
     (record {
-      indexed = record { noted = λ h p. notes h p ∙ kept.indexed.noted h p; once = kept.indexed.once };
+      indexed = record {
+        noted = λ h p key at. notes h p ∙ kept.indexed.noted h p key at;
+        within = λ h p past. notes h p ∙ kept.indexed.within h p past;
+        once = kept.indexed.once;
+      };
       counted = kept.counted;
       number = kept.number;
       within = kept.within;
@@ -254,24 +270,16 @@ pub table-empty : (index : Notes) (max_local : ℕ) → ((h p : ℕ) → times i
 table-empty index max_local none =
     record {
       kept = record {
-        indexed = record { noted = none; once = λ i j key at_i at_j. absurd (no_key i key at_i) };
+        indexed = indexed-nil index none;
         counted = λ k e at. absurd (no_entry k e at);
         number = refl;
         within = omega arith;
-        past = at_first;
+        past = past-start [];
       };
       few = omega arith;
     } where
       no_entry : (k : ℕ) (e : Entry) → slot_at [] k ≡ Some e → ⊥
       no_entry k e at = (let bad : None ≡ Some e = at in cc)
-
-      no_key : (k : ℕ) (key : Tag × Mode) → key_at [] k ≡ Some key → ⊥
-      no_key k key at = (let bad : None ≡ Some key = at in cc)
-
-      at_first : (end : End) → IsPast end [] (reached end at_start)
-      at_first Commit = past-none Commit []
-      at_first Abort = past-none Abort []
-      at_first Close = past-none Close []
 
 -- the same slots, and an index with the same places
 pub table-index :

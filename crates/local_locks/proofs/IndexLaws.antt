@@ -1,15 +1,16 @@
-use Rattle.std.proofs.Common.{◌≡◌, ◌≢◌, ℕ, ◌<◌, Bool, true, false, ◌&&◌, cond, eqb, [], ◌∷◌, ◌++◌, ◌≤◌, length, set, refl, sym, ap, ◌∙◌, inl, inr, arith}
+use Rattle.std.proofs.Common.{◌≡◌, ◌≢◌, ℕ, ◌+◌, ◌<◌, Bool, true, false, ◌&&◌, cond, eqb, [], ◌∷◌, ◌++◌, ◌≤◌, List, length, count_by, ltb, set, suc, zero, subst, refl, sym, ap, ◌∙◌, inl, inr, arith}
 use Rattle.std.specs.Prelude.{Option, Some, None}
 use Rattle.std.specs.Option.{option_map}
-use Rattle.std.proofs.lemmas.Bool.{cases_Bool, cases_eq, cases_lt, and_right, eq-eqb, ne_eqb}
+use Rattle.std.proofs.lemmas.Bool.{cases_Bool, cases_eq, cases_lt, and_right, eq-eqb, ne_eqb, eqb-true, and_parts, lt-ltb, le-ltb}
 use Rattle.modes_core.specs.declared.modes.Mode.{Mode}
 use Rattle.modes_core.specs.declared.tags.Tag.{Tag}
-use Rattle.place_index.specs.Notes.{Notes, times, once_at, IsOneMore}
+use Rattle.place_index.specs.Notes.{Notes, times, is_at, once_at, IsOneMore}
 use Rattle.local_locks.specs.declared.records.Entry.{Entry}
 use Rattle.local_locks.specs.Owned.{is_of, entry_for}
 use Rattle.local_locks.specs.Slots.{Slots, slot_at, present, key_at, key_hash, times_of, IsIndexed}
 use Rattle.local_locks.proofs.SlotLaws.{NoneElse, if_some, is_of-same, entry_of-at, slot_at-set, slot_at-set_other, slot_at-within, slot_at-past, slot_at-push, slot_at-push_before}
 use Rattle.std.proofs.lemmas.List.{length-set, length_push}
+use Rattle.std.proofs.lemmas.List.Sums.{count_by-le-length, sum_by-cons}
 
 -- ---- keys of slots
 
@@ -28,7 +29,7 @@ some_key slots k key at = go (slot_at slots k) refl where
   go None is = absurd (let bad : None ≡ Some key = sym (ap (option_map (λ y. (y.tag, y.mode))) is) ∙ at in cc)
   go (Some x) is = (x, is, let both : Some (x.tag, x.mode) ≡ Some key = sym (ap (option_map (λ y. (y.tag, y.mode))) is) ∙ at in cc)
 
-none_some : (key : Tag × Mode) → None ≡ Some key → ⊥
+pub none_some : (key : Tag × Mode) → None ≡ Some key → ⊥
 none_some key bad = cc
 
 -- ---- what an exact index says
@@ -48,18 +49,30 @@ found_entry slots index indexed tag mode place e at own = entry_of-at tag mode s
 
 -- ---- an exact index stays so
 
--- the same objects and modes in the same slots
-pub indexed-alike : (slots slots' : Slots) (index : Notes) → ((k : ℕ) → key_at slots' k ≡ key_at slots k) → IsIndexed slots index → IsIndexed slots' index
-indexed-alike slots slots' index same indexed =
+-- no slot at all, and no note
+pub indexed-nil : (index : Notes) → ((hash place : ℕ) → times index hash place ≡ 0) → IsIndexed [] index
+indexed-nil index none =
     record {
-      noted = λ h p. indexed.noted h p ∙ ap (λ key. times_of key h) (sym (same p));
+      noted = λ h p key at. absurd (no_key p key at);
+      within = λ h p past. none h p;
+      once = λ i j key at_i at_j. absurd (no_key i key at_i);
+    } where
+      no_key : (k : ℕ) (key : Tag × Mode) → key_at [] k ≡ Some key → ⊥
+      no_key k key at = (let bad : None ≡ Some key = at in cc)
+
+-- the same objects and modes in the same slots
+pub indexed-alike : (slots slots' : Slots) (index : Notes) → length slots' ≡ length slots → ((k : ℕ) → key_at slots' k ≡ key_at slots k) → IsIndexed slots index → IsIndexed slots' index
+indexed-alike slots slots' index number same indexed =
+    record {
+      noted = λ h p key at. indexed.noted h p key (sym (same p) ∙ at);
+      within = λ h p past. indexed.within h p (omega arith);
       once = λ i j key at_i at_j. indexed.once i j key (sym (same i) ∙ at_i) (sym (same j) ∙ at_j);
     }
 
 -- an entry with other counts in the same slot
 pub indexed-change : (slots : Slots) (index : Notes) (place : ℕ) (e x : Entry) → IsIndexed slots index → slot_at slots place ≡ Some e → x.tag ≡ e.tag → x.mode ≡ e.mode → IsIndexed (set slots place (Some x)) index
 indexed-change slots index place e x indexed at same_tag same_mode =
-    indexed-alike slots (set slots place (Some x)) index
+    indexed-alike slots (set slots place (Some x)) index (length-set slots place (Some x))
     (λ k. elim (cases_eq k place) [
       | inl same ↦
           ap (key_at (set slots place (Some x))) same
@@ -78,50 +91,66 @@ once_here hash place h p same = (λ i. one_if (eqb h hash && eq-eqb p place same
   and_true true = refl
   and_true false = refl
 
-once_else : (hash place h p : ℕ) → p ≢ place → once_at hash place h p ≡ 0
+pub once_else : (hash place h p : ℕ) → p ≢ place → once_at hash place h p ≡ 0
 once_else hash place h p apart = ap one_if (and_right (eqb h hash) (eqb p place) (ne_eqb p place apart))
+
+-- another place than that of an empty slot
+away : (slots : Slots) (place k : ℕ) (other : Tag × Mode) → key_at slots place ≡ None → key_at slots k ≡ Some other → k ≢ place
+away slots place k other gone at same = let bad : None ≡ Some other = sym gone ∙ (ap (key_at slots) (sym same) ∙ at) in cc
 
 -- a slot is emptied, and its note goes
 pub indexed-cleared :
     (slots slots' : Slots) (index index' : Notes) (place hash : ℕ) (key : Tag × Mode) →
     IsIndexed slots index → key_at slots place ≡ Some key → key_at slots' place ≡ None →
-    ((k : ℕ) → k ≢ place → key_at slots' k ≡ key_at slots k) →
+    ((k : ℕ) → k ≢ place → key_at slots' k ≡ key_at slots k) → ((h k : ℕ) → k ≢ place → length slots' ≤ k → times index' h k ≡ 0) →
     hash ≡ key_hash key.0 key.1 → IsOneMore index' index hash place → IsIndexed slots' index'
-indexed-cleared slots slots' index index' place hash key indexed there gone others hashed more =
+indexed-cleared slots slots' index index' place hash key indexed there gone others past hashed more =
     record {
-      noted = λ h p. elim (cases_eq p place) [
+      noted = λ h p other at.
+          let apart = away slots' place p other gone at in
+          omega (arith, more h p, indexed.noted h p other (sym (others p apart) ∙ at), once_else hash place h p apart);
+      within = λ h p beyond. elim (cases_eq p place) [
         | inl same ↦
-            let was : times index h p ≡ one_if (eqb h (key_hash key.0 key.1)) = indexed.noted h p ∙ ap (λ o. times_of o h) (ap (key_at slots) same ∙ there) in
+            let was : times index h p ≡ one_if (eqb h (key_hash key.0 key.1)) = indexed.noted h p key (ap (key_at slots) same ∙ there) in
             let one : once_at hash place h p ≡ one_if (eqb h (key_hash key.0 key.1)) = once_here hash place h p same ∙ ap (λ n. one_if (eqb h n)) hashed in
-            let none : times_of (key_at slots' p) h ≡ 0 = ap (λ o. times_of o h) (ap (key_at slots') same ∙ gone) in
-            omega (arith, more h p, was, one, none)
-        | inr apart ↦
-            let is : times_of (key_at slots' p) h ≡ times_of (key_at slots p) h = ap (λ o. times_of o h) (others p apart) in
-            omega (arith, more h p, indexed.noted h p, once_else hash place h p apart, is)
+            omega (arith, more h p, was, one)
+        | inr apart ↦ past h p apart beyond
       ];
-      once = λ i j other at_i at_j. indexed.once i j other (sym (others i (away i other at_i)) ∙ at_i) (sym (others j (away j other at_j)) ∙ at_j);
-    } where
-      away : (k : ℕ) (other : Tag × Mode) → key_at slots' k ≡ Some other → k ≢ place
-      away k other at same = let bad : None ≡ Some other = sym gone ∙ (ap (key_at slots') (sym same) ∙ at) in cc
+      once = λ i j other at_i at_j.
+          indexed.once i j other (sym (others i (away slots' place i other gone at_i)) ∙ at_i) (sym (others j (away slots' place j other gone at_j)) ∙ at_j);
+    }
 
--- an empty slot gets an entry, and its place is noted
-pub indexed-filled :
+-- a slot is emptied, and its note stays
+pub indexed-left :
+    (slots slots' : Slots) (index : Notes) (place : ℕ) → IsIndexed slots index → length slots' ≡ length slots → key_at slots' place ≡ None →
+    ((k : ℕ) → k ≢ place → key_at slots' k ≡ key_at slots k) → IsIndexed slots' index
+indexed-left slots slots' index place indexed number gone others =
+    record {
+      noted = λ h p key at. indexed.noted h p key (sym (others p (away slots' place p key gone at)) ∙ at);
+      within = λ h p past. indexed.within h p (omega arith);
+      once = λ i j key at_i at_j.
+          indexed.once i j key (sym (others i (away slots' place i key gone at_i)) ∙ at_i) (sym (others j (away slots' place j key gone at_j)) ∙ at_j);
+    }
+
+-- a slot with an entry comes behind the others, and its place is noted
+indexed-behind :
     (slots slots' : Slots) (index index' : Notes) (place hash : ℕ) (key : Tag × Mode) →
-    IsIndexed slots index → key_at slots place ≡ None → key_at slots' place ≡ Some key →
+    IsIndexed slots index → place ≡ length slots → length slots' ≡ place + 1 → key_at slots' place ≡ Some key →
     ((k : ℕ) → k ≢ place → key_at slots' k ≡ key_at slots k) → ((k : ℕ) → key_at slots k ≢ Some key) →
     hash ≡ key_hash key.0 key.1 → IsOneMore index index' hash place → IsIndexed slots' index'
-indexed-filled slots slots' index index' place hash key indexed empty there others absent hashed more =
+indexed-behind slots slots' index index' place hash key indexed last number there others absent hashed more =
     record {
-      noted = λ h p. elim (cases_eq p place) [
+      noted = λ h p other at. elim (cases_eq p place) [
         | inl same ↦
-            let was : times index h p ≡ 0 = indexed.noted h p ∙ ap (λ o. times_of o h) (ap (key_at slots) same ∙ empty) in
+            let was : times index h p ≡ 0 = indexed.within h p (omega arith) in
             let one : once_at hash place h p ≡ one_if (eqb h (key_hash key.0 key.1)) = once_here hash place h p same ∙ ap (λ n. one_if (eqb h n)) hashed in
-            let some : times_of (key_at slots' p) h ≡ one_if (eqb h (key_hash key.0 key.1)) = ap (λ o. times_of o h) (ap (key_at slots') same ∙ there) in
+            let some : one_if (eqb h (key_hash key.0 key.1)) ≡ times_of other h = ap (λ (k : Tag × Mode). times_of k h) (its p other same at) in
             omega (arith, more h p, was, one, some)
-        | inr apart ↦
-            let is : times_of (key_at slots' p) h ≡ times_of (key_at slots p) h = ap (λ o. times_of o h) (others p apart) in
-            omega (arith, more h p, indexed.noted h p, once_else hash place h p apart, is)
+        | inr apart ↦ omega (arith, more h p, indexed.noted h p other (sym (others p apart) ∙ at), once_else hash place h p apart)
       ];
+      within = λ h p beyond.
+          let apart : p ≢ place = λ same. omega arith in
+          omega (arith, more h p, indexed.within h p (omega arith), once_else hash place h p apart);
       once = once;
     } where
       its : (k : ℕ) (other : Tag × Mode) → k ≡ place → key_at slots' k ≡ Some other → key ≡ other
@@ -140,23 +169,22 @@ indexed-filled slots slots' index index' place hash key indexed empty there othe
             ]
           ]
 
--- ---- what the calls do to an exact index
+-- ---- what the calls do to an index
 
 -- the place of an entry is noted under its hash
 pub noted_some : (slots : Slots) (index : Notes) → IsIndexed slots index → (place hash : ℕ) (e : Entry) → slot_at slots place ≡ Some e → hash ≡ key_hash e.tag e.mode → 0 < times index hash place
 noted_some slots index indexed place hash e at hashed =
-    let one : times index hash place ≡ one_if (eqb hash (key_hash e.tag e.mode)) = indexed.noted hash place ∙ ap (λ o. times_of (option_map (λ y. (y.tag, y.mode)) o) hash) at in
+    let one : times index hash place ≡ one_if (eqb hash (key_hash e.tag e.mode)) = indexed.noted hash place (e.tag, e.mode) (ap key_in at) in
     let yes : one_if (eqb hash (key_hash e.tag e.mode)) ≡ 1 = ap one_if (eq-eqb hash (key_hash e.tag e.mode) hashed) in
     omega (arith, one, yes)
 
--- a place that is noted is that of an entry
-pub noted_at : (slots : Slots) (index : Notes) → IsIndexed slots index → (place hash : ℕ) → 0 < times index hash place → (e : Entry) × (slot_at slots place ≡ Some e)
-noted_at slots index indexed place hash some = go (slot_at slots place) refl where
-  go : (o : Option Entry) → slot_at slots place ≡ o → (e : Entry) × (slot_at slots place ≡ Some e)
-  go None is =
-      let none : times index hash place ≡ 0 = indexed.noted hash place ∙ ap (λ o. times_of (option_map (λ y. (y.tag, y.mode)) o) hash) is in
-      absurd (omega (arith, none, some))
-  go (Some e) is = (e, is)
+-- a place that is noted is that of a slot
+pub noted_within : (slots : Slots) (index : Notes) → IsIndexed slots index → (place hash : ℕ) → 0 < times index hash place → place < length slots
+noted_within slots index indexed place hash some =
+    elim (cases_lt place (length slots)) [
+      | inl within ↦ within
+      | inr past ↦ absurd (omega (arith, indexed.within hash place past, some))
+    ]
 
 -- a new last slot
 pub pushed-indexed :
@@ -164,43 +192,74 @@ pub pushed-indexed :
     IsIndexed slots index → ((k : ℕ) → key_at slots k ≢ Some (e.tag, e.mode)) → hash ≡ key_hash e.tag e.mode →
     place ≡ length slots → IsOneMore index index' hash place → IsIndexed (slots ++ Some e ∷ []) index'
 pushed-indexed slots index index' place hash e indexed absent hashed last more =
-    indexed-filled slots (slots ++ Some e ∷ []) index index' place hash (e.tag, e.mode) indexed
-    (ap key_in (slot_at-past slots place (omega arith)))
+    indexed-behind slots (slots ++ Some e ∷ []) index index' place hash (e.tag, e.mode) indexed last (omega (arith, length_push slots (Some e)))
     (ap (key_at (slots ++ Some e ∷ [])) last ∙ ap key_in (slot_at-push slots (Some e)))
     (λ k apart. elim (cases_lt k (length slots)) [
       | inl before ↦ ap key_in (slot_at-push_before slots (Some e) k before)
       | inr past ↦ ap key_in (slot_at-past (slots ++ Some e ∷ []) k (omega (arith, length_push slots (Some e)))) ∙ sym (ap key_in (slot_at-past slots k past))
     ]) absent hashed more
 
--- an entry moves down over empty slots
-pub moved-indexed :
-    (slots : Slots) (index mid index' : Notes) (place to hash : ℕ) (e : Entry) →
-    IsIndexed slots index → slot_at slots place ≡ Some e → to ≤ place → ((k : ℕ) → to ≤ k → k < place → slot_at slots k ≡ None) →
-    hash ≡ key_hash e.tag e.mode → IsOneMore mid index hash place → IsOneMore mid index' hash to →
-    IsIndexed (set (set slots place None) to (Some e)) index'
-moved-indexed slots index mid index' place to hash e indexed there down empty hashed less more =
-    indexed-filled cleared (set cleared to (Some e)) mid index' to hash (e.tag, e.mode)
-    (indexed-cleared slots cleared index mid place hash (e.tag, e.mode) indexed (ap key_in there) (ap key_in gone) (λ k apart. ap key_in (slot_at-set_other slots place k None apart)) hashed less)
-    (ap key_in free) (ap key_in (slot_at-set cleared to (Some e) (omega (arith, length-set slots place None, within))))
-    (λ k apart. ap key_in (slot_at-set_other cleared to k (Some e) apart)) absent hashed more where
-      cleared : Slots
-      cleared = set slots place None
+-- ---- how many notes there are
 
-      within : place < length slots
-      within = slot_at-within slots place e there
+-- with no note no place is noted
+pub times_none : (index : Notes) → length index.notes ≡ 0 → (hash place : ℕ) → times index hash place ≡ 0
+times_none index none hash place = omega (arith, count_by-le-length (is_at hash place) index.notes)
 
-      gone : slot_at cleared place ≡ None
-      gone = slot_at-set slots place None within
+-- the notes of places below a number
+abbrev below : ℕ → ℕ × ℕ → Bool
+below n note = ltb note.1 n
 
-      free : slot_at cleared to ≡ None
-      free = elim (cases_eq to place) [
-        | inl same ↦ ap (slot_at cleared) same ∙ gone
-        | inr apart ↦ slot_at-set_other slots place to None apart ∙ empty to (omega arith) (omega (arith, apart))
-      ]
-
-      absent : (k : ℕ) → key_at cleared k ≢ Some (e.tag, e.mode)
-      absent k at =
-          elim (cases_eq k place) [
-            | inl same ↦ none_some (e.tag, e.mode) (sym (ap (key_at cleared) same ∙ ap key_in gone) ∙ at)
-            | inr apart ↦ apart (indexed.once k place (e.tag, e.mode) (sym (ap key_in (slot_at-set_other slots place k None apart)) ∙ at) (ap key_in there))
+one_below : (hash n : ℕ) (note : ℕ × ℕ) → one_if (is_at hash n note) + one_if (below n note) ≤ one_if (below (n + 1) note)
+one_below hash n note =
+    elim (cases_Bool (is_at hash n note)) [
+      | inl here ↦
+          let same : n ≡ note.1 = eqb-true n note.1 (and_parts (eqb hash note.0) (eqb n note.1) here).1 in
+          let is : one_if (is_at hash n note) ≡ 1 = ap one_if here in
+          let before : one_if (below n note) ≡ 0 = ap one_if (le-ltb note.1 n (omega arith)) in
+          let after : one_if (below (n + 1) note) ≡ 1 = ap one_if (lt-ltb note.1 (n + 1) (omega arith)) in
+          omega arith
+      | inr apart ↦
+          let is : one_if (is_at hash n note) ≡ 0 = ap one_if apart in
+          elim (cases_lt note.1 n) [
+            | inl under ↦
+                let before : one_if (below n note) ≡ 1 = ap one_if (lt-ltb note.1 n under) in
+                let after : one_if (below (n + 1) note) ≡ 1 = ap one_if (lt-ltb note.1 (n + 1) (omega arith)) in
+                omega arith
+            | inr over ↦
+                let before : one_if (below n note) ≡ 0 = ap one_if (le-ltb note.1 n over) in
+                omega arith
           ]
+    ]
+
+count_below : (hash n : ℕ) (notes : List (ℕ × ℕ)) → count_by (is_at hash n) notes + count_by (below n) notes ≤ count_by (below (n + 1)) notes
+count_below hash n [] = omega arith
+count_below hash n (note ∷ notes) =
+    omega (
+      arith,
+      count_below hash n notes,
+      one_below hash n note,
+      sum_by-cons (λ x. one_if (is_at hash n x)) note notes,
+      sum_by-cons (λ x. one_if (below n x)) note notes,
+      sum_by-cons (λ x. one_if (below (n + 1) x)) note notes,
+    )
+
+-- slots whose entries are noted from a place on
+many_from :
+    (slots : Slots) (index : Notes) (from : ℕ) → ((k : ℕ) (e : Entry) → slot_at slots k ≡ Some e → 0 < times index (key_hash e.tag e.mode) (from + k)) →
+    length (present slots) + count_by (below from) index.notes ≤ length index.notes
+many_from [] index from noted = omega (arith, count_by-le-length (below from) index.notes)
+many_from (None ∷ slots) index from noted =
+    omega (arith, many_from slots index (from + 1) (λ k e at. subst (λ (n : ℕ). 0 < times index (key_hash e.tag e.mode) n) (omega arith) (noted (suc k) e at)), count_below 0 from index.notes)
+many_from (Some x ∷ slots) index from noted =
+    let here : 0 < times index (key_hash x.tag x.mode) from = subst (λ (n : ℕ). 0 < times index (key_hash x.tag x.mode) n) (omega arith) (noted zero x refl) in
+    omega (
+      arith,
+      many_from slots index (from + 1) (λ k e at. subst (λ (n : ℕ). 0 < times index (key_hash e.tag e.mode) n) (omega arith) (noted (suc k) e at)),
+      count_below (key_hash x.tag x.mode) from index.notes,
+      here,
+    )
+
+-- there are as many notes as entries at least
+pub noted_many : (slots : Slots) (index : Notes) → IsIndexed slots index → length (present slots) ≤ length index.notes
+noted_many slots index indexed =
+    omega (arith, many_from slots index 0 (λ k e at. subst (λ (n : ℕ). 0 < times index (key_hash e.tag e.mode) n) (omega arith) (noted_some slots index indexed k (key_hash e.tag e.mode) e at refl)))

@@ -1,19 +1,21 @@
-use Rattle.std.proofs.Common.{◌≡◌, ℕ, ◌<◌, ◌≤◌, false, cond, List, [], ◌∷◌, suc, zero, min, refl, sym, subst, ◌∙◌, inl, inr, arith}
+use Rattle.std.proofs.Common.{◌≡◌, ℕ, ◌<◌, ◌≤◌, false, cond, List, [], ◌∷◌, true, suc, zero, min, refl, sym, ap, subst, ◌∙◌, inl, inr, arith}
 use Rattle.std.specs.Prelude.{◌==◌, Option, Some, None, IfSome}
 use Rattle.std.specs.Option.{option_map}
 use Rattle.std.specs.List.{AllByRecursion, IsDistinct}
-use Rattle.std.proofs.lemmas.Bool.{cases_Bool, eqb-true}
+use Rattle.std.proofs.lemmas.Bool.{false≢true, cases_Bool, eqb-true}
 use Rattle.std.proofs.lemmas.Map.Keys.{IsDistinct-cons}
 use Rattle.std.proofs.lemmas.List.Elements.{All-from_recursion}
+use Rattle.modes_core.specs.declared.modes.Mode.{Mode}
+use Rattle.modes_core.specs.declared.tags.Tag.{Tag}
 use Rattle.place_index.specs.Notes.{Notes}
 use Rattle.local_locks.specs.declared.records.Entry.{Entry}
 use Rattle.local_locks.specs.declared.ends.End.{End}
 use Rattle.local_locks.specs.declared.ends.End.TheVariants.{Commit, Abort, Close}
 use Rattle.local_locks.specs.declared.ends.Progress.{Progress}
-use Rattle.local_locks.specs.Owned.{IsWellOwned, IsCounted, are_of_same, is_ended, after_end}
-use Rattle.local_locks.specs.Slots.{Slots, slot_at, present, IsPast, IsKept, number_of_end, reached, came_to, back_to}
+use Rattle.local_locks.specs.Owned.{IsWellOwned, IsCounted, is_of, are_of_same, is_ended, after_end}
+use Rattle.local_locks.specs.Slots.{Slots, slot_at, present, key_at, IsOnce, IsPast, IsKept, number_of_end, reached, came_to, back_to}
 use Rattle.local_locks.proofs.SlotLaws.{if_some, at_some, is_of-own}
-use Rattle.local_locks.proofs.IndexLaws.{own_key}
+use Rattle.local_locks.proofs.IndexLaws.{own_key, some_key, none_some}
 use Rattle.local_locks.proofs.EndLaws.{Keeps, after_end-after_end, is_ended-after_end}
 
 -- ---- a table is well owned
@@ -32,21 +34,51 @@ distinct_present (Some e ∷ slots) apart =
     (all_present (λ b. are_of_same e b ≡ false) slots (λ k b at. apart zero (suc k) e b (omega arith) refl at))
     (distinct_present slots (λ i j a b less. apart (suc i) (suc j) a b (omega arith)))
 
+pub distinct_of : (slots : Slots) → IsOnce slots → IsDistinct are_of_same (present slots)
+distinct_of slots once = distinct_present slots apart where
+  apart : (i j : ℕ) (a b : Entry) → i < j → slot_at slots i ≡ Some a → slot_at slots j ≡ Some b → are_of_same a b ≡ false
+  apart i j a b less at_i at_j =
+      elim (cases_Bool (are_of_same a b)) [
+        | inl same ↦
+            let equal = once i j (b.tag, b.mode) (own_key slots i a b.tag b.mode at_i same) (own_key slots j b b.tag b.mode at_j (is_of-own b)) in
+            absurd (omega (arith, equal))
+        | inr other ↦ other
+      ]
+
 pub well_owned : (slots : Slots) (index : Notes) (len max_local : ℕ) (progress : Progress) (room : ℕ) → IsKept slots index len max_local progress → IsWellOwned (record { entries = present slots; room = room; max_local = max_local })
 well_owned slots index len max_local progress room kept =
     record {
-      once = distinct_present slots apart;
+      once = distinct_of slots kept.indexed.once;
       counted = All-from_recursion IsCounted (present slots) (all_present IsCounted slots kept.counted);
       within = omega (arith, kept.number, kept.within);
-    } where
-      apart : (i j : ℕ) (a b : Entry) → i < j → slot_at slots i ≡ Some a → slot_at slots j ≡ Some b → are_of_same a b ≡ false
-      apart i j a b less at_i at_j =
-          elim (cases_Bool (are_of_same a b)) [
-            | inl same ↦
-                let equal = kept.indexed.once i j (b.tag, b.mode) (own_key slots i a b.tag b.mode at_i same) (own_key slots j b b.tag b.mode at_j (is_of-own b)) in
-                absurd (omega (arith, equal))
-            | inr other ↦ other
-          ]
+    }
+
+-- and where entries are distinct, each object and mode is in one slot
+pub from_present : (P : Entry → Type 0) (slots : Slots) → AllByRecursion P (present slots) → (k : ℕ) (e : Entry) → slot_at slots k ≡ Some e → P e
+from_present P [] all k e at = absurd (let bad : None ≡ Some e = at in cc)
+from_present P (None ∷ slots) all zero e at = absurd (let bad : None ≡ Some e = at in cc)
+from_present P (None ∷ slots) all (suc k) e at = from_present P slots all k e at
+from_present P (Some x ∷ slots) all zero e at = let same : x ≡ e = cc in subst P same all.0
+from_present P (Some x ∷ slots) all (suc k) e at = from_present P slots all.1 k e at
+
+apart : (e : Entry) (slots : Slots) → AllByRecursion (λ b. are_of_same e b ≡ false) (present slots) → (k : ℕ) (key : Tag × Mode) → Some (e.tag, e.mode) ≡ Some key → key_at slots k ≡ Some key → ⊥
+apart e slots all k key here at =
+    let found = some_key slots k key at in
+    let its : (e.tag, e.mode) ≡ key = cc in
+    let same : (e.tag, e.mode) ≡ (found.0.tag, found.0.mode) = its ∙ sym found.2 in
+    let own : are_of_same e found.0 ≡ true = sym (λ i. is_of (same i).0 (same i).1 e) ∙ is_of-own e in
+    false≢true (sym (from_present (λ b. are_of_same e b ≡ false) slots all k found.0 found.1) ∙ own)
+
+pub once_of : (slots : Slots) → IsDistinct are_of_same (present slots) → IsOnce slots
+unfolding IsDistinct
+once_of [] distinct i j key at_i at_j = absurd (none_some key at_i)
+once_of (None ∷ slots) distinct zero j key at_i at_j = absurd (none_some key at_i)
+once_of (None ∷ slots) distinct (suc i) zero key at_i at_j = absurd (none_some key at_j)
+once_of (None ∷ slots) distinct (suc i) (suc j) key at_i at_j = ap (λ n. suc n) (once_of slots distinct i j key at_i at_j)
+once_of (Some e ∷ slots) distinct zero zero key at_i at_j = refl
+once_of (Some e ∷ slots) distinct zero (suc j) key at_i at_j = absurd (apart e slots distinct.0 j key at_i at_j)
+once_of (Some e ∷ slots) distinct (suc i) zero key at_i at_j = absurd (apart e slots distinct.0 i key at_j at_i)
+once_of (Some e ∷ slots) distinct (suc i) (suc j) key at_i at_j = ap (λ n. suc n) (once_of slots distinct.1 i j key at_i at_j)
 
 -- ---- how far the ends have come
 
@@ -105,6 +137,20 @@ past-settled end other old new place kept settled =
 
       own : IsPast end new place
       own = λ k before. subst (λ o. IfSome o (Keeps end)) (sym (settled k before)) (mapped (slot_at old k) (kept k before))
+
+-- an end that is past all entries is past them wherever they stand
+pub past-all :
+    (end : End) (old new : Slots) (place used : ℕ) → ((other : End) → IsPast other old (reached other (came_to end place))) → present new ≡ present old →
+    ((k : ℕ) (e : Entry) → slot_at old k ≡ Some e → k < place) → (other : End) → IsPast other new (reached other (came_to end used))
+past-all end old new place used past same within other =
+    elim (cases_Bool (number_of_end end == number_of_end other)) [
+      | inl its ↦
+          let to_place : IsPast other old place = subst (λ b. IsPast other old (cond b place 0)) its (past other) in
+          let keeps = all_present (Keeps other) old (λ k e at. at_some (Keeps other) (slot_at old k) e at (to_place k (within k e at))) in
+          let kept = subst (λ l. AllByRecursion (Keeps other) l) (sym same) keeps in
+          subst (λ b. IsPast other new (cond b used 0)) (sym its) (λ k before. if_some (Keeps other) (slot_at new k) (from_present (Keeps other) new kept k))
+      | inr apart ↦ subst (λ b. IsPast other new (cond b used 0)) (sym apart) (past-none other new)
+    ]
 
 -- nothing at all is well owned
 well_owned-nil : (room max_local : ℕ) → IsWellOwned (record { entries = []; room = room; max_local = max_local })

@@ -1,6 +1,6 @@
-use Rattle.std.proofs.Common.{◌≡◌, ◌≢◌, ℕ, ◌<◌, true, false, refl, sym, ap, ◌∙◌, inl, inr}
+use Rattle.std.proofs.Common.{◌≡◌, ◌≢◌, ℕ, ◌<◌, true, false, not, ◌&&◌, refl, sym, ap, ◌∙◌, inl, inr}
 use Rattle.std.specs.Prelude.{Option, Some, None, is_some}
-use Rattle.std.proofs.lemmas.Bool.{false≢true, cases_Bool}
+use Rattle.std.proofs.lemmas.Bool.{false≢true, cases_Bool, and_parts, eq-eqb, ne_eqb}
 use Rattle.modes_core.specs.declared.sessions.Owner.{Owner}
 use Rattle.modes_core.specs.declared.sessions.Owner.TheVariants.{Session, Transaction}
 use Rattle.modes_core.specs.declared.modes.Mode.{Mode}
@@ -8,13 +8,21 @@ use Rattle.modes_core.specs.declared.tags.Tag.{Tag}
 use Rattle.place_index.specs.Notes.{Notes, times}
 use Rattle.std.specs.Prelude.{List}
 use Rattle.local_locks.specs.declared.records.Entry.{Entry}
-use Rattle.local_locks.specs.Owned.{is_of, entry_for, has_entry, new_entry}
-use Rattle.local_locks.specs.Slots.{opened, present, slot_at, entry_at, key_at, key_hash, IsIndexed, IsPlaceOf}
+use Rattle.local_locks.specs.Owned.{is_of, count_in_all, entry_for, has_entry, new_entry}
+use Rattle.local_locks.specs.Slots.{opened, present, slot_at, entry_at, key_at, key_hash, is_held_as, IsIndexed, IsPlaceOf}
 use Rattle.local_locks.proofs.SlotLaws.{is_of-same, is_of-own, entry_of-none, none_of, if_some}
 use Rattle.local_locks.proofs.IndexLaws.{found_entry, noted_some, some_key}
 use Rattle.local_locks.proofs.OpenLaws.{opened_some}
 
 -- ---- what a look finds
+
+held_as : (tag : Tag) (mode : Mode) (e : Entry) → is_of tag mode e ≡ true → count_in_all e ≢ 0 → is_held_as tag mode e ≡ true
+held_as tag mode e own held = λ i. own i && not (ne_eqb (count_in_all e) 0 held i)
+
+pub held_parts : (tag : Tag) (mode : Mode) (e : Entry) → is_held_as tag mode e ≡ true → (is_of tag mode e ≡ true) × (count_in_all e ≢ 0)
+held_parts tag mode e is =
+    let both = and_parts _ _ is in
+    (both.0, λ none. false≢true (sym (ap not (eq-eqb (count_in_all e) 0 none)) ∙ both.1))
 
 pub place_of : (es : List Entry) (index : Notes) → IsIndexed (opened es) index → (tag : Tag) (mode : Mode) (place : ℕ) → slot_at (opened es) place ≡ Some (entry_at es place) → is_of tag mode (entry_at es place) ≡ true → IsPlaceOf es tag mode place
 place_of es index indexed tag mode place there own =
@@ -28,7 +36,7 @@ place_of es index indexed tag mode place there own =
 -- where no place that is noted under the hash has the object and mode, nothing has
 pub missing_of :
     (es : List Entry) (index : Notes) → IsIndexed (opened es) index → (tag : Tag) (mode : Mode) (hash : ℕ) → hash ≡ key_hash tag mode →
-    ((place : ℕ) → 0 < times index hash place → is_of tag mode (entry_at es place) ≡ false) → entry_for (present (opened es)) tag mode ≡ None
+    ((place : ℕ) → 0 < times index hash place → is_held_as tag mode (entry_at es place) ≡ false) → entry_for (present (opened es)) tag mode ≡ None
 missing_of es index indexed tag mode hash hashed other =
     entry_of-none tag mode (opened es) (λ k. if_some _ (slot_at (opened es) k) (none k)) where
       none : (k : ℕ) (x : Entry) → slot_at (opened es) k ≡ Some x → is_of tag mode x ≡ false
@@ -37,7 +45,9 @@ missing_of es index indexed tag mode hash hashed other =
             | inl own ↦
                 let same = is_of-same tag mode x own in
                 let some = noted_some (opened es) index indexed k hash x at (hashed ∙ (λ i. key_hash (sym same.0 i) (sym same.1 i))) in
-                ap (is_of tag mode) (sym (opened_some es k x at).1) ∙ other k some
+                let here = opened_some es k x at in
+                let held : is_held_as tag mode (entry_at es k) ≡ true = ap (is_held_as tag mode) here.1 ∙ held_as tag mode x own here.2 in
+                absurd (false≢true (sym (other k some) ∙ held))
             | inr apart ↦ apart
           ]
 

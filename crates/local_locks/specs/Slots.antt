@@ -1,4 +1,4 @@
-use Rattle.std.specs.Prelude.{◌≡◌, ℕ, ◌+◌, ◌*◌, ◌/◌, ◌%◌, ◌^◌, ◌<◌, ◌≤◌, Bool, true, false, ◌&&◌, ◌==◌, List, map, filter_map, length, min, Option, Some, None, IfSome, ◌⊎◌, slice_index_or, if◌then◌else◌}
+use Rattle.std.specs.Prelude.{◌≡◌, ◌≢◌, ℕ, ◌+◌, ◌*◌, ◌/◌, ◌%◌, ◌^◌, ◌<◌, ◌≤◌, Bool, true, false, not, ◌&&◌, ◌==◌, List, map, filter_map, length, min, Option, Some, None, IfSome, ◌⊎◌, slice_index_or, if◌then◌else◌}
 use Rattle.std.specs.Option.{option_map}
 use Rattle.modes_core.specs.declared.modes.Mode.{Mode}
 use Rattle.modes_core.specs.declared.tags.Tag.{Tag}
@@ -11,7 +11,7 @@ use Rattle.local_locks.specs.declared.records.Entry.{Entry}
 use Rattle.local_locks.specs.declared.ends.Progress.{Progress}
 use Rattle.local_locks.specs.declared.ends.End.{End}
 use Rattle.local_locks.specs.declared.ends.End.TheVariants.{Commit, Abort, Close}
-use Rattle.local_locks.specs.Owned.{count_in_all, entry_for, is_of, is_ended, after_end, IsCounted}
+use Rattle.local_locks.specs.Owned.{count_in_all, entries_but, entry_for, is_of, is_ended, after_end, IsCounted}
 
 -- How the entries are kept: in slots in the order of making, where a slot whose entry is gone is empty, with an index
 -- from the hash of object and mode to the slot's place. An empty slot has an entry with both counts 0.
@@ -55,19 +55,33 @@ key_hash tag mode = (object_bits tag + number_of mode * 2 ^ 28) % 2 ^ 64 * multi
 abbrev pub key_at : Slots → ℕ → Option (Tag × Mode)
 key_at slots place = option_map (λ entry. (entry.tag, entry.mode)) (slot_at slots place)
 
--- how often a place is noted under a hash, by the object and mode of its entry
-abbrev pub times_of : Option (Tag × Mode) → ℕ → ℕ
-times_of None hash = 0
-times_of (Some key) hash = if hash == key_hash key.0 key.1 then 1 else 0
+-- how often the place of an object and mode is noted under a hash
+abbrev pub times_of : Tag × Mode → ℕ → ℕ
+times_of key hash = if hash == key_hash key.0 key.1 then 1 else 0
 
--- the index has the place of each entry, and nothing else; each object and mode is there once
+-- each object and mode is there once
+abbrev pub IsOnce : Slots → Type 0
+IsOnce slots = (i j : ℕ) (key : Tag × Mode) → key_at slots i ≡ Some key → key_at slots j ≡ Some key → i ≡ j
+
+-- The index has the place of each entry under its hash alone, and no place past the slots. An end may have left notes of
+-- empty slots. Each object and mode is there once.
 pub record IsIndexed (slots : Slots) (index : Notes) : Type 0 where
-  pub noted : (hash place : ℕ) → times index hash place ≡ times_of (key_at slots place) hash
-  pub once : (i j : ℕ) (key : Tag × Mode) → key_at slots i ≡ Some key → key_at slots j ≡ Some key → i ≡ j
+  pub noted : (hash place : ℕ) (key : Tag × Mode) → key_at slots place ≡ Some key → times index hash place ≡ times_of key hash
+  pub within : (hash place : ℕ) → length slots ≤ place → times index hash place ≡ 0
+  pub once : IsOnce slots
 
 -- the slot at a place; past the end it is a blank one
 abbrev pub entry_at : List Entry → ℕ → Entry
 entry_at slots place = slice_index_or slots place (record { tag = Relation 0 0; mode = AccessShare; transaction = 0; session = 0 })
+
+-- whether it is of this object and mode and has a count
+abbrev pub is_held_as : Tag → Mode → Entry → Bool
+is_held_as tag mode slot = is_of tag mode slot && not (count_in_all slot == 0)
+
+-- the slots are few enough that each place can be noted, and none is empty
+pub record IsFull (slots : List Entry) : Type 0 where
+  pub few : length slots ≤ no_place
+  pub held : (place : ℕ) → place < length slots → slot_at (opened slots) place ≡ Some (entry_at slots place)
 
 -- the entry of the object and mode is at this place
 pub record IsPlaceOf (slots : List Entry) (tag : Tag) (mode : Mode) (place : ℕ) : Type 0 where
@@ -82,9 +96,17 @@ IsSpot slots tag mode (Some place) = IsPlaceOf slots tag mode place
 IsSpot slots tag mode None = entry_for (present (opened slots)) tag mode ≡ None
 
 -- How many of so many slots stay where an entry at a place goes: all, or all but the last one, which was its slot, or some
--- number of which nothing is asked where it was the only entry.
+-- number of which nothing is asked where no note is left.
 abbrev pub IsCut : ℕ → ℕ → ℕ → ℕ → Type 0
-IsCut slots len place used = (used ≡ slots) ⊎ (((used ≡ place) × (place + 1 ≡ slots)) ⊎ (len ≡ 1))
+IsCut slots notes place used = (used ≡ slots) ⊎ (((used ≡ place) × (place + 1 ≡ slots)) ⊎ (notes ≡ 0))
+
+-- The entry at a place is gone, and no other. Empty slots at the end may have gone with it.
+pub record IsTakenOut (old new : List Entry) (place : ℕ) : Type 0 where
+  pub entries : present (opened new) ≡ entries_but (present (opened old)) (entry_at old place).tag (entry_at old place).mode
+  pub number : length (present (opened old)) ≡ length (present (opened new)) + 1
+  pub gone : slot_at (opened new) place ≡ None
+  pub others : (k : ℕ) → k ≢ place → slot_at (opened new) k ≡ slot_at (opened old) k
+  pub shorter : length new ≤ length old
 
 -- The end has nothing to do before this place: it keeps each entry there, with its counts.
 abbrev pub IsPast : End → Slots → ℕ → Type 0
@@ -112,7 +134,7 @@ back_to place progress = record progress { place = min progress.place place }
 abbrev pub at_start : Progress
 at_start = came_to Commit 0
 
--- What a table keeps: the index is exact, each entry is counted, their number is known and not above the limit, and no end
+-- What a table keeps: each entry is in the index and counted, their number is known and not above the limit, and no end
 -- has anything to do before the place that it has come to.
 pub record IsKept (slots : Slots) (index : Notes) (len max_local : ℕ) (progress : Progress) : Type 0 where
   pub indexed : IsIndexed slots index

@@ -1,6 +1,5 @@
 ghost use Rattle.std.specs.Prelude.{◌≡◌, ◌<◌, length};
-ghost use Rattle.local_locks.specs.Owned.{is_of};
-ghost use Rattle.local_locks.specs.Slots.{key_hash, object_bits, opened, entry_at, IsIndexed, IsSpot};
+ghost use Rattle.local_locks.specs.Slots.{key_hash, object_bits, opened, entry_at, is_held_as, IsIndexed, IsSpot};
 
 use crate::Entry;
 use modes_core::{Mode, Tag};
@@ -48,8 +47,8 @@ pub(crate) fn look_up(slots: &[Entry], index: &PlaceIndex, tag: &Tag, mode: Mode
     let hash = key_hash(tag, mode);
     let is_it = |place: u32| -> bool
         requires { place < length slots.now }
-        ensures { result ≡ is_of tag.entry.now mode (entry_at slots.entry.now place) }
-    { slots[place as usize].is_of(tag, mode) };
+        ensures { result ≡ is_held_as tag.entry.now mode (entry_at slots.entry.now place) }
+    { slots[place as usize].is_held_as(tag, mode) };
     match index.find(hash, is_it) {
         Some(place) => Some(place as usize),
         None => None,

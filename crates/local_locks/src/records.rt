@@ -16,6 +16,7 @@ pub struct Entry {
 
 impl Entry {
     ghost use Rattle.local_locks.specs.Owned.{count_for, count_in_all, is_of, raised, lowered, new_entry, max_count, after_end};
+    ghost use Rattle.local_locks.specs.Slots.{is_held_as};
     ghost use Rattle.local_locks.specs.declared.ends.End.TheVariants.{Close};
 
     /// The entry of a first acquire.
@@ -51,6 +52,14 @@ impl Entry {
         ensures { IsTrue result ↔ (count_in_all self.now ≢ 0) }
     {
         self.transaction != 0 || self.session != 0
+    }
+
+    /// Whether it is of this object and mode and has a count.
+    #[inline(always)]
+    pub(crate) fn is_held_as(&self, tag: &Tag, mode: Mode) -> bool
+        ensures { result ≡ is_held_as tag.now mode self.now }
+    {
+        self.is_of(tag, mode) && self.is_held()
     }
 
     /// Whether it is of this object and mode.

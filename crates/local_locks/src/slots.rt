@@ -1,8 +1,8 @@
 ghost use Rattle.std.specs.Prelude.{◌≡◌, ◌≢◌, ◌+◌, ◌-◌, ◌<◌, ◌≤◌, ℕ, true, false, Some, None, IfSome, IsSomeAnd, [], ◌∷◌, ◌++◌, length, slice_set, vec_capacity};
 ghost use Rattle.std.specs.Option.{option_map};
-ghost use Rattle.place_index.specs.Notes.{no_place};
-ghost use Rattle.local_locks.specs.Owned.{count_for, raised, lowered, max_count, count_in_all, entries_but, is_ended, after_end};
-ghost use Rattle.local_locks.specs.Slots.{opened, entry_at, slot_at, present, key_at, key_hash, IsCut, IsIndexed, IsPast};
+ghost use Rattle.place_index.specs.Notes.{times, no_place};
+ghost use Rattle.local_locks.specs.Owned.{count_for, raised, lowered, max_count, count_in_all, is_ended, after_end};
+ghost use Rattle.local_locks.specs.Slots.{opened, entry_at, slot_at, present, key_at, key_hash, IsCut, IsFull, IsIndexed, IsOnce, IsPast, IsTakenOut};
 
 use crate::looks::key_hash;
 use crate::{End, Entry};
@@ -57,14 +57,14 @@ pub(crate) fn push_entry(slots: &mut Vec<Entry>, index: &mut PlaceIndex, hash: u
     index.insert(hash, place as u32);
 }
 
-/// How many slots stay where the entry at a place goes: none with the only entry, and else all but the last one where
-/// that was its slot.
+/// How many slots stay where the entry at a place goes and so many notes are left: none with the only entry, and else all
+/// but the last one where that was its slot.
 #[inline(always)]
-fn slots_left(slots: usize, len: usize, place: usize) -> usize
+fn slots_left(slots: usize, notes: usize, place: usize) -> usize
     requires { place < slots }
-    ensures { IsCut slots len place result }
+    ensures { IsCut slots notes place result }
 {
-    if len == 1 {
+    if notes == 0 {
         return 0;
     }
     if place + 1 == slots {
@@ -73,31 +73,48 @@ fn slots_left(slots: usize, len: usize, place: usize) -> usize
     slots
 }
 
-/// Takes the entry out of its slot, and the slot away if it is the last one; with the only entry all slots go.
+/// Takes the entry out of its slot and its place out of the index, and the slot away if it is the last one; with the only
+/// entry all slots go.
 #[inline(never)]
-pub(crate) fn take_out(slots: &mut Vec<Entry>, index: &mut PlaceIndex, len: usize, place: usize)
+pub(crate) fn take_out(slots: &mut Vec<Entry>, index: &mut PlaceIndex, place: usize)
     requires indexed { IsIndexed (opened slots.old.items) index.old }
-    requires len { len ≡ length (present (opened slots.old.items)) }
     requires there { slot_at (opened slots.old.items) place ≡ Some (entry_at slots.old.items place) }
     requires few { length slots.old.items ≤ no_place }
-    ensures entries { present (opened slots.new.items)
-        ≡ entries_but (present (opened slots.old.items))
-        (entry_at slots.old.items place).tag (entry_at slots.old.items place).mode }
-    ensures number { length (present (opened slots.old.items)) ≡ length (present (opened slots.new.items)) + 1 }
-    ensures gone { slot_at (opened slots.new.items) place ≡ None }
-    ensures others { (k : ℕ) → k ≢ place → slot_at (opened slots.new.items) k ≡ slot_at (opened slots.old.items) k }
+    ensures taken { IsTakenOut slots.old.items slots.new.items place }
     ensures indexed { IsIndexed (opened slots.new.items) index.new }
-    ensures shorter { length slots.new.items ≤ length slots.old.items }
     ensures slot_room { vec_capacity slots.old - length slots.old.items
         ≤ vec_capacity slots.new - length slots.new.items }
     ensures capacity { vec_capacity slots.new ≡ vec_capacity slots.old }
-    ensures index_room { index.new.room ≡ index.old.room + 1 }
+    ensures index_room { index.old.room ≤ index.new.room }
 {
     let slot = &mut slots[place];
     index.remove(key_hash(&slot.tag, slot.mode), place as u32);
     slot.clear();
-    let used = slots_left(slots.len(), len, place);
+    let used = slots_left(slots.len(), index.len(), place);
     slots.truncate(used);
+}
+
+/// Takes an entry that an end takes away out of its slot. Its place stays in the index where others have stayed, or where
+/// half of the slots are still to be gone through and the index is not much larger than what it has: then `tidy` takes
+/// them out at once, in time in proportion to the slots that the end goes through.
+#[inline(always)]
+pub(crate) fn take_ended(slots: &mut Vec<Entry>, index: &mut PlaceIndex, len: usize, place: usize)
+    requires indexed { IsIndexed (opened slots.old.items) index.old }
+    requires there { slot_at (opened slots.old.items) place ≡ Some (entry_at slots.old.items place) }
+    requires few { length slots.old.items ≤ no_place }
+    ensures taken { IsTakenOut slots.old.items slots.new.items place }
+    ensures indexed { IsIndexed (opened slots.new.items) index.new }
+    ensures slot_room { vec_capacity slots.old - length slots.old.items
+        ≤ vec_capacity slots.new - length slots.new.items }
+    ensures capacity { vec_capacity slots.new ≡ vec_capacity slots.old }
+    ensures index_room { index.old.room ≤ index.new.room }
+{
+    let notes = index.len();
+    if notes > len || place <= slots.len() / 2 && index.room() / 4 < notes {
+        slots[place].clear();
+        return;
+    }
+    take_out(slots, index, place);
 }
 
 /// Goes on with an end from a place on: leaves each entry the counts that outlive it, up to the first
@@ -127,29 +144,56 @@ pub(crate) fn settle(slots: &mut [Entry], end: End, from: usize) -> usize
 }
 
 /// Moves an entry down over empty slots.
-fn move_down(slots: &mut Vec<Entry>, index: &mut PlaceIndex, place: usize, to: usize, entry: Entry)
-    requires indexed { IsIndexed (opened slots.old.items) index.old }
+fn move_down(slots: &mut Vec<Entry>, place: usize, to: usize, entry: Entry)
     requires there { slot_at (opened slots.old.items) place ≡ Some entry }
-    requires few { length slots.old.items ≤ no_place }
     requires down { to ≤ place }
     requires empty { (k : ℕ) → to ≤ k → k < place → slot_at (opened slots.old.items) k ≡ None }
     ensures entries { present (opened slots.new.items) ≡ present (opened slots.old.items) }
     ensures here { slot_at (opened slots.new.items) to ≡ Some entry }
     ensures empty { (k : ℕ) → to < k → k ≤ place → slot_at (opened slots.new.items) k ≡ None }
     ensures before { (k : ℕ) → k < to → slot_at (opened slots.new.items) k ≡ slot_at (opened slots.old.items) k }
-    ensures indexed { IsIndexed (opened slots.new.items) index.new }
     ensures number { length slots.new.items ≡ length slots.old.items }
     ensures capacity { vec_capacity slots.new ≡ vec_capacity slots.old }
-    ensures index_room { index.new.room ≡ index.old.room }
 {
-    let hash = key_hash(&entry.tag, entry.mode);
-    index.remove(hash, place as u32);
-    index.insert(hash, to as u32);
     slots[place].clear();
     slots[to] = entry;
 }
 
-/// Moves the entries together, so that no slot is empty, and notes their new places.
+/// Moves the entries together, so that no slot is empty.
+fn gather(slots: &mut Vec<Entry>)
+    requires few { length slots.old.items ≤ no_place }
+    ensures entries { present (opened slots.new.items) ≡ present (opened slots.old.items) }
+    ensures full { IsFull slots.new.items }
+    ensures number { length slots.new.items ≡ length (present (opened slots.old.items)) }
+    ensures slot_room { vec_capacity slots.new ≡ vec_capacity slots.old }
+{
+    let mut kept = 0;
+    for place in 0..slots.len() {
+        let entry = slots[place];
+        if entry.is_held() {
+            move_down(slots, place, kept, entry);
+            kept += 1;
+        }
+    }
+    slots.truncate(kept);
+}
+
+/// Notes the place of each entry in an index that has no note.
+fn note_all(slots: &[Entry], index: &mut PlaceIndex)
+    requires full { IsFull slots.now }
+    requires once { IsOnce (opened slots.now) }
+    requires empty { (hash place : ℕ) → times index.old hash place ≡ 0 }
+    requires room { length slots.now ≤ index.old.room }
+    ensures indexed { IsIndexed (opened slots.now) index.new }
+    ensures room { index.new.room + length slots.now ≡ index.old.room }
+{
+    for place in 0..slots.len() {
+        let entry = &slots[place];
+        index.insert(key_hash(&entry.tag, entry.mode), place as u32);
+    }
+}
+
+/// Moves the entries together, so that no slot is empty, and notes their new places alone.
 #[cold]
 #[inline(never)]
 pub(crate) fn compact(slots: &mut Vec<Entry>, index: &mut PlaceIndex)
@@ -159,15 +203,25 @@ pub(crate) fn compact(slots: &mut Vec<Entry>, index: &mut PlaceIndex)
     ensures full { length slots.new.items ≡ length (present (opened slots.old.items)) }
     ensures indexed { IsIndexed (opened slots.new.items) index.new }
     ensures slot_room { vec_capacity slots.new ≡ vec_capacity slots.old }
-    ensures index_room { index.new.room ≡ index.old.room }
+    ensures index_room { index.old.room ≤ index.new.room }
 {
-    let mut kept = 0;
-    for place in 0..slots.len() {
-        let entry = slots[place];
-        if entry.is_held() {
-            move_down(slots, index, place, kept, entry);
-            kept += 1;
-        }
+    gather(slots);
+    index.clear();
+    note_all(slots.as_slice(), index);
+}
+
+/// Ends an end that may have left places of empty slots in the index: then the entries are moved together.
+#[inline(always)]
+pub(crate) fn tidy(slots: &mut Vec<Entry>, index: &mut PlaceIndex, len: usize)
+    requires indexed { IsIndexed (opened slots.old.items) index.old }
+    requires few { length slots.old.items ≤ no_place }
+    ensures entries { present (opened slots.new.items) ≡ present (opened slots.old.items) }
+    ensures shorter { length slots.new.items ≤ length slots.old.items }
+    ensures indexed { IsIndexed (opened slots.new.items) index.new }
+    ensures capacity { vec_capacity slots.new ≡ vec_capacity slots.old }
+    ensures index_room { index.old.room ≤ index.new.room }
+{
+    if index.len() > len {
+        compact(slots, index);
     }
-    slots.truncate(kept);
 }

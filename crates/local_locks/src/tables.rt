@@ -3,7 +3,7 @@ ghost use Rattle.local_locks.specs.Owned.{max_count, has_entry, owner_count_of, 
 
 use crate::ends::Progress;
 use crate::looks::{key_hash, look, look_up};
-use crate::slots::{compact, lower, push_entry, raise, settle, take_out};
+use crate::slots::{compact, lower, push_entry, raise, settle, take_ended, take_out, tidy};
 use crate::{Acquired, End, Entries, Entry, Unlocked};
 use modes_core::{Mode, Owner, Refusal, Tag};
 use place_index::PlaceIndex;
@@ -321,7 +321,7 @@ impl LocalTable {
         }
         let total = entry.sum();
         if total == 1 {
-            take_out(&mut self.slots, &mut self.index, self.len, place);
+            take_out(&mut self.slots, &mut self.index, place);
             self.len -= 1;
             // Locks are mostly released in the opposite order of their acquires.
             self.last = place.wrapping_sub(1);
@@ -349,13 +349,15 @@ impl LocalTable {
     {
         let from = self.progress.reached(end).min(self.slots.len());
         let place = settle(&mut self.slots, end, from);
-        self.progress = Progress::came_to(end, place);
         if place == self.slots.len() {
+            tidy(&mut self.slots, &mut self.index, self.len);
+            self.progress = Progress::came_to(end, self.slots.len());
             return None;
         }
+        self.progress = Progress::came_to(end, place);
         let entry = &self.slots[place];
         let key = (entry.tag, entry.mode);
-        take_out(&mut self.slots, &mut self.index, self.len, place);
+        take_ended(&mut self.slots, &mut self.index, self.len, place);
         self.len -= 1;
         Some(key)
     }

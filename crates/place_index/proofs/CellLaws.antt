@@ -1,8 +1,9 @@
-use Rattle.std.proofs.Common.{◌≡◌, ℕ, ◌+◌, ◌<◌, ◌≤◌, Bool, true, false, ◌&&◌, cond, eqb, List, [], ◌∷◌, length, get_or, set, count_by, suc, zero, refl, sym, ap, ◌∙◌, inl, inr, arith, zero-add, Some, None}
+use Rattle.std.proofs.Common.{◌≡◌, ℕ, ◌+◌, ◌*◌, ◌<◌, ◌≤◌, Bool, true, false, ◌&&◌, cond, eqb, List, [], ◌∷◌, length, get_or, set, replicate, count_by, suc, zero, refl, sym, ap, ◌∙◌, inl, inr, arith, zero-add, Some, None}
 use Rattle.std.specs.List.{cons_option}
 use Rattle.std.proofs.lemmas.Bool.{false≢true, cases_Bool, cases_eq, cases_lt, and_parts, eqb-true, ne_eqb, not_from_false, cond-true, cond-false}
 use Rattle.std.proofs.lemmas.List.{get_or_past, get_or_default}
 use Rattle.std.proofs.lemmas.List.Sums.{sum_by-cons, sum_by-set}
+use Rattle.std.proofs.lemmas.List.Folds.{sum_by-replicate}
 use Rattle.std.proofs.lemmas.Nat.{and_le_r}
 use Rattle.place_index.specs.declared.cells.Cell.{Cell}
 use Rattle.place_index.specs.Notes.{no_place, is_at}
@@ -81,6 +82,23 @@ times-notes_in hash place (c ∷ cells) =
     count-cons_option hash place (is_full c) (c.hash, c.place) (notes_in cells)
     ∙ (ap (λ n. one_if (is_note hash place c) + n) (times-notes_in hash place cells)
     ∙ sym (sum_by-cons (λ x. cond (is_note hash place x) 1 0) c cells))
+
+length-cons_option : (b : Bool) (note : ℕ × ℕ) (notes : List (ℕ × ℕ)) → length (cons_option (cond b (Some note) None) notes) ≡ one_if b + length notes
+length-cons_option true note notes = omega arith
+length-cons_option false note notes = sym (zero-add _)
+
+-- there are as many notes as cells with one
+pub length-notes_in : (cells : List Cell) → length (notes_in cells) ≡ count_by is_full cells
+length-notes_in [] = refl
+length-notes_in (c ∷ cells) =
+    length-cons_option (is_full c) (c.hash, c.place) (notes_in cells)
+    ∙ (ap (λ n. one_if (is_full c) + n) (length-notes_in cells) ∙ sym (sum_by-cons (λ x. cond (is_full x) 1 0) c cells))
+
+-- cells with no note
+pub times-empty : (n hash place : ℕ) → times_in (replicate n empty_cell) hash place ≡ 0
+times-empty n hash place = sum_by-replicate (λ x. cond (is_note hash place x) 1 0) n empty_cell ∙ mul-zero n where
+  mul-zero : (n : ℕ) → n * 0 ≡ 0
+  mul-zero n = omega arith
 
 -- a probe that has come to an empty cell has come to each note of its hash
 pub found_all : (P : ℕ → Type 0) (cells : List Cell) (mask hash at : ℕ) → IsReached cells mask → start_of mask hash ≤ at → is_full (cell_at cells at) ≡ false → ((k p : ℕ) → start_of mask hash ≤ k → k < at → is_note hash p (cell_at cells k) ≡ true → P p) → (p : ℕ) → 0 < times_in cells hash p → P p

@@ -1,8 +1,8 @@
-ghost use Rattle.std.specs.Prelude.{◌≡◌, ◌+◌, ◌<◌, ◌≤◌, ◌↔◌, ℕ, true, false, IsTrue, OnOk, OnErr, IfSome, IfNone};
+ghost use Rattle.std.specs.Prelude.{◌≡◌, ◌+◌, ◌<◌, ◌≤◌, ◌↔◌, ℕ, length, true, false, IsTrue, OnOk, OnErr, IfSome, IfNone};
 ghost use Rattle.place_index.specs.Notes.{no_place, times, IsOneMore, HasSameNotes};
 
 use crate::cells::Cell;
-use crate::probes::{find, put, put_all, take};
+use crate::probes::{empty_all, find, put, put_all, take};
 use std::alloc::{AllocError, Global};
 use std::marker::Model;
 
@@ -108,6 +108,31 @@ impl PlaceIndex {
     {
         put(self.cells.as_mut_slice(), self.mask, hash, place);
         self.len += 1;
+    }
+
+    /// How many notes there are.
+    #[inline(always)]
+    pub fn len(&self) -> usize
+        ensures { result ≡ length self.now.notes }
+    {
+        self.len
+    }
+
+    /// How many more notes there is room for.
+    #[inline(always)]
+    pub fn room(&self) -> usize
+        ensures { result ≡ self.now.room }
+    {
+        self.limit - self.len
+    }
+
+    /// Takes all notes away, and leaves their room.
+    pub fn clear(&mut self)
+        ensures empty { (h p : ℕ) → times self.new h p ≡ 0 }
+        ensures room { self.new.room ≡ self.old.room + length self.old.notes }
+    {
+        empty_all(self.cells.as_mut_slice());
+        self.len = 0;
     }
 
     /// Takes away a note of the place under the hash.

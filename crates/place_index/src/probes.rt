@@ -116,6 +116,13 @@ pub(crate) fn take(cells: &mut [Cell], mask: usize, hash: u32, place: u32)
     close_gap(cells, mask, at);
 }
 
+/// Empties all cells.
+pub(crate) fn empty_all(cells: &mut [Cell])
+    ensures { cells.new ≡ replicate (length cells.old) empty_cell }
+{
+    cells.fill(Cell::empty());
+}
+
 /// Puts each note of some cells into cells with no note.
 pub(crate) fn put_all(cells: &mut [Cell], mask: usize, from: &[Cell])
     requires empty { cells.old ≡ replicate (length cells.old) empty_cell }

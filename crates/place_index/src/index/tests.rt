@@ -51,6 +51,18 @@ fn a_place_can_be_noted_twice(rt: HostRuntime) {
     assert!(rt; !is_noted(&index, 4, 4));
 }
 
+#[test]
+fn a_cleared_index_keeps_its_room(rt: HostRuntime) {
+    let mut index = PlaceIndex::new(rt.alloc());
+    note(&rt, &mut index, 5, 3);
+    note(&rt, &mut index, 6, 4);
+    let room = index.room();
+    assert_eq!(rt; index.len(), 2);
+    index.clear();
+    assert_eq!(rt; (index.len(), index.room()), (0, room + 2));
+    assert!(rt; !is_noted(&index, 5, 3));
+}
+
 fn hash_of(place: u16, hashes: u32) -> u32 {
     u32::from(place)
         .wrapping_mul(2_654_435_761)

@@ -1,14 +1,10 @@
-use Rattle.std.proofs.Common.{◌≡◌, ◌≢◌, ◌<◌, Some, None, length, set, sym, ap, ◌∙◌, subst, inl, inr, arith}
+use Rattle.std.proofs.Common.{◌≡◌, ◌≢◌, ◌<◌, Some, None, length, set, ap, ◌∙◌, inl, inr, arith}
 use Rattle.std.proofs.lemmas.Bool.{cases_eq}
 use Rattle.std.proofs.lemmas.List.{length-set}
-use Rattle.local_locks.specs.Slots.{Slots, IsIndexed, opened, slot_at, present, entry_in}
+use Rattle.local_locks.specs.Slots.{Slots, opened, slot_at, present, entry_in}
 use Rattle.local_locks.proofs.SlotLaws.{present-move, slot_at-set, slot_at-set_other, slot_at-within}
-use Rattle.local_locks.proofs.IndexLaws.{noted_some, moved-indexed}
 use Rattle.local_locks.proofs.OpenLaws.{opened-set, opened_some, entry_in-held}
 use Rattle.local_locks.proofs.slots.move_down.Goals as goal
-
-pub remove-requires : goal.remove-requires
-remove-requires c = noted_some (opened c.args.slots.now.items) c.args.index.now c.requires.indexed c.args.place c.key_hash-hash.result c.args.entry c.requires.there c.key_hash-hash.ensures
 
 -- the slots after the move
 slots_are : (c : goal.After-slots-2-1) → opened (set (set c.args.slots.now.items c.args.place c.clear.new.self) c.args.to c.args.entry) ≡ set (set (opened c.args.slots.now.items) c.args.place None) c.args.to (Some c.args.entry)
@@ -44,9 +40,3 @@ returns-clause-before c = λ k before.
     ap (λ (s : Slots). slot_at s k) (slots_are c)
     ∙ (slot_at-set_other (set (opened c.args.slots.now.items) c.args.place None) c.args.to k (Some c.args.entry) apart
     ∙ slot_at-set_other (opened c.args.slots.now.items) c.args.place k None other)
-
-pub returns-clause-indexed : goal.returns-clause-indexed
-returns-clause-indexed c =
-    subst (λ (s : Slots). IsIndexed s c.insert.new.self) (sym (slots_are c))
-    (moved-indexed (opened c.args.slots.now.items) c.args.index.now c.remove.new.self c.insert.new.self c.args.place c.args.to c.key_hash-hash.result c.args.entry
-    c.requires.indexed c.requires.there c.requires.down c.requires.empty c.key_hash-hash.ensures c.remove.ensures.notes c.insert.ensures.notes)

@@ -22,7 +22,7 @@ returns-then-total-eq1-clause-well_owned c =
     let e = c.take_out.ensures in
     well_owned _ _ _ _ _ _
     (kept-taken (opened c.self.inside.slots.items) (opened c.take_out.new.slots.items) c.self.inside.index c.take_out.new.index c.self.inside.len c.self.inside.max_local c.self.inside.progress c.in-Some.place
-    c.self.invariant.kept e.indexed e.gone e.others e.number)
+    c.self.invariant.kept e.indexed e.taken.gone e.taken.others e.taken.number)
 
 pub returns-then-total-eq1-clause-answer : goal.returns-then-total-eq1-clause-answer
 returns-then-total-eq1-clause-answer c =
@@ -30,7 +30,7 @@ returns-then-total-eq1-clause-answer c =
     let at = subst (λ (l : List Entry). IsPlaceOf l c.args.tag.now c.args.mode c.in-Some.place) c.deref.ensures.value (c.in-Some.ensures {u = tt}) in
     let read : entry_at es c.in-Some.place ≡ c.index-entry.result.now = sym (c.index-entry.ensures ∙ get_or_default es c.in-Some.place c.index-entry.result.now _ at.within) in
     let both = is_of-same c.args.tag.now c.args.mode (entry_at es c.in-Some.place) at.own in
-    let others = c.take_out.ensures.entries ∙ (λ i. entries_but (present (opened c.self.inside.slots.items)) (both.0 i) (both.1 i)) in
+    let others = c.take_out.ensures.taken.entries ∙ (λ i. entries_but (present (opened c.self.inside.slots.items)) (both.0 i) (both.1 i)) in
     let none : total_of (present (opened c.take_out.new.slots.items)) c.args.tag.now c.args.mode ≡ 0 =
     ap (λ (l : List Entry). total_of l c.args.tag.now c.args.mode) others
     ∙ total-none (entries_but (present (opened c.self.inside.slots.items)) c.args.tag.now c.args.mode) c.args.tag.now c.args.mode (entry_of-entries_but (present (opened c.self.inside.slots.items)) c.args.tag.now c.args.mode) in

@@ -3,38 +3,50 @@ use Rattle.std.specs.Prelude.{List, find}
 use Rattle.std.proofs.lemmas.List.{take_at}
 use Rattle.local_locks.specs.declared.records.Entry.{Entry}
 use Rattle.local_locks.specs.Owned.{is_ended, ended_by, left_by, with_next_ended}
-use Rattle.local_locks.specs.Slots.{IsKept, IsIndexed, IsTable, opened, slot_at, present, came_to}
+use Rattle.local_locks.specs.Slots.{IsKept, IsIndexed, opened, slot_at, present, came_to}
 use Rattle.local_locks.specs.declared.ends.Progress.{Progress}
 use Rattle.local_locks.proofs.KeptLaws.{well_owned}
 use Rattle.local_locks.proofs.OpenLaws.{length-opened}
 use Rattle.local_locks.proofs.EndLaws.{ended_by-next, ended_by-none, left_by-next, with_next_ended-none, present-passed, find-passed}
-use Rattle.local_locks.proofs.EndSteps.{Walked, walked-slots, kept-walked, walked_ended, walked_passed, walked_place}
+use Rattle.local_locks.proofs.EndSteps.{Walked, walked-slots, kept-walked, kept-tidy, walked_ended, walked_passed, walked_place}
 use Rattle.local_locks.proofs.TableSteps.{kept-taken}
 use Rattle.local_locks.proofs.tables.LocalTable.end_next.Goals as goal
 
 -- ---- it came to the end of the slots
 
-walked : (c : goal.Then-place-len) → Walked c.args.end (opened c.self.inside.slots.items) (opened c.settle-place.new.slots) c.settle-place.result
+walked : (c : goal.After-self-then-place-len-1) → Walked c.args.end (opened c.self.inside.slots.items) (opened c.settle-place.new.slots) c.settle-place.result
 walked c = walked-slots c.args.end c.deref_mut.result.now c.self.inside.slots.items c.settle-place.new.slots c.settle-place.result c.deref_mut.ensures.value
     c.settle-place.auto.slots c.settle-place.ensures.within c.settle-place.ensures.kept c.settle-place.ensures.settled c.settle-place.ensures.others c.settle-place.ensures.ended
 
 -- the slots after the walk
-slots_are : (c : goal.Then-place-len) → take c.self.inside.slots.len (c.settle-place.new.slots ++ drop (length c.settle-place.new.slots) c.self.inside.slots.items) ≡ c.settle-place.new.slots
+slots_are : (c : goal.After-self-then-place-len-1) → take c.self.inside.slots.len (c.settle-place.new.slots ++ drop (length c.settle-place.new.slots) c.self.inside.slots.items) ≡ c.settle-place.new.slots
 slots_are c =
     take_at c.settle-place.new.slots (drop (length c.settle-place.new.slots) c.self.inside.slots.items) c.self.inside.slots.len
     (omega (arith, c.settle-place.auto.slots, c.deref_mut.ensures.len))
 
-at_end : (c : goal.Then-place-len) → c.settle-place.result ≡ length (opened c.self.inside.slots.items)
+at_end : (c : goal.After-self-then-place-len-1) → c.settle-place.result ≡ length (opened c.self.inside.slots.items)
 at_end c = c.if-place-len.true ∙ (c.len-2.ensures ∙ (c.self.inside.slots.ok.0 ∙ sym (length-opened c.self.inside.slots.items)))
+
+-- the entries after they were moved together
+gathered : (c : goal.After-self-then-place-len-1) → present (opened c.tidy.new.slots.items) ≡ present (opened c.settle-place.new.slots)
+gathered c = c.tidy.ensures.entries ∙ ap (λ (es : List Entry). present (opened es)) (slots_are c)
+
+pub tidy-requires-clause-indexed : goal.tidy-requires-clause-indexed
+tidy-requires-clause-indexed c =
+    let walked = walked-slots c.args.end c.deref_mut.result.now c.self.inside.slots.items c.settle-place.new.slots c.settle-place.result c.deref_mut.ensures.value
+    c.settle-place.auto.slots c.settle-place.ensures.within c.settle-place.ensures.kept c.settle-place.ensures.settled c.settle-place.ensures.others c.settle-place.ensures.ended in
+    let is = take_at c.settle-place.new.slots (drop (length c.settle-place.new.slots) c.self.inside.slots.items) c.self.inside.slots.len (omega (arith, c.settle-place.auto.slots, c.deref_mut.ensures.len)) in
+    let kept = kept-walked c.args.end (opened c.self.inside.slots.items) (opened c.settle-place.new.slots) c.settle-place.result c.self.inside.index c.self.inside.len c.self.inside.max_local c.self.inside.progress walked c.self.invariant.kept in
+    subst (λ (es : List Entry). IsIndexed (opened es) c.self.inside.index) (sym is) kept.indexed
 
 pub invariant_of-self : goal.invariant_of-self
 invariant_of-self c =
-    subst (λ (es : List Entry). IsTable es c.self.inside.index c.self.inside.len c.self.inside.max_local c.came_to-self-inside.result) (sym (slots_are c))
-    (record {
-      kept = subst (λ (p : Progress). IsKept (opened c.settle-place.new.slots) c.self.inside.index c.self.inside.len c.self.inside.max_local p) (sym c.came_to-self-inside.ensures)
-          (kept-walked c.args.end (opened c.self.inside.slots.items) (opened c.settle-place.new.slots) c.settle-place.result c.self.inside.index c.self.inside.len c.self.inside.max_local c.self.inside.progress (walked c) c.self.invariant.kept);
-      few = omega (arith, c.settle-place.auto.slots, c.deref_mut.ensures.len, c.self.inside.slots.ok.0, c.self.invariant.few);
-    })
+    record {
+      kept = subst (λ (p : Progress). IsKept (opened c.tidy.new.slots.items) c.tidy.new.index c.self.inside.len c.self.inside.max_local p) (sym c.came_to-self-inside.ensures)
+          (kept-tidy c.args.end (opened c.self.inside.slots.items) (opened c.settle-place.new.slots) (opened c.tidy.new.slots.items) c.settle-place.result c.len-then-place-len.result c.self.inside.index c.tidy.new.index
+          c.self.inside.len c.self.inside.max_local c.self.inside.progress (walked c) (at_end c) c.self.invariant.kept c.tidy.ensures.indexed (gathered c));
+      few = omega (arith, c.tidy.ensures.shorter, ap (λ (es : List Entry). length es) (slots_are c), c.settle-place.auto.slots, c.deref_mut.ensures.len, c.self.inside.slots.ok.0, c.self.invariant.few);
+    }
 
 pub returns-then-place-len-clause-well_owned : goal.returns-then-place-len-clause-well_owned
 returns-then-place-len-clause-well_owned c = well_owned _ _ _ _ _ _ (invariant_of-self c).kept
@@ -42,7 +54,7 @@ returns-then-place-len-clause-well_owned c = well_owned _ _ _ _ _ _ (invariant_o
 pub returns-then-place-len-clause-entries : goal.returns-then-place-len-clause-entries
 returns-then-place-len-clause-entries c =
     let passed = walked_passed c.args.end (opened c.self.inside.slots.items) (opened c.settle-place.new.slots) c.settle-place.result (walked c) (at_end c) in
-    ap (λ (es : List Entry). present (opened es)) (slots_are c)
+    gathered c
     ∙ (present-passed c.args.end (opened c.self.inside.slots.items) (opened c.settle-place.new.slots) passed
     ∙ ap (λ v. with_next_ended c.args.end v.entries) c.self.view_is)
 
@@ -55,7 +67,7 @@ returns-then-place-len-clause-last c =
 pub returns-then-place-len-clause-left : goal.returns-then-place-len-clause-left
 returns-then-place-len-clause-left c =
     let passed = walked_passed c.args.end (opened c.self.inside.slots.items) (opened c.settle-place.new.slots) c.settle-place.result (walked c) (at_end c) in
-    ap (λ (es : List Entry). present (opened es)) (slots_are c)
+    gathered c
     ∙ (present-passed c.args.end (opened c.self.inside.slots.items) (opened c.settle-place.new.slots) passed
     ∙ (with_next_ended-none c.args.end (present (opened c.self.inside.slots.items)) (find-passed c.args.end (opened c.self.inside.slots.items) (opened c.settle-place.new.slots) passed)
     ∙ ap (λ v. left_by c.args.end v.entries) c.self.view_is))
@@ -63,28 +75,20 @@ returns-then-place-len-clause-left c =
 pub returns-then-place-len-clause-outlives : goal.returns-then-place-len-clause-outlives
 returns-then-place-len-clause-outlives c =
     let passed = walked_passed c.args.end (opened c.self.inside.slots.items) (opened c.settle-place.new.slots) c.settle-place.result (walked c) (at_end c) in
-    ap (λ (es : List Entry). left_by c.args.end (present (opened es))) (slots_are c)
+    ap (left_by c.args.end) (gathered c)
     ∙ (ap (left_by c.args.end) (present-passed c.args.end (opened c.self.inside.slots.items) (opened c.settle-place.new.slots) passed)
     ∙ (left_by-next c.args.end (present (opened c.self.inside.slots.items))
     ∙ ap (λ v. left_by c.args.end v.entries) c.self.view_is))
 
 -- ---- it found an entry that it takes away
 
-pub take_out-requires-clause-indexed : goal.take_out-requires-clause-indexed
-take_out-requires-clause-indexed c =
+pub take_ended-requires-clause-indexed : goal.take_ended-requires-clause-indexed
+take_ended-requires-clause-indexed c =
     let walked = walked-slots c.args.end c.deref_mut.result.now c.self.inside.slots.items c.settle-place.new.slots c.settle-place.result c.deref_mut.ensures.value
     c.settle-place.auto.slots c.settle-place.ensures.within c.settle-place.ensures.kept c.settle-place.ensures.settled c.settle-place.ensures.others c.settle-place.ensures.ended in
     let is = take_at c.settle-place.new.slots (drop (length c.settle-place.new.slots) c.self.inside.slots.items) c.self.inside.slots.len (omega (arith, c.settle-place.auto.slots, c.deref_mut.ensures.len)) in
     let kept = kept-walked c.args.end (opened c.self.inside.slots.items) (opened c.settle-place.new.slots) c.settle-place.result c.self.inside.index c.self.inside.len c.self.inside.max_local c.self.inside.progress walked c.self.invariant.kept in
     subst (λ (es : List Entry). IsIndexed (opened es) c.self.inside.index) (sym is) kept.indexed
-
-pub take_out-requires-clause-len : goal.take_out-requires-clause-len
-take_out-requires-clause-len c =
-    let walked = walked-slots c.args.end c.deref_mut.result.now c.self.inside.slots.items c.settle-place.new.slots c.settle-place.result c.deref_mut.ensures.value
-    c.settle-place.auto.slots c.settle-place.ensures.within c.settle-place.ensures.kept c.settle-place.ensures.settled c.settle-place.ensures.others c.settle-place.ensures.ended in
-    let is = take_at c.settle-place.new.slots (drop (length c.settle-place.new.slots) c.self.inside.slots.items) c.self.inside.slots.len (omega (arith, c.settle-place.auto.slots, c.deref_mut.ensures.len)) in
-    let kept = kept-walked c.args.end (opened c.self.inside.slots.items) (opened c.settle-place.new.slots) c.settle-place.result c.self.inside.index c.self.inside.len c.self.inside.max_local c.self.inside.progress walked c.self.invariant.kept in
-    kept.number ∙ sym (ap (λ (es : List Entry). length (present (opened es))) is)
 
 pub overflow_sub-self : goal.overflow_sub-self
 overflow_sub-self c =
@@ -92,7 +96,7 @@ overflow_sub-self c =
     c.settle-place.auto.slots c.settle-place.ensures.within c.settle-place.ensures.kept c.settle-place.ensures.settled c.settle-place.ensures.others c.settle-place.ensures.ended in
     let is = take_at c.settle-place.new.slots (drop (length c.settle-place.new.slots) c.self.inside.slots.items) c.self.inside.slots.len (omega (arith, c.settle-place.auto.slots, c.deref_mut.ensures.len)) in
     let kept = kept-walked c.args.end (opened c.self.inside.slots.items) (opened c.settle-place.new.slots) c.settle-place.result c.self.inside.index c.self.inside.len c.self.inside.max_local c.self.inside.progress walked c.self.invariant.kept in
-    let number = sym (ap (λ (es : List Entry). length (present (opened es))) is) ∙ c.take_out.ensures.number in
+    let number = sym (ap (λ (es : List Entry). length (present (opened es))) is) ∙ c.take_ended.ensures.taken.number in
     omega (arith, kept.number, number)
 
 pub invariant_of-self-2 : goal.invariant_of-self-2
@@ -101,12 +105,12 @@ invariant_of-self-2 c =
     c.settle-place.auto.slots c.settle-place.ensures.within c.settle-place.ensures.kept c.settle-place.ensures.settled c.settle-place.ensures.others c.settle-place.ensures.ended in
     let is = take_at c.settle-place.new.slots (drop (length c.settle-place.new.slots) c.self.inside.slots.items) c.self.inside.slots.len (omega (arith, c.settle-place.auto.slots, c.deref_mut.ensures.len)) in
     let kept = kept-walked c.args.end (opened c.self.inside.slots.items) (opened c.settle-place.new.slots) c.settle-place.result c.self.inside.index c.self.inside.len c.self.inside.max_local c.self.inside.progress walked c.self.invariant.kept in
-    let number = sym (ap (λ (es : List Entry). length (present (opened es))) is) ∙ c.take_out.ensures.number in
+    let number = sym (ap (λ (es : List Entry). length (present (opened es))) is) ∙ c.take_ended.ensures.taken.number in
     record {
-      kept = subst (λ (p : Progress). IsKept (opened c.take_out.new.slots.items) c.take_out.new.index (c.self.inside.len - 1) c.self.inside.max_local p) (sym c.came_to-self-inside.ensures)
-          (kept-taken (opened c.settle-place.new.slots) (opened c.take_out.new.slots.items) c.self.inside.index c.take_out.new.index c.self.inside.len c.self.inside.max_local (came_to c.args.end c.settle-place.result) c.settle-place.result
-          kept c.take_out.ensures.indexed c.take_out.ensures.gone (λ k apart. c.take_out.ensures.others k apart ∙ ap (λ (es : List Entry). slot_at (opened es) k) is) number);
-      few = omega (arith, c.take_out.ensures.shorter, ap (λ (es : List Entry). length es) is, c.settle-place.auto.slots, c.deref_mut.ensures.len, c.self.inside.slots.ok.0, c.self.invariant.few);
+      kept = subst (λ (p : Progress). IsKept (opened c.take_ended.new.slots.items) c.take_ended.new.index (c.self.inside.len - 1) c.self.inside.max_local p) (sym c.came_to-self-inside-2.ensures)
+          (kept-taken (opened c.settle-place.new.slots) (opened c.take_ended.new.slots.items) c.self.inside.index c.take_ended.new.index c.self.inside.len c.self.inside.max_local (came_to c.args.end c.settle-place.result) c.settle-place.result
+          kept c.take_ended.ensures.indexed c.take_ended.ensures.taken.gone (λ k apart. c.take_ended.ensures.taken.others k apart ∙ ap (λ (es : List Entry). slot_at (opened es) k) is) number);
+      few = omega (arith, c.take_ended.ensures.taken.shorter, ap (λ (es : List Entry). length es) is, c.settle-place.auto.slots, c.deref_mut.ensures.len, c.self.inside.slots.ok.0, c.self.invariant.few);
     }
 
 pub returns-clause-well_owned : goal.returns-clause-well_owned
@@ -114,7 +118,7 @@ returns-clause-well_owned c = well_owned _ _ _ _ _ _ (invariant_of-self-2 c).kep
 
 -- the entry that the end takes away next, and the entries without it
 stepped : (c : goal.After-self-3-1) →
-    (present (opened c.take_out.new.slots.items) ≡ with_next_ended c.args.end (present (opened c.self.inside.slots.items))) × (find (is_ended c.args.end) (present (opened c.self.inside.slots.items)) ≡ Some c.index-entry.result.now)
+    (present (opened c.take_ended.new.slots.items) ≡ with_next_ended c.args.end (present (opened c.self.inside.slots.items))) × (find (is_ended c.args.end) (present (opened c.self.inside.slots.items)) ≡ Some c.index-entry.result.now)
 stepped c =
     let walked = walked-slots c.args.end c.deref_mut.result.now c.self.inside.slots.items c.settle-place.new.slots c.settle-place.result c.deref_mut.ensures.value
     c.settle-place.auto.slots c.settle-place.ensures.within c.settle-place.ensures.kept c.settle-place.ensures.settled c.settle-place.ensures.others c.settle-place.ensures.ended in
@@ -123,8 +127,8 @@ stepped c =
     let stops : c.settle-place.result ≢ length c.self.inside.slots.items = λ same. c.if-place-len.false (same ∙ sym (c.len-2.ensures ∙ c.self.inside.slots.ok.0)) in
     let at = walked_place c.args.end c.self.inside.slots.items c.settle-place.new.slots c.settle-place.result c.index-entry.result.now walked stops
     (c.index-entry.ensures ∙ ap (λ (es : List Entry). get_or es c.settle-place.result c.index-entry.result.now) is) in
-    walked_ended c.args.end (opened c.self.inside.slots.items) (opened c.settle-place.new.slots) (opened c.take_out.new.slots.items) c.settle-place.result c.index-entry.result.now walked at
-    c.take_out.ensures.gone (λ k apart. c.take_out.ensures.others k apart ∙ ap (λ (es : List Entry). slot_at (opened es) k) is)
+    walked_ended c.args.end (opened c.self.inside.slots.items) (opened c.settle-place.new.slots) (opened c.take_ended.new.slots.items) c.settle-place.result c.index-entry.result.now walked at
+    c.take_ended.ensures.taken.gone (λ k apart. c.take_ended.ensures.taken.others k apart ∙ ap (λ (es : List Entry). slot_at (opened es) k) is)
 
 pub returns-clause-entries : goal.returns-clause-entries
 returns-clause-entries c = (stepped c).0 ∙ ap (λ v. with_next_ended c.args.end v.entries) c.self.view_is
