@@ -64,10 +64,12 @@ impl Progress {
     }
 
     /// The end has come to a slot.
-    pub(crate) fn came_to(end: End, place: usize) -> Self
-        ensures { result ≡ came_to end place }
+    #[inline(always)]
+    pub(crate) fn come_to(&mut self, end: End, place: usize)
+        ensures { self.new ≡ came_to end place }
     {
-        Progress { end, place }
+        self.end = end;
+        self.place = place;
     }
 
     /// Where the end begins.
@@ -83,12 +85,9 @@ impl Progress {
 
     /// No end is past this slot, whose entry changes.
     #[inline(always)]
-    pub(crate) fn back_to(self, place: usize) -> Self
-        ensures { result ≡ back_to place self }
+    pub(crate) fn go_back_to(&mut self, place: usize)
+        ensures { self.new ≡ back_to place self.old }
     {
-        Progress {
-            end: self.end,
-            place: self.place.min(place),
-        }
+        self.place = self.place.min(place);
     }
 }

@@ -125,7 +125,7 @@ impl LocalTable {
         }
         self.last = place;
         raise(&mut self.slots, place, owner);
-        self.progress = self.progress.back_to(place);
+        self.progress.go_back_to(place);
         Ok(true)
     }
 
@@ -248,7 +248,7 @@ impl LocalTable {
             Some(place) => {
                 self.last = place;
                 raise(&mut self.slots, place, owner);
-                self.progress = self.progress.back_to(place);
+                self.progress.go_back_to(place);
                 Acquired::AlreadyHeld
             }
             None => {
@@ -275,7 +275,7 @@ impl LocalTable {
         push_entry(&mut self.slots, &mut self.index, hash, entry);
         self.len += 1;
         self.last = place;
-        self.progress = self.progress.back_to(place);
+        self.progress.go_back_to(place);
     }
 
     /// Takes one count of this owner back (`LockRelease` in lock.c, where it touches the local lock
@@ -330,10 +330,10 @@ impl LocalTable {
         let place = settle(&mut self.slots, end, from);
         if place == self.slots.len() {
             tidy(&mut self.slots, &mut self.index, self.len);
-            self.progress = Progress::came_to(end, self.slots.len());
+            self.progress.come_to(end, self.slots.len());
             return None;
         }
-        self.progress = Progress::came_to(end, place);
+        self.progress.come_to(end, place + 1);
         let entry = &self.slots[place];
         let key = (entry.tag, entry.mode);
         take_ended(&mut self.slots, &mut self.index, self.len, place);

@@ -17,7 +17,7 @@ invariant_of-self c =
     let count = owner_count-at (present (opened es)) c.args.tag c.args.mode c.args.owner (entry_at es c.in-Some.place) at.found in
     let seen = ap (λ v. owner_count_of v.entries c.args.tag c.args.mode c.args.owner) c.self.view_is in
     let limit : count_for c.args.owner (entry_at es c.in-Some.place) ≢ max_count = omega (arith, count, seen, c.requires.countable) in
-    subst (λ (p : Progress). IsTable c.raise.new.slots.items c.self.inside.index c.self.inside.len c.self.inside.max_local p) (sym c.back_to-self-inside.ensures)
+    subst (λ (p : Progress). IsTable c.raise.new.slots.items c.self.inside.index c.self.inside.len c.self.inside.max_local p) (sym c.go_back_to.ensures)
     (IsTable-raised es c.raise.new.slots.items c.self.inside.index c.self.inside.len c.self.inside.max_local c.self.inside.progress c.args.tag c.args.mode
     c.in-Some.place c.args.owner c.self.invariant at limit c.raise.ensures.slots c.raise.ensures.number)
 

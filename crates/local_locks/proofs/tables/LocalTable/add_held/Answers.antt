@@ -22,7 +22,7 @@ invariant_of-self c =
     let at = subst (λ (l : List Entry). IsPlaceOf l c.args.tag.now c.args.mode c.in-Some.place) c.deref.ensures.value (c.in-Some.ensures {u = tt}) in
     let read : entry_at es c.in-Some.place ≡ c.index.result.now = sym (c.index.ensures ∙ get_or_default es c.in-Some.place c.index.result.now _ at.within) in
     let limit : count_for c.args.owner (entry_at es c.in-Some.place) ≢ max_count = λ full. c.if-count_for.false (c.count_for.ensures ∙ (sym (ap (count_for c.args.owner) read) ∙ full)) in
-    subst (λ (p : Progress). IsTable c.raise.new.slots.items c.self.inside.index c.self.inside.len c.self.inside.max_local p) (sym c.back_to-self-inside.ensures)
+    subst (λ (p : Progress). IsTable c.raise.new.slots.items c.self.inside.index c.self.inside.len c.self.inside.max_local p) (sym c.go_back_to.ensures)
     (IsTable-raised es c.raise.new.slots.items c.self.inside.index c.self.inside.len c.self.inside.max_local c.self.inside.progress c.args.tag.now c.args.mode
     c.in-Some.place c.args.owner c.self.invariant at limit c.raise.ensures.slots c.raise.ensures.number)
 

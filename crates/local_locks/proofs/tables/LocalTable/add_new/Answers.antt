@@ -26,9 +26,9 @@ invariant_of-self c =
     let below : c.self.inside.len < c.self.inside.max_local = omega (arith, c.self.invariant.kept.number, number, limit, c.requires.allowed) in
     let place : c.len-place.result ≡ length (opened es) = c.len-place.ensures ∙ (c.self.inside.slots.ok.0 ∙ sym (length-opened es)) in
     record {
-      kept = subst (λ (s : Slots). IsKept s c.push_entry.new.index (c.self.inside.len + 1) c.self.inside.max_local c.back_to-self-inside.result) (sym c.push_entry.ensures.slots)
+      kept = subst (λ (s : Slots). IsKept s c.push_entry.new.index (c.self.inside.len + 1) c.self.inside.max_local c.go_back_to.new.self) (sym c.push_entry.ensures.slots)
           (subst (λ (p : Progress). IsKept (opened es ++ Some c.new-entry.result ∷ []) c.push_entry.new.index (c.self.inside.len + 1) c.self.inside.max_local p)
-          (sym (c.back_to-self-inside.ensures ∙ ap (λ n. back_to n c.self.inside.progress) place))
+          (sym (c.go_back_to.ensures ∙ ap (λ n. back_to n c.self.inside.progress) place))
           (kept-pushed (opened es) c.self.inside.index c.push_entry.new.index c.self.inside.len c.self.inside.max_local c.self.inside.progress c.new-entry.result c.self.invariant.kept
           (subst (λ (s : Slots). IsIndexed s c.push_entry.new.index) c.push_entry.ensures.slots c.push_entry.ensures.indexed)
           (subst IsCounted (sym c.new-entry.ensures) (IsCounted-new c.args.tag.now c.args.mode c.args.owner)) below));
