@@ -18,7 +18,7 @@ use Rattle.local_locks.proofs.EndLaws.{Stopped, Passed, present-same, present-st
 use Rattle.local_locks.proofs.IndexLaws.{indexed-nil, indexed-alike}
 use Rattle.local_locks.proofs.OpenLaws.{length-opened, opened_some}
 use Rattle.std.proofs.lemmas.List.{get_or_default}
-use Rattle.local_locks.proofs.KeptLaws.{all_present, from_present, past-settled, past-none, past-all}
+use Rattle.local_locks.proofs.KeptLaws.{all_present, from_present, past-settled, past-none, past-next, past-all}
 
 -- the object and mode of an entry
 abbrev key_of : Entry → Tag × Mode
@@ -244,6 +244,19 @@ kept-tidy end old mid new place used index index' len max_local progress walked 
     kept-gathered mid new index index' len max_local (came_to end place) (came_to end used) there indexed same (past-all end mid new place used there.past same all_past) where
       all_past : (k : ℕ) (e : Entry) → slot_at mid k ≡ Some e → k < place
       all_past k e at = omega (arith, slot_at-within mid k e at, walked.number)
+
+-- an end that has taken an entry away is past its slot
+pub kept-next :
+    (end : End) (slots : Slots) (index : Notes) (len max_local place : ℕ) → slot_at slots place ≡ None →
+    IsKept slots index len max_local (came_to end place) → IsKept slots index len max_local (came_to end (place + 1))
+kept-next end slots index len max_local place gone kept =
+    record {
+      indexed = kept.indexed;
+      counted = kept.counted;
+      number = kept.number;
+      within = kept.within;
+      past = past-next end slots place gone kept.past;
+    }
 
 -- ---- an index with the same places
 

@@ -1,8 +1,8 @@
-use Rattle.std.proofs.Common.{◌≡◌, ℕ, ◌<◌, ◌≤◌, false, cond, List, [], ◌∷◌, true, suc, zero, min, refl, sym, ap, subst, ◌∙◌, inl, inr, arith}
+use Rattle.std.proofs.Common.{◌≡◌, ℕ, ◌+◌, ◌<◌, ◌≤◌, false, cond, List, [], ◌∷◌, true, suc, zero, min, refl, sym, ap, subst, ◌∙◌, inl, inr, arith}
 use Rattle.std.specs.Prelude.{◌==◌, Option, Some, None, IfSome}
 use Rattle.std.specs.Option.{option_map}
 use Rattle.std.specs.List.{AllByRecursion, IsDistinct}
-use Rattle.std.proofs.lemmas.Bool.{false≢true, cases_Bool, eqb-true}
+use Rattle.std.proofs.lemmas.Bool.{false≢true, cases_Bool, cases_eq, eqb-true}
 use Rattle.std.proofs.lemmas.Map.Keys.{IsDistinct-cons}
 use Rattle.std.proofs.lemmas.List.Elements.{All-from_recursion}
 use Rattle.modes_core.specs.declared.modes.Mode.{Mode}
@@ -137,6 +137,21 @@ past-settled end other old new place kept settled =
 
       own : IsPast end new place
       own = λ k before. subst (λ o. IfSome o (Keeps end)) (sym (settled k before)) (mapped (slot_at old k) (kept k before))
+
+-- and past the next slot, if that is empty
+pub past-next :
+    (end : End) (slots : Slots) (place : ℕ) → slot_at slots place ≡ None → ((other : End) → IsPast other slots (reached other (came_to end place))) →
+    (other : End) → IsPast other slots (reached other (came_to end (place + 1)))
+past-next end slots place gone past other =
+    elim (cases_Bool (number_of_end end == number_of_end other)) [
+      | inl its ↦
+          let to_place : IsPast other slots place = subst (λ b. IsPast other slots (cond b place 0)) its (past other) in
+          subst (λ b. IsPast other slots (cond b (place + 1) 0)) (sym its) (λ k before. elim (cases_eq k place) [
+            | inl same ↦ subst (λ o. IfSome o (Keeps other)) (sym (ap (slot_at slots) same ∙ gone)) tt
+            | inr apart ↦ to_place k (omega arith)
+          ])
+      | inr apart ↦ subst (λ b. IsPast other slots (cond b (place + 1) 0)) (sym apart) (past-none other slots)
+    ]
 
 -- an end that is past all entries is past them wherever they stand
 pub past-all :

@@ -64,10 +64,12 @@ impl Progress {
     }
 
     /// The end has come to a slot.
-    pub(crate) fn came_to(end: End, place: usize) -> Self
-        ensures { result ≡ came_to end place }
+    #[inline(always)]
+    pub(crate) fn come_to(&mut self, end: End, place: usize)
+        ensures { self.new ≡ came_to end place }
     {
-        Progress { end, place }
+        self.end = end;
+        self.place = place;
     }
 
     /// Where the end begins.

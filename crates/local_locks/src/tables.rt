@@ -351,10 +351,10 @@ impl LocalTable {
         let place = settle(&mut self.slots, end, from);
         if place == self.slots.len() {
             tidy(&mut self.slots, &mut self.index, self.len);
-            self.progress = Progress::came_to(end, self.slots.len());
+            self.progress.come_to(end, self.slots.len());
             return None;
         }
-        self.progress = Progress::came_to(end, place);
+        self.progress.come_to(end, place + 1);
         let entry = &self.slots[place];
         let key = (entry.tag, entry.mode);
         take_ended(&mut self.slots, &mut self.index, self.len, place);

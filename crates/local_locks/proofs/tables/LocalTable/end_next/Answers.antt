@@ -8,27 +8,27 @@ use Rattle.local_locks.specs.declared.ends.Progress.{Progress}
 use Rattle.local_locks.proofs.KeptLaws.{well_owned}
 use Rattle.local_locks.proofs.OpenLaws.{length-opened}
 use Rattle.local_locks.proofs.EndLaws.{ended_by-next, ended_by-none, left_by-next, with_next_ended-none, present-passed, find-passed}
-use Rattle.local_locks.proofs.EndSteps.{Walked, walked-slots, kept-walked, kept-tidy, walked_ended, walked_passed, walked_place}
+use Rattle.local_locks.proofs.EndSteps.{Walked, walked-slots, kept-walked, kept-tidy, kept-next, walked_ended, walked_passed, walked_place}
 use Rattle.local_locks.proofs.TableSteps.{kept-taken}
 use Rattle.local_locks.proofs.tables.LocalTable.end_next.Goals as goal
 
 -- ---- it came to the end of the slots
 
-walked : (c : goal.After-self-then-place-len-1) → Walked c.args.end (opened c.self.inside.slots.items) (opened c.settle-place.new.slots) c.settle-place.result
+walked : (c : goal.After-come_to) → Walked c.args.end (opened c.self.inside.slots.items) (opened c.settle-place.new.slots) c.settle-place.result
 walked c = walked-slots c.args.end c.deref_mut.result.now c.self.inside.slots.items c.settle-place.new.slots c.settle-place.result c.deref_mut.ensures.value
     c.settle-place.auto.slots c.settle-place.ensures.within c.settle-place.ensures.kept c.settle-place.ensures.settled c.settle-place.ensures.others c.settle-place.ensures.ended
 
 -- the slots after the walk
-slots_are : (c : goal.After-self-then-place-len-1) → take c.self.inside.slots.len (c.settle-place.new.slots ++ drop (length c.settle-place.new.slots) c.self.inside.slots.items) ≡ c.settle-place.new.slots
+slots_are : (c : goal.After-come_to) → take c.self.inside.slots.len (c.settle-place.new.slots ++ drop (length c.settle-place.new.slots) c.self.inside.slots.items) ≡ c.settle-place.new.slots
 slots_are c =
     take_at c.settle-place.new.slots (drop (length c.settle-place.new.slots) c.self.inside.slots.items) c.self.inside.slots.len
     (omega (arith, c.settle-place.auto.slots, c.deref_mut.ensures.len))
 
-at_end : (c : goal.After-self-then-place-len-1) → c.settle-place.result ≡ length (opened c.self.inside.slots.items)
+at_end : (c : goal.After-come_to) → c.settle-place.result ≡ length (opened c.self.inside.slots.items)
 at_end c = c.if-place-len.true ∙ (c.len-2.ensures ∙ (c.self.inside.slots.ok.0 ∙ sym (length-opened c.self.inside.slots.items)))
 
 -- the entries after they were moved together
-gathered : (c : goal.After-self-then-place-len-1) → present (opened c.tidy.new.slots.items) ≡ present (opened c.settle-place.new.slots)
+gathered : (c : goal.After-come_to) → present (opened c.tidy.new.slots.items) ≡ present (opened c.settle-place.new.slots)
 gathered c = c.tidy.ensures.entries ∙ ap (λ (es : List Entry). present (opened es)) (slots_are c)
 
 pub tidy-requires-clause-indexed : goal.tidy-requires-clause-indexed
@@ -42,7 +42,7 @@ tidy-requires-clause-indexed c =
 pub invariant_of-self : goal.invariant_of-self
 invariant_of-self c =
     record {
-      kept = subst (λ (p : Progress). IsKept (opened c.tidy.new.slots.items) c.tidy.new.index c.self.inside.len c.self.inside.max_local p) (sym c.came_to-self-inside.ensures)
+      kept = subst (λ (p : Progress). IsKept (opened c.tidy.new.slots.items) c.tidy.new.index c.self.inside.len c.self.inside.max_local p) (sym c.come_to.ensures)
           (kept-tidy c.args.end (opened c.self.inside.slots.items) (opened c.settle-place.new.slots) (opened c.tidy.new.slots.items) c.settle-place.result c.len-then-place-len.result c.self.inside.index c.tidy.new.index
           c.self.inside.len c.self.inside.max_local c.self.inside.progress (walked c) (at_end c) c.self.invariant.kept c.tidy.ensures.indexed (gathered c));
       few = omega (arith, c.tidy.ensures.shorter, ap (λ (es : List Entry). length es) (slots_are c), c.settle-place.auto.slots, c.deref_mut.ensures.len, c.self.inside.slots.ok.0, c.self.invariant.few);
@@ -107,9 +107,10 @@ invariant_of-self-2 c =
     let kept = kept-walked c.args.end (opened c.self.inside.slots.items) (opened c.settle-place.new.slots) c.settle-place.result c.self.inside.index c.self.inside.len c.self.inside.max_local c.self.inside.progress walked c.self.invariant.kept in
     let number = sym (ap (λ (es : List Entry). length (present (opened es))) is) ∙ c.take_ended.ensures.taken.number in
     record {
-      kept = subst (λ (p : Progress). IsKept (opened c.take_ended.new.slots.items) c.take_ended.new.index (c.self.inside.len - 1) c.self.inside.max_local p) (sym c.came_to-self-inside-2.ensures)
+      kept = subst (λ (p : Progress). IsKept (opened c.take_ended.new.slots.items) c.take_ended.new.index (c.self.inside.len - 1) c.self.inside.max_local p) (sym c.come_to-2.ensures)
+          (kept-next c.args.end (opened c.take_ended.new.slots.items) c.take_ended.new.index (c.self.inside.len - 1) c.self.inside.max_local c.settle-place.result c.take_ended.ensures.taken.gone
           (kept-taken (opened c.settle-place.new.slots) (opened c.take_ended.new.slots.items) c.self.inside.index c.take_ended.new.index c.self.inside.len c.self.inside.max_local (came_to c.args.end c.settle-place.result) c.settle-place.result
-          kept c.take_ended.ensures.indexed c.take_ended.ensures.taken.gone (λ k apart. c.take_ended.ensures.taken.others k apart ∙ ap (λ (es : List Entry). slot_at (opened es) k) is) number);
+          kept c.take_ended.ensures.indexed c.take_ended.ensures.taken.gone (λ k apart. c.take_ended.ensures.taken.others k apart ∙ ap (λ (es : List Entry). slot_at (opened es) k) is) number));
       few = omega (arith, c.take_ended.ensures.taken.shorter, ap (λ (es : List Entry). length es) is, c.settle-place.auto.slots, c.deref_mut.ensures.len, c.self.inside.slots.ok.0, c.self.invariant.few);
     }
 
@@ -117,7 +118,7 @@ pub returns-clause-well_owned : goal.returns-clause-well_owned
 returns-clause-well_owned c = well_owned _ _ _ _ _ _ (invariant_of-self-2 c).kept
 
 -- the entry that the end takes away next, and the entries without it
-stepped : (c : goal.After-self-3-1) →
+stepped : (c : goal.After-self-2-1) →
     (present (opened c.take_ended.new.slots.items) ≡ with_next_ended c.args.end (present (opened c.self.inside.slots.items))) × (find (is_ended c.args.end) (present (opened c.self.inside.slots.items)) ≡ Some c.index-entry.result.now)
 stepped c =
     let walked = walked-slots c.args.end c.deref_mut.result.now c.self.inside.slots.items c.settle-place.new.slots c.settle-place.result c.deref_mut.ensures.value
