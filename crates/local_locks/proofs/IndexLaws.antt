@@ -32,7 +32,7 @@ some_key slots k key at = go (slot_at slots k) refl where
 pub none_some : (key : Tag × Mode) → None ≡ Some key → ⊥
 none_some key bad = cc
 
--- ---- what an exact index says
+-- ---- what the index says
 
 -- no other slot has the object and mode
 pub none_else : (slots : Slots) (index : Notes) → IsIndexed slots index → (tag : Tag) (mode : Mode) (place : ℕ) (e : Entry) → slot_at slots place ≡ Some e → is_of tag mode e ≡ true → NoneElse tag mode slots place
@@ -47,7 +47,7 @@ none_else slots index indexed tag mode place e at own k apart = if_some _ (slot_
 pub found_entry : (slots : Slots) (index : Notes) → IsIndexed slots index → (tag : Tag) (mode : Mode) (place : ℕ) (e : Entry) → slot_at slots place ≡ Some e → is_of tag mode e ≡ true → entry_for (present slots) tag mode ≡ Some e
 found_entry slots index indexed tag mode place e at own = entry_of-at tag mode slots place e at own (none_else slots index indexed tag mode place e at own)
 
--- ---- an exact index stays so
+-- ---- the index stays so
 
 -- no slot at all, and no note
 pub indexed-nil : (index : Notes) → ((hash place : ℕ) → times index hash place ≡ 0) → IsIndexed [] index
