@@ -1,4 +1,4 @@
-use Rattle.std.proofs.Common.{◌≡◌, ◌≢◌, ℕ, ◌<◌, true, false, not, ◌&&◌, refl, sym, ap, ◌∙◌, inl, inr}
+use Rattle.std.proofs.Common.{◌≡◌, ◌≢◌, ℕ, ◌<◌, true, false, not, ◌&&◌, refl, sym, ap, ◌∙◌, inl, inr, arith}
 use Rattle.std.specs.Prelude.{Option, Some, None, is_some}
 use Rattle.std.proofs.lemmas.Bool.{false≢true, cases_Bool, and_parts, eq-eqb, ne_eqb}
 use Rattle.modes_core.specs.declared.sessions.Owner.{Owner}
@@ -6,13 +6,13 @@ use Rattle.modes_core.specs.declared.sessions.Owner.TheVariants.{Session, Transa
 use Rattle.modes_core.specs.declared.modes.Mode.{Mode}
 use Rattle.modes_core.specs.declared.tags.Tag.{Tag}
 use Rattle.place_index.specs.Notes.{Notes, times}
-use Rattle.std.specs.Prelude.{List}
+use Rattle.std.specs.Prelude.{List, [], ◌∷◌, length}
 use Rattle.local_locks.specs.declared.records.Entry.{Entry}
-use Rattle.local_locks.specs.Owned.{is_of, count_in_all, entry_for, has_entry, new_entry}
+use Rattle.local_locks.specs.Owned.{is_of, count_for, count_in_all, entry_for, has_entry, new_entry}
 use Rattle.local_locks.specs.Slots.{opened, present, slot_at, entry_at, key_at, key_hash, is_held_as, IsIndexed, IsPlaceOf}
 use Rattle.local_locks.proofs.SlotLaws.{is_of-same, is_of-own, entry_of-none, none_of, if_some}
 use Rattle.local_locks.proofs.IndexLaws.{found_entry, noted_some, some_key}
-use Rattle.local_locks.proofs.OpenLaws.{opened_some}
+use Rattle.local_locks.proofs.OpenLaws.{opened_some, slot_at-opened, entry_in-held, held-by}
 
 -- ---- what a look finds
 
@@ -32,6 +32,20 @@ place_of es index indexed tag mode place there own =
       own = own;
       found = found_entry (opened es) index indexed tag mode place (entry_at es place) there own;
     }
+
+-- an entry that was read, and that an owner has
+pub place_read : (es : List Entry) (index : Notes) → IsIndexed (opened es) index → (tag : Tag) (mode : Mode) (owner : Owner) (place : ℕ) (e : Entry) → e ≡ entry_at es place → is_of tag mode e ≡ true → 0 < count_for owner (entry_at es place) → IsPlaceOf es tag mode place
+place_read es index indexed tag mode owner place e read own some =
+    place_of es index indexed tag mode place (slot_at-opened es place ∙ entry_in-held (entry_at es place) (held-by owner (entry_at es place) some)) (ap (is_of tag mode) (sym read) ∙ own)
+
+-- where an owner has an entry there is one
+pub some_held : (es : List Entry) (index : Notes) → IsIndexed (opened es) index → (owner : Owner) (place : ℕ) → 0 < count_for owner (entry_at es place) → 0 < length (present (opened es))
+some_held es index indexed owner place some =
+    let e = entry_at es place in
+    first (present (opened es)) e (place_read es index indexed e.tag e.mode owner place e refl (is_of-own e) some).found where
+      first : (entries : List Entry) (e : Entry) → entry_for entries e.tag e.mode ≡ Some e → 0 < length entries
+      first [] e found = absurd (let bad : None ≡ Some e = found in cc)
+      first (x ∷ entries) e found = omega arith
 
 -- where no place that is noted under the hash has the object and mode, nothing has
 pub missing_of :

@@ -48,6 +48,16 @@ opened_some es k e at =
 
 -- ---- counts that are left
 
+-- an entry that an owner has is held
+pub held-by : (owner : Owner) (e : Entry) → 0 < count_for owner e → count_in_all e ≢ 0
+held-by Session e some none = omega arith
+held-by Transaction e some none = omega arith
+
+-- one that it has more than once has more than one count
+pub more-by : (owner : Owner) (e : Entry) → 1 < count_for owner e → count_in_all e ≢ 1
+more-by Session e more one = omega arith
+more-by Transaction e more one = omega arith
+
 pub raised-held : (owner : Owner) (e : Entry) → count_in_all (raised owner e) ≢ 0
 raised-held Session e none = omega arith
 raised-held Transaction e none = omega arith

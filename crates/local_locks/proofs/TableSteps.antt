@@ -1,7 +1,7 @@
 use Rattle.std.proofs.Common.{◌≡◌, ◌≢◌, ℕ, ◌+◌, ◌-◌, ◌<◌, true, not, ◌&&◌, cond, List, [], ◌∷◌, ◌++◌, length, set, refl, sym, ap, subst, ◌∙◌, inl, inr, arith}
 use Rattle.std.specs.Prelude.{Some, None, IfSome, is_some}
 use Rattle.std.specs.Option.{option_map_or}
-use Rattle.std.proofs.lemmas.Bool.{cases_Bool, cases_eq, cases_lt, ne_eqb}
+use Rattle.std.proofs.lemmas.Bool.{cases_Bool, cases_eq, cases_lt, eq-eqb, ne_eqb}
 use Rattle.modes_core.specs.declared.modes.Mode.{Mode}
 use Rattle.modes_core.specs.Mode.{mode_eq}
 use Rattle.modes_core.specs.Tag.{tag_eq}
@@ -14,7 +14,7 @@ use Rattle.local_locks.specs.declared.ends.End.{End}
 use Rattle.local_locks.specs.declared.ends.Progress.{Progress}
 use Rattle.local_locks.specs.Owned.{IsCounted, count_for, count_in_all, raised, lowered, new_entry, max_count, is_of, entry_for, has_entry, owner_count_of, total_of, change, entries_but, with_one_more, with_one_less}
 use Rattle.local_locks.specs.Slots.{Slots, opened, entry_at, slot_at, present, IsIndexed, IsPlaceOf, IsPast, IsKept, IsTable, reached, back_to}
-use Rattle.local_locks.proofs.SlotLaws.{change-at, length-present_set, slot_at-set, slot_at-set_other, slot_at-push_before, slot_at-past, slot_at-push, slot_at-within, present-push}
+use Rattle.local_locks.proofs.SlotLaws.{is_of-same, change-at, length-present_set, slot_at-set, slot_at-set_other, slot_at-push_before, slot_at-past, slot_at-push, slot_at-within, present-push}
 use Rattle.local_locks.proofs.IndexLaws.{none_else, found_entry, indexed-change}
 use Rattle.local_locks.proofs.EndLaws.{Keeps, Keeps-lowered}
 use Rattle.local_locks.proofs.KeptLaws.{past-back_to, past-fewer}
@@ -204,6 +204,18 @@ entries-lowered slots index tag mode owner place e indexed at own more =
     change-at (lowered owner) tag mode slots place e at own (none_else slots index indexed tag mode place e at own)
     ∙ sym (ap (λ b. cond b (entries_but (present slots) tag mode) (change (lowered owner) (present slots) tag mode))
     (ne_eqb (total_of (present slots) tag mode) 1 (λ one. more (sym total ∙ one))))
+
+-- the only count taken away
+pub entries-taken :
+    (es es' : List Entry) (tag : Tag) (mode : Mode) (owner : Owner) (e : Entry) →
+    entry_for es tag mode ≡ Some e → is_of tag mode e ≡ true → count_in_all e ≡ 1 → es' ≡ entries_but es e.tag e.mode →
+    (es' ≡ with_one_less es tag mode owner) × (total_of es' tag mode ≡ 0)
+entries-taken es es' tag mode owner e found own one but =
+    let both = is_of-same tag mode e own in
+    let others : es' ≡ entries_but es tag mode = but ∙ (λ i. entries_but es (both.0 i) (both.1 i)) in (
+      others ∙ sym (ap (λ b. cond b (entries_but es tag mode) (change (lowered owner) es tag mode)) (eq-eqb (total_of es tag mode) 1 (total-at es tag mode e found ∙ one))),
+      ap (λ (l : List Entry). total_of l tag mode) others ∙ total-none (entries_but es tag mode) tag mode (entry_of-entries_but es tag mode),
+    )
 
 -- the total after it
 pub total-lowered :

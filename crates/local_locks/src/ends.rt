@@ -88,6 +88,8 @@ impl Progress {
     pub(crate) fn go_back_to(&mut self, place: usize)
         ensures { self.new ≡ back_to place self.old }
     {
-        self.place = self.place.min(place);
+        if self.place > place {
+            self.place = place;
+        }
     }
 }

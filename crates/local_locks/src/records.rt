@@ -1,5 +1,6 @@
 ghost use Rattle.std.specs.Prelude.{◌≡◌, ◌≢◌, ◌↔◌, ◌+◌, ◌<◌, IsTrue};
 
+use crate::looks::is_same_pair;
 use modes_core::{Mode, Owner, Tag};
 
 /// An object and a mode that the session has, and how often it has it for each owner (`LOCALLOCK` in
@@ -17,6 +18,7 @@ pub struct Entry {
 impl Entry {
     ghost use Rattle.local_locks.specs.Owned.{count_for, count_in_all, is_of, raised, lowered, new_entry, max_count, after_end};
     ghost use Rattle.local_locks.specs.Slots.{is_held_as};
+    ghost use Rattle.modes_core.specs.declared.tags.Tag.TheVariants.{Relation};
     ghost use Rattle.local_locks.specs.declared.ends.End.TheVariants.{Close};
 
     /// The entry of a first acquire.
@@ -68,6 +70,45 @@ impl Entry {
         ensures { result ≡ is_of tag.now mode self.now }
     {
         self.tag == *tag && self.mode == mode
+    }
+
+    /// Whether it is of this relation and mode. A relation is compared as one number.
+    #[inline(always)]
+    pub(crate) fn is_of_relation(&self, database: u32, relation: u32, mode: Mode) -> bool
+        ensures { result ≡ is_of (Relation database relation) mode self.now }
+    {
+        match self.tag {
+            Tag::Relation {
+                database: own_database,
+                relation: own_relation,
+            } => {
+                is_same_pair(own_database, own_relation, database, relation)
+                    && self.mode.is_same(mode)
+            }
+            Tag::Object { .. } => false,
+        }
+    }
+
+    /// Whether an owner has it more than once.
+    #[inline(always)]
+    pub(crate) fn can_lower(&self, owner: Owner) -> bool
+        ensures { IsTrue result ↔ (1 < count_for owner self.now) }
+    {
+        match owner {
+            Owner::Session => self.session > 1,
+            Owner::Transaction => self.transaction > 1,
+        }
+    }
+
+    /// Whether an owner has it once, and nobody else has it.
+    #[inline(always)]
+    pub(crate) fn is_only(&self, owner: Owner) -> bool
+        ensures { IsTrue result ↔ ((count_for owner self.now ≡ 1) × (count_in_all self.now ≡ 1)) }
+    {
+        match owner {
+            Owner::Session => self.session == 1 && self.transaction == 0,
+            Owner::Transaction => self.transaction == 1 && self.session == 0,
+        }
     }
 
     /// How often an owner has it, read in its place.

@@ -169,6 +169,7 @@ impl LocalTable {
 
     /// Makes room for one more entry, which `add_new` then enters, with no look for it: `reserve` for an object and
     /// mode that `add_held` told to have none.
+    #[inline(always)]
     pub fn reserve_new(&mut self) -> Result<(), Refusal>
         ensures allowed { OnOk result (length self.new.entries < self.new.max_local) }
         ensures roomy { OnOk result (0 < self.new.room) }
@@ -265,6 +266,7 @@ impl LocalTable {
 
     /// Enters the first acquire of an object and mode, for which room was reserved, with no look for it (`GrantLockLocal`
     /// in lock.c after `LockAcquireExtended` made the entry).
+    #[inline(always)]
     pub fn add_new(&mut self, tag: &Tag, mode: Mode, owner: Owner)
         requires new { has_entry self.old.entries tag.now mode ≡ false }
         requires allowed { length self.old.entries < self.old.max_local }
@@ -302,6 +304,39 @@ impl LocalTable {
     /// The same of an object that is lent, as `add_held` takes it.
     #[inline(always)]
     pub fn drop_held(&mut self, tag: &Tag, mode: Mode, owner: Owner) -> Result<Unlocked, Refusal>
+        ensures not_held { IsErrOf result Refusal.NotHeld ↔ (owner_count_of self.old.entries tag.now mode owner ≡ 0) }
+        ensures no_other { IsOkUnless result Refusal.NotHeld }
+        ensures answer { IfOk result (λ answer.
+            (answer ≡ Unlocked.StillHeld) ↔ (0 < total_of self.new.entries tag.now mode)) }
+        ensures entries { OnOk result (self.new.entries ≡ with_one_less self.old.entries tag.now mode owner) }
+        ensures refused { OnErr result (self.new ≡ self.old) }
+        ensures room { self.old.room ≤ self.new.room }
+        ensures max_local { self.new.max_local ≡ self.old.max_local }
+        ensures well_owned { IsWellOwned self.new }
+    {
+        let last = self.last;
+        if let Tag::Relation { database, relation } = *tag {
+            if last < self.slots.len()
+                && self.slots[last].is_of_relation(database, relation, mode)
+            {
+                if self.slots[last].can_lower(owner) {
+                    lower(&mut self.slots, last, owner);
+                    return Ok(Unlocked::StillHeld);
+                }
+                if self.slots[last].is_only(owner) {
+                    self.len -= 1;
+                    self.last = last.wrapping_sub(1);
+                    take_out(&mut self.slots, &mut self.index, last);
+                    return Ok(Unlocked::Released);
+                }
+            }
+        }
+        self.drop_elsewhere(tag, mode, owner)
+    }
+
+    /// The same, of whatever entry and count.
+    #[inline(never)]
+    fn drop_elsewhere(&mut self, tag: &Tag, mode: Mode, owner: Owner) -> Result<Unlocked, Refusal>
         ensures not_held { IsErrOf result Refusal.NotHeld ↔ (owner_count_of self.old.entries tag.now mode owner ≡ 0) }
         ensures no_other { IsOkUnless result Refusal.NotHeld }
         ensures answer { IfOk result (λ answer.

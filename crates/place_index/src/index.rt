@@ -100,6 +100,7 @@ impl PlaceIndex {
     }
 
     /// Notes the place under the hash, for which there is room. A place can be noted more than once.
+    #[inline(always)]
     pub fn insert(&mut self, hash: u32, place: u32)
         requires room { 0 < self.old.room }
         requires place { place < no_place }

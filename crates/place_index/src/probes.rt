@@ -38,6 +38,7 @@ pub(crate) fn find<F: Fn(u32) -> bool>(
 }
 
 /// The first cell with no note, from a cell on.
+#[inline(always)]
 fn first_empty(cells: &[Cell], from: usize) -> usize
     requires { count_by is_full cells.now + from < length cells.now }
     ensures within { result < length cells.now }
@@ -54,6 +55,7 @@ fn first_empty(cells: &[Cell], from: usize) -> usize
 }
 
 /// Notes the place under the hash, in the first cell with no note that a probe for the hash comes to.
+#[inline(always)]
 pub(crate) fn put(cells: &mut [Cell], mask: usize, hash: u32, place: u32)
     requires reached { IsReached cells.old mask }
     requires room { count_by is_full cells.old + mask < length cells.old }

@@ -1,78 +1,121 @@
-use Rattle.std.proofs.Common.{◌≡◌, ◌≢◌, ◌<◌, List, refl, sym, ap, subst, ◌∙◌, arith}
+use Rattle.std.proofs.Common.{◌≡◌, ◌≢◌, ◌<◌, length, refl, sym, ap, subst, ◌∙◌, arith}
+use Rattle.std.specs.Prelude.{Ok, Err}
 use Rattle.std.proofs.lemmas.List.{get_or_default}
+use Rattle.modes_core.specs.declared.tags.Tag.{Tag}
+use Rattle.modes_core.specs.declared.refusals.Refusal.TheVariants.{NotHeld}
 use Rattle.local_locks.specs.declared.answers.Unlocked.TheVariants.{Released, StillHeld}
-use Rattle.local_locks.specs.Owned.{IsWellOwned, count_for, count_in_all, total_of, entries_but, with_one_less}
+use Rattle.local_locks.specs.Owned.{is_of, count_for, count_in_all, owner_count_of, total_of, with_one_less}
 use Rattle.local_locks.specs.Slots.{Slots, IsKept, IsPlaceOf, opened, entry_at, present}
-use Rattle.local_locks.specs.declared.records.Entry.{Entry}
-use Rattle.local_locks.proofs.SlotLaws.{is_of-same}
+use Rattle.local_locks.proofs.OpenLaws.{more-by}
+use Rattle.local_locks.proofs.LookLaws.{place_read, some_held}
 use Rattle.local_locks.proofs.KeptLaws.{well_owned}
-use Rattle.local_locks.proofs.TableSteps.{kept-lowered, kept-taken, entries-lowered, total-lowered, total-none, entry_of-entries_but, IsCounted-lowered}
+use Rattle.local_locks.proofs.TableSteps.{kept-lowered, kept-taken, entries-lowered, entries-taken, total-lowered, owner_count-at, IsCounted-lowered}
 use Rattle.local_locks.proofs.tables.LocalTable.drop_held.Goals as goal
 
-pub returns-in_default-clause-well_owned : goal.returns-in_default-clause-well_owned
-returns-in_default-clause-well_owned c = subst IsWellOwned c.self.view_is (well_owned _ _ _ _ _ _ c.self.invariant.kept)
+-- ---- the owner has it more than once, so it stays
 
-pub returns-then-count_for-eq0-clause-well_owned : goal.returns-then-count_for-eq0-clause-well_owned
-returns-then-count_for-eq0-clause-well_owned c = subst IsWellOwned c.self.view_is (well_owned _ _ _ _ _ _ c.self.invariant.kept)
+within : (c : goal.After-lower) → c.self.inside.last < length c.self.inside.slots.items
+within c = omega (arith, c.if-last-len.true, c.len.ensures, c.self.inside.slots.ok.0)
 
--- ---- the last count goes
+read : (c : goal.After-lower) → c.index-then-is_of_relation.result.now ≡ entry_at c.self.inside.slots.items c.self.inside.last
+read c = c.index-then-is_of_relation.ensures ∙ get_or_default c.self.inside.slots.items c.self.inside.last c.index-then-is_of_relation.result.now _ (within c)
 
-pub returns-then-total-eq1-clause-well_owned : goal.returns-then-total-eq1-clause-well_owned
-returns-then-total-eq1-clause-well_owned c =
-    let e = c.take_out.ensures in
-    well_owned _ _ _ _ _ _
-    (kept-taken (opened c.self.inside.slots.items) (opened c.take_out.new.slots.items) c.self.inside.index c.take_out.new.index c.self.inside.len c.self.inside.max_local c.self.inside.progress c.in-Some.place
-    c.self.invariant.kept e.indexed e.taken.gone e.taken.others e.taken.number)
+above_one : (c : goal.After-lower) → 1 < count_for c.args.owner (entry_at c.self.inside.slots.items c.self.inside.last)
+above_one c = omega (arith, c.can_lower.ensures.0 c.if-can_lower.true, ap (count_for c.args.owner) (read c))
 
-pub returns-then-total-eq1-clause-answer : goal.returns-then-total-eq1-clause-answer
-returns-then-total-eq1-clause-answer c =
+at : (c : goal.After-lower) → IsPlaceOf c.self.inside.slots.items c.args.tag.now c.args.mode c.self.inside.last
+at c =
+    place_read c.self.inside.slots.items c.self.inside.index c.self.invariant.kept.indexed c.args.tag.now c.args.mode c.args.owner c.self.inside.last
+    c.index.result.now (c.index.ensures ∙ get_or_default c.self.inside.slots.items c.self.inside.last c.index.result.now _ (within c))
+    (ap (λ (tag : Tag). is_of tag c.args.mode c.index.result.now) c.in-Relation.is ∙ (sym c.is_of_relation.ensures ∙ c.if-is_of_relation.true))
+    (omega (arith, above_one c))
+
+more : (c : goal.After-lower) → count_in_all (entry_at c.self.inside.slots.items c.self.inside.last) ≢ 1
+more c = more-by c.args.owner (entry_at c.self.inside.slots.items c.self.inside.last) (above_one c)
+
+pub invariant_of-self : goal.invariant_of-self
+invariant_of-self c =
     let es = c.self.inside.slots.items in
-    let at = subst (λ (l : List Entry). IsPlaceOf l c.args.tag.now c.args.mode c.in-Some.place) c.deref.ensures.value (c.in-Some.ensures {u = tt}) in
-    let read : entry_at es c.in-Some.place ≡ c.index-entry.result.now = sym (c.index-entry.ensures ∙ get_or_default es c.in-Some.place c.index-entry.result.now _ at.within) in
-    let both = is_of-same c.args.tag.now c.args.mode (entry_at es c.in-Some.place) at.own in
-    let others = c.take_out.ensures.taken.entries ∙ (λ i. entries_but (present (opened c.self.inside.slots.items)) (both.0 i) (both.1 i)) in
-    let none : total_of (present (opened c.take_out.new.slots.items)) c.args.tag.now c.args.mode ≡ 0 =
-    ap (λ (l : List Entry). total_of l c.args.tag.now c.args.mode) others
-    ∙ total-none (entries_but (present (opened c.self.inside.slots.items)) c.args.tag.now c.args.mode) c.args.tag.now c.args.mode (entry_of-entries_but (present (opened c.self.inside.slots.items)) c.args.tag.now c.args.mode) in
-    (λ same. absurd (let bad : Released ≡ StillHeld = same in cc), λ some. absurd (omega (arith, none, some)))
-
--- ---- other counts are left
-
-pub invariant_of-self-else-total-eq1 : goal.invariant_of-self-else-total-eq1
-invariant_of-self-else-total-eq1 c =
-    let es = c.self.inside.slots.items in
-    let at = subst (λ (l : List Entry). IsPlaceOf l c.args.tag.now c.args.mode c.in-Some.place) c.deref.ensures.value (c.in-Some.ensures {u = tt}) in
-    let read : entry_at es c.in-Some.place ≡ c.index-entry.result.now = sym (c.index-entry.ensures ∙ get_or_default es c.in-Some.place c.index-entry.result.now _ at.within) in
-    let some : 0 < count_for c.args.owner (entry_at es c.in-Some.place) = omega (arith, c.count_for.ensures, c.if-count_for-eq0.false, ap (count_for c.args.owner) read) in
-    let more : count_in_all (entry_at es c.in-Some.place) ≢ 1 = λ one. c.if-total-eq1.false (c.sum-total.ensures ∙ (sym (ap count_in_all read) ∙ one)) in
     record {
       kept = subst (λ (s : Slots). IsKept s c.self.inside.index c.self.inside.len c.self.inside.max_local c.self.inside.progress) (sym c.lower.ensures.slots)
-          (kept-lowered (opened c.self.inside.slots.items) c.self.inside.index c.self.inside.len c.self.inside.max_local c.self.inside.progress c.in-Some.place c.args.owner (entry_at es c.in-Some.place)
-          c.self.invariant.kept at.there some more);
+          (kept-lowered (opened es) c.self.inside.index c.self.inside.len c.self.inside.max_local c.self.inside.progress c.self.inside.last c.args.owner (entry_at es c.self.inside.last)
+          c.self.invariant.kept (at c).there (omega (arith, above_one c)) (more c));
       few = omega (arith, c.lower.ensures.number, c.self.invariant.few);
     }
 
-pub returns-else-total-eq1-clause-well_owned : goal.returns-else-total-eq1-clause-well_owned
-returns-else-total-eq1-clause-well_owned c = well_owned _ _ _ _ _ _ (invariant_of-self-else-total-eq1 c).kept
+pub returns-then-can_lower-clause-well_owned : goal.returns-then-can_lower-clause-well_owned
+returns-then-can_lower-clause-well_owned c = well_owned _ _ _ _ _ _ (invariant_of-self c).kept
 
-pub returns-else-total-eq1-clause-entries : goal.returns-else-total-eq1-clause-entries
-returns-else-total-eq1-clause-entries c =
+pub returns-then-can_lower-clause-entries : goal.returns-then-can_lower-clause-entries
+returns-then-can_lower-clause-entries c =
     let es = c.self.inside.slots.items in
-    let at = subst (λ (l : List Entry). IsPlaceOf l c.args.tag.now c.args.mode c.in-Some.place) c.deref.ensures.value (c.in-Some.ensures {u = tt}) in
-    let read : entry_at es c.in-Some.place ≡ c.index-entry.result.now = sym (c.index-entry.ensures ∙ get_or_default es c.in-Some.place c.index-entry.result.now _ at.within) in
-    let more : count_in_all (entry_at es c.in-Some.place) ≢ 1 = λ one. c.if-total-eq1.false (c.sum-total.ensures ∙ (sym (ap count_in_all read) ∙ one)) in
     ap present c.lower.ensures.slots
-    ∙ (entries-lowered (opened c.self.inside.slots.items) c.self.inside.index c.args.tag.now c.args.mode c.args.owner c.in-Some.place (entry_at es c.in-Some.place) c.self.invariant.kept.indexed at.there at.own more
+    ∙ (entries-lowered (opened es) c.self.inside.index c.args.tag.now c.args.mode c.args.owner c.self.inside.last (entry_at es c.self.inside.last) c.self.invariant.kept.indexed (at c).there (at c).own (more c)
     ∙ ap (λ v. with_one_less v.entries c.args.tag.now c.args.mode c.args.owner) c.self.view_is)
 
-pub returns-else-total-eq1-clause-answer : goal.returns-else-total-eq1-clause-answer
-returns-else-total-eq1-clause-answer c =
+pub returns-then-can_lower-clause-not_held : goal.returns-then-can_lower-clause-not_held
+returns-then-can_lower-clause-not_held c =
     let es = c.self.inside.slots.items in
-    let at = subst (λ (l : List Entry). IsPlaceOf l c.args.tag.now c.args.mode c.in-Some.place) c.deref.ensures.value (c.in-Some.ensures {u = tt}) in
-    let read : entry_at es c.in-Some.place ≡ c.index-entry.result.now = sym (c.index-entry.ensures ∙ get_or_default es c.in-Some.place c.index-entry.result.now _ at.within) in
-    let some : 0 < count_for c.args.owner (entry_at es c.in-Some.place) = omega (arith, c.count_for.ensures, c.if-count_for-eq0.false, ap (count_for c.args.owner) read) in
-    let more : count_in_all (entry_at es c.in-Some.place) ≢ 1 = λ one. c.if-total-eq1.false (c.sum-total.ensures ∙ (sym (ap count_in_all read) ∙ one)) in
-    let counted = IsCounted-lowered c.args.owner (entry_at es c.in-Some.place) some more (c.self.invariant.kept.counted c.in-Some.place (entry_at es c.in-Some.place) at.there) in
+    let count = owner_count-at (present (opened es)) c.args.tag.now c.args.mode c.args.owner (entry_at es c.self.inside.last) (at c).found in
+    let view = ap (λ v. owner_count_of v.entries c.args.tag.now c.args.mode c.args.owner) c.self.view_is in
+    (λ refused. absurd (let bad : Ok StillHeld ≡ Err NotHeld = refused in cc), λ none. absurd (omega (arith, above_one c, count, view, none)))
+
+pub returns-then-can_lower-clause-answer : goal.returns-then-can_lower-clause-answer
+returns-then-can_lower-clause-answer c =
+    let es = c.self.inside.slots.items in
+    let counted = IsCounted-lowered c.args.owner (entry_at es c.self.inside.last) (omega (arith, above_one c)) (more c) (c.self.invariant.kept.counted c.self.inside.last (entry_at es c.self.inside.last) (at c).there) in
     let still = subst (λ (s : Slots). 0 < total_of (present s) c.args.tag.now c.args.mode) (sym c.lower.ensures.slots)
-    (total-lowered (opened es) c.self.inside.index c.args.tag.now c.args.mode c.args.owner c.in-Some.place (entry_at es c.in-Some.place) c.self.invariant.kept.indexed at.there at.own counted) in
-    (λ same. still, λ some. refl)
+    (total-lowered (opened es) c.self.inside.index c.args.tag.now c.args.mode c.args.owner c.self.inside.last (entry_at es c.self.inside.last) c.self.invariant.kept.indexed (at c).there (at c).own counted) in
+    (λ same. still, λ above. refl)
+
+-- ---- it is the owner's only count, so it goes
+
+pub overflow_sub-self : goal.overflow_sub-self
+overflow_sub-self c =
+    let es = c.self.inside.slots.items in
+    let read : c.index-then-is_of_relation-2.result.now ≡ entry_at es c.self.inside.last
+    = c.index-then-is_of_relation-2.ensures ∙ get_or_default es c.self.inside.last c.index-then-is_of_relation-2.result.now _ (omega (arith, c.if-last-len.true, c.len.ensures, c.self.inside.slots.ok.0)) in
+    let one = sym (ap (count_for c.args.owner) read) ∙ ((c.if-is_only.ensures {u = tt}).0 refl).0 in
+    omega (arith, c.self.invariant.kept.number, some_held es c.self.inside.index c.self.invariant.kept.indexed c.args.owner c.self.inside.last (omega (arith, one)))
+
+only : (c : goal.After-take_out) → (count_for c.args.owner (entry_at c.self.inside.slots.items c.self.inside.last) ≡ 1) × (count_in_all (entry_at c.self.inside.slots.items c.self.inside.last) ≡ 1)
+only c =
+    let es = c.self.inside.slots.items in
+    let read : c.index-then-is_of_relation-2.result.now ≡ entry_at es c.self.inside.last
+    = c.index-then-is_of_relation-2.ensures ∙ get_or_default es c.self.inside.last c.index-then-is_of_relation-2.result.now _ (omega (arith, c.if-last-len.true, c.len.ensures, c.self.inside.slots.ok.0)) in
+    let counts = (c.if-is_only.ensures {u = tt}).0 refl in
+    (sym (ap (count_for c.args.owner) read) ∙ counts.0, sym (ap count_in_all read) ∙ counts.1)
+
+at_only : (c : goal.After-take_out) → IsPlaceOf c.self.inside.slots.items c.args.tag.now c.args.mode c.self.inside.last
+at_only c =
+    place_read c.self.inside.slots.items c.self.inside.index c.self.invariant.kept.indexed c.args.tag.now c.args.mode c.args.owner c.self.inside.last
+    c.index.result.now (c.index.ensures ∙ get_or_default c.self.inside.slots.items c.self.inside.last c.index.result.now _ (omega (arith, c.if-last-len.true, c.len.ensures, c.self.inside.slots.ok.0)))
+    (ap (λ (tag : Tag). is_of tag c.args.mode c.index.result.now) c.in-Relation.is ∙ (sym c.is_of_relation.ensures ∙ c.if-is_of_relation.true))
+    (omega (arith, (only c).0))
+
+taken : (c : goal.After-take_out) → (present (opened c.take_out.new.slots.items) ≡ with_one_less (present (opened c.self.inside.slots.items)) c.args.tag.now c.args.mode c.args.owner) × (total_of (present (opened c.take_out.new.slots.items)) c.args.tag.now c.args.mode ≡ 0)
+taken c =
+    let es = c.self.inside.slots.items in
+    entries-taken (present (opened es)) (present (opened c.take_out.new.slots.items)) c.args.tag.now c.args.mode c.args.owner (entry_at es c.self.inside.last)
+    (at_only c).found (at_only c).own (only c).1 c.take_out.ensures.taken.entries
+
+pub returns-then-is_only-clause-well_owned : goal.returns-then-is_only-clause-well_owned
+returns-then-is_only-clause-well_owned c =
+    let e = c.take_out.ensures in
+    well_owned _ _ _ _ _ _
+    (kept-taken (opened c.self.inside.slots.items) (opened c.take_out.new.slots.items) c.self.inside.index c.take_out.new.index c.self.inside.len c.self.inside.max_local c.self.inside.progress c.self.inside.last
+    c.self.invariant.kept e.indexed e.taken.gone e.taken.others e.taken.number)
+
+pub returns-then-is_only-clause-entries : goal.returns-then-is_only-clause-entries
+returns-then-is_only-clause-entries c = (taken c).0 ∙ ap (λ v. with_one_less v.entries c.args.tag.now c.args.mode c.args.owner) c.self.view_is
+
+pub returns-then-is_only-clause-not_held : goal.returns-then-is_only-clause-not_held
+returns-then-is_only-clause-not_held c =
+    let es = c.self.inside.slots.items in
+    let count = owner_count-at (present (opened es)) c.args.tag.now c.args.mode c.args.owner (entry_at es c.self.inside.last) (at_only c).found in
+    let view = ap (λ v. owner_count_of v.entries c.args.tag.now c.args.mode c.args.owner) c.self.view_is in
+    (λ refused. absurd (let bad : Ok Released ≡ Err NotHeld = refused in cc), λ none. absurd (omega (arith, (only c).0, count, view, none)))
+
+pub returns-then-is_only-clause-answer : goal.returns-then-is_only-clause-answer
+returns-then-is_only-clause-answer c =
+    (λ same. absurd (let bad : Released ≡ StillHeld = same in cc), λ above. absurd (omega (arith, (taken c).1, above)))
