@@ -369,6 +369,7 @@ impl LocalTable {
 
     /// Goes on with an end: gives the next object and mode, in the order of making, that the end takes
     /// away, or `None` once there is no other (the loop of `LockReleaseAll` in lock.c).
+    #[inline(always)]
     pub fn end_next(&mut self, end: End) -> Option<(Tag, Mode)>
         ensures entries { self.new.entries ≡ with_next_ended end self.old.entries }
 
