@@ -7,8 +7,8 @@ use modes_core::{Mode, Tag};
 use place_index::PlaceIndex;
 
 /// What a key is multiplied by: the odd number, of four hundred taken at random, by which relations numbered in equal steps
-/// lie best apart. With 5 to 16,384 of them, in steps of 1 to 65,536, one that is held is found in the 1.1th cell on average,
-/// and one that isn't is missed in the 1.5th.
+/// lay best apart in a trial. With 5 to 16,384 of them, in steps of 1 to 65,536, one that is held was found in the 1.1th
+/// cell on average, and one that isn't was missed in the 1.5th.
 const MULTIPLIER: u64 = 0xF5BA_D73C_74BE_6D8B;
 
 /// A database and a number in it as one number, the first in the lower half, as the two stand in a tag: so they are read

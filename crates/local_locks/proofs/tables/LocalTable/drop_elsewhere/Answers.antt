@@ -1,12 +1,11 @@
 use Rattle.std.proofs.Common.{◌≡◌, ◌≢◌, ◌<◌, List, refl, sym, ap, subst, ◌∙◌, arith}
 use Rattle.std.proofs.lemmas.List.{get_or_default}
 use Rattle.local_locks.specs.declared.answers.Unlocked.TheVariants.{Released, StillHeld}
-use Rattle.local_locks.specs.Owned.{IsWellOwned, count_for, count_in_all, total_of, entries_but, with_one_less}
+use Rattle.local_locks.specs.Owned.{IsWellOwned, count_for, count_in_all, total_of, with_one_less}
 use Rattle.local_locks.specs.Slots.{Slots, IsKept, IsPlaceOf, opened, entry_at, present}
 use Rattle.local_locks.specs.declared.records.Entry.{Entry}
-use Rattle.local_locks.proofs.SlotLaws.{is_of-same}
 use Rattle.local_locks.proofs.KeptLaws.{well_owned}
-use Rattle.local_locks.proofs.TableSteps.{kept-lowered, kept-taken, entries-lowered, total-lowered, total-none, entry_of-entries_but, IsCounted-lowered}
+use Rattle.local_locks.proofs.TableSteps.{kept-lowered, kept-taken, entries-lowered, entries-taken, total-lowered, IsCounted-lowered}
 use Rattle.local_locks.proofs.tables.LocalTable.drop_elsewhere.Goals as goal
 
 pub returns-in_default-clause-well_owned : goal.returns-in_default-clause-well_owned
@@ -29,11 +28,8 @@ returns-then-total-eq1-clause-answer c =
     let es = c.self.inside.slots.items in
     let at = subst (λ (l : List Entry). IsPlaceOf l c.args.tag.now c.args.mode c.in-Some.place) c.deref.ensures.value (c.in-Some.ensures {u = tt}) in
     let read : entry_at es c.in-Some.place ≡ c.index-entry.result.now = sym (c.index-entry.ensures ∙ get_or_default es c.in-Some.place c.index-entry.result.now _ at.within) in
-    let both = is_of-same c.args.tag.now c.args.mode (entry_at es c.in-Some.place) at.own in
-    let others = c.take_out.ensures.taken.entries ∙ (λ i. entries_but (present (opened c.self.inside.slots.items)) (both.0 i) (both.1 i)) in
-    let none : total_of (present (opened c.take_out.new.slots.items)) c.args.tag.now c.args.mode ≡ 0 =
-    ap (λ (l : List Entry). total_of l c.args.tag.now c.args.mode) others
-    ∙ total-none (entries_but (present (opened c.self.inside.slots.items)) c.args.tag.now c.args.mode) c.args.tag.now c.args.mode (entry_of-entries_but (present (opened c.self.inside.slots.items)) c.args.tag.now c.args.mode) in
+    let one : count_in_all (entry_at es c.in-Some.place) ≡ 1 = ap count_in_all read ∙ (sym c.sum-total.ensures ∙ c.if-total-eq1.true) in
+    let none = (entries-taken (present (opened es)) (present (opened c.take_out.new.slots.items)) c.args.tag.now c.args.mode c.args.owner (entry_at es c.in-Some.place) at.found at.own one c.take_out.ensures.taken.entries).1 in
     (λ same. absurd (let bad : Released ≡ StillHeld = same in cc), λ some. absurd (omega (arith, none, some)))
 
 -- ---- other counts are left
