@@ -1,4 +1,4 @@
-use Rattle.std.specs.Prelude.{◌≡◌, ◌≢◌, ℕ, ◌+◌, ◌*◌, ◌%◌, ◌^◌, ◌<◌, ◌≤◌, Bool, true, false, not, ◌&&◌, ◌==◌, List, map, filter_map, length, min, Option, Some, None, IfSome, ◌⊎◌, slice_index_or, if◌then◌else◌}
+use Rattle.std.specs.Prelude.{◌≡◌, ◌≢◌, ℕ, ◌+◌, ◌*◌, ◌%◌, ◌^◌, ◌<◌, ◌≤◌, Bool, true, false, not, ◌&&◌, ◌==◌, List, map, filter_map, length, min, Option, Some, None, IfSome, ◌⊎◌, ⊤, slice_index_or, if◌then◌else◌}
 use Rattle.std.specs.Option.{option_map}
 use Rattle.modes_core.specs.declared.modes.Mode.{Mode}
 use Rattle.modes_core.specs.declared.tags.Tag.{Tag}
@@ -8,6 +8,8 @@ use Rattle.std.specs.Int.{swap_bytes, w64}
 use Rattle.modes_core.specs.Mode.{number_of, mode_eq}
 use Rattle.modes_core.specs.Tag.{tag_eq}
 use Rattle.place_index.specs.Notes.{Notes, times, no_place}
+use Rattle.place_index.specs.declared.glances.Glance.{Glance}
+use Rattle.place_index.specs.declared.glances.Glance.TheVariants.{Nothing, Place, Unknown}
 use Rattle.local_locks.specs.declared.records.Entry.{Entry}
 use Rattle.local_locks.specs.declared.ends.Progress.{Progress}
 use Rattle.local_locks.specs.declared.ends.End.{End}
@@ -103,6 +105,12 @@ pub record IsPlaceOf (slots : List Entry) (tag : Tag) (mode : Mode) (place : ℕ
 abbrev pub IsSpot : List Entry → Tag → Mode → Option ℕ → Type 0
 IsSpot slots tag mode (Some place) = IsPlaceOf slots tag mode place
 IsSpot slots tag mode None = entry_for (present (opened slots)) tag mode ≡ None
+
+-- What a glance at the index shows of an object and mode: that it has no entry, or the place of its slot, which may be empty.
+abbrev pub IsGlimpse : List Entry → Tag → Mode → Glance → Type 0
+IsGlimpse slots tag mode Nothing = entry_for (present (opened slots)) tag mode ≡ None
+IsGlimpse slots tag mode (Place place) = (place < length slots) × (is_of tag mode (entry_at slots place) ≡ true)
+IsGlimpse slots tag mode Unknown = ⊤
 
 -- How many of so many slots stay where an entry at a place goes: all, or all but the last one, which was its slot, or some
 -- number of which nothing is asked where no note is left.

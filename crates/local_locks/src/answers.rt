@@ -15,3 +15,14 @@ pub enum Unlocked {
     /// Other counts are left, so the session still has the mode.
     StillHeld,
 }
+
+/// What is known at once of an acquire.
+#[derive(Clone, Copy, Debug, PartialEq, Eq)]
+pub enum AtOnce {
+    /// The session had the mode before, and has it once more.
+    AlreadyHeld,
+    /// The session hasn't the mode.
+    NotHeld,
+    /// It takes a whole look to say.
+    Unknown,
+}

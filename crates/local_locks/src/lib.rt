@@ -11,7 +11,7 @@ pub mod records;
 mod slots;
 pub mod tables;
 
-pub use answers::{Acquired, Unlocked};
+pub use answers::{Acquired, AtOnce, Unlocked};
 pub use ends::End;
 pub use entries::Entries;
 pub use records::Entry;

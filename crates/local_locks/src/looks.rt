@@ -1,10 +1,10 @@
 ghost use Rattle.std.specs.Prelude.{◌≡◌, ◌<◌, ◌==◌, ◌&&◌, length};
 ghost use Rattle.modes_core.specs.declared.tags.Tag.TheVariants.{Relation};
-ghost use Rattle.local_locks.specs.Slots.{hash_of, key_hash, pair_bits, object_bits, opened, entry_at, is_held_as, IsIndexed, IsSpot};
+ghost use Rattle.local_locks.specs.Slots.{hash_of, key_hash, pair_bits, object_bits, opened, entry_at, is_held_as, IsIndexed, IsGlimpse, IsSpot};
 
 use crate::Entry;
 use modes_core::{Mode, Tag};
-use place_index::PlaceIndex;
+use place_index::{Glance, PlaceIndex};
 
 /// What a key is multiplied by: the odd number, of four hundred taken at random, by which relations numbered in equal steps
 /// lay best apart in a trial. With 5 to 16,384 of them, in steps of 1 to 65,536, one that is held was found in the 1.1th
@@ -14,7 +14,7 @@ const MULTIPLIER: u64 = 0xF5BA_D73C_74BE_6D8B;
 /// A database and a number in it as one number, the first in the lower half, as the two stand in a tag: so they are read
 /// and compared at once.
 #[inline(always)]
-fn pair_bits(database: u32, number: u32) -> u64
+pub(crate) fn pair_bits(database: u32, number: u32) -> u64
     ensures { result ≡ pair_bits database number }
 {
     (u64::from(number) << 32) + u64::from(database)
@@ -56,7 +56,7 @@ fn object_bits(tag: &Tag) -> u64
 /// The hash of an object in 64 bits and a mode: the bytes of a product, the highest of them first, since on that one all
 /// bits of the object tell.
 #[inline(always)]
-fn hash_of(object: u64, mode: Mode) -> u32
+pub(crate) fn hash_of(object: u64, mode: Mode) -> u32
     ensures { result ≡ hash_of object mode }
 {
     let key = object.wrapping_add(u64::from(mode.number()));
@@ -69,6 +69,29 @@ pub(crate) fn key_hash(tag: &Tag, mode: Mode) -> u32
     ensures { result ≡ key_hash tag.now mode }
 {
     hash_of(object_bits(tag), mode)
+}
+
+/// What the first cell of a look for a relation tells of it: that it isn't held in the mode, or the place of its slot, which
+/// may be empty.
+#[inline(always)]
+pub(crate) fn glance_at(slots: &[Entry], index: &PlaceIndex, tag: &Tag, mode: Mode) -> Glance
+    requires { IsIndexed (opened slots.now) index.now }
+    ensures { IsGlimpse slots.now tag.now mode result }
+{
+    let Tag::Relation { database, relation } = *tag else {
+        return Glance::Unknown;
+    };
+    match index.glance(hash_of(pair_bits(database, relation), mode)) {
+        Glance::Nothing => Glance::Nothing,
+        Glance::Place(place) => {
+            if slots[place as usize].is_of_relation(database, relation, mode) {
+                Glance::Place(place)
+            } else {
+                Glance::Unknown
+            }
+        }
+        Glance::Unknown => Glance::Unknown,
+    }
 }
 
 /// The place of the entry of an object and mode, looked for through the index.

@@ -89,6 +89,15 @@ impl Entry {
         }
     }
 
+    /// Whether an owner has it, and can have it once more.
+    #[inline(always)]
+    pub(crate) fn can_raise(&self, owner: Owner) -> bool
+        ensures { IsTrue result ↔ ((0 < count_for owner self.now) × (count_for owner self.now < max_count)) }
+    {
+        let count = self.count_for(owner);
+        count > 0 && count < u16::MAX
+    }
+
     /// Whether an owner has it more than once.
     #[inline(always)]
     pub(crate) fn can_lower(&self, owner: Owner) -> bool

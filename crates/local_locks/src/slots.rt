@@ -74,11 +74,12 @@ fn slots_left(slots: usize, notes: usize, place: usize) -> usize
 }
 
 /// Takes the entry out of its slot and its place out of the index, and the slot away if it is the last one; with the only
-/// entry all slots go.
+/// entry all slots go. The hash is that of its object and mode.
 #[inline(never)]
-pub(crate) fn take_out(slots: &mut Vec<Entry>, index: &mut PlaceIndex, place: usize)
+pub(crate) fn take_out(slots: &mut Vec<Entry>, index: &mut PlaceIndex, place: usize, hash: u32)
     requires indexed { IsIndexed (opened slots.old.items) index.old }
     requires there { slot_at (opened slots.old.items) place ≡ Some (entry_at slots.old.items place) }
+    requires hashed { hash ≡ key_hash (entry_at slots.old.items place).tag (entry_at slots.old.items place).mode }
     requires few { length slots.old.items ≤ no_place }
     ensures taken { IsTakenOut slots.old.items slots.new.items place }
     ensures indexed { IsIndexed (opened slots.new.items) index.new }
@@ -87,9 +88,8 @@ pub(crate) fn take_out(slots: &mut Vec<Entry>, index: &mut PlaceIndex, place: us
     ensures capacity { vec_capacity slots.new ≡ vec_capacity slots.old }
     ensures index_room { index.old.room ≤ index.new.room }
 {
-    let slot = &mut slots[place];
-    index.remove(key_hash(&slot.tag, slot.mode), place as u32);
-    slot.clear();
+    index.remove(hash, place as u32);
+    slots[place].clear();
     let used = slots_left(slots.len(), index.len(), place);
     slots.truncate(used);
 }
@@ -114,7 +114,9 @@ pub(crate) fn take_ended(slots: &mut Vec<Entry>, index: &mut PlaceIndex, len: us
         slots[place].clear();
         return;
     }
-    take_out(slots, index, place);
+    let slot = &slots[place];
+    let hash = key_hash(&slot.tag, slot.mode);
+    take_out(slots, index, place, hash);
 }
 
 /// Goes on with an end from a place on: leaves each entry the counts that outlive it, up to the first

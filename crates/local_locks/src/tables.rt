@@ -1,12 +1,13 @@
 ghost use Rattle.std.specs.Prelude.{◌≡◌, ◌≢◌, ◌+◌, ◌<◌, ◌≤◌, ◌↔◌, ◌⊎◌, ◌∷◌, [], true, false, if◌then◌else◌, Some, None, IsErrOf, IsOkUnless, IfOk, IfErr, OnOk, OnErr, IfSome, IfNone, IsTrue, length};
+ghost use Rattle.local_locks.specs.Slots.{key_hash};
 ghost use Rattle.local_locks.specs.Owned.{max_count, has_entry, owner_count_of, total_of, with_one_more, with_one_less, acquired_as, ended_by, left_by, with_next_ended, IsWellOwned, IsReserved};
 
 use crate::ends::Progress;
-use crate::looks::{key_hash, look, look_up};
+use crate::looks::{glance_at, hash_of, key_hash, look, look_up, pair_bits};
 use crate::slots::{compact, lower, push_entry, raise, settle, take_ended, take_out, tidy};
-use crate::{Acquired, End, Entries, Entry, Unlocked};
+use crate::{Acquired, AtOnce, End, Entries, Entry, Unlocked};
 use modes_core::{Mode, Owner, Refusal, Tag};
-use place_index::PlaceIndex;
+use place_index::{Glance, PlaceIndex};
 use std::alloc::Global;
 use std::marker::Model;
 
@@ -110,6 +111,60 @@ impl LocalTable {
     /// (`LockAcquireExtended` in lock.c where it finds a local lock with `nLocks` above 0).
     #[inline(always)]
     pub fn add_held(&mut self, tag: &Tag, mode: Mode, owner: Owner) -> Result<bool, Refusal>
+        ensures held { (result ≡ Ok true) ↔ ((has_entry self.old.entries tag.now mode ≡ true)
+            × (owner_count_of self.old.entries tag.now mode owner < max_count)) }
+        ensures not_held { (result ≡ Ok false) ↔ (has_entry self.old.entries tag.now mode ≡ false) }
+        ensures count_full { IsErrOf result Refusal.CountFull
+            ↔ (owner_count_of self.old.entries tag.now mode owner ≡ max_count) }
+        ensures no_other { IsOkUnless result Refusal.CountFull }
+        ensures entries { result ≡ Ok true → self.new.entries ≡ with_one_more self.old.entries tag.now mode owner }
+        ensures same { result ≢ Ok true → self.new ≡ self.old }
+        ensures room { self.old.room ≤ self.new.room }
+        ensures max_local { self.new.max_local ≡ self.old.max_local }
+        ensures well_owned { IsWellOwned self.new }
+    {
+        match self.add_at_once(tag, mode, owner) {
+            AtOnce::AlreadyHeld => Ok(true),
+            AtOnce::NotHeld => Ok(false),
+            AtOnce::Unknown => self.add_looked_up(tag, mode, owner),
+        }
+    }
+
+    /// `add_held` as far as one cell of the index goes, which mostly shows of a relation whether it is held in the mode, and
+    /// where: `AtOnce::Unknown` says nothing, and `add_held` goes on from there. With neither a loop nor a call in it, it is
+    /// short enough to stand in the code of each caller.
+    #[inline(always)]
+    pub fn add_at_once(&mut self, tag: &Tag, mode: Mode, owner: Owner) -> AtOnce
+        ensures held { result ≡ AtOnce.AlreadyHeld → (has_entry self.old.entries tag.now mode ≡ true)
+            × (owner_count_of self.old.entries tag.now mode owner < max_count) }
+        ensures not_held { result ≡ AtOnce.NotHeld → has_entry self.old.entries tag.now mode ≡ false }
+        ensures entries { result ≡ AtOnce.AlreadyHeld →
+            self.new.entries ≡ with_one_more self.old.entries tag.now mode owner }
+        ensures same { result ≢ AtOnce.AlreadyHeld → self.new ≡ self.old }
+        ensures room { self.old.room ≤ self.new.room }
+        ensures max_local { self.new.max_local ≡ self.old.max_local }
+        ensures well_owned { IsWellOwned self.new }
+    {
+        match glance_at(&self.slots, &self.index, tag, mode) {
+            Glance::Nothing => AtOnce::NotHeld,
+            Glance::Place(place) => {
+                let place = place as usize;
+                if !self.slots[place].can_raise(owner) {
+                    return AtOnce::Unknown;
+                }
+                self.last = place;
+                raise(&mut self.slots, place, owner);
+                self.progress.go_back_to(place);
+                AtOnce::AlreadyHeld
+            }
+            Glance::Unknown => AtOnce::Unknown,
+        }
+    }
+
+    /// `add_held` by a whole look. To the compiler it is cold, so that what goes on without it runs straight on.
+    #[cold]
+    #[inline(never)]
+    fn add_looked_up(&mut self, tag: &Tag, mode: Mode, owner: Owner) -> Result<bool, Refusal>
         ensures held { (result ≡ Ok true) ↔ ((has_entry self.old.entries tag.now mode ≡ true)
             × (owner_count_of self.old.entries tag.now mode owner < max_count)) }
         ensures not_held { (result ≡ Ok false) ↔ (has_entry self.old.entries tag.now mode ≡ false) }
@@ -276,9 +331,43 @@ impl LocalTable {
         ensures max_local { self.new.max_local ≡ self.old.max_local }
         ensures well_owned { IsWellOwned self.new }
     {
+        match *tag {
+            Tag::Relation { database, relation } => {
+                let hash = hash_of(pair_bits(database, relation), mode);
+                self.enter(Tag::Relation { database, relation }, hash, mode, owner);
+            }
+            Tag::Object { .. } => self.add_new_object(tag, mode, owner),
+        }
+    }
+
+    /// The same of any object: a call of its own, so that of a relation no more than its two numbers are copied.
+    #[inline(never)]
+    fn add_new_object(&mut self, tag: &Tag, mode: Mode, owner: Owner)
+        requires new { has_entry self.old.entries tag.now mode ≡ false }
+        requires allowed { length self.old.entries < self.old.max_local }
+        requires roomy { 0 < self.old.room }
+        ensures entries { self.new.entries ≡ with_one_more self.old.entries tag.now mode owner }
+        ensures room { self.old.room ≤ self.new.room + 1 }
+        ensures max_local { self.new.max_local ≡ self.old.max_local }
+        ensures well_owned { IsWellOwned self.new }
+    {
+        self.enter(*tag, key_hash(tag, mode), mode, owner);
+    }
+
+    /// The same where the hash of the object and mode is known.
+    #[inline(always)]
+    fn enter(&mut self, tag: Tag, hash: u32, mode: Mode, owner: Owner)
+        requires hashed { hash ≡ key_hash tag mode }
+        requires new { has_entry self.old.entries tag mode ≡ false }
+        requires allowed { length self.old.entries < self.old.max_local }
+        requires roomy { 0 < self.old.room }
+        ensures entries { self.new.entries ≡ with_one_more self.old.entries tag mode owner }
+        ensures room { self.old.room ≤ self.new.room + 1 }
+        ensures max_local { self.new.max_local ≡ self.old.max_local }
+        ensures well_owned { IsWellOwned self.new }
+    {
         let place = self.slots.len();
-        let hash = key_hash(tag, mode);
-        let entry = Entry::new(*tag, mode, owner);
+        let entry = Entry::new(tag, mode, owner);
         push_entry(&mut self.slots, &mut self.index, hash, entry);
         self.len += 1;
         self.last = place;
@@ -324,9 +413,10 @@ impl LocalTable {
                     return Ok(Unlocked::StillHeld);
                 }
                 if self.slots[last].is_only(owner) {
+                    let hash = hash_of(pair_bits(database, relation), mode);
                     self.len -= 1;
                     self.last = last.wrapping_sub(1);
-                    take_out(&mut self.slots, &mut self.index, last);
+                    take_out(&mut self.slots, &mut self.index, last, hash);
                     return Ok(Unlocked::Released);
                 }
             }
@@ -334,7 +424,8 @@ impl LocalTable {
         self.drop_elsewhere(tag, mode, owner)
     }
 
-    /// The same, of whatever entry and count.
+    /// The same, of whatever entry and count: cold to the compiler, as `add_looked_up` is.
+    #[cold]
     #[inline(never)]
     fn drop_elsewhere(&mut self, tag: &Tag, mode: Mode, owner: Owner) -> Result<Unlocked, Refusal>
         ensures not_held { IsErrOf result Refusal.NotHeld ↔ (owner_count_of self.old.entries tag.now mode owner ≡ 0) }
@@ -356,7 +447,8 @@ impl LocalTable {
         }
         let total = entry.sum();
         if total == 1 {
-            take_out(&mut self.slots, &mut self.index, place);
+            let hash = key_hash(tag, mode);
+            take_out(&mut self.slots, &mut self.index, place, hash);
             self.len -= 1;
             // Locks are mostly released in the opposite order of their acquires.
             self.last = place.wrapping_sub(1);

@@ -4,7 +4,7 @@ use crate::loops::{
     acquire_all, double_passes, in_opposite_order, in_order, look_up_all, map_pairs, pairs, passes,
     refusals,
 };
-use anyhow::Result;
+use anyhow::{Result, ensure};
 use local_locks::LocalTable;
 use modes_core::Owner;
 use std::alloc::Global;
@@ -12,6 +12,9 @@ use std::collections::HashMap;
 
 /// How many keys are taken that are not held.
 const NEW_KEYS: u32 = 1_000;
+
+/// What is told where a call is refused that should not be.
+pub const REFUSED: &str = "a call of the local table was refused";
 
 /// A row of the table of times.
 #[derive(Clone, Copy, PartialEq, Eq)]
@@ -102,7 +105,8 @@ impl Bed {
             objects: keys(alloc, Kind::Objects, database, 0, NEW_KEYS)?,
             modes: keys(alloc, Kind::Modes, database, 1_000_000, NEW_KEYS)?,
         };
-        acquire_all(&mut bed.table, bed.held.as_slice(), owner)?;
+        let done = acquire_all(&mut bed.table, bed.held.as_slice(), owner);
+        ensure!(done, "{REFUSED}");
         for (tag, mode) in &bed.held {
             insert(&mut bed.map, tag, *mode, 0)?;
         }
@@ -133,23 +137,27 @@ impl Bed {
     pub fn run(&mut self, row: Row) -> Result<u64> {
         let owner = self.owner;
         let laps = laps_of(self.keys(row), self.steps);
-        match row {
+        let done = match row {
             Row::OneEmptyCall => return Ok(passes(self.held.as_slice(), owner, laps)),
             Row::TwoEmptyCalls => return Ok(double_passes(self.held.as_slice(), owner, laps)),
-            Row::HeldPair => pairs(&mut self.table, self.held.as_slice(), owner, laps)?,
-            Row::NewPair => pairs(&mut self.table, self.new.as_slice(), owner, laps)?,
-            Row::NewInOrder => in_order(&mut self.table, self.new.as_slice(), owner, laps)?,
+            Row::HeldPair => pairs(&mut self.table, self.held.as_slice(), owner, laps),
+            Row::NewPair => pairs(&mut self.table, self.new.as_slice(), owner, laps),
+            Row::NewInOrder => in_order(&mut self.table, self.new.as_slice(), owner, laps),
             Row::NewInOppositeOrder => {
-                in_opposite_order(&mut self.table, self.new.as_slice(), owner, laps)?
+                in_opposite_order(&mut self.table, self.new.as_slice(), owner, laps)
             }
-            Row::ObjectPair => pairs(&mut self.table, self.objects.as_slice(), owner, laps)?,
-            Row::ModesPair => pairs(&mut self.table, self.modes.as_slice(), owner, laps)?,
+            Row::ObjectPair => pairs(&mut self.table, self.objects.as_slice(), owner, laps),
+            Row::ModesPair => pairs(&mut self.table, self.modes.as_slice(), owner, laps),
             Row::Refused => {
                 return Ok(refusals(&mut self.table, self.new.as_slice(), owner, laps));
             }
             Row::MapLookUp => return Ok(look_up_all(&self.map, self.held.as_slice(), laps)),
-            Row::MapPair => map_pairs(&mut self.map, self.new.as_slice(), laps)?,
-        }
+            Row::MapPair => {
+                map_pairs(&mut self.map, self.new.as_slice(), laps)?;
+                true
+            }
+        };
+        ensure!(done, "{REFUSED}");
         Ok(0)
     }
 

@@ -1,6 +1,9 @@
 //! Functions that are not inlined, so that no call of them is specialised to what the benchmark passes.
-use local_locks::{Acquired, End, LocalTable, Unlocked};
-use modes_core::{Mode, Owner, Refusal, Tag};
+ghost use Rattle.std.specs.Prelude.{◌≡◌, false};
+ghost use Rattle.local_locks.specs.Owned.{has_entry};
+
+use local_locks::{AtOnce, End, LocalTable};
+use modes_core::{Mode, Owner, Tag};
 use std::alloc::AllocError;
 use std::collections::HashMap;
 
@@ -16,29 +19,44 @@ pub fn pass(passed: u64, tag: &Tag, mode: Mode, owner: Owner) -> u64 {
     passed
 }
 
+/// Acquires, and tells whether that was done: in a register, as the map's doors answer.
 #[inline(never)]
-pub fn acquire(
-    table: &mut LocalTable,
-    tag: &Tag,
-    mode: Mode,
-    owner: Owner,
-) -> Result<Acquired, Refusal> {
-    if table.add_held(tag, mode, owner)? {
-        return Ok(Acquired::AlreadyHeld);
+pub fn acquire(table: &mut LocalTable, tag: &Tag, mode: Mode, owner: Owner) -> bool {
+    match table.add_at_once(tag, mode, owner) {
+        AtOnce::AlreadyHeld => true,
+        AtOnce::NotHeld => acquire_new(table, tag, mode, owner),
+        AtOnce::Unknown => acquire_looked_up(table, tag, mode, owner),
     }
-    table.reserve_new()?;
-    table.add_new(tag, mode, owner);
-    Ok(Acquired::Granted)
 }
 
+/// The same where it takes a whole look to say whether it is held.
+#[cold]
 #[inline(never)]
-pub fn release(
-    table: &mut LocalTable,
-    tag: &Tag,
-    mode: Mode,
-    owner: Owner,
-) -> Result<Unlocked, Refusal> {
-    table.drop_held(tag, mode, owner)
+fn acquire_looked_up(table: &mut LocalTable, tag: &Tag, mode: Mode, owner: Owner) -> bool {
+    match table.add_held(tag, mode, owner) {
+        Ok(true) => true,
+        Ok(false) => acquire_new(table, tag, mode, owner),
+        Err(_) => false,
+    }
+}
+
+/// The same of what isn't held.
+#[cold]
+#[inline(never)]
+fn acquire_new(table: &mut LocalTable, tag: &Tag, mode: Mode, owner: Owner) -> bool
+    requires { has_entry table.old.entries tag.now mode ≡ false }
+{
+    if table.reserve_new().is_err() {
+        return false;
+    }
+    table.add_new(tag, mode, owner);
+    true
+}
+
+/// Releases, and tells whether that was done.
+#[inline(never)]
+pub fn release(table: &mut LocalTable, tag: &Tag, mode: Mode, owner: Owner) -> bool {
+    table.drop_held(tag, mode, owner).is_ok()
 }
 
 #[inline(never)]

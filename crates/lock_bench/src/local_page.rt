@@ -1,8 +1,8 @@
-use crate::bed::{Bed, ROWS, Row};
+use crate::bed::{Bed, REFUSED, ROWS, Row};
 use crate::keys::{Key, Kind, keys};
 use crate::loops::{acquire_all, end_all};
 use crate::rounds::{ROUNDS, Spread, Times, cpu_nanos, print_ratio};
-use anyhow::Result;
+use anyhow::{Result, ensure};
 use local_locks::{End, LocalTable};
 use modes_core::Owner;
 use std::alloc::Global;
@@ -42,7 +42,7 @@ fn filled(alloc: Global, keys: &[Key], owner: Owner, count: u32) -> Result<Vec<L
     let mut tables = Vec::new(alloc);
     for _ in 0..count {
         let mut table = LocalTable::new(alloc, 65536)?;
-        acquire_all(&mut table, keys, owner)?;
+        ensure!(acquire_all(&mut table, keys, owner), "{REFUSED}");
         tables.push(table)?;
     }
     Ok(tables)

@@ -3,7 +3,7 @@ use crate::doors::{KeyMap, acquire, end_next, insert, look_up, pass, release, re
 use crate::keys::Key;
 use anyhow::Result;
 use local_locks::{End, LocalTable};
-use modes_core::{Owner, Refusal};
+use modes_core::Owner;
 
 /// A call that does nothing for each key.
 pub fn passes(keys: &[Key], owner: Owner, laps: u32) -> u64 {
@@ -28,63 +28,64 @@ pub fn double_passes(keys: &[Key], owner: Owner, laps: u32) -> u64 {
     passed
 }
 
-/// Acquires each and releases it at once.
-pub fn pairs(table: &mut LocalTable, keys: &[Key], owner: Owner, laps: u32) -> Result<(), Refusal> {
+/// Acquires each and releases it at once, and tells whether all was done.
+pub fn pairs(table: &mut LocalTable, keys: &[Key], owner: Owner, laps: u32) -> bool {
     for _ in 0..laps {
         for (tag, mode) in keys {
-            acquire(table, tag, *mode, owner)?;
-            release(table, tag, *mode, owner)?;
+            if !acquire(table, tag, *mode, owner) || !release(table, tag, *mode, owner) {
+                return false;
+            }
         }
     }
-    Ok(())
+    true
 }
 
-/// Acquires each.
-pub fn acquire_all(table: &mut LocalTable, keys: &[Key], owner: Owner) -> Result<(), Refusal> {
+/// Acquires each, and tells whether all was done.
+pub fn acquire_all(table: &mut LocalTable, keys: &[Key], owner: Owner) -> bool {
     for (tag, mode) in keys {
-        acquire(table, tag, *mode, owner)?;
+        if !acquire(table, tag, *mode, owner) {
+            return false;
+        }
     }
-    Ok(())
+    true
 }
 
-/// Acquires all and then releases them in the order of making.
-pub fn in_order(
-    table: &mut LocalTable,
-    keys: &[Key],
-    owner: Owner,
-    laps: u32,
-) -> Result<(), Refusal> {
+/// Acquires all and then releases them in the order of making, and tells whether all was done.
+pub fn in_order(table: &mut LocalTable, keys: &[Key], owner: Owner, laps: u32) -> bool {
     for _ in 0..laps {
-        acquire_all(table, keys, owner)?;
+        if !acquire_all(table, keys, owner) {
+            return false;
+        }
         for (tag, mode) in keys {
-            release(table, tag, *mode, owner)?;
+            if !release(table, tag, *mode, owner) {
+                return false;
+            }
         }
     }
-    Ok(())
+    true
 }
 
-/// Acquires all and then releases the last one first.
-pub fn in_opposite_order(
-    table: &mut LocalTable,
-    keys: &[Key],
-    owner: Owner,
-    laps: u32,
-) -> Result<(), Refusal> {
+/// Acquires all and then releases the last one first, and tells whether all was done.
+pub fn in_opposite_order(table: &mut LocalTable, keys: &[Key], owner: Owner, laps: u32) -> bool {
     for _ in 0..laps {
-        acquire_all(table, keys, owner)?;
+        if !acquire_all(table, keys, owner) {
+            return false;
+        }
         for (tag, mode) in keys.iter().rev() {
-            release(table, tag, *mode, owner)?;
+            if !release(table, tag, *mode, owner) {
+                return false;
+            }
         }
     }
-    Ok(())
+    true
 }
 
-/// Releases what is not held.
+/// Releases what is not held, and counts the refusals.
 pub fn refusals(table: &mut LocalTable, keys: &[Key], owner: Owner, laps: u32) -> u64 {
     let mut refused = 0u64;
     for _ in 0..laps {
         for (tag, mode) in keys {
-            refused = refused.wrapping_add(u64::from(release(table, tag, *mode, owner).is_err()));
+            refused = refused.wrapping_add(u64::from(!release(table, tag, *mode, owner)));
         }
     }
     refused

@@ -115,3 +115,11 @@ found_all P cells mask hash at reached from stops here p some =
         | inr apart ↦ absurd (false≢true (sym stops ∙ comes.1 at (omega arith) (omega arith)))
       ]
     ]
+
+-- where the cell that a probe starts at is empty, no place is noted under its hash
+pub none_noted : (cells : List Cell) (mask hash : ℕ) → IsReached cells mask → is_full (cell_at cells (start_of mask hash)) ≡ false → (p : ℕ) → times_in cells hash p ≡ 0
+none_noted cells mask hash reached stops p =
+    elim (cases_eq (times_in cells hash p) 0) [
+      | inl none ↦ none
+      | inr some ↦ found_all (λ place. times_in cells hash place ≡ 0) cells mask hash (start_of mask hash) reached (omega arith) stops (λ k place from before is. absurd (omega arith)) p (omega arith)
+    ]

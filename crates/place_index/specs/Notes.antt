@@ -1,4 +1,6 @@
-use Rattle.std.specs.Prelude.{◌≡◌, ℕ, ◌+◌, ◌&&◌, ◌==◌, if◌then◌else◌, Bool, List, count_by}
+use Rattle.std.specs.Prelude.{◌≡◌, ℕ, ◌+◌, ◌<◌, ◌&&◌, ◌==◌, if◌then◌else◌, Bool, List, count_by, ⊤}
+use Rattle.place_index.specs.declared.glances.Glance.{Glance}
+use Rattle.place_index.specs.declared.glances.Glance.TheVariants.{Nothing, Place, Unknown}
 
 -- What an index knows: the notes, each a hash with a place, in an order that is left open, and how many more there is room
 -- for.
@@ -29,3 +31,9 @@ IsOneMore old new hash place = (h p : ℕ) → times new h p ≡ times old h p +
 -- the new index has the same notes
 abbrev pub HasSameNotes : Notes → Notes → Type 0
 HasSameNotes old new = (h p : ℕ) → times new h p ≡ times old h p
+
+-- what one cell tells of places, each noted so often, is so
+abbrev pub IsTold : (ℕ → ℕ) → Glance → Type 0
+IsTold noted Nothing = (p : ℕ) → noted p ≡ 0
+IsTold noted (Place p) = 0 < noted p
+IsTold noted Unknown = ⊤

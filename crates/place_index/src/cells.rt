@@ -27,8 +27,8 @@ impl Cell {
 
     /// Whether it has a note.
     #[inline(always)]
-    pub(crate) fn is_full(self) -> bool
-        ensures { result ≡ is_full self }
+    pub(crate) fn is_full(&self) -> bool
+        ensures { result ≡ is_full self.now }
     {
         self.place != NO_PLACE
     }
@@ -43,16 +43,16 @@ impl Cell {
 
     /// The hash of its note.
     #[inline(always)]
-    pub(crate) fn hash(self) -> u32
-        ensures { result ≡ self.hash }
+    pub(crate) fn hash(&self) -> u32
+        ensures { result ≡ self.now.hash }
     {
         self.hash
     }
 
     /// The place of its note.
     #[inline(always)]
-    pub(crate) fn place(self) -> u32
-        ensures { result ≡ self.place }
+    pub(crate) fn place(&self) -> u32
+        ensures { result ≡ self.now.place }
     {
         self.place
     }

@@ -1,12 +1,13 @@
 ghost use Rattle.std.specs.Prelude.{◌≡◌, ◌+◌, ◌<◌, ◌≤◌, ◌↔◌, ℕ, length, true, false, IsTrue, OnOk, OnErr, IfSome, IfNone};
-ghost use Rattle.place_index.specs.Notes.{no_place, times, IsOneMore, HasSameNotes};
+ghost use Rattle.place_index.specs.Notes.{no_place, times, IsOneMore, IsTold, HasSameNotes};
 
+use crate::Glance;
 use crate::cells::Cell;
-use crate::probes::{empty_all, find, put, put_all, take};
+use crate::probes::{empty_all, find, glance, put, put_all, take};
 use std::alloc::{AllocError, Global};
 use std::marker::Model;
 
-/// How many notes the smallest table has room for.
+/// How many notes the smallest table has room for, in six cache lines of cells.
 const LEAST: usize = 16;
 
 /// Places in somebody else's list, each noted under a 32-bit hash. Contracts see how often a place is
@@ -53,6 +54,15 @@ impl PlaceIndex {
         ensures absent { IfNone result ((p : ℕ) → 0 < times self.now hash p → F.post is_it p false) }
     {
         find(self.cells.as_slice(), self.mask, hash, is_it)
+    }
+
+    /// What the cell where a probe for this hash starts tells of the places under it: mostly that there is none, or the one
+    /// that is looked for. A caller that goes on with `find` where it doesn't tell has no loop in its own code.
+    #[inline(always)]
+    pub fn glance(&self, hash: u32) -> Glance
+        ensures { IsTold (times self.now hash) result }
+    {
+        glance(self.cells.as_slice(), self.mask, hash)
     }
 
     /// Makes room for one more note; nothing else takes memory.

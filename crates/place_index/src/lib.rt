@@ -2,7 +2,9 @@
 #![tactic(auto)]
 
 mod cells;
+pub mod glances;
 pub mod index;
 mod probes;
 
+pub use glances::Glance;
 pub use index::PlaceIndex;

@@ -1,8 +1,9 @@
 ghost use Rattle.std.specs.Prelude.{◌≡◌, ◌≢◌, ℕ, ◌+◌, ◌<◌, ◌≤◌, true, false, length, replicate, count_by, IfSome, IfNone, if◌then◌else◌};
-ghost use Rattle.place_index.specs.Notes.{no_place, once_at};
+ghost use Rattle.place_index.specs.Notes.{no_place, once_at, IsTold};
 ghost use Rattle.place_index.specs.Cells.{empty_cell, cell_at, is_full, is_note, times_in, start_of, IsReached, CountsNotes};
 
 use crate::cells::Cell;
+use crate::glances::Glance;
 
 /// Where a probe for the hash starts, 0 to the mask: its lowest bits.
 #[inline(always)]
@@ -10,6 +11,26 @@ pub(crate) fn start_of(mask: usize, hash: u32) -> usize
     ensures { result ≡ start_of mask hash }
 {
     hash as usize & mask
+}
+
+/// What the cell where a probe for the hash starts tells of the places under it.
+#[inline(always)]
+pub(crate) fn glance(cells: &[Cell], mask: usize, hash: u32) -> Glance
+    requires { IsReached cells.now mask }
+    ensures { IsTold (times_in cells.now hash) result }
+{
+    let at = start_of(mask, hash);
+    if at >= cells.len() {
+        return Glance::Nothing;
+    }
+    let cell = &cells[at];
+    if !cell.is_full() {
+        return Glance::Nothing;
+    }
+    if cell.hash() == hash {
+        return Glance::Place(cell.place());
+    }
+    Glance::Unknown
 }
 
 /// The place under this hash that is the one looked for.

@@ -121,6 +121,28 @@ fn commit_keeps_what_the_session_owns(rt: HostRuntime) {
 }
 
 #[test]
+fn one_cell_shows_what_a_relation_is_held_in(rt: HostRuntime) {
+    let mut table = new_table(&rt, rt.alloc(), 1024);
+    let tag = Tag::relation(5, 16384);
+    let mode = Mode::AccessShare;
+    assert_eq!(rt;
+        table.add_at_once(&tag, mode, Owner::Transaction),
+        AtOnce::NotHeld
+    );
+    assert!(rt; acquire_again(&rt, &mut table, tag, mode, Owner::Transaction).is_ok());
+    assert_eq!(rt;
+        table.add_at_once(&tag, mode, Owner::Transaction),
+        AtOnce::AlreadyHeld
+    );
+    assert_eq!(rt;
+        table.add_at_once(&tag, mode, Owner::Session),
+        AtOnce::Unknown
+    );
+    assert_eq!(rt; table.add_held(&tag, mode, Owner::Session), Ok(true));
+    assert_eq!(rt; table.total(tag, mode), 3);
+}
+
+#[test]
 fn the_limits_are_kept(rt: HostRuntime) {
     let mut table = new_table(&rt, rt.alloc(), 2);
     let tag = Tag::object(5, 1259, 16384, 0);

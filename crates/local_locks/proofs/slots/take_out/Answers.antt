@@ -1,19 +1,16 @@
 use Rattle.std.proofs.Common.{◌≡◌, None, List, length, take, set, sym, ap, subst, ◌∙◌, arith}
 use Rattle.std.specs.Option.{option_map}
-use Rattle.std.proofs.lemmas.List.{get_or_default, length-take, length-set}
+use Rattle.std.proofs.lemmas.List.{length-take, length-set}
 use Rattle.local_locks.specs.declared.records.Entry.{Entry}
-use Rattle.local_locks.specs.Slots.{IsCut, opened, entry_in, entry_at, key_hash}
+use Rattle.local_locks.specs.Slots.{IsCut, opened, entry_in, entry_at}
 use Rattle.local_locks.proofs.IndexLaws.{noted_some, indexed-cleared}
-use Rattle.local_locks.proofs.OpenLaws.{length-opened, opened-set, opened-take, opened_some}
+use Rattle.local_locks.proofs.OpenLaws.{length-opened, opened-set, opened-take}
 use Rattle.local_locks.proofs.SlotSteps.{taken-out, left-at, left-present, left-past}
 use Rattle.local_locks.proofs.slots.take_out.Goals as goal
 
 pub remove-requires : goal.remove-requires
 remove-requires c =
-    let es = c.args.slots.now.items in
-    let within = (opened_some es c.args.place (entry_at es c.args.place) c.requires.there).0 in
-    let read = c.index_mut-slot.ensures.value ∙ get_or_default es c.args.place c.index_mut-slot.result.now _ within in
-    noted_some (opened c.args.slots.now.items) c.args.index.now c.requires.indexed c.args.place c.key_hash.result (entry_at c.args.slots.now.items c.args.place) c.requires.there (c.key_hash.ensures ∙ ap (λ (x : Entry). key_hash x.tag x.mode) read)
+    noted_some (opened c.args.slots.now.items) c.args.index.now c.requires.indexed c.args.place c.args.hash (entry_at c.args.slots.now.items c.args.place) c.requires.there c.requires.hashed
 
 -- where the slots are cut
 cut : (c : goal.After-truncate) → IsCut (length (opened c.args.slots.now.items)) c.len-2.result c.args.place c.slots_left-used.result
@@ -34,20 +31,17 @@ returns-clause-taken c =
     let es = c.args.slots.now.items in
     let new = c.truncate.new.self.items in
     taken-out es new c.args.index.now c.args.place c.requires.indexed c.requires.there
-    (left-at (opened es) (opened new) c.args.index.now c.remove.new.self c.key_hash.result c.len-2.result c.args.place c.slots_left-used.result (entry_at es c.args.place)
+    (left-at (opened es) (opened new) c.args.index.now c.remove.new.self c.args.hash c.len-2.result c.args.place c.slots_left-used.result (entry_at es c.args.place)
     c.requires.indexed c.requires.there c.remove.ensures.notes c.len-2.ensures (cut c) (slots_are c))
-    (left-present (opened es) (opened new) c.args.index.now c.remove.new.self c.key_hash.result c.len-2.result c.args.place c.slots_left-used.result (entry_at es c.args.place)
+    (left-present (opened es) (opened new) c.args.index.now c.remove.new.self c.args.hash c.len-2.result c.args.place c.slots_left-used.result (entry_at es c.args.place)
     c.requires.indexed c.requires.there c.remove.ensures.notes c.len-2.ensures (cut c) (slots_are c))
     (omega (arith, ap (λ (l : List Entry). length l) c.truncate.ensures.items, length-take c.slots_left-used.result (set es c.args.place c.clear.new.self), length-set es c.args.place c.clear.new.self))
 
 pub returns-clause-indexed : goal.returns-clause-indexed
 returns-clause-indexed c =
-    let es = c.args.slots.now.items in
-    let within = (opened_some es c.args.place (entry_at es c.args.place) c.requires.there).0 in
-    let read = c.index_mut-slot.ensures.value ∙ get_or_default es c.args.place c.index_mut-slot.result.now _ within in
-    indexed-cleared (opened c.args.slots.now.items) (opened c.truncate.new.self.items) c.args.index.now c.remove.new.self c.args.place c.key_hash.result ((entry_at c.args.slots.now.items c.args.place).tag, (entry_at c.args.slots.now.items c.args.place).mode)
+    indexed-cleared (opened c.args.slots.now.items) (opened c.truncate.new.self.items) c.args.index.now c.remove.new.self c.args.place c.args.hash ((entry_at c.args.slots.now.items c.args.place).tag, (entry_at c.args.slots.now.items c.args.place).mode)
     c.requires.indexed (ap (option_map (λ y. (y.tag, y.mode))) c.requires.there) (ap (option_map (λ y. (y.tag, y.mode))) (returns-clause-taken c).gone)
     (λ k apart. ap (option_map (λ y. (y.tag, y.mode))) ((returns-clause-taken c).others k apart))
-    (left-past (opened c.args.slots.now.items) (opened c.truncate.new.self.items) c.args.index.now c.remove.new.self c.key_hash.result c.len-2.result c.args.place c.slots_left-used.result
+    (left-past (opened c.args.slots.now.items) (opened c.truncate.new.self.items) c.args.index.now c.remove.new.self c.args.hash c.len-2.result c.args.place c.slots_left-used.result
     (entry_at c.args.slots.now.items c.args.place) c.requires.indexed c.requires.there c.remove.ensures.notes c.len-2.ensures (cut c) (slots_are c))
-    (c.key_hash.ensures ∙ ap (λ (x : Entry). key_hash x.tag x.mode) read) c.remove.ensures.notes
+    c.requires.hashed c.remove.ensures.notes

@@ -6,7 +6,7 @@ use Rattle.local_locks.specs.declared.ends.Progress.{Progress}
 use Rattle.local_locks.specs.declared.records.Entry.{Entry}
 use Rattle.local_locks.proofs.KeptLaws.{well_owned}
 use Rattle.local_locks.proofs.TableSteps.{IsTable-raised, entries-raised}
-use Rattle.local_locks.proofs.tables.LocalTable.add_held.Goals as goal
+use Rattle.local_locks.proofs.tables.LocalTable.add_looked_up.Goals as goal
 
 pub returns-in_default-clause-well_owned : goal.returns-in_default-clause-well_owned
 returns-in_default-clause-well_owned c = subst IsWellOwned c.self.view_is (well_owned _ _ _ _ _ _ c.self.invariant.kept)

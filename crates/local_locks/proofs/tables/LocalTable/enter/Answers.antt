@@ -8,14 +8,14 @@ use Rattle.local_locks.proofs.OpenLaws.{length-opened}
 use Rattle.local_locks.proofs.LookLaws.{no_entry, absent_key, new_entry-key}
 use Rattle.local_locks.proofs.KeptLaws.{well_owned}
 use Rattle.local_locks.proofs.TableSteps.{kept-pushed, IsCounted-new}
-use Rattle.local_locks.proofs.tables.LocalTable.add_new.Goals as goal
+use Rattle.local_locks.proofs.tables.LocalTable.enter.Goals as goal
 
 pub push_entry-requires-clause-absent : goal.push_entry-requires-clause-absent
 push_entry-requires-clause-absent c =
     let es = c.self.inside.slots.items in
-    let none : has_entry (present (opened es)) c.args.tag.now c.args.mode ≡ false = ap (λ v. has_entry v.entries c.args.tag.now c.args.mode) c.self.view_is ∙ c.requires.new in
-    let key = new_entry-key c.args.tag.now c.args.mode c.args.owner c.new-entry.result c.new-entry.ensures in
-    λ k at. absent_key es c.args.tag.now c.args.mode (no_entry (present (opened es)) c.args.tag.now c.args.mode none) k (at ∙ (λ i. Some (key.0 i, key.1 i)))
+    let none : has_entry (present (opened es)) c.args.tag c.args.mode ≡ false = ap (λ v. has_entry v.entries c.args.tag c.args.mode) c.self.view_is ∙ c.requires.new in
+    let key = new_entry-key c.args.tag c.args.mode c.args.owner c.new-entry.result c.new-entry.ensures in
+    λ k at. absent_key es c.args.tag c.args.mode (no_entry (present (opened es)) c.args.tag c.args.mode none) k (at ∙ (λ i. Some (key.0 i, key.1 i)))
 
 pub invariant_of-self : goal.invariant_of-self
 invariant_of-self c =
@@ -31,7 +31,7 @@ invariant_of-self c =
           (sym (c.go_back_to.ensures ∙ ap (λ n. back_to n c.self.inside.progress) place))
           (kept-pushed (opened es) c.self.inside.index c.push_entry.new.index c.self.inside.len c.self.inside.max_local c.self.inside.progress c.new-entry.result c.self.invariant.kept
           (subst (λ (s : Slots). IsIndexed s c.push_entry.new.index) c.push_entry.ensures.slots c.push_entry.ensures.indexed)
-          (subst IsCounted (sym c.new-entry.ensures) (IsCounted-new c.args.tag.now c.args.mode c.args.owner)) below));
+          (subst IsCounted (sym c.new-entry.ensures) (IsCounted-new c.args.tag c.args.mode c.args.owner)) below));
       few = omega (arith, c.push_entry.ensures.number, room, c.requires.roomy);
     }
 
@@ -41,9 +41,9 @@ returns-clause-well_owned c = well_owned _ _ _ _ _ _ (invariant_of-self c).kept
 pub returns-clause-entries : goal.returns-clause-entries
 returns-clause-entries c =
     let es = c.self.inside.slots.items in
-    let none : has_entry (present (opened es)) c.args.tag.now c.args.mode ≡ false = ap (λ v. has_entry v.entries c.args.tag.now c.args.mode) c.self.view_is ∙ c.requires.new in
+    let none : has_entry (present (opened es)) c.args.tag c.args.mode ≡ false = ap (λ v. has_entry v.entries c.args.tag c.args.mode) c.self.view_is ∙ c.requires.new in
     ap present c.push_entry.ensures.slots
     ∙ (present-push (opened es) c.new-entry.result
     ∙ (ap (λ (x : Entry). present (opened es) ++ x ∷ []) c.new-entry.ensures
-    ∙ (sym (ap (λ b. cond b (change (raised c.args.owner) (present (opened es)) c.args.tag.now c.args.mode) (present (opened es) ++ new_entry c.args.tag.now c.args.mode c.args.owner ∷ [])) none)
-    ∙ ap (λ v. with_one_more v.entries c.args.tag.now c.args.mode c.args.owner) c.self.view_is)))
+    ∙ (sym (ap (λ b. cond b (change (raised c.args.owner) (present (opened es)) c.args.tag c.args.mode) (present (opened es) ++ new_entry c.args.tag c.args.mode c.args.owner ∷ [])) none)
+    ∙ ap (λ v. with_one_more v.entries c.args.tag c.args.mode c.args.owner) c.self.view_is)))
