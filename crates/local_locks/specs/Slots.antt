@@ -107,10 +107,10 @@ IsSpot slots tag mode (Some place) = IsPlaceOf slots tag mode place
 IsSpot slots tag mode None = entry_for (present (opened slots)) tag mode ≡ None
 
 -- What a glance at the index shows of an object and mode: that it has no entry, or the place of its slot, which may be empty.
-abbrev pub IsGlimpse : List Entry → Tag → Mode → Glance → Type 0
-IsGlimpse slots tag mode Nothing = entry_for (present (opened slots)) tag mode ≡ None
-IsGlimpse slots tag mode (Place place) = (place < length slots) × (is_of tag mode (entry_at slots place) ≡ true)
-IsGlimpse slots tag mode Unknown = ⊤
+abbrev pub IsGlance : List Entry → Tag → Mode → Glance → Type 0
+IsGlance slots tag mode Nothing = entry_for (present (opened slots)) tag mode ≡ None
+IsGlance slots tag mode (Place place) = (place < length slots) × (is_of tag mode (entry_at slots place) ≡ true)
+IsGlance slots tag mode Unknown = ⊤
 
 -- How many of so many slots stay where an entry at a place goes: all, or all but the last one, which was its slot, or some
 -- number of which nothing is asked where no note is left.

@@ -1,6 +1,6 @@
 ghost use Rattle.std.specs.Prelude.{◌≡◌, ◌<◌, ◌==◌, ◌&&◌, length};
 ghost use Rattle.modes_core.specs.declared.tags.Tag.TheVariants.{Relation};
-ghost use Rattle.local_locks.specs.Slots.{hash_of, key_hash, pair_bits, object_bits, opened, entry_at, is_held_as, IsIndexed, IsGlimpse, IsSpot};
+ghost use Rattle.local_locks.specs.Slots.{hash_of, key_hash, pair_bits, object_bits, opened, entry_at, is_held_as, IsIndexed, IsGlance, IsSpot};
 
 use crate::Entry;
 use modes_core::{Mode, Tag};
@@ -76,7 +76,7 @@ pub(crate) fn key_hash(tag: &Tag, mode: Mode) -> u32
 #[inline(always)]
 pub(crate) fn glance_at(slots: &[Entry], index: &PlaceIndex, tag: &Tag, mode: Mode) -> Glance
     requires { IsIndexed (opened slots.now) index.now }
-    ensures { IsGlimpse slots.now tag.now mode result }
+    ensures { IsGlance slots.now tag.now mode result }
 {
     let Tag::Relation { database, relation } = *tag else {
         return Glance::Unknown;
