@@ -1,3 +1,5 @@
-pub mod CellLaws
-pub mod GapLaws
+pub mod ChainLaws
 pub mod IndexLaws
+pub mod LastLaws
+pub mod LinkLaws
+pub mod NoteLaws

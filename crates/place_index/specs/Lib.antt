@@ -1,2 +1,2 @@
 pub mod Notes
-pub mod Cells
+pub mod Chains

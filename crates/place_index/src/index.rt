@@ -1,49 +1,65 @@
-ghost use Rattle.std.specs.Prelude.{◌≡◌, ◌+◌, ◌<◌, ◌≤◌, ◌↔◌, ℕ, length, true, false, IsTrue, OnOk, OnErr, IfSome, IfNone};
-ghost use Rattle.place_index.specs.Notes.{no_place, times, IsOneMore, IsTold, HasSameNotes};
+ghost use Rattle.std.specs.Prelude.{◌≡◌, ◌+◌, ◌<◌, ◌≤◌, ◌↔◌, ℕ, length, true, false, IsTrue, OnOk, OnErr, IfOk, IfSome, IfNone};
+ghost use Rattle.place_index.specs.Notes.{no_place, times, IsFirst, IsFree, IsNoted, IsOneMore, HasSameNotes};
 
-use crate::Glance;
-use crate::cells::Cell;
-use crate::probes::{empty_all, find, glance, put, put_all, take};
+use crate::chains::{find, free_all, link_all, link_in, start_of, unlink, unlink_first};
+use crate::links::{END, Link};
 use std::alloc::{AllocError, Global};
 use std::marker::Model;
 
-/// How many notes the smallest table has room for, in six cache lines of cells.
-const LEAST: usize = 16;
+/// How many places there is room for at first.
+const FIRST_PLACES: usize = 16;
 
-/// Places in somebody else's list, each noted under a 32-bit hash. Contracts see how often a place is
-/// noted under a hash, and how many more notes there is room for.
+/// How many starts there are beside two for each place, so that in a small table too most chains have one place or none.
+const MORE_STARTS: usize = 512;
+
+/// How many places there can be.
+const MOST_PLACES: usize = 1 << 30;
+
+/// Places in somebody else's list, each noted under a 32-bit hash at most. Contracts see how often a place is
+/// noted under a hash, and how many places there is room for.
 #[derive(Drop)]
 pub struct PlaceIndex {
-    cells: Vec<Cell>,
-    mask: usize,
+    heads: Vec<u32>,
+    links: Vec<Link>,
     len: usize,
-    limit: usize,
 }
 
 impl Model for PlaceIndex {
-    ghost use Rattle.std.specs.Prelude.{◌-◌};
+    ghost use Rattle.std.specs.Prelude.{length};
     ghost use Rattle.place_index.specs.Notes.{Notes};
-    ghost use Rattle.place_index.specs.Cells.{notes_in, IsSound};
+    ghost use Rattle.place_index.specs.Chains.{notes_in, IsSound};
 
     ghost Value = { Notes };
 
-    ghost view = { λ t. record { notes = notes_in t.cells.items; room = t.limit - t.len } };
+    ghost view = { λ t. record { notes = notes_in t.links.items; places = length t.links.items } };
 
-    ghost invariant = { λ t. IsSound t.cells.items t.mask t.len t.limit };
+    ghost invariant = { λ t. IsSound t.heads.items t.links.items t.len };
+}
+
+/// How many starts an index has for so many places.
+fn starts_for(places: usize) -> usize
+    requires { places ≤ 1073741824 }
+    ensures some { 0 < result }
+    ensures few { result ≤ 4294967296 }
+{
+    2 * places + MORE_STARTS
 }
 
 impl PlaceIndex {
-    /// An index with no note and no room, which takes no memory.
-    pub fn new(alloc: Global) -> Self
-        ensures empty { (h p : ℕ) → times result h p ≡ 0 }
-        ensures room { result.room ≡ 0 }
+    /// An index with no note, and with room for its first places.
+    pub fn new(alloc: Global) -> Result<Self, AllocError>
+        ensures empty { IfOk result (λ index. (h p : ℕ) → times index h p ≡ 0) }
+        ensures room { IfOk result (λ index. 0 < index.places) }
     {
-        PlaceIndex {
-            cells: Vec::new(alloc),
-            mask: 0,
+        let mut heads = Vec::new(alloc);
+        heads.resize(starts_for(FIRST_PLACES), END)?;
+        let mut links = Vec::new(alloc);
+        links.resize(FIRST_PLACES, Link::free())?;
+        Ok(PlaceIndex {
+            heads,
+            links,
             len: 0,
-            limit: 0,
-        }
+        })
     }
 
     /// A place noted under this hash that is the one looked for, as the caller says of each.
@@ -53,109 +69,143 @@ impl PlaceIndex {
         ensures found { IfSome result (λ p. (0 < times self.now hash p) × F.post is_it p true) }
         ensures absent { IfNone result ((p : ℕ) → 0 < times self.now hash p → F.post is_it p false) }
     {
-        find(self.cells.as_slice(), self.mask, hash, is_it)
+        find(self.heads.as_slice(), self.links.as_slice(), hash, is_it)
     }
 
-    /// What the cell where a probe for this hash starts tells of the places under it: mostly that there is none, or the one
-    /// that is looked for. A caller that goes on with `find` where it doesn't tell has no loop in its own code.
+    /// The place that a `find` for this hash comes to first, which may be noted under another one, or that there is none. A
+    /// caller that goes on with `find` where it isn't the one looked for has no loop in its own code.
     #[inline(always)]
-    pub fn glance(&self, hash: u32) -> Glance
-        ensures { IsTold (times self.now hash) result }
+    pub fn first(&self, hash: u32) -> Option<u32>
+        ensures { IsFirst self.now hash result }
     {
-        glance(self.cells.as_slice(), self.mask, hash)
+        let head = self.heads[start_of(self.heads.len(), hash)];
+        if head == END { None } else { Some(head) }
     }
 
-    /// Makes room for one more note; nothing else takes memory.
+    /// How many places there is room for: each below that can be noted.
     #[inline(always)]
-    pub fn reserve(&mut self) -> Result<(), AllocError>
-        ensures ok { OnOk result (0 < self.new.room) }
-        ensures full { OnErr result (self.old.room ≡ 0) }
-        ensures room { self.old.room ≤ self.new.room }
-        ensures notes { HasSameNotes self.old self.new }
+    pub fn places(&self) -> usize
+        ensures is { result ≡ self.now.places }
+        ensures few { result ≤ no_place }
     {
-        if self.has_room() { Ok(()) } else { self.grow() }
-    }
-
-    /// Whether there is room for one more note.
-    #[inline(always)]
-    pub fn has_room(&self) -> bool
-        ensures { IsTrue result ↔ (0 < self.now.room) }
-    {
-        self.len < self.limit
-    }
-
-    /// Moves the notes into twice as many cells.
-    #[cold]
-    #[inline(never)]
-    fn grow(&mut self) -> Result<(), AllocError>
-        requires { self.old.room ≡ 0 }
-        ensures ok { OnOk result (0 < self.new.room) }
-        ensures notes { HasSameNotes self.old self.new }
-    {
-        let Some(double) = self.limit.checked_mul(2) else {
-            return Err(AllocError);
-        };
-        let limit = double.max(LEAST);
-        let Some(count) = limit.checked_mul(3) else {
-            return Err(AllocError);
-        };
-        let mut cells = Vec::new(*self.cells.allocator());
-        cells.resize(count, Cell::empty())?;
-        let mask = 2 * limit - 1;
-        put_all(cells.as_mut_slice(), mask, self.cells.as_slice());
-        self.cells = cells;
-        self.mask = mask;
-        self.limit = limit;
-        Ok(())
-    }
-
-    /// Notes the place under the hash, for which there is room. A place can be noted more than once.
-    #[inline(always)]
-    pub fn insert(&mut self, hash: u32, place: u32)
-        requires room { 0 < self.old.room }
-        requires place { place < no_place }
-        ensures notes { IsOneMore self.old self.new hash place }
-        ensures room { self.old.room ≡ self.new.room + 1 }
-    {
-        put(self.cells.as_mut_slice(), self.mask, hash, place);
-        self.len += 1;
+        self.links.len()
     }
 
     /// How many notes there are.
     #[inline(always)]
     pub fn len(&self) -> usize
-        ensures { result ≡ length self.now.notes }
+        ensures is { result ≡ length self.now.notes }
+        ensures few { result ≤ self.now.places }
     {
         self.len
     }
 
-    /// How many more notes there is room for.
-    #[inline(always)]
-    pub fn room(&self) -> usize
-        ensures { result ≡ self.now.room }
+    /// Whether the place is noted.
+    pub fn has(&self, place: u32) -> bool
+        ensures noted { result ≡ true → IsNoted self.now place }
+        ensures free { result ≡ false → IsFree self.now place }
     {
-        self.limit - self.len
+        let place = place as usize;
+        place < self.links.len() && self.links[place].is_noted()
+    }
+
+    /// Makes room for the place; nothing else takes memory.
+    #[inline(always)]
+    pub fn reserve(&mut self, place: u32) -> Result<(), AllocError>
+        ensures ok { OnOk result (place < self.new.places) }
+        ensures full { OnErr result (self.old.places ≤ place) }
+        ensures room { self.old.places ≤ self.new.places }
+        ensures notes { HasSameNotes self.old self.new }
+    {
+        let place = place as usize;
+        if place < self.links.len() {
+            Ok(())
+        } else {
+            self.grow(place)
+        }
+    }
+
+    /// Makes room for twice as many places, or for this one where that is more, and puts all notes into new chains.
+    #[cold]
+    #[inline(never)]
+    fn grow(&mut self, place: usize) -> Result<(), AllocError>
+        requires beyond { self.old.places ≤ place }
+        requires few { place < 4294967296 }
+        ensures ok { OnOk result (place < self.new.places) }
+        ensures room { self.old.places ≤ self.new.places }
+        ensures notes { HasSameNotes self.old self.new }
+    {
+        let places = (2 * self.links.len()).max(place + 1);
+        if places > MOST_PLACES {
+            return Err(AllocError);
+        }
+        let mut heads = Vec::new(*self.heads.allocator());
+        heads.resize(starts_for(places), END)?;
+        self.links.resize(places, Link::free())?;
+        link_all(heads.as_mut_slice(), self.links.as_mut_slice());
+        self.heads = heads;
+        Ok(())
+    }
+
+    /// Notes a place that isn't noted yet under the hash; there is room for it.
+    #[inline(always)]
+    pub fn insert(&mut self, hash: u32, place: u32)
+        requires room { place < self.old.places }
+        requires free { IsFree self.old place }
+        ensures notes { IsOneMore self.old self.new hash place }
+        ensures room { self.new.places ≡ self.old.places }
+    {
+        self.len += 1;
+        link_in(
+            self.heads.as_mut_slice(),
+            self.links.as_mut_slice(),
+            hash,
+            place,
+        );
+    }
+
+    /// Takes away the note of the place under the hash.
+    pub fn remove(&mut self, hash: u32, place: u32)
+        requires { 0 < times self.old hash place }
+        ensures notes { IsOneMore self.new self.old hash place }
+        ensures room { self.new.places ≡ self.old.places }
+    {
+        unlink(
+            self.heads.as_mut_slice(),
+            self.links.as_mut_slice(),
+            hash,
+            place,
+        );
+        self.len -= 1;
+    }
+
+    /// The same if a `find` for the hash comes to the place first, with neither a loop nor a call: says whether it does, and
+    /// changes nothing where it doesn't.
+    #[inline(always)]
+    pub fn remove_first(&mut self, hash: u32, place: u32) -> bool
+        requires { 0 < times self.old hash place }
+        ensures notes { result ≡ true → IsOneMore self.new self.old hash place }
+        ensures room { self.new.places ≡ self.old.places }
+        ensures same { result ≡ false → self.new ≡ self.old }
+    {
+        if !unlink_first(
+            self.heads.as_mut_slice(),
+            self.links.as_mut_slice(),
+            hash,
+            place,
+        ) {
+            return false;
+        }
+        self.len -= 1;
+        true
     }
 
     /// Takes all notes away, and leaves their room.
     pub fn clear(&mut self)
         ensures empty { (h p : ℕ) → times self.new h p ≡ 0 }
-        ensures room { self.new.room ≡ self.old.room + length self.old.notes }
+        ensures room { self.new.places ≡ self.old.places }
     {
-        empty_all(self.cells.as_mut_slice());
+        free_all(self.heads.as_mut_slice(), self.links.as_mut_slice());
         self.len = 0;
     }
-
-    /// Takes away a note of the place under the hash.
-    pub fn remove(&mut self, hash: u32, place: u32)
-        requires { 0 < times self.old hash place }
-        ensures notes { IsOneMore self.new self.old hash place }
-        ensures room { self.new.room ≡ self.old.room + 1 }
-    {
-        take(self.cells.as_mut_slice(), self.mask, hash, place);
-        self.len -= 1;
-    }
 }
-
-#[cfg(test)]
-mod tests;

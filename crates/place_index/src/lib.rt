@@ -1,10 +1,8 @@
-//! An open-addressed table from a 32-bit hash to places in somebody else's list, which keeps the keys.
+//! Chains of places in somebody else's list, which keeps the keys: a table from a 32-bit hash to such places.
 #![tactic(auto)]
 
-mod cells;
-pub mod glances;
+mod chains;
 pub mod index;
-mod probes;
+mod links;
 
-pub use glances::Glance;
 pub use index::PlaceIndex;

@@ -1,23 +1,19 @@
-use Rattle.std.proofs.Common.{◌++◌, length, take, drop, ap, ◌∙◌, arith}
+use Rattle.std.proofs.Common.{◌≡◌, ℕ, ◌<◌, ◌++◌, true, false, length, take, drop, sym, ap, subst, ◌∙◌, inl, inr, arith}
+use Rattle.std.specs.Prelude.{Some, None}
+use Rattle.std.proofs.lemmas.Bool.{false≢true}
 use Rattle.std.proofs.lemmas.List.{take_at}
-use Rattle.place_index.specs.Notes.{Notes}
-use Rattle.place_index.specs.Cells.{times_in}
-use Rattle.place_index.proofs.CellLaws.{times-notes_in, times-empty, length-notes_in}
+use Rattle.std.proofs.lemmas.Option.{IfSome_then}
+use Rattle.place_index.specs.declared.links.Link.{Link}
+use Rattle.place_index.specs.Notes.{Notes, times, once_at}
+use Rattle.place_index.specs.Chains.{end_of_chain, link_at, is_noted, note_of, note_at, head_at, is_under, is_in, chain, start_of, IsLast}
+use Rattle.place_index.proofs.NoteLaws.{one_if, link_read, note_of-noted, note_of-free, note_past, under_of, noted_of, is_under-some, times-notes_in, times-view, length-notes_in, count-replicate, note-replicate}
+use Rattle.place_index.proofs.ChainLaws.{in_some}
+use Rattle.place_index.proofs.LinkLaws.{in_chain}
+use Rattle.place_index.proofs.IndexLaws.{if_none, yes_of, some_of, none_of, times-more, times-less, free_note}
 use Rattle.place_index.proofs.index.PlaceIndex.clear.Goals as goal
 
 pub returns-clause-empty : goal.returns-clause-empty
 returns-clause-empty c = λ h p.
-    let is = take_at c.empty_all.new.cells (drop (length c.empty_all.new.cells) c.self.inside.cells.items) c.self.inside.cells.len (omega arith) in
-    times-notes_in h p (take c.self.inside.cells.len (c.empty_all.new.cells ++ drop (length c.empty_all.new.cells) c.self.inside.cells.items))
-    ∙ (ap (λ cells. times_in cells h p) (is ∙ c.empty_all.ensures) ∙ times-empty (length c.as_mut_slice.result.now) h p)
-
-pub returns-clause-room : goal.returns-clause-room
-returns-clause-room c =
-    omega (
-      arith,
-      ap (λ (v : Notes). v.room) c.self.view_is,
-      ap (λ (v : Notes). length v.notes) c.self.view_is,
-      length-notes_in c.self.inside.cells.items,
-      c.self.invariant.counted,
-      c.self.invariant.within,
-    )
+    let is = take_at c.free_all.new.links (drop (length c.free_all.new.links) c.self.inside.links.items) c.self.inside.links.len (omega arith) in
+    times-notes_in h p (take c.self.inside.links.len (c.free_all.new.links ++ drop (length c.free_all.new.links) c.self.inside.links.items))
+    ∙ (ap (λ links. one_if (is_under h (note_at links p))) (is ∙ c.free_all.ensures.links) ∙ ap (λ n. one_if (is_under h n)) (note-replicate (length c.as_mut_slice-2.result.now) p))

@@ -1,29 +1,25 @@
-use Rattle.std.proofs.Common.{◌≡◌, ◌-◌, ◌*◌, ◌++◌, List, length, take, drop, count_by, sym, ap, subst, ◌∙◌, arith}
+use Rattle.std.proofs.Common.{◌≡◌, ℕ, ◌<◌, ◌++◌, true, false, length, take, drop, refl, sym, ap, subst, ◌∙◌, inl, inr, arith}
+use Rattle.std.specs.Prelude.{Some, None}
+use Rattle.std.proofs.lemmas.Bool.{false≢true}
 use Rattle.std.proofs.lemmas.List.{take_at}
-use Rattle.place_index.specs.declared.cells.Cell.{Cell}
-use Rattle.place_index.specs.Notes.{Notes, times}
-use Rattle.place_index.specs.Cells.{times_in, is_full, is_note, IsSound}
-use Rattle.place_index.proofs.CellLaws.{times-notes_in, CountsNotes-is_note, CountsNotes-is_full}
-use Rattle.place_index.proofs.IndexLaws.{times-view}
+use Rattle.std.proofs.lemmas.Option.{IfSome_then}
+use Rattle.place_index.specs.declared.links.Link.{Link}
+use Rattle.place_index.specs.Notes.{Notes, times, once_at}
+use Rattle.place_index.specs.Chains.{end_of_chain, link_at, is_noted, note_of, note_at, head_at, is_under, is_in, chain, start_of, IsLast}
+use Rattle.place_index.proofs.NoteLaws.{one_if, link_read, note_of-noted, note_of-free, note_past, under_of, noted_of, is_under-some, times-notes_in, times-view, note-more}
+use Rattle.place_index.proofs.ChainLaws.{in_some}
+use Rattle.place_index.proofs.LinkLaws.{in_chain}
+use Rattle.place_index.proofs.IndexLaws.{if_none, yes_of, some_of, none_of, times-more, times-less, free_note}
 use Rattle.place_index.proofs.index.PlaceIndex.grow.Goals as goal
-
--- the cells after the notes have moved
-cells_are : (c : goal.After-self-2-1) → take c.resize.new.self.len (c.put_all.new.cells ++ drop (length c.put_all.new.cells) c.resize.new.self.items) ≡ c.put_all.new.cells
-cells_are c = take_at c.put_all.new.cells (drop (length c.put_all.new.cells) c.resize.new.self.items) c.resize.new.self.len (omega arith)
-
-pub invariant_of-self : goal.invariant_of-self
-invariant_of-self c =
-    subst (λ (x : List Cell). IsSound x (2 * c.max-limit.result - 1) c.self.inside.len c.max-limit.result) (sym (cells_are c))
-    (record {
-      reached = c.put_all.ensures.reached;
-      counted = c.self.invariant.counted ∙ (ap (count_by is_full) (sym c.as_slice.ensures.value) ∙ sym (c.put_all.ensures.counts is_full CountsNotes-is_full));
-      within = omega (arith, ap (λ (v : Notes). v.room) c.self.view_is, c.requires, c.self.invariant.within, c.in-Some.ensures, c.max-limit.ensures);
-      spare = λ some. omega (arith, c.in-Some-checked_mul.ensures, c.in_ok-resize.ensures.len);
-    })
 
 pub returns-clause-notes : goal.returns-clause-notes
 returns-clause-notes c = λ h p.
-    let was : times c.args.self.now h p ≡ times_in c.as_slice.result.now h p
-    = times-view c.self.inside.cells.items _ c.args.self.now (sym c.self.view_is) h p ∙ ap (λ cells. times_in cells h p) (sym c.as_slice.ensures.value) in
-    let now = times-notes_in h p (take c.resize.new.self.len (c.put_all.new.cells ++ drop (length c.put_all.new.cells) c.resize.new.self.items)) ∙ ap (λ cells. times_in cells h p) (cells_are c) in
-    now ∙ (c.put_all.ensures.counts (is_note h p) (CountsNotes-is_note h p) ∙ sym was)
+    let links = c.self.inside.links in
+    let was = times-view links.items _ c.args.self.now (sym c.self.view_is) h p in
+    let is = take_at c.link_all.new.links (drop (length c.link_all.new.links) c.resize-2.new.self.items) c.resize-2.new.self.len (omega arith) in
+    let now = times-notes_in h p (take c.resize-2.new.self.len (c.link_all.new.links ++ drop (length c.link_all.new.links) c.resize-2.new.self.items)) ∙ ap (λ ls. one_if (is_under h (note_at ls p))) is in
+    let more = note-more links.items c.resize-2.new.self.items c.max-places.result c.free.result c.free.ensures
+    (omega (arith, c.len.ensures, links.ok.0, c.max-places.ensures)) (omega (arith, c.in_ok-resize-2.ensures.len, c.resize-2.new.self.ok.0))
+    (λ k d below within. c.in_ok-resize-2.ensures.by_index.0 k d below (omega (arith, links.ok.0)))
+    (λ k d past below. c.in_ok-resize-2.ensures.by_index.1 k d refl (omega (arith, links.ok.0)) below) p in
+    now ∙ (ap (λ n. one_if (is_under h n)) (c.link_all.ensures.notes p ∙ (ap (λ ls. note_at ls p) c.as_mut_slice-2.ensures.value ∙ more)) ∙ sym was)

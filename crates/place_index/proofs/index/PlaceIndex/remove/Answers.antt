@@ -1,21 +1,28 @@
-use Rattle.std.proofs.Common.{◌≡◌, ℕ, ◌<◌, ◌++◌, length, take, drop, sym, ap, subst, ◌∙◌, arith}
+use Rattle.std.proofs.Common.{◌≡◌, ℕ, ◌<◌, ◌++◌, true, false, length, take, drop, sym, ap, subst, ◌∙◌, inl, inr, arith}
+use Rattle.std.specs.Prelude.{Some, None}
+use Rattle.std.proofs.lemmas.Bool.{false≢true}
 use Rattle.std.proofs.lemmas.List.{take_at}
-use Rattle.place_index.specs.Notes.{times}
-use Rattle.place_index.specs.Cells.{times_in}
-use Rattle.place_index.proofs.CellLaws.{times-notes_in}
-use Rattle.place_index.proofs.IndexLaws.{times-view}
+use Rattle.std.proofs.lemmas.Option.{IfSome_then}
+use Rattle.place_index.specs.declared.links.Link.{Link}
+use Rattle.place_index.specs.Notes.{Notes, times, once_at}
+use Rattle.place_index.specs.Chains.{end_of_chain, link_at, is_noted, note_of, note_at, head_at, is_under, is_in, chain, start_of, IsLast}
+use Rattle.place_index.proofs.NoteLaws.{one_if, link_read, note_of-noted, note_of-free, note_past, under_of, noted_of, is_under-some, times-notes_in, times-view, length-notes_in, count-replicate}
+use Rattle.place_index.proofs.ChainLaws.{in_some}
+use Rattle.place_index.proofs.LinkLaws.{in_chain}
+use Rattle.place_index.proofs.IndexLaws.{if_none, yes_of, some_of, none_of, times-more, times-less, free_note}
 use Rattle.place_index.proofs.index.PlaceIndex.remove.Goals as goal
 
-pub take-requires-clause-there : goal.take-requires-clause-there
-take-requires-clause-there c =
-    let same : times c.args.self.now c.args.hash c.args.place ≡ times_in c.as_mut_slice.result.now c.args.hash c.args.place
-    = times-view c.self.inside.cells.items _ c.args.self.now (sym c.self.view_is) c.args.hash c.args.place ∙ ap (λ cells. times_in cells c.args.hash c.args.place) (sym c.as_mut_slice.ensures.value) in
-    subst (λ (n : ℕ). 0 < n) same c.requires
+pub unlink-requires-clause-there : goal.unlink-requires-clause-there
+unlink-requires-clause-there c =
+    let was = times-view c.self.inside.links.items _ c.args.self.now (sym c.self.view_is) c.args.hash c.args.place in
+    ap (λ links. is_under c.args.hash (note_at links c.args.place)) c.as_mut_slice-2.ensures.value ∙ yes_of _ (subst (λ (n : ℕ). 0 < n) was c.requires)
 
 pub returns-clause-notes : goal.returns-clause-notes
 returns-clause-notes c = λ h p.
-    let was : times c.args.self.now h p ≡ times_in c.as_mut_slice.result.now h p
-    = times-view c.self.inside.cells.items _ c.args.self.now (sym c.self.view_is) h p ∙ ap (λ cells. times_in cells h p) (sym c.as_mut_slice.ensures.value) in
-    let is = take_at c.take.new.cells (drop (length c.take.new.cells) c.self.inside.cells.items) c.self.inside.cells.len (omega arith) in
-    let now = times-notes_in h p (take c.self.inside.cells.len (c.take.new.cells ++ drop (length c.take.new.cells) c.self.inside.cells.items)) ∙ ap (λ cells. times_in cells h p) is in
-    omega (arith, was, now, c.take.ensures.times h p)
+    let seen = times-view c.self.inside.links.items _ c.args.self.now (sym c.self.view_is) c.args.hash c.args.place in
+    let there = under_of c.args.hash (note_at c.as_mut_slice-2.result.now c.args.place) (ap (λ links. is_under c.args.hash (note_at links c.args.place)) c.as_mut_slice-2.ensures.value ∙ yes_of _ (subst (λ (n : ℕ). 0 < n) seen c.requires)) in
+    let was : times c.args.self.now h p ≡ one_if (is_under h (note_at c.as_mut_slice-2.result.now p))
+    = times-view c.self.inside.links.items _ c.args.self.now (sym c.self.view_is) h p ∙ ap (λ links. one_if (is_under h (note_at links p))) (sym c.as_mut_slice-2.ensures.value) in
+    let is = take_at c.unlink.new.links (drop (length c.unlink.new.links) c.self.inside.links.items) c.self.inside.links.len (omega arith) in
+    let now = times-notes_in h p (take c.self.inside.links.len (c.unlink.new.links ++ drop (length c.unlink.new.links) c.self.inside.links.items)) ∙ ap (λ links. one_if (is_under h (note_at links p))) is in
+    omega (arith, was, now, times-less c.as_mut_slice-2.result.now c.unlink.new.links c.args.hash c.args.place c.unlink.ensures.notes there h p)

@@ -1,0 +1,36 @@
+use Rattle.std.proofs.Common.{◌≡◌, ℕ, ◌<◌, ◌++◌, true, false, length, take, drop, sym, ap, subst, ◌∙◌, inl, inr, arith}
+use Rattle.std.specs.Prelude.{Some, None}
+use Rattle.std.proofs.lemmas.Bool.{false≢true}
+use Rattle.std.proofs.lemmas.List.{get_or_default}
+use Rattle.std.proofs.lemmas.Option.{IfSome_then}
+use Rattle.place_index.specs.declared.links.Link.{Link}
+use Rattle.place_index.specs.Notes.{Notes, times, once_at}
+use Rattle.place_index.specs.Chains.{end_of_chain, link_at, is_noted, note_of, note_at, head_at, is_under, is_in, chain, start_of, IsLast}
+use Rattle.place_index.proofs.NoteLaws.{one_if, link_read, note_of-noted, note_of-free, note_past, under_of, noted_of, is_under-some, times-notes_in, times-view, length-notes_in, count-replicate}
+use Rattle.place_index.proofs.ChainLaws.{in_some}
+use Rattle.place_index.proofs.LinkLaws.{none_first, some_first}
+use Rattle.place_index.proofs.IndexLaws.{if_none, yes_of, some_of, none_of, times-more, times-less, free_note}
+use Rattle.place_index.proofs.index.PlaceIndex.first.Goals as goal
+
+pub returns-then-head : goal.returns-then-head
+returns-then-head c = λ p.
+    let heads = c.self.inside.heads.items in
+    let links = c.self.inside.links.items in
+    let starts : c.len.result ≡ length heads = c.len.ensures ∙ c.self.inside.heads.ok.0 in
+    let within : c.start_of.result < length heads = omega (arith, c.start_of.ensures.within (omega (arith, starts, c.self.invariant.starts.some))) in
+    let start : c.start_of.result ≡ start_of (length heads) c.args.hash = c.start_of.ensures.is ∙ ap (λ n. start_of n c.args.hash) starts in
+    let ends : head_at heads c.start_of.result ≡ end_of_chain = sym (c.index-head.ensures ∙ get_or_default heads c.start_of.result c.index-head.result.now 0 within) ∙ c.if-head.true in
+    times-view links _ c.args.self.now (sym c.self.view_is) c.args.hash p
+    ∙ none_of _ (none_first heads links c.args.hash p c.self.invariant.linked (subst (λ (s : ℕ). s < length heads) start within) (ap (head_at heads) (sym start) ∙ ends))
+
+pub returns-else-head : goal.returns-else-head
+returns-else-head c =
+    let heads = c.self.inside.heads.items in
+    let links = c.self.inside.links.items in
+    let starts : c.len.result ≡ length heads = c.len.ensures ∙ c.self.inside.heads.ok.0 in
+    let within : c.start_of.result < length heads = omega (arith, c.start_of.ensures.within (omega (arith, starts, c.self.invariant.starts.some))) in
+    let read = c.index-head.ensures ∙ get_or_default heads c.start_of.result c.index-head.result.now 0 within in
+    let found = some_first heads links c.start_of.result c.self.invariant.linked within (λ ends. c.if-head.false (read ∙ ends)) in
+    let noted = ap (note_at links) read ∙ found.1 in
+    let was = times-view links _ c.args.self.now (sym c.self.view_is) found.0 c.index-head.result.now in
+    (found.0, subst (λ (n : ℕ). 0 < n) (sym was) (some_of _ (is_under-some found.0 (note_at links c.index-head.result.now) noted)))

@@ -1,0 +1,176 @@
+ghost use Rattle.std.specs.Prelude.{◌≡◌, ◌≢◌, ℕ, ◌+◌, ◌^◌, ◌<◌, ◌≤◌, true, false, length, replicate, count_by, Some, None, IfSome, IfNone, IsTrue};
+ghost use Rattle.place_index.specs.Notes.{no_place};
+ghost use Rattle.place_index.specs.Chains.{end_of_chain, free_link, link_at, is_noted, note_at, next_at, head_at, is_under, is_in, chain, start_of, HasNexts, HasStarts, IsLinked, NotesMore, NotesLess};
+
+use crate::links::{END, Link};
+
+/// Where the chain of the hash begins, of so many starts: a multiplication parts the hashes among them in their order, so
+/// the highest bits of a hash tell.
+#[inline(always)]
+pub(crate) fn start_of(starts: usize, hash: u32) -> usize
+    requires { starts ≤ 2 ^ 32 }
+    ensures is { result ≡ start_of starts hash }
+    ensures within { 0 < starts → result < starts }
+{
+    ((u64::from(hash) * starts as u64) >> 32) as usize
+}
+
+/// The place under this hash that is the one looked for.
+#[inline(always)]
+pub(crate) fn find<F: Fn(u32) -> bool>(
+    heads: &[u32],
+    links: &[Link],
+    hash: u32,
+    is_it: F,
+) -> Option<u32>
+    requires linked { IsLinked heads.now links.now }
+    requires starts { HasStarts heads.now }
+    requires callable { (p : ℕ) → is_under hash (note_at links.now p) ≡ true → F.pre is_it p }
+    ensures found { IfSome result (λ p. (is_under hash (note_at links.now p) ≡ true) × F.post is_it p true) }
+    ensures absent { IfNone result ((p : ℕ) → is_under hash (note_at links.now p) ≡ true → F.post is_it p false) }
+{
+    let mut at = heads[start_of(heads.len(), hash)];
+    while at != END {
+        let link = links[at as usize];
+        if link.hash() == hash && is_it(at) {
+            return Some(at);
+        }
+        at = link.next();
+    }
+    None
+}
+
+/// Notes a place that isn't noted under the hash.
+#[inline(always)]
+pub(crate) fn link_in(heads: &mut [u32], links: &mut [Link], hash: u32, place: u32)
+    requires linked { IsLinked heads.old links.old }
+    requires starts { HasStarts heads.old }
+    requires few { length links.old ≤ no_place }
+    requires within { place < length links.old }
+    requires free { note_at links.old place ≡ None }
+    ensures linked { IsLinked heads.new links.new }
+    ensures notes { NotesMore links.old links.new hash place }
+    ensures counted { count_by is_noted links.new ≡ count_by is_noted links.old + 1 }
+{
+    let start = start_of(heads.len(), hash);
+    let head = heads[start];
+    if head == END || head < place {
+        links[place as usize] = Link::noted(hash, head);
+        heads[start] = place;
+        return;
+    }
+    link_behind(heads, links, head, hash, place);
+}
+
+/// The same where the place comes behind the head of its chain, which mostly it doesn't.
+#[cold]
+#[inline(never)]
+fn link_behind(heads: &[u32], links: &mut [Link], head: u32, hash: u32, place: u32)
+    requires linked { IsLinked heads.now links.old }
+    requires few { length links.old ≤ no_place }
+    requires within { head < length links.old }
+    requires there { is_in (length heads.now) (start_of (length heads.now) hash) (note_at links.old head) ≡ true }
+    requires behind { place < head }
+    requires free { note_at links.old place ≡ None }
+    ensures linked { IsLinked heads.now links.new }
+    ensures notes { NotesMore links.old links.new hash place }
+    ensures counted { count_by is_noted links.new ≡ count_by is_noted links.old + 1 }
+{
+    let mut before = head;
+    let mut next = links[before as usize].next();
+    while next != END && next > place {
+        before = next;
+        next = links[before as usize].next();
+    }
+    links[place as usize] = Link::noted(hash, next);
+    links[before as usize].set_next(place);
+}
+
+/// Takes away the note of the place under the hash if its chain has it first, and says whether it has.
+#[inline(always)]
+pub(crate) fn unlink_first(heads: &mut [u32], links: &mut [Link], hash: u32, place: u32) -> bool
+    requires linked { IsLinked heads.old links.old }
+    requires starts { HasStarts heads.old }
+    requires few { length links.old ≤ no_place }
+    requires there { is_under hash (note_at links.old place) ≡ true }
+    ensures linked { IsLinked heads.new links.new }
+    ensures notes { result ≡ true → NotesLess links.old links.new place }
+    ensures counted { result ≡ true → count_by is_noted links.new + 1 ≡ count_by is_noted links.old }
+    ensures heads { result ≡ false → heads.new ≡ heads.old }
+    ensures links { result ≡ false → links.new ≡ links.old }
+    ensures first { result ≡ false → place < head_at heads.old (start_of (length heads.old) hash) }
+{
+    let start = start_of(heads.len(), hash);
+    if heads[start] != place {
+        return false;
+    }
+    heads[start] = links[place as usize].next();
+    links[place as usize] = Link::free();
+    true
+}
+
+/// Takes away the note of the place under the hash.
+pub(crate) fn unlink(heads: &mut [u32], links: &mut [Link], hash: u32, place: u32)
+    requires linked { IsLinked heads.old links.old }
+    requires starts { HasStarts heads.old }
+    requires few { length links.old ≤ no_place }
+    requires there { is_under hash (note_at links.old place) ≡ true }
+    ensures linked { IsLinked heads.new links.new }
+    ensures notes { NotesLess links.old links.new place }
+    ensures counted { count_by is_noted links.new + 1 ≡ count_by is_noted links.old }
+{
+    if unlink_first(heads, links, hash, place) {
+        return;
+    }
+    unlink_behind(heads, links, hash, place);
+}
+
+/// The same where its chain has another place first.
+fn unlink_behind(heads: &[u32], links: &mut [Link], hash: u32, place: u32)
+    requires linked { IsLinked heads.now links.old }
+    requires starts { HasStarts heads.now }
+    requires few { length links.old ≤ no_place }
+    requires there { is_under hash (note_at links.old place) ≡ true }
+    requires behind { place < head_at heads.now (start_of (length heads.now) hash) }
+    ensures linked { IsLinked heads.now links.new }
+    ensures notes { NotesLess links.old links.new place }
+    ensures counted { count_by is_noted links.new + 1 ≡ count_by is_noted links.old }
+{
+    let mut before = heads[start_of(heads.len(), hash)];
+    let mut next = links[before as usize].next();
+    while next != place {
+        before = next;
+        next = links[before as usize].next();
+    }
+    let behind = links[place as usize].next();
+    links[place as usize] = Link::free();
+    links[before as usize].set_next(behind);
+}
+
+/// Takes all notes away.
+pub(crate) fn free_all(heads: &mut [u32], links: &mut [Link])
+    ensures heads { heads.new ≡ replicate (length heads.old) end_of_chain }
+    ensures links { links.new ≡ replicate (length links.old) free_link }
+{
+    heads.fill(END);
+    links.fill(Link::free());
+}
+
+/// Puts the places that are noted into chains of other starts, of which none has a place yet.
+pub(crate) fn link_all(heads: &mut [u32], links: &mut [Link])
+    requires empty { heads.old ≡ replicate (length heads.old) end_of_chain }
+    requires starts { HasStarts heads.old }
+    requires few { length links.old ≤ no_place }
+    ensures linked { IsLinked heads.new links.new }
+    ensures notes { (k : ℕ) → note_at links.new k ≡ note_at links.old k }
+    ensures counted { count_by is_noted links.new ≡ count_by is_noted links.old }
+{
+    for place in 0..links.len() {
+        let link = links[place];
+        if link.is_noted() {
+            let start = start_of(heads.len(), link.hash());
+            links[place] = Link::noted(link.hash(), heads[start]);
+            heads[start] = place as u32;
+        }
+    }
+}

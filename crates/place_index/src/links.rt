@@ -1,0 +1,69 @@
+ghost use Rattle.std.specs.Prelude.{◌≡◌};
+
+/// What stands for a place where a chain ends.
+pub(crate) const END: u32 = u32::MAX;
+
+/// What stands behind a place that isn't noted. So neither this place nor the one that stands for an end can be noted.
+const FREE: u32 = u32::MAX - 1;
+
+/// What is kept of a place: the hash that it is noted under and the next place of its chain, or that it isn't noted.
+#[derive(Clone, Copy, Debug)]
+pub struct Link {
+    hash: u32,
+    next: u32,
+}
+
+impl Link {
+    ghost use Rattle.place_index.specs.Chains.{free_link, is_noted};
+
+    /// The link of a place that isn't noted.
+    #[inline(always)]
+    pub(crate) fn free() -> Self
+        ensures { result ≡ free_link }
+    {
+        Link {
+            hash: 0,
+            next: FREE,
+        }
+    }
+
+    /// The link of a place that is noted under this hash, before this one in its chain.
+    #[inline(always)]
+    pub(crate) fn noted(hash: u32, next: u32) -> Self
+        ensures { result ≡ record { hash = hash; next = next } }
+    {
+        Link { hash, next }
+    }
+
+    /// Whether its place is noted.
+    #[inline(always)]
+    pub(crate) fn is_noted(self) -> bool
+        ensures { result ≡ is_noted self }
+    {
+        self.next != FREE
+    }
+
+    /// The hash that its place is noted under.
+    #[inline(always)]
+    pub(crate) fn hash(self) -> u32
+        ensures { result ≡ self.hash }
+    {
+        self.hash
+    }
+
+    /// The next place of the chain.
+    #[inline(always)]
+    pub(crate) fn next(self) -> u32
+        ensures { result ≡ self.next }
+    {
+        self.next
+    }
+
+    /// Puts another place next.
+    #[inline(always)]
+    pub(crate) fn set_next(&mut self, next: u32)
+        ensures { self.new ≡ record { hash = self.old.hash; next = next } }
+    {
+        self.next = next;
+    }
+}
