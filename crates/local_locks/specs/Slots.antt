@@ -1,15 +1,14 @@
-use Rattle.std.specs.Prelude.{◌≡◌, ◌≢◌, ℕ, ◌+◌, ◌*◌, ◌%◌, ◌^◌, ◌<◌, ◌≤◌, Bool, true, false, not, ◌&&◌, ◌==◌, List, map, filter_map, length, min, Option, Some, None, IfSome, ◌⊎◌, ⊤, slice_index_or, if◌then◌else◌}
+use Rattle.std.specs.Prelude.{◌≡◌, ◌≢◌, ℕ, ◌+◌, ◌*◌, ◌/◌, ◌%◌, ◌^◌, ◌<◌, ◌≤◌, Bool, true, false, not, ◌&&◌, ◌==◌, List, map, filter_map, length, min, Option, Some, None, IfSome, ◌⊎◌, ⊤, slice_index_or, if◌then◌else◌}
 use Rattle.std.specs.Option.{option_map}
 use Rattle.modes_core.specs.declared.modes.Mode.{Mode}
 use Rattle.modes_core.specs.declared.tags.Tag.{Tag}
 use Rattle.modes_core.specs.declared.tags.Tag.TheVariants.{Relation, Object}
 use Rattle.modes_core.specs.declared.modes.Mode.TheVariants.{AccessShare}
-use Rattle.std.specs.Int.{swap_bytes, w64}
 use Rattle.modes_core.specs.Mode.{number_of, mode_eq}
 use Rattle.modes_core.specs.Tag.{tag_eq}
 use Rattle.place_index.specs.Notes.{Notes, times, no_place}
-use Rattle.place_index.specs.declared.glances.Glance.{Glance}
-use Rattle.place_index.specs.declared.glances.Glance.TheVariants.{Nothing, Place, Unknown}
+use Rattle.local_locks.specs.declared.looks.Glance.{Glance}
+use Rattle.local_locks.specs.declared.looks.Glance.TheVariants.{Nothing, Place, Unknown}
 use Rattle.local_locks.specs.declared.records.Entry.{Entry}
 use Rattle.local_locks.specs.declared.ends.Progress.{Progress}
 use Rattle.local_locks.specs.declared.ends.End.{End}
@@ -42,7 +41,7 @@ is_key tag mode key = tag_eq tag key.0 && mode_eq mode key.1
 
 -- what the numbers of an object and mode are multiplied by
 abbrev pub multiplier : ℕ
-multiplier = 17706701539617172875
+multiplier = 7640891575521212857
 
 -- a database and a number in it as one number
 abbrev pub pair_bits : ℕ → ℕ → ℕ
@@ -54,9 +53,9 @@ object_bits (Relation database relation) = pair_bits database relation
 object_bits (Object database class object sub_object) =
     ((class * 2 ^ 16 + sub_object) * multiplier % 2 ^ 64 + pair_bits database object) % 2 ^ 64
 
--- the hash of an object in 64 bits and a mode: the upper half of a product, its bytes in the opposite order
+-- the hash of an object in 64 bits and a mode: the upper half of a product
 unfoldable pub hash_of : ℕ → Mode → ℕ
-hash_of object mode = swap_bytes w64 ((object + number_of mode) % 2 ^ 64 * multiplier % 2 ^ 64) % 2 ^ 32
+hash_of object mode = (object + number_of mode) % 2 ^ 64 * multiplier % 2 ^ 64 / 2 ^ 32
 
 -- the hash of an object and mode
 abbrev pub key_hash : Tag → Mode → ℕ

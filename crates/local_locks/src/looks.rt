@@ -4,12 +4,21 @@ ghost use Rattle.local_locks.specs.Slots.{hash_of, key_hash, pair_bits, object_b
 
 use crate::Entry;
 use modes_core::{Mode, Tag};
-use place_index::{Glance, PlaceIndex};
+use place_index::PlaceIndex;
 
-/// What a key is multiplied by: the odd number, of four hundred taken at random, by which relations numbered in equal steps
-/// lay best apart in a trial. With 5 to 16,384 of them, in steps of 1 to 65,536, one that is held was found in the 1.1th
-/// cell on average, and one that isn't was missed in the 1.5th.
-const MULTIPLIER: u64 = 0xF5BA_D73C_74BE_6D8B;
+/// What a key is multiplied by. Its lower half is 2^32 by the golden ratio, so that relations numbered in equal steps lie apart
+/// as evenly as can be; its upper half is 2^32 by the square root of two, less one, so that modes do, and none with those.
+const MULTIPLIER: u64 = 0x6A09_E667_9E37_79B9;
+
+/// What a glance at an index tells of a relation in a mode.
+pub(crate) enum Glance {
+    /// It has no entry.
+    Nothing,
+    /// Its slot is at this place, which may be empty.
+    Place(u32),
+    /// Only a whole look says.
+    Unknown,
+}
 
 /// A database and a number in it as one number, the first in the lower half, as the two stand in a tag: so they are read
 /// and compared at once.
@@ -53,14 +62,13 @@ fn object_bits(tag: &Tag) -> u64
     }
 }
 
-/// The hash of an object in 64 bits and a mode: the bytes of a product, the highest of them first, since on that one all
-/// bits of the object tell.
+/// The hash of an object in 64 bits and a mode: the upper half of a product, on the highest bits of which all of them tell.
 #[inline(always)]
 pub(crate) fn hash_of(object: u64, mode: Mode) -> u32
     ensures { result ≡ hash_of object mode }
 {
     let key = object.wrapping_add(u64::from(mode.number()));
-    (key.wrapping_mul(MULTIPLIER).swap_bytes() % (1 << 32)) as u32
+    (key.wrapping_mul(MULTIPLIER) >> 32) as u32
 }
 
 /// The hash of an object and mode. It takes one multiplication for a relation, and two for another object.
@@ -71,7 +79,7 @@ pub(crate) fn key_hash(tag: &Tag, mode: Mode) -> u32
     hash_of(object_bits(tag), mode)
 }
 
-/// What the first cell of a look for a relation tells of it: that it isn't held in the mode, or the place of its slot, which
+/// What the first place of a look for a relation tells of it: that it isn't held in the mode, or the place of its slot, which
 /// may be empty.
 #[inline(always)]
 pub(crate) fn glance_at(slots: &[Entry], index: &PlaceIndex, tag: &Tag, mode: Mode) -> Glance
@@ -81,16 +89,15 @@ pub(crate) fn glance_at(slots: &[Entry], index: &PlaceIndex, tag: &Tag, mode: Mo
     let Tag::Relation { database, relation } = *tag else {
         return Glance::Unknown;
     };
-    match index.glance(hash_of(pair_bits(database, relation), mode)) {
-        Glance::Nothing => Glance::Nothing,
-        Glance::Place(place) => {
+    match index.first(hash_of(pair_bits(database, relation), mode)) {
+        None => Glance::Nothing,
+        Some(place) => {
             if slots[place as usize].is_of_relation(database, relation, mode) {
                 Glance::Place(place)
             } else {
                 Glance::Unknown
             }
         }
-        Glance::Unknown => Glance::Unknown,
     }
 }
 

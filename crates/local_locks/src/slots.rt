@@ -45,12 +45,12 @@ pub(crate) fn push_entry(slots: &mut Vec<Entry>, index: &mut PlaceIndex, hash: u
     requires absent { (k : ℕ) → key_at (opened slots.old.items) k ≢ Some (entry.tag, entry.mode) }
     requires slot_room { length slots.old.items < vec_capacity slots.old }
     requires few { length slots.old.items < no_place }
-    requires index_room { 0 < index.old.room }
+    requires index_room { length slots.old.items < index.old.places }
     ensures slots { opened slots.new.items ≡ opened slots.old.items ++ Some entry ∷ [] }
     ensures indexed { IsIndexed (opened slots.new.items) index.new }
     ensures number { length slots.new.items ≡ length slots.old.items + 1 }
     ensures slot_room { vec_capacity slots.old ≤ vec_capacity slots.new }
-    ensures index_room { index.old.room ≡ index.new.room + 1 }
+    ensures index_room { index.new.places ≡ index.old.places }
 {
     let place = slots.len();
     slots.push_reserved(entry);
@@ -86,12 +86,43 @@ pub(crate) fn take_out(slots: &mut Vec<Entry>, index: &mut PlaceIndex, place: us
     ensures slot_room { vec_capacity slots.old - length slots.old.items
         ≤ vec_capacity slots.new - length slots.new.items }
     ensures capacity { vec_capacity slots.new ≡ vec_capacity slots.old }
-    ensures index_room { index.old.room ≤ index.new.room }
+    ensures index_room { index.new.places ≡ index.old.places }
 {
     index.remove(hash, place as u32);
     slots[place].clear();
     let used = slots_left(slots.len(), index.len(), place);
     slots.truncate(used);
+}
+
+/// The same of the last slot, where a look for the hash comes to it first: says whether it does, and changes nothing where
+/// it doesn't. It has neither a loop nor a call.
+#[inline(always)]
+pub(crate) fn take_last(
+    slots: &mut Vec<Entry>,
+    index: &mut PlaceIndex,
+    place: usize,
+    hash: u32,
+) -> bool
+    requires indexed { IsIndexed (opened slots.old.items) index.old }
+    requires there { slot_at (opened slots.old.items) place ≡ Some (entry_at slots.old.items place) }
+    requires hashed { hash ≡ key_hash (entry_at slots.old.items place).tag (entry_at slots.old.items place).mode }
+    requires few { length slots.old.items ≤ no_place }
+    ensures taken { result ≡ true → IsTakenOut slots.old.items slots.new.items place }
+    ensures indexed { result ≡ true → IsIndexed (opened slots.new.items) index.new }
+    ensures slot_room { vec_capacity slots.old - length slots.old.items
+        ≤ vec_capacity slots.new - length slots.new.items }
+    ensures capacity { vec_capacity slots.new ≡ vec_capacity slots.old }
+    ensures index_room { index.new.places ≡ index.old.places }
+    ensures slots { result ≡ false → slots.new ≡ slots.old }
+    ensures index { result ≡ false → index.new ≡ index.old }
+{
+    if !index.remove_first(hash, place as u32) {
+        return false;
+    }
+    slots[place].clear();
+    let used = slots_left(slots.len(), index.len(), place);
+    slots.truncate(used);
+    true
 }
 
 /// Takes an entry that an end takes away out of its slot. Its place stays in the index where others have stayed, or where
@@ -107,10 +138,10 @@ pub(crate) fn take_ended(slots: &mut Vec<Entry>, index: &mut PlaceIndex, len: us
     ensures slot_room { vec_capacity slots.old - length slots.old.items
         ≤ vec_capacity slots.new - length slots.new.items }
     ensures capacity { vec_capacity slots.new ≡ vec_capacity slots.old }
-    ensures index_room { index.old.room ≤ index.new.room }
+    ensures index_room { index.new.places ≡ index.old.places }
 {
     let notes = index.len();
-    if notes > len || place <= slots.len() / 2 && index.room() / 4 < notes {
+    if notes > len || place <= slots.len() / 2 && index.places() / 8 < notes {
         slots[place].clear();
         return;
     }
@@ -185,9 +216,9 @@ fn note_all(slots: &[Entry], index: &mut PlaceIndex)
     requires full { IsFull slots.now }
     requires once { IsOnce (opened slots.now) }
     requires empty { (hash place : ℕ) → times index.old hash place ≡ 0 }
-    requires room { length slots.now ≤ index.old.room }
+    requires room { length slots.now ≤ index.old.places }
     ensures indexed { IsIndexed (opened slots.now) index.new }
-    ensures room { index.new.room + length slots.now ≡ index.old.room }
+    ensures room { index.new.places ≡ index.old.places }
 {
     for place in 0..slots.len() {
         let entry = &slots[place];
@@ -205,7 +236,7 @@ pub(crate) fn compact(slots: &mut Vec<Entry>, index: &mut PlaceIndex)
     ensures full { length slots.new.items ≡ length (present (opened slots.old.items)) }
     ensures indexed { IsIndexed (opened slots.new.items) index.new }
     ensures slot_room { vec_capacity slots.new ≡ vec_capacity slots.old }
-    ensures index_room { index.old.room ≤ index.new.room }
+    ensures index_room { index.new.places ≡ index.old.places }
 {
     gather(slots);
     index.clear();
@@ -221,7 +252,7 @@ pub(crate) fn tidy(slots: &mut Vec<Entry>, index: &mut PlaceIndex, len: usize)
     ensures shorter { length slots.new.items ≤ length slots.old.items }
     ensures indexed { IsIndexed (opened slots.new.items) index.new }
     ensures capacity { vec_capacity slots.new ≡ vec_capacity slots.old }
-    ensures index_room { index.old.room ≤ index.new.room }
+    ensures index_room { index.new.places ≡ index.old.places }
 {
     if index.len() > len {
         compact(slots, index);

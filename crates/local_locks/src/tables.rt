@@ -3,11 +3,13 @@ ghost use Rattle.local_locks.specs.Slots.{key_hash};
 ghost use Rattle.local_locks.specs.Owned.{max_count, has_entry, owner_count_of, total_of, with_one_more, with_one_less, acquired_as, ended_by, left_by, with_next_ended, IsWellOwned, IsReserved};
 
 use crate::ends::Progress;
-use crate::looks::{glance_at, hash_of, key_hash, look, look_up, pair_bits};
-use crate::slots::{compact, lower, push_entry, raise, settle, take_ended, take_out, tidy};
+use crate::looks::{Glance, glance_at, hash_of, key_hash, look, look_up, pair_bits};
+use crate::slots::{
+    compact, lower, push_entry, raise, settle, take_ended, take_last, take_out, tidy,
+};
 use crate::{Acquired, AtOnce, End, Entries, Entry, Unlocked};
 use modes_core::{Mode, Owner, Refusal, Tag};
-use place_index::{Glance, PlaceIndex};
+use place_index::PlaceIndex;
 use std::alloc::Global;
 use std::marker::Model;
 
@@ -16,7 +18,7 @@ use std::marker::Model;
 const FIRST_SLOTS: usize = 16;
 
 /// How many slots there may be, so that the place of each can be noted.
-const MAX_SLOTS: usize = u32::MAX as usize;
+const MAX_SLOTS: usize = u32::MAX as usize - 1;
 
 /// What a session holds, how often and for which owner (the hash table `LockMethodLocalHash` in
 /// lock.c). Contracts see the entries in the order of making, how many more can be made with no growth,
@@ -42,7 +44,7 @@ impl Model for LocalTable {
 
     ghost view = { λ t. record {
       entries = present (opened t.slots.items);
-      room = min (min (vec_capacity t.slots) no_place - length t.slots.items) t.index.room;
+      room = min (min (vec_capacity t.slots) no_place) t.index.places - length t.slots.items;
       max_local = t.max_local;
     } };
 
@@ -63,10 +65,9 @@ impl LocalTable {
         let Ok(slots) = Vec::with_capacity(alloc, FIRST_SLOTS) else {
             return Err(Refusal::NoMemory);
         };
-        let mut index = PlaceIndex::new(alloc);
-        if index.reserve().is_err() {
+        let Ok(index) = PlaceIndex::new(alloc) else {
             return Err(Refusal::NoMemory);
-        }
+        };
         Ok(LocalTable {
             slots,
             index,
@@ -255,7 +256,7 @@ impl LocalTable {
         ensures { IsTrue result → 0 < self.now.room }
     {
         let used = self.slots.len();
-        used < self.slots.capacity() && used < MAX_SLOTS && self.index.has_room()
+        used < self.slots.capacity() && used < self.index.places()
     }
 
     /// Makes room for one more entry.
@@ -277,7 +278,7 @@ impl LocalTable {
         if self.slots.reserve(1).is_err() {
             return Err(Refusal::NoMemory);
         }
-        if self.index.reserve().is_err() {
+        if self.index.reserve(self.slots.len() as u32).is_err() {
             return Err(Refusal::NoMemory);
         }
         Ok(())
@@ -368,10 +369,10 @@ impl LocalTable {
     {
         let place = self.slots.len();
         let entry = Entry::new(tag, mode, owner);
-        push_entry(&mut self.slots, &mut self.index, hash, entry);
         self.len += 1;
         self.last = place;
         self.progress.go_back_to(place);
+        push_entry(&mut self.slots, &mut self.index, hash, entry);
     }
 
     /// Takes one count of this owner back (`LockRelease` in lock.c, where it touches the local lock
@@ -412,12 +413,13 @@ impl LocalTable {
                     lower(&mut self.slots, last, owner);
                     return Ok(Unlocked::StillHeld);
                 }
-                if self.slots[last].is_only(owner) {
+                if self.slots[last].is_only(owner) && last + 1 == self.slots.len() {
                     let hash = hash_of(pair_bits(database, relation), mode);
-                    self.len -= 1;
-                    self.last = last.wrapping_sub(1);
-                    take_out(&mut self.slots, &mut self.index, last, hash);
-                    return Ok(Unlocked::Released);
+                    if take_last(&mut self.slots, &mut self.index, last, hash) {
+                        self.len -= 1;
+                        self.last = last.wrapping_sub(1);
+                        return Ok(Unlocked::Released);
+                    }
                 }
             }
         }

@@ -94,8 +94,7 @@ impl PlaceIndex {
     /// How many notes there are.
     #[inline(always)]
     pub fn len(&self) -> usize
-        ensures is { result ≡ length self.now.notes }
-        ensures few { result ≤ self.now.places }
+        ensures { result ≡ length self.now.notes }
     {
         self.len
     }
@@ -204,6 +203,7 @@ impl PlaceIndex {
     pub fn clear(&mut self)
         ensures empty { (h p : ℕ) → times self.new h p ≡ 0 }
         ensures room { self.new.places ≡ self.old.places }
+        ensures fits { length self.old.notes ≤ self.new.places }
     {
         free_all(self.heads.as_mut_slice(), self.links.as_mut_slice());
         self.len = 0;

@@ -11,20 +11,20 @@ use Rattle.local_locks.proofs.looks.glance_at.Goals as goal
 
 pub bounds-slots-place : goal.bounds-slots-place
 bounds-slots-place c =
-    omega (arith, noted_within (opened c.args.slots.now) c.args.index.now c.requires c.in-Place.place c.hash_of.result (c.in-Place.ensures {u = tt}), length-opened c.args.slots.now)
+    omega (arith, noted_within (opened c.args.slots.now) c.args.index.now c.requires c.in-Some.place (c.in-Some.ensures {u = tt}).0 (c.in-Some.ensures {u = tt}).1, length-opened c.args.slots.now)
 
-pub returns-in-Nothing : goal.returns-in-Nothing
-returns-in-Nothing c =
+pub returns-in-None : goal.returns-in-None
+returns-in-None c =
     missing_of c.args.slots.now c.args.index.now c.requires c.args.tag.now c.args.mode c.hash_of.result
     (c.hash_of.ensures ∙ ap (λ object. hash_of object c.args.mode) (c.pair_bits.ensures ∙ sym (ap object_bits c.in-Relation.is)))
-    (λ place some. absurd (omega (arith, c.in-Nothing.ensures {u = tt} place, some)))
+    (λ place some. absurd (omega (arith, c.in-None.ensures {u = tt} place, some)))
 
 pub returns-then-is_of_relation : goal.returns-then-is_of_relation
 returns-then-is_of_relation c =
     let es = c.args.slots.now in
-    let within : c.in-Place.place < length es = omega (arith, noted_within (opened es) c.args.index.now c.requires c.in-Place.place c.hash_of.result (c.in-Place.ensures {u = tt}), length-opened es) in (
+    let within : c.in-Some.place < length es = omega (arith, noted_within (opened es) c.args.index.now c.requires c.in-Some.place (c.in-Some.ensures {u = tt}).0 (c.in-Some.ensures {u = tt}).1, length-opened es) in (
       within,
-      ap (λ (tag : Tag). is_of tag c.args.mode (entry_at es c.in-Place.place)) c.in-Relation.is
-          ∙ (ap (is_of (Relation c.in-Relation.database c.in-Relation.relation) c.args.mode) (sym (get_or_default es c.in-Place.place _ _ within))
+      ap (λ (tag : Tag). is_of tag c.args.mode (entry_at es c.in-Some.place)) c.in-Relation.is
+          ∙ (ap (is_of (Relation c.in-Relation.database c.in-Relation.relation) c.args.mode) (sym (get_or_default es c.in-Some.place _ _ within))
           ∙ (sym c.is_of_relation.ensures ∙ c.if-is_of_relation.true)),
     )

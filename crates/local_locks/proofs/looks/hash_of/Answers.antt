@@ -1,5 +1,4 @@
-use Rattle.std.proofs.Common.{◌≡◌, ℕ, ◌+◌, ◌*◌, ◌%◌, ◌^◌, w64, refl, ap, ◌∙◌, arith}
-use Rattle.std.specs.Int.{swap_bytes}
+use Rattle.std.proofs.Common.{◌≡◌, ℕ, ◌+◌, ◌*◌, ◌/◌, ◌%◌, ◌^◌, refl, ap, ◌∙◌, arith}
 use Rattle.local_locks.specs.Slots.{hash_of, multiplier}
 use Rattle.local_locks.proofs.looks.hash_of.Goals as goal
 
@@ -8,6 +7,4 @@ step a b h m object number = omega arith
 
 pub returns : goal.returns
 unfolding hash_of
-returns c =
-    ap (λ bytes. bytes % 2 ^ 32) c.swap_bytes.ensures
-    ∙ ap (λ key. swap_bytes w64 (key * multiplier % 2 ^ 64) % 2 ^ 32) (step c.args.object c.from.result _ _ refl (c.from.ensures ∙ c.number.ensures))
+returns c = ap (λ key. key * multiplier % 2 ^ 64 / 2 ^ 32) (step c.args.object c.from.result _ _ refl (c.from.ensures ∙ c.number.ensures))

@@ -1,4 +1,4 @@
-use Rattle.std.proofs.Common.{◌≡◌, ◌++◌, ◌∷◌, [], sym, ap, ◌∙◌, subst, length}
+use Rattle.std.proofs.Common.{◌≡◌, ◌++◌, ◌∷◌, [], sym, ap, ◌∙◌, subst, length, arith}
 use Rattle.local_locks.specs.Slots.{Slots, IsIndexed, opened}
 use Rattle.local_locks.proofs.IndexLaws.{pushed-indexed}
 use Rattle.local_locks.proofs.OpenLaws.{length-opened, opened-push, entry_in-held}
@@ -11,3 +11,6 @@ returns-clause-indexed c =
     let last : c.len-place.result ≡ length (opened c.args.slots.now.items) = c.len-place.ensures ∙ (c.args.slots.now.ok.0 ∙ sym (length-opened c.args.slots.now.items)) in
     subst (λ (s : Slots). IsIndexed s c.insert.new.self) (sym are)
     (pushed-indexed (opened c.args.slots.now.items) c.args.index.now c.insert.new.self c.len-place.result c.args.hash c.args.entry c.requires.indexed c.requires.absent c.requires.hashed last c.insert.ensures.notes)
+
+pub insert-requires-clause-free : goal.insert-requires-clause-free
+insert-requires-clause-free c = λ h. c.requires.indexed.within h c.len-place.result (omega (arith, c.len-place.ensures, c.args.slots.now.ok.0, length-opened c.args.slots.now.items))

@@ -78,7 +78,7 @@ overflow_sub-self c =
     let one = sym (ap (count_for c.args.owner) read) ∙ ((c.if-is_only.ensures {u = tt}).0 refl).0 in
     omega (arith, c.self.invariant.kept.number, some_held es c.self.inside.index c.self.invariant.kept.indexed c.args.owner c.self.inside.last (omega (arith, one)))
 
-only : (c : goal.After-take_out) → (count_for c.args.owner (entry_at c.self.inside.slots.items c.self.inside.last) ≡ 1) × (count_in_all (entry_at c.self.inside.slots.items c.self.inside.last) ≡ 1)
+only : (c : goal.After-self-then-take_last-1) → (count_for c.args.owner (entry_at c.self.inside.slots.items c.self.inside.last) ≡ 1) × (count_in_all (entry_at c.self.inside.slots.items c.self.inside.last) ≡ 1)
 only c =
     let es = c.self.inside.slots.items in
     let read : c.index-then-is_of_relation-2.result.now ≡ entry_at es c.self.inside.last
@@ -86,36 +86,37 @@ only c =
     let counts = (c.if-is_only.ensures {u = tt}).0 refl in
     (sym (ap (count_for c.args.owner) read) ∙ counts.0, sym (ap count_in_all read) ∙ counts.1)
 
-at_only : (c : goal.After-take_out) → IsPlaceOf c.self.inside.slots.items c.args.tag.now c.args.mode c.self.inside.last
+at_only : (c : goal.After-self-then-take_last-1) → IsPlaceOf c.self.inside.slots.items c.args.tag.now c.args.mode c.self.inside.last
 at_only c =
     place_read c.self.inside.slots.items c.self.inside.index c.self.invariant.kept.indexed c.args.tag.now c.args.mode c.args.owner c.self.inside.last
     c.index.result.now (c.index.ensures ∙ get_or_default c.self.inside.slots.items c.self.inside.last c.index.result.now _ (omega (arith, c.if-last-len.true, c.len.ensures, c.self.inside.slots.ok.0)))
     (ap (λ (tag : Tag). is_of tag c.args.mode c.index.result.now) c.in-Relation.is ∙ (sym c.is_of_relation.ensures ∙ c.if-is_of_relation.true))
     (omega (arith, (only c).0))
 
-taken : (c : goal.After-take_out) → (present (opened c.take_out.new.slots.items) ≡ with_one_less (present (opened c.self.inside.slots.items)) c.args.tag.now c.args.mode c.args.owner) × (total_of (present (opened c.take_out.new.slots.items)) c.args.tag.now c.args.mode ≡ 0)
+taken : (c : goal.After-self-then-take_last-1) → (present (opened c.take_last.new.slots.items) ≡ with_one_less (present (opened c.self.inside.slots.items)) c.args.tag.now c.args.mode c.args.owner) × (total_of (present (opened c.take_last.new.slots.items)) c.args.tag.now c.args.mode ≡ 0)
 taken c =
     let es = c.self.inside.slots.items in
-    entries-taken (present (opened es)) (present (opened c.take_out.new.slots.items)) c.args.tag.now c.args.mode c.args.owner (entry_at es c.self.inside.last)
-    (at_only c).found (at_only c).own (only c).1 c.take_out.ensures.taken.entries
+    entries-taken (present (opened es)) (present (opened c.take_last.new.slots.items)) c.args.tag.now c.args.mode c.args.owner (entry_at es c.self.inside.last)
+    (at_only c).found (at_only c).own (only c).1 (c.take_last.ensures.taken c.if-take_last.true).entries
 
-pub returns-then-is_only-clause-well_owned : goal.returns-then-is_only-clause-well_owned
-returns-then-is_only-clause-well_owned c =
-    let e = c.take_out.ensures in
+pub returns-then-take_last-clause-well_owned : goal.returns-then-take_last-clause-well_owned
+returns-then-take_last-clause-well_owned c =
+    let e = c.take_last.ensures in
+    let taken = e.taken c.if-take_last.true in
     well_owned _ _ _ _ _ _
-    (kept-taken (opened c.self.inside.slots.items) (opened c.take_out.new.slots.items) c.self.inside.index c.take_out.new.index c.self.inside.len c.self.inside.max_local c.self.inside.progress c.self.inside.last
-    c.self.invariant.kept e.indexed e.taken.gone e.taken.others e.taken.number)
+    (kept-taken (opened c.self.inside.slots.items) (opened c.take_last.new.slots.items) c.self.inside.index c.take_last.new.index c.self.inside.len c.self.inside.max_local c.self.inside.progress c.self.inside.last
+    c.self.invariant.kept (e.indexed c.if-take_last.true) taken.gone taken.others taken.number)
 
-pub returns-then-is_only-clause-entries : goal.returns-then-is_only-clause-entries
-returns-then-is_only-clause-entries c = (taken c).0 ∙ ap (λ v. with_one_less v.entries c.args.tag.now c.args.mode c.args.owner) c.self.view_is
+pub returns-then-take_last-clause-entries : goal.returns-then-take_last-clause-entries
+returns-then-take_last-clause-entries c = (taken c).0 ∙ ap (λ v. with_one_less v.entries c.args.tag.now c.args.mode c.args.owner) c.self.view_is
 
-pub returns-then-is_only-clause-not_held : goal.returns-then-is_only-clause-not_held
-returns-then-is_only-clause-not_held c =
+pub returns-then-take_last-clause-not_held : goal.returns-then-take_last-clause-not_held
+returns-then-take_last-clause-not_held c =
     let es = c.self.inside.slots.items in
     let count = owner_count-at (present (opened es)) c.args.tag.now c.args.mode c.args.owner (entry_at es c.self.inside.last) (at_only c).found in
     let view = ap (λ v. owner_count_of v.entries c.args.tag.now c.args.mode c.args.owner) c.self.view_is in
     (λ refused. absurd (let bad : Ok Released ≡ Err NotHeld = refused in cc), λ none. absurd (omega (arith, (only c).0, count, view, none)))
 
-pub returns-then-is_only-clause-answer : goal.returns-then-is_only-clause-answer
-returns-then-is_only-clause-answer c =
+pub returns-then-take_last-clause-answer : goal.returns-then-take_last-clause-answer
+returns-then-take_last-clause-answer c =
     (λ same. absurd (let bad : Released ≡ StillHeld = same in cc), λ above. absurd (omega (arith, (taken c).1, above)))

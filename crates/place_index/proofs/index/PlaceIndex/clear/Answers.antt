@@ -1,11 +1,12 @@
-use Rattle.std.proofs.Common.{◌≡◌, ℕ, ◌<◌, ◌++◌, true, false, length, take, drop, sym, ap, subst, ◌∙◌, inl, inr, arith}
+use Rattle.std.proofs.Common.{◌≡◌, ℕ, ◌<◌, ◌++◌, true, false, List, length, take, drop, sym, ap, subst, ◌∙◌, inl, inr, arith}
 use Rattle.std.specs.Prelude.{Some, None}
 use Rattle.std.proofs.lemmas.Bool.{false≢true}
 use Rattle.std.proofs.lemmas.List.{take_at}
+use Rattle.std.proofs.lemmas.List.Sums.{count_by-le-length}
 use Rattle.std.proofs.lemmas.Option.{IfSome_then}
 use Rattle.place_index.specs.declared.links.Link.{Link}
 use Rattle.place_index.specs.Notes.{Notes, times, once_at}
-use Rattle.place_index.specs.Chains.{end_of_chain, link_at, is_noted, note_of, note_at, head_at, is_under, is_in, chain, start_of, IsLast}
+use Rattle.place_index.specs.Chains.{end_of_chain, link_at, notes_in, is_noted, note_of, note_at, head_at, is_under, is_in, chain, start_of, IsLast}
 use Rattle.place_index.proofs.NoteLaws.{one_if, link_read, note_of-noted, note_of-free, note_past, under_of, noted_of, is_under-some, times-notes_in, times-view, length-notes_in, count-replicate, note-replicate}
 use Rattle.place_index.proofs.ChainLaws.{in_some}
 use Rattle.place_index.proofs.LinkLaws.{in_chain}
@@ -17,3 +18,19 @@ returns-clause-empty c = λ h p.
     let is = take_at c.free_all.new.links (drop (length c.free_all.new.links) c.self.inside.links.items) c.self.inside.links.len (omega arith) in
     times-notes_in h p (take c.self.inside.links.len (c.free_all.new.links ++ drop (length c.free_all.new.links) c.self.inside.links.items))
     ∙ (ap (λ links. one_if (is_under h (note_at links p))) (is ∙ c.free_all.ensures.links) ∙ ap (λ n. one_if (is_under h n)) (note-replicate (length c.as_mut_slice-2.result.now) p))
+
+pub returns-clause-fits : goal.returns-clause-fits
+returns-clause-fits c =
+    let links = c.self.inside.links.items in
+    let notes : length (notes_in links) ≡ length c.args.self.now.notes = ap (λ (v : Notes). length v.notes) c.self.view_is in
+    let is = take_at c.free_all.new.links (drop (length c.free_all.new.links) links) c.self.inside.links.len (omega arith) in
+    omega (
+      arith,
+      notes,
+      ap (λ (ls : List Link). length ls) is,
+      length-notes_in links,
+      count_by-le-length is_noted links,
+      c.self.inside.links.ok.0,
+      c.free_all.auto.links,
+      c.as_mut_slice-2.ensures.len,
+    )

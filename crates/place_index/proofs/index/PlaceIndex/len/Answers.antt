@@ -12,5 +12,5 @@ use Rattle.place_index.proofs.LinkLaws.{in_chain}
 use Rattle.place_index.proofs.IndexLaws.{if_none, yes_of, some_of, none_of, times-more, times-less, free_note}
 use Rattle.place_index.proofs.index.PlaceIndex.len.Goals as goal
 
-pub returns-clause-is : goal.returns-clause-is
-returns-clause-is c = c.self.invariant.counted ∙ (sym (length-notes_in c.self.inside.links.items) ∙ ap (λ (v : Notes). length v.notes) c.self.view_is)
+pub returns : goal.returns
+returns c = c.self.invariant.counted ∙ (sym (length-notes_in c.self.inside.links.items) ∙ ap (λ (v : Notes). length v.notes) c.self.view_is)
