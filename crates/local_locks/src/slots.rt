@@ -52,9 +52,8 @@ pub(crate) fn push_entry(slots: &mut Vec<Entry>, index: &mut PlaceIndex, hash: u
     ensures slot_room { vec_capacity slots.old ≤ vec_capacity slots.new }
     ensures index_room { index.new.places ≡ index.old.places }
 {
-    let place = slots.len();
+    index.insert_last(hash, slots.len() as u32);
     slots.push_reserved(entry);
-    index.insert(hash, place as u32);
 }
 
 /// How many slots stay where the entry at a place goes and so many notes are left: none with the only entry, and else all
@@ -222,7 +221,7 @@ fn note_all(slots: &[Entry], index: &mut PlaceIndex)
 {
     for place in 0..slots.len() {
         let entry = &slots[place];
-        index.insert(key_hash(&entry.tag, entry.mode), place as u32);
+        index.insert_last(key_hash(&entry.tag, entry.mode), place as u32);
     }
 }
 

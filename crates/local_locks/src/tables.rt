@@ -1,4 +1,4 @@
-ghost use Rattle.std.specs.Prelude.{◌≡◌, ◌≢◌, ◌+◌, ◌<◌, ◌≤◌, ◌↔◌, ◌⊎◌, ◌∷◌, [], true, false, if◌then◌else◌, Some, None, IsErrOf, IsOkUnless, IfOk, IfErr, OnOk, OnErr, IfSome, IfNone, IsTrue, length};
+ghost use Rattle.std.specs.Prelude.{◌≡◌, ◌≢◌, ◌+◌, ◌<◌, ◌≤◌, ◌↔◌, ◌⊎◌, ◌∷◌, [], true, false, if◌then◌else◌, Some, None, IsErrOf, IsOkUnless, IfOk, IfErr, OnOk, OnErr, IfSome, IfNone, IsSome, IsNone, IsTrue, length};
 ghost use Rattle.local_locks.specs.Slots.{key_hash};
 ghost use Rattle.local_locks.specs.Owned.{max_count, has_entry, owner_count_of, total_of, with_one_more, with_one_less, acquired_as, ended_by, left_by, with_next_ended, IsWellOwned, IsReserved};
 
@@ -250,6 +250,16 @@ impl LocalTable {
         self.make_room()
     }
 
+    /// Whether one more entry is allowed and there is room for it, so that `reserve_new` would neither refuse nor grow.
+    #[inline(always)]
+    pub fn can_add(&self) -> bool
+        ensures allowed { IsTrue result → length self.now.entries < self.now.max_local }
+        ensures roomy { IsTrue result → 0 < self.now.room }
+        ensures well_owned { IsWellOwned self.now }
+    {
+        (self.len as u64) < u64::from(self.max_local) && self.has_room()
+    }
+
     /// Whether one more entry can be made with no growth.
     #[inline(always)]
     fn has_room(&self) -> bool
@@ -355,7 +365,7 @@ impl LocalTable {
         self.enter(*tag, key_hash(tag, mode), mode, owner);
     }
 
-    /// The same where the hash of the object and mode is known.
+    /// `add_new` where the hash of the object and mode is known.
     #[inline(always)]
     fn enter(&mut self, tag: Tag, hash: u32, mode: Mode, owner: Owner)
         requires hashed { hash ≡ key_hash tag mode }
@@ -369,10 +379,10 @@ impl LocalTable {
     {
         let place = self.slots.len();
         let entry = Entry::new(tag, mode, owner);
+        push_entry(&mut self.slots, &mut self.index, hash, entry);
         self.len += 1;
         self.last = place;
         self.progress.go_back_to(place);
-        push_entry(&mut self.slots, &mut self.index, hash, entry);
     }
 
     /// Takes one count of this owner back (`LockRelease` in lock.c, where it touches the local lock
@@ -404,26 +414,49 @@ impl LocalTable {
         ensures max_local { self.new.max_local ≡ self.old.max_local }
         ensures well_owned { IsWellOwned self.new }
     {
-        let last = self.last;
-        if let Tag::Relation { database, relation } = *tag {
-            if last < self.slots.len()
-                && self.slots[last].is_of_relation(database, relation, mode)
-            {
-                if self.slots[last].can_lower(owner) {
-                    lower(&mut self.slots, last, owner);
-                    return Ok(Unlocked::StillHeld);
-                }
-                if self.slots[last].is_only(owner) && last + 1 == self.slots.len() {
-                    let hash = hash_of(pair_bits(database, relation), mode);
-                    if take_last(&mut self.slots, &mut self.index, last, hash) {
-                        self.len -= 1;
-                        self.last = last.wrapping_sub(1);
-                        return Ok(Unlocked::Released);
-                    }
-                }
-            }
+        match self.drop_at_once(tag, mode, owner) {
+            Some(answer) => Ok(answer),
+            None => self.drop_elsewhere(tag, mode, owner),
         }
-        self.drop_elsewhere(tag, mode, owner)
+    }
+
+    /// `drop_held` as far as one slot goes, where a relation mostly is that is released: `None` says nothing, and `drop_held` goes
+    /// on from there. With neither a loop nor a call in it, it is short enough to stand in the code of each caller.
+    #[inline(always)]
+    pub fn drop_at_once(&mut self, tag: &Tag, mode: Mode, owner: Owner) -> Option<Unlocked>
+        ensures held { IsSome result → 0 < owner_count_of self.old.entries tag.now mode owner }
+        ensures answer { IfSome result (λ answer.
+            (answer ≡ Unlocked.StillHeld) ↔ (0 < total_of self.new.entries tag.now mode)) }
+        ensures entries { IsSome result → self.new.entries ≡ with_one_less self.old.entries tag.now mode owner }
+        ensures same { IsNone result → self.new ≡ self.old }
+        ensures room { self.old.room ≤ self.new.room }
+        ensures max_local { self.new.max_local ≡ self.old.max_local }
+        ensures well_owned { IsWellOwned self.new }
+    {
+        let last = self.last;
+        if last >= self.slots.len() {
+            return None;
+        }
+        let Tag::Relation { database, relation } = *tag else {
+            return None;
+        };
+        if !self.slots[last].is_of_relation(database, relation, mode) {
+            return None;
+        }
+        if self.slots[last].can_lower(owner) {
+            lower(&mut self.slots, last, owner);
+            return Some(Unlocked::StillHeld);
+        }
+        if !self.slots[last].is_only(owner) || last + 1 != self.slots.len() {
+            return None;
+        }
+        let hash = hash_of(pair_bits(database, relation), mode);
+        if !take_last(&mut self.slots, &mut self.index, last, hash) {
+            return None;
+        }
+        self.len -= 1;
+        self.last = last.wrapping_sub(1);
+        Some(Unlocked::Released)
     }
 
     /// The same, of whatever entry and count: cold to the compiler, as `add_looked_up` is.

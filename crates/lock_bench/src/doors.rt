@@ -41,9 +41,21 @@ fn acquire_looked_up(table: &mut LocalTable, tag: &Tag, mode: Mode, owner: Owner
 }
 
 /// The same of what isn't held.
-#[cold]
 #[inline(never)]
 fn acquire_new(table: &mut LocalTable, tag: &Tag, mode: Mode, owner: Owner) -> bool
+    requires { has_entry table.old.entries tag.now mode ≡ false }
+{
+    if !table.can_add() {
+        return acquire_grown(table, tag, mode, owner);
+    }
+    table.add_new(tag, mode, owner);
+    true
+}
+
+/// The same where the table is full or has to grow.
+#[cold]
+#[inline(never)]
+fn acquire_grown(table: &mut LocalTable, tag: &Tag, mode: Mode, owner: Owner) -> bool
     requires { has_entry table.old.entries tag.now mode ≡ false }
 {
     if table.reserve_new().is_err() {
@@ -56,6 +68,13 @@ fn acquire_new(table: &mut LocalTable, tag: &Tag, mode: Mode, owner: Owner) -> b
 /// Releases, and tells whether that was done.
 #[inline(never)]
 pub fn release(table: &mut LocalTable, tag: &Tag, mode: Mode, owner: Owner) -> bool {
+    table.drop_at_once(tag, mode, owner).is_some() || release_looked_up(table, tag, mode, owner)
+}
+
+/// The same where it takes a look to say whether it is held.
+#[cold]
+#[inline(never)]
+fn release_looked_up(table: &mut LocalTable, tag: &Tag, mode: Mode, owner: Owner) -> bool {
     table.drop_held(tag, mode, owner).is_ok()
 }
 

@@ -52,14 +52,30 @@ pub(crate) fn link_in(heads: &mut [u32], links: &mut [Link], hash: u32, place: u
     ensures notes { NotesMore links.old links.new hash place }
     ensures counted { count_by is_noted links.new ≡ count_by is_noted links.old + 1 }
 {
-    let start = start_of(heads.len(), hash);
-    let head = heads[start];
+    let head = heads[start_of(heads.len(), hash)];
     if head == END || head < place {
-        links[place as usize] = Link::noted(hash, head);
-        heads[start] = place;
+        link_first(heads, links, hash, place);
         return;
     }
     link_behind(heads, links, head, hash, place);
+}
+
+/// The same where the place comes first in its chain.
+#[inline(always)]
+pub(crate) fn link_first(heads: &mut [u32], links: &mut [Link], hash: u32, place: u32)
+    requires linked { IsLinked heads.old links.old }
+    requires starts { HasStarts heads.old }
+    requires few { length links.old ≤ no_place }
+    requires within { place < length links.old }
+    requires free { note_at links.old place ≡ None }
+    requires first { let head = head_at heads.old (start_of (length heads.old) hash) in head ≢ end_of_chain → head < place }
+    ensures linked { IsLinked heads.new links.new }
+    ensures notes { NotesMore links.old links.new hash place }
+    ensures counted { count_by is_noted links.new ≡ count_by is_noted links.old + 1 }
+{
+    let start = start_of(heads.len(), hash);
+    links[place as usize] = Link::noted(hash, heads[start]);
+    heads[start] = place;
 }
 
 /// The same where the place comes behind the head of its chain, which mostly it doesn't.

@@ -1,7 +1,9 @@
 ghost use Rattle.std.specs.Prelude.{◌≡◌, ◌+◌, ◌<◌, ◌≤◌, ◌↔◌, ℕ, length, true, false, IsTrue, OnOk, OnErr, IfOk, IfSome, IfNone};
 ghost use Rattle.place_index.specs.Notes.{no_place, times, IsFirst, IsFree, IsNoted, IsOneMore, HasSameNotes};
 
-use crate::chains::{find, free_all, link_all, link_in, start_of, unlink, unlink_first};
+use crate::chains::{
+    find, free_all, link_all, link_first, link_in, start_of, unlink, unlink_first,
+};
 use crate::links::{END, Link};
 use std::alloc::{AllocError, Global};
 use std::marker::Model;
@@ -10,7 +12,7 @@ use std::marker::Model;
 const FIRST_PLACES: usize = 16;
 
 /// How many starts there are beside two for each place, so that in a small table too most chains have one place or none.
-const MORE_STARTS: usize = 512;
+const MORE_STARTS: usize = 96;
 
 /// How many places there can be.
 const MOST_PLACES: usize = 1 << 30;
@@ -161,6 +163,18 @@ impl PlaceIndex {
             hash,
             place,
         );
+    }
+
+    /// The same of a place behind all that are noted, with neither a loop nor a call.
+    #[inline(always)]
+    pub fn insert_last(&mut self, hash: u32, place: u32)
+        requires room { place < self.old.places }
+        requires last { (h p : ℕ) → 0 < times self.old h p → p < place }
+        ensures notes { IsOneMore self.old self.new hash place }
+        ensures room { self.new.places ≡ self.old.places }
+    {
+        link_first(self.heads.as_mut_slice(), self.links.as_mut_slice(), hash, place);
+        self.len += 1;
     }
 
     /// Takes away the note of the place under the hash.

@@ -1,24 +1,48 @@
-use Rattle.std.proofs.Common.{◌≡◌, ◌≢◌, ◌<◌, length, refl, sym, ap, subst, ◌∙◌, arith}
+use Rattle.std.proofs.Common.{◌≡◌, ◌≢◌, ◌<◌, List, length, refl, sym, ap, subst, ◌∙◌, arith}
 use Rattle.std.specs.Prelude.{Ok, Err}
 use Rattle.std.proofs.lemmas.List.{get_or_default}
 use Rattle.modes_core.specs.declared.tags.Tag.{Tag}
 use Rattle.modes_core.specs.declared.refusals.Refusal.TheVariants.{NotHeld}
 use Rattle.local_locks.specs.declared.answers.Unlocked.TheVariants.{Released, StillHeld}
-use Rattle.local_locks.specs.Owned.{is_of, count_for, count_in_all, owner_count_of, total_of, with_one_less}
+use Rattle.place_index.specs.Notes.{Notes}
+use Rattle.local_locks.specs.declared.records.Entry.{Entry}
+use Rattle.local_locks.specs.Owned.{IsWellOwned, is_of, count_for, count_in_all, owner_count_of, total_of, with_one_less}
 use Rattle.local_locks.specs.Slots.{Slots, IsKept, IsPlaceOf, opened, entry_at, present}
 use Rattle.local_locks.proofs.OpenLaws.{more-by}
 use Rattle.local_locks.proofs.LookLaws.{place_read, some_held}
 use Rattle.local_locks.proofs.KeptLaws.{well_owned}
 use Rattle.local_locks.proofs.TableSteps.{kept-lowered, kept-taken, entries-lowered, entries-taken, total-lowered, owner_count-at, IsCounted-lowered}
-use Rattle.local_locks.proofs.tables.LocalTable.drop_held.Goals as goal
+use Rattle.local_locks.proofs.tables.LocalTable.drop_at_once.Goals as goal
+
+-- ---- it doesn't say
+
+pub returns-then-last-len-clause-well_owned : goal.returns-then-last-len-clause-well_owned
+returns-then-last-len-clause-well_owned c = subst IsWellOwned c.self.view_is (well_owned _ _ _ _ _ _ c.self.invariant.kept)
+
+pub returns-in_default-clause-well_owned : goal.returns-in_default-clause-well_owned
+returns-in_default-clause-well_owned c = subst IsWellOwned c.self.view_is (well_owned _ _ _ _ _ _ c.self.invariant.kept)
+
+pub returns-then-not-is_of_relation-clause-well_owned : goal.returns-then-not-is_of_relation-clause-well_owned
+returns-then-not-is_of_relation-clause-well_owned c = subst IsWellOwned c.self.view_is (well_owned _ _ _ _ _ _ c.self.invariant.kept)
+
+pub returns-then-not-is_only-clause-well_owned : goal.returns-then-not-is_only-clause-well_owned
+returns-then-not-is_only-clause-well_owned c = subst IsWellOwned c.self.view_is (well_owned _ _ _ _ _ _ c.self.invariant.kept)
+
+pub returns-then-not-take_last-clause-well_owned : goal.returns-then-not-take_last-clause-well_owned
+returns-then-not-take_last-clause-well_owned c =
+    let e = c.take_last.ensures in
+    let items = ap (λ v. v.items) (e.slots c.if-not-take_last.true) in
+    well_owned _ _ _ _ _ _
+    (subst (λ (es : List Entry). IsKept (opened es) c.take_last.new.index c.self.inside.len c.self.inside.max_local c.self.inside.progress) (sym items)
+    (subst (λ (x : Notes). IsKept (opened c.self.inside.slots.items) x c.self.inside.len c.self.inside.max_local c.self.inside.progress) (sym (e.index c.if-not-take_last.true)) c.self.invariant.kept))
 
 -- ---- the owner has it more than once, so it stays
 
 within : (c : goal.After-lower) → c.self.inside.last < length c.self.inside.slots.items
-within c = omega (arith, c.if-last-len.true, c.len.ensures, c.self.inside.slots.ok.0)
+within c = omega (arith, c.if-last-len.false, c.len.ensures, c.self.inside.slots.ok.0)
 
-read : (c : goal.After-lower) → c.index-then-is_of_relation.result.now ≡ entry_at c.self.inside.slots.items c.self.inside.last
-read c = c.index-then-is_of_relation.ensures ∙ get_or_default c.self.inside.slots.items c.self.inside.last c.index-then-is_of_relation.result.now _ (within c)
+read : (c : goal.After-lower) → c.index-2.result.now ≡ entry_at c.self.inside.slots.items c.self.inside.last
+read c = c.index-2.ensures ∙ get_or_default c.self.inside.slots.items c.self.inside.last c.index-2.result.now _ (within c)
 
 above_one : (c : goal.After-lower) → 1 < count_for c.args.owner (entry_at c.self.inside.slots.items c.self.inside.last)
 above_one c = omega (arith, c.can_lower.ensures.0 c.if-can_lower.true, ap (count_for c.args.owner) (read c))
@@ -27,7 +51,7 @@ at : (c : goal.After-lower) → IsPlaceOf c.self.inside.slots.items c.args.tag.n
 at c =
     place_read c.self.inside.slots.items c.self.inside.index c.self.invariant.kept.indexed c.args.tag.now c.args.mode c.args.owner c.self.inside.last
     c.index.result.now (c.index.ensures ∙ get_or_default c.self.inside.slots.items c.self.inside.last c.index.result.now _ (within c))
-    (ap (λ (tag : Tag). is_of tag c.args.mode c.index.result.now) c.in-Relation.is ∙ (sym c.is_of_relation.ensures ∙ c.if-is_of_relation.true))
+    (ap (λ (tag : Tag). is_of tag c.args.mode c.index.result.now) c.in-Relation.is ∙ (sym c.is_of_relation.ensures ∙ c.if-not-is_of_relation.false))
     (omega (arith, above_one c))
 
 more : (c : goal.After-lower) → count_in_all (entry_at c.self.inside.slots.items c.self.inside.last) ≢ 1
@@ -47,18 +71,18 @@ pub returns-then-can_lower-clause-well_owned : goal.returns-then-can_lower-claus
 returns-then-can_lower-clause-well_owned c = well_owned _ _ _ _ _ _ (invariant_of-self c).kept
 
 pub returns-then-can_lower-clause-entries : goal.returns-then-can_lower-clause-entries
-returns-then-can_lower-clause-entries c =
+returns-then-can_lower-clause-entries c = λ _.
     let es = c.self.inside.slots.items in
     ap present c.lower.ensures.slots
     ∙ (entries-lowered (opened es) c.self.inside.index c.args.tag.now c.args.mode c.args.owner c.self.inside.last (entry_at es c.self.inside.last) c.self.invariant.kept.indexed (at c).there (at c).own (more c)
     ∙ ap (λ v. with_one_less v.entries c.args.tag.now c.args.mode c.args.owner) c.self.view_is)
 
-pub returns-then-can_lower-clause-not_held : goal.returns-then-can_lower-clause-not_held
-returns-then-can_lower-clause-not_held c =
+pub returns-then-can_lower-clause-held : goal.returns-then-can_lower-clause-held
+returns-then-can_lower-clause-held c =
     let es = c.self.inside.slots.items in
     let count = owner_count-at (present (opened es)) c.args.tag.now c.args.mode c.args.owner (entry_at es c.self.inside.last) (at c).found in
     let view = ap (λ v. owner_count_of v.entries c.args.tag.now c.args.mode c.args.owner) c.self.view_is in
-    (λ refused. absurd (let bad : Ok StillHeld ≡ Err NotHeld = refused in cc), λ none. absurd (omega (arith, above_one c, count, view, none)))
+    λ _. omega (arith, above_one c, count, view)
 
 pub returns-then-can_lower-clause-answer : goal.returns-then-can_lower-clause-answer
 returns-then-can_lower-clause-answer c =
@@ -73,50 +97,50 @@ returns-then-can_lower-clause-answer c =
 pub overflow_sub-self : goal.overflow_sub-self
 overflow_sub-self c =
     let es = c.self.inside.slots.items in
-    let read : c.index-then-is_of_relation-2.result.now ≡ entry_at es c.self.inside.last
-    = c.index-then-is_of_relation-2.ensures ∙ get_or_default es c.self.inside.last c.index-then-is_of_relation-2.result.now _ (omega (arith, c.if-last-len.true, c.len.ensures, c.self.inside.slots.ok.0)) in
-    let one = sym (ap (count_for c.args.owner) read) ∙ ((c.if-is_only.ensures {u = tt}).0 refl).0 in
+    let read : c.index-3.result.now ≡ entry_at es c.self.inside.last
+    = c.index-3.ensures ∙ get_or_default es c.self.inside.last c.index-3.result.now _ (omega (arith, c.if-last-len.false, c.len.ensures, c.self.inside.slots.ok.0)) in
+    let one = sym (ap (count_for c.args.owner) read) ∙ ((c.if-not-is_only.ensures {u = tt}).0 refl).0 in
     omega (arith, c.self.invariant.kept.number, some_held es c.self.inside.index c.self.invariant.kept.indexed c.args.owner c.self.inside.last (omega (arith, one)))
 
-only : (c : goal.After-self-then-take_last-1) → (count_for c.args.owner (entry_at c.self.inside.slots.items c.self.inside.last) ≡ 1) × (count_in_all (entry_at c.self.inside.slots.items c.self.inside.last) ≡ 1)
+only : (c : goal.After-self-2-1) → (count_for c.args.owner (entry_at c.self.inside.slots.items c.self.inside.last) ≡ 1) × (count_in_all (entry_at c.self.inside.slots.items c.self.inside.last) ≡ 1)
 only c =
     let es = c.self.inside.slots.items in
-    let read : c.index-then-is_of_relation-2.result.now ≡ entry_at es c.self.inside.last
-    = c.index-then-is_of_relation-2.ensures ∙ get_or_default es c.self.inside.last c.index-then-is_of_relation-2.result.now _ (omega (arith, c.if-last-len.true, c.len.ensures, c.self.inside.slots.ok.0)) in
-    let counts = (c.if-is_only.ensures {u = tt}).0 refl in
+    let read : c.index-3.result.now ≡ entry_at es c.self.inside.last
+    = c.index-3.ensures ∙ get_or_default es c.self.inside.last c.index-3.result.now _ (omega (arith, c.if-last-len.false, c.len.ensures, c.self.inside.slots.ok.0)) in
+    let counts = (c.if-not-is_only.ensures {u = tt}).0 refl in
     (sym (ap (count_for c.args.owner) read) ∙ counts.0, sym (ap count_in_all read) ∙ counts.1)
 
-at_only : (c : goal.After-self-then-take_last-1) → IsPlaceOf c.self.inside.slots.items c.args.tag.now c.args.mode c.self.inside.last
+at_only : (c : goal.After-self-2-1) → IsPlaceOf c.self.inside.slots.items c.args.tag.now c.args.mode c.self.inside.last
 at_only c =
     place_read c.self.inside.slots.items c.self.inside.index c.self.invariant.kept.indexed c.args.tag.now c.args.mode c.args.owner c.self.inside.last
-    c.index.result.now (c.index.ensures ∙ get_or_default c.self.inside.slots.items c.self.inside.last c.index.result.now _ (omega (arith, c.if-last-len.true, c.len.ensures, c.self.inside.slots.ok.0)))
-    (ap (λ (tag : Tag). is_of tag c.args.mode c.index.result.now) c.in-Relation.is ∙ (sym c.is_of_relation.ensures ∙ c.if-is_of_relation.true))
+    c.index.result.now (c.index.ensures ∙ get_or_default c.self.inside.slots.items c.self.inside.last c.index.result.now _ (omega (arith, c.if-last-len.false, c.len.ensures, c.self.inside.slots.ok.0)))
+    (ap (λ (tag : Tag). is_of tag c.args.mode c.index.result.now) c.in-Relation.is ∙ (sym c.is_of_relation.ensures ∙ c.if-not-is_of_relation.false))
     (omega (arith, (only c).0))
 
-taken : (c : goal.After-self-then-take_last-1) → (present (opened c.take_last.new.slots.items) ≡ with_one_less (present (opened c.self.inside.slots.items)) c.args.tag.now c.args.mode c.args.owner) × (total_of (present (opened c.take_last.new.slots.items)) c.args.tag.now c.args.mode ≡ 0)
+taken : (c : goal.After-self-2-1) → (present (opened c.take_last.new.slots.items) ≡ with_one_less (present (opened c.self.inside.slots.items)) c.args.tag.now c.args.mode c.args.owner) × (total_of (present (opened c.take_last.new.slots.items)) c.args.tag.now c.args.mode ≡ 0)
 taken c =
     let es = c.self.inside.slots.items in
     entries-taken (present (opened es)) (present (opened c.take_last.new.slots.items)) c.args.tag.now c.args.mode c.args.owner (entry_at es c.self.inside.last)
-    (at_only c).found (at_only c).own (only c).1 (c.take_last.ensures.taken c.if-take_last.true).entries
+    (at_only c).found (at_only c).own (only c).1 (c.take_last.ensures.taken c.if-not-take_last.false).entries
 
-pub returns-then-take_last-clause-well_owned : goal.returns-then-take_last-clause-well_owned
-returns-then-take_last-clause-well_owned c =
+pub returns-clause-well_owned : goal.returns-clause-well_owned
+returns-clause-well_owned c =
     let e = c.take_last.ensures in
-    let taken = e.taken c.if-take_last.true in
+    let taken = e.taken c.if-not-take_last.false in
     well_owned _ _ _ _ _ _
     (kept-taken (opened c.self.inside.slots.items) (opened c.take_last.new.slots.items) c.self.inside.index c.take_last.new.index c.self.inside.len c.self.inside.max_local c.self.inside.progress c.self.inside.last
-    c.self.invariant.kept (e.indexed c.if-take_last.true) taken.gone taken.others taken.number)
+    c.self.invariant.kept (e.indexed c.if-not-take_last.false) taken.gone taken.others taken.number)
 
-pub returns-then-take_last-clause-entries : goal.returns-then-take_last-clause-entries
-returns-then-take_last-clause-entries c = (taken c).0 ∙ ap (λ v. with_one_less v.entries c.args.tag.now c.args.mode c.args.owner) c.self.view_is
+pub returns-clause-entries : goal.returns-clause-entries
+returns-clause-entries c = λ _. (taken c).0 ∙ ap (λ v. with_one_less v.entries c.args.tag.now c.args.mode c.args.owner) c.self.view_is
 
-pub returns-then-take_last-clause-not_held : goal.returns-then-take_last-clause-not_held
-returns-then-take_last-clause-not_held c =
+pub returns-clause-held : goal.returns-clause-held
+returns-clause-held c =
     let es = c.self.inside.slots.items in
     let count = owner_count-at (present (opened es)) c.args.tag.now c.args.mode c.args.owner (entry_at es c.self.inside.last) (at_only c).found in
     let view = ap (λ v. owner_count_of v.entries c.args.tag.now c.args.mode c.args.owner) c.self.view_is in
-    (λ refused. absurd (let bad : Ok Released ≡ Err NotHeld = refused in cc), λ none. absurd (omega (arith, (only c).0, count, view, none)))
+    λ _. omega (arith, (only c).0, count, view)
 
-pub returns-then-take_last-clause-answer : goal.returns-then-take_last-clause-answer
-returns-then-take_last-clause-answer c =
+pub returns-clause-answer : goal.returns-clause-answer
+returns-clause-answer c =
     (λ same. absurd (let bad : Released ≡ StillHeld = same in cc), λ above. absurd (omega (arith, (taken c).1, above)))
