@@ -1,4 +1,4 @@
-use Rattle.std.specs.Prelude.{◌≡◌, ◌≢◌, ℕ, ◌+◌, ◌*◌, ◌/◌, ◌%◌, ◌^◌, ◌<◌, ◌≤◌, Bool, true, false, not, ◌&&◌, ◌==◌, List, map, filter_map, length, min, Option, Some, None, IfSome, ◌⊎◌, ⊤, slice_index_or, if◌then◌else◌}
+use Rattle.std.specs.Prelude.{◌≡◌, ◌≢◌, ℕ, ◌+◌, ◌-◌, ◌*◌, ◌/◌, ◌%◌, ◌^◌, ◌<◌, ◌≤◌, Bool, true, false, not, ◌&&◌, ◌==◌, List, map, filter_map, length, min, Option, Some, None, IfSome, ◌⊎◌, ⊤, slice_index_or, if◌then◌else◌}
 use Rattle.std.specs.Option.{option_map}
 use Rattle.modes_core.specs.declared.modes.Mode.{Mode}
 use Rattle.modes_core.specs.declared.tags.Tag.{Tag}
@@ -55,7 +55,7 @@ object_bits (Object database class object sub_object) =
 
 -- the hash of an object in 64 bits and a mode: the upper half of a product
 unfoldable pub hash_of : ℕ → Mode → ℕ
-hash_of object mode = (object + number_of mode) % 2 ^ 64 * multiplier % 2 ^ 64 / 2 ^ 32
+hash_of object mode = (object + (number_of mode - 1)) % 2 ^ 64 * multiplier % 2 ^ 64 / 2 ^ 32
 
 -- the hash of an object and mode
 abbrev pub key_hash : Tag → Mode → ℕ

@@ -67,7 +67,7 @@ fn object_bits(tag: &Tag) -> u64
 pub(crate) fn hash_of(object: u64, mode: Mode) -> u32
     ensures { result ≡ hash_of object mode }
 {
-    let key = object.wrapping_add(u64::from(mode.number()));
+    let key = object.wrapping_add(u64::from(mode.number() - 1));
     (key.wrapping_mul(MULTIPLIER) >> 32) as u32
 }
 

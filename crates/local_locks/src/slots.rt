@@ -1,4 +1,4 @@
-ghost use Rattle.std.specs.Prelude.{◌≡◌, ◌≢◌, ◌+◌, ◌-◌, ◌<◌, ◌≤◌, ℕ, true, false, Some, None, IfSome, IsSomeAnd, [], ◌∷◌, ◌++◌, length, slice_set, vec_capacity};
+ghost use Rattle.std.specs.Prelude.{◌≡◌, ◌≢◌, ◌↔◌, ◌+◌, ◌-◌, ◌<◌, ◌≤◌, ℕ, IsTrue, true, false, Some, None, IfSome, IsSomeAnd, [], ◌∷◌, ◌++◌, length, slice_set, vec_capacity};
 ghost use Rattle.std.specs.Option.{option_map};
 ghost use Rattle.place_index.specs.Notes.{times, no_place};
 ghost use Rattle.local_locks.specs.Owned.{count_for, raised, lowered, max_count, count_in_all, is_ended, after_end};
@@ -34,6 +34,79 @@ pub(crate) fn lower(slots: &mut Vec<Entry>, place: usize, owner: Owner)
     ensures number { length slots.new.items ≡ length slots.old.items }
 {
     slots[place].lower(owner);
+}
+
+/// Raises the count of an owner in the entry at a place where it has one and can have one more, and says whether it did. Each
+/// owner has code of its own, so that none is chosen twice.
+#[inline(always)]
+pub(crate) fn raise_held(slots: &mut Vec<Entry>, place: usize, owner: Owner) -> bool
+    requires { place < length slots.old.items }
+    ensures raised { let count = count_for owner (entry_at slots.old.items place) in
+        IsTrue result ↔ ((0 < count) × (count < max_count)) }
+    ensures slots { result ≡ true → opened slots.new.items
+        ≡ slice_set (opened slots.old.items) place (Some (raised owner (entry_at slots.old.items place))) }
+    ensures same { result ≡ false → slots.new ≡ slots.old }
+    ensures room { vec_capacity slots.new - length slots.new.items ≡ vec_capacity slots.old - length slots.old.items }
+    ensures number { length slots.new.items ≡ length slots.old.items }
+{
+    match owner {
+        Owner::Session => raise_if_held(slots, place, Owner::Session),
+        Owner::Transaction => raise_if_held(slots, place, Owner::Transaction),
+    }
+}
+
+/// The same, where the owner is known.
+#[inline(always)]
+fn raise_if_held(slots: &mut Vec<Entry>, place: usize, owner: Owner) -> bool
+    requires { place < length slots.old.items }
+    ensures raised { let count = count_for owner (entry_at slots.old.items place) in
+        IsTrue result ↔ ((0 < count) × (count < max_count)) }
+    ensures slots { result ≡ true → opened slots.new.items
+        ≡ slice_set (opened slots.old.items) place (Some (raised owner (entry_at slots.old.items place))) }
+    ensures same { result ≡ false → slots.new ≡ slots.old }
+    ensures room { vec_capacity slots.new - length slots.new.items ≡ vec_capacity slots.old - length slots.old.items }
+    ensures number { length slots.new.items ≡ length slots.old.items }
+{
+    if !slots[place].can_raise(owner) {
+        return false;
+    }
+    raise(slots, place, owner);
+    true
+}
+
+/// Lowers the count of an owner in the entry at a place where it has more than one, and says whether it did, as `raise_held`.
+#[inline(always)]
+pub(crate) fn lower_held(slots: &mut Vec<Entry>, place: usize, owner: Owner) -> bool
+    requires { place < length slots.old.items }
+    ensures lowered { IsTrue result ↔ (1 < count_for owner (entry_at slots.old.items place)) }
+    ensures slots { result ≡ true → opened slots.new.items
+        ≡ slice_set (opened slots.old.items) place (Some (lowered owner (entry_at slots.old.items place))) }
+    ensures same { result ≡ false → slots.new ≡ slots.old }
+    ensures room { vec_capacity slots.new - length slots.new.items ≡ vec_capacity slots.old - length slots.old.items }
+    ensures number { length slots.new.items ≡ length slots.old.items }
+{
+    match owner {
+        Owner::Session => lower_if_held(slots, place, Owner::Session),
+        Owner::Transaction => lower_if_held(slots, place, Owner::Transaction),
+    }
+}
+
+/// The same, where the owner is known.
+#[inline(always)]
+fn lower_if_held(slots: &mut Vec<Entry>, place: usize, owner: Owner) -> bool
+    requires { place < length slots.old.items }
+    ensures lowered { IsTrue result ↔ (1 < count_for owner (entry_at slots.old.items place)) }
+    ensures slots { result ≡ true → opened slots.new.items
+        ≡ slice_set (opened slots.old.items) place (Some (lowered owner (entry_at slots.old.items place))) }
+    ensures same { result ≡ false → slots.new ≡ slots.old }
+    ensures room { vec_capacity slots.new - length slots.new.items ≡ vec_capacity slots.old - length slots.old.items }
+    ensures number { length slots.new.items ≡ length slots.old.items }
+{
+    if !slots[place].can_lower(owner) {
+        return false;
+    }
+    lower(slots, place, owner);
+    true
 }
 
 /// Makes a last slot with this entry, for which there is room, and notes its place under the hash.

@@ -1,4 +1,4 @@
-use Rattle.std.proofs.Common.{◌≡◌, ℕ, ◌+◌, ◌*◌, ◌/◌, ◌%◌, ◌^◌, refl, ap, ◌∙◌, arith}
+use Rattle.std.proofs.Common.{◌≡◌, ℕ, ◌+◌, ◌-◌, ◌*◌, ◌/◌, ◌%◌, ◌^◌, refl, ap, ◌∙◌, arith}
 use Rattle.local_locks.specs.Slots.{hash_of, multiplier}
 use Rattle.local_locks.proofs.looks.hash_of.Goals as goal
 
@@ -7,4 +7,4 @@ step a b h m object number = omega arith
 
 pub returns : goal.returns
 unfolding hash_of
-returns c = ap (λ key. key * multiplier % 2 ^ 64 / 2 ^ 32) (step c.args.object c.from.result _ _ refl (c.from.ensures ∙ c.number.ensures))
+returns c = ap (λ key. key * multiplier % 2 ^ 64 / 2 ^ 32) (step c.args.object c.from.result _ _ refl (c.from.ensures ∙ ap (λ n. n - 1) c.number.ensures))

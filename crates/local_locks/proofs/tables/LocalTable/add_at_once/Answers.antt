@@ -2,7 +2,7 @@ use Rattle.std.proofs.Common.{◌≡◌, ◌≢◌, ◌<◌, List, length, true,
 use Rattle.std.specs.Prelude.{is_some}
 use Rattle.std.proofs.lemmas.List.{get_or_default}
 use Rattle.local_locks.specs.Owned.{IsWellOwned, max_count, is_of, count_for, has_entry, owner_count_of, with_one_more}
-use Rattle.local_locks.specs.Slots.{IsTable, IsPlaceOf, opened, entry_at, present}
+use Rattle.local_locks.specs.Slots.{IsKept, IsTable, IsPlaceOf, opened, entry_at, present}
 use Rattle.local_locks.specs.declared.ends.Progress.{Progress}
 use Rattle.local_locks.specs.declared.records.Entry.{Entry}
 use Rattle.local_locks.proofs.KeptLaws.{well_owned}
@@ -16,8 +16,11 @@ returns-in-Nothing-clause-well_owned c = subst IsWellOwned c.self.view_is (well_
 pub returns-in-Unknown-clause-well_owned : goal.returns-in-Unknown-clause-well_owned
 returns-in-Unknown-clause-well_owned c = subst IsWellOwned c.self.view_is (well_owned _ _ _ _ _ _ c.self.invariant.kept)
 
-pub returns-then-not-can_raise-clause-well_owned : goal.returns-then-not-can_raise-clause-well_owned
-returns-then-not-can_raise-clause-well_owned c = subst IsWellOwned c.self.view_is (well_owned _ _ _ _ _ _ c.self.invariant.kept)
+pub returns-then-not-raise_held-clause-well_owned : goal.returns-then-not-raise_held-clause-well_owned
+returns-then-not-raise_held-clause-well_owned c =
+    well_owned _ _ _ _ _ _
+    (subst (λ (es : List Entry). IsKept (opened es) c.self.inside.index c.self.inside.len c.self.inside.max_local c.self.inside.progress)
+    (sym (ap (λ v. v.items) (c.raise_held.ensures.same c.if-not-raise_held.true))) c.self.invariant.kept)
 
 -- ---- one more is counted
 
@@ -25,37 +28,33 @@ seen : (c : goal.After-go_back_to) → (c.in-Place.place < length c.self.inside.
 seen c = subst (λ (l : List Entry). (c.in-Place.place < length l) × (is_of c.args.tag.now c.args.mode (entry_at l c.in-Place.place) ≡ true)) c.deref.ensures.value (c.in-Place.ensures {u = tt})
 
 counts : (c : goal.After-go_back_to) → (0 < count_for c.args.owner (entry_at c.self.inside.slots.items c.in-Place.place)) × (count_for c.args.owner (entry_at c.self.inside.slots.items c.in-Place.place) < max_count)
-counts c =
-    let es = c.self.inside.slots.items in
-    let read : c.index.result.now ≡ entry_at es c.in-Place.place = c.index.ensures ∙ get_or_default es c.in-Place.place c.index.result.now _ (seen c).0 in
-    let both = c.can_raise.ensures.0 c.if-not-can_raise.false in
-    (omega (arith, both.0, ap (count_for c.args.owner) read), omega (arith, both.1, ap (count_for c.args.owner) read))
+counts c = c.raise_held.ensures.raised.0 c.if-not-raise_held.false
 
 at : (c : goal.After-go_back_to) → IsPlaceOf c.self.inside.slots.items c.args.tag.now c.args.mode c.in-Place.place
 at c =
     place_read c.self.inside.slots.items c.self.inside.index c.self.invariant.kept.indexed c.args.tag.now c.args.mode c.args.owner c.in-Place.place
     (entry_at c.self.inside.slots.items c.in-Place.place) refl (seen c).1 (counts c).0
 
-pub invariant_of-self : goal.invariant_of-self
-invariant_of-self c =
+pub invariant_of-self-in-Place : goal.invariant_of-self-in-Place
+invariant_of-self-in-Place c =
     let es = c.self.inside.slots.items in
     let limit : count_for c.args.owner (entry_at es c.in-Place.place) ≢ max_count = λ full. omega (arith, (counts c).1, full) in
-    subst (λ (p : Progress). IsTable c.raise.new.slots.items c.self.inside.index c.self.inside.len c.self.inside.max_local p) (sym c.go_back_to.ensures)
-    (IsTable-raised es c.raise.new.slots.items c.self.inside.index c.self.inside.len c.self.inside.max_local c.self.inside.progress c.args.tag.now c.args.mode
-    c.in-Place.place c.args.owner c.self.invariant (at c) limit c.raise.ensures.slots c.raise.ensures.number)
+    subst (λ (p : Progress). IsTable c.raise_held.new.slots.items c.self.inside.index c.self.inside.len c.self.inside.max_local p) (sym c.go_back_to.ensures)
+    (IsTable-raised es c.raise_held.new.slots.items c.self.inside.index c.self.inside.len c.self.inside.max_local c.self.inside.progress c.args.tag.now c.args.mode
+    c.in-Place.place c.args.owner c.self.invariant (at c) limit (c.raise_held.ensures.slots c.if-not-raise_held.false) c.raise_held.ensures.number)
 
-pub returns-else-not-can_raise-clause-well_owned : goal.returns-else-not-can_raise-clause-well_owned
-returns-else-not-can_raise-clause-well_owned c = well_owned _ _ _ _ _ _ (invariant_of-self c).kept
+pub returns-else-not-raise_held-clause-well_owned : goal.returns-else-not-raise_held-clause-well_owned
+returns-else-not-raise_held-clause-well_owned c = well_owned _ _ _ _ _ _ (invariant_of-self-in-Place c).kept
 
-pub returns-else-not-can_raise-clause-entries : goal.returns-else-not-can_raise-clause-entries
-returns-else-not-can_raise-clause-entries c held =
+pub returns-else-not-raise_held-clause-entries : goal.returns-else-not-raise_held-clause-entries
+returns-else-not-raise_held-clause-entries c held =
     let es = c.self.inside.slots.items in
-    ap present c.raise.ensures.slots
+    ap present (c.raise_held.ensures.slots c.if-not-raise_held.false)
     ∙ (entries-raised (opened es) c.self.inside.index c.args.tag.now c.args.mode c.args.owner c.in-Place.place (entry_at es c.in-Place.place) c.self.invariant.kept.indexed (at c).there (at c).own
     ∙ ap (λ v. with_one_more v.entries c.args.tag.now c.args.mode c.args.owner) c.self.view_is)
 
-pub returns-else-not-can_raise-clause-held : goal.returns-else-not-can_raise-clause-held
-returns-else-not-can_raise-clause-held c held =
+pub returns-else-not-raise_held-clause-held : goal.returns-else-not-raise_held-clause-held
+returns-else-not-raise_held-clause-held c held =
     let es = c.self.inside.slots.items in
     let count = owner_count-at (present (opened es)) c.args.tag.now c.args.mode c.args.owner (entry_at es c.in-Place.place) (at c).found in
     let view = ap (λ v. owner_count_of v.entries c.args.tag.now c.args.mode c.args.owner) c.self.view_is in (
