@@ -74,41 +74,6 @@ fn raise_if_held(slots: &mut Vec<Entry>, place: usize, owner: Owner) -> bool
     true
 }
 
-/// Lowers the count of an owner in the entry at a place where it has more than one, and says whether it did, as `raise_held`.
-#[inline(always)]
-pub(crate) fn lower_held(slots: &mut Vec<Entry>, place: usize, owner: Owner) -> bool
-    requires { place < length slots.old.items }
-    ensures lowered { IsTrue result ↔ (1 < count_for owner (entry_at slots.old.items place)) }
-    ensures slots { result ≡ true → opened slots.new.items
-        ≡ slice_set (opened slots.old.items) place (Some (lowered owner (entry_at slots.old.items place))) }
-    ensures same { result ≡ false → slots.new ≡ slots.old }
-    ensures room { vec_capacity slots.new - length slots.new.items ≡ vec_capacity slots.old - length slots.old.items }
-    ensures number { length slots.new.items ≡ length slots.old.items }
-{
-    match owner {
-        Owner::Session => lower_if_held(slots, place, Owner::Session),
-        Owner::Transaction => lower_if_held(slots, place, Owner::Transaction),
-    }
-}
-
-/// The same, where the owner is known.
-#[inline(always)]
-fn lower_if_held(slots: &mut Vec<Entry>, place: usize, owner: Owner) -> bool
-    requires { place < length slots.old.items }
-    ensures lowered { IsTrue result ↔ (1 < count_for owner (entry_at slots.old.items place)) }
-    ensures slots { result ≡ true → opened slots.new.items
-        ≡ slice_set (opened slots.old.items) place (Some (lowered owner (entry_at slots.old.items place))) }
-    ensures same { result ≡ false → slots.new ≡ slots.old }
-    ensures room { vec_capacity slots.new - length slots.new.items ≡ vec_capacity slots.old - length slots.old.items }
-    ensures number { length slots.new.items ≡ length slots.old.items }
-{
-    if !slots[place].can_lower(owner) {
-        return false;
-    }
-    lower(slots, place, owner);
-    true
-}
-
 /// Makes a last slot with this entry, for which there is room, and notes its place under the hash.
 #[inline(always)]
 pub(crate) fn push_entry(slots: &mut Vec<Entry>, index: &mut PlaceIndex, hash: u32, entry: Entry)

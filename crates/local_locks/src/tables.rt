@@ -5,8 +5,7 @@ ghost use Rattle.local_locks.specs.Owned.{max_count, has_entry, owner_count_of, 
 use crate::ends::Progress;
 use crate::looks::{Glance, glance_at, hash_of, key_hash, look, look_up, pair_bits};
 use crate::slots::{
-    compact, lower, lower_held, push_entry, raise, raise_held, settle, take_ended, take_last,
-    take_out, tidy,
+    compact, lower, push_entry, raise, raise_held, settle, take_ended, take_last, take_out, tidy,
 };
 use crate::{Acquired, AtOnce, End, Entries, Entry, Unlocked};
 use modes_core::{Mode, Owner, Refusal, Tag};
@@ -433,74 +432,30 @@ impl LocalTable {
         ensures max_local { self.new.max_local ≡ self.old.max_local }
         ensures well_owned { IsWellOwned self.new }
     {
-        if self.drop_one_of_more(tag, mode, owner) {
-            return Some(Unlocked::StillHeld);
-        }
-        if self.drop_only_one(tag, mode, owner) {
-            return Some(Unlocked::Released);
-        }
-        None
-    }
-
-    /// Takes back one count of an owner who has more, where one slot shows that, and says whether it did.
-    #[inline(always)]
-    fn drop_one_of_more(&mut self, tag: &Tag, mode: Mode, owner: Owner) -> bool
-        ensures held { result ≡ true → 0 < owner_count_of self.old.entries tag.now mode owner }
-        ensures still { result ≡ true → 0 < total_of self.new.entries tag.now mode }
-        ensures entries { result ≡ true → self.new.entries ≡ with_one_less self.old.entries tag.now mode owner }
-        ensures same { result ≡ false → self.new ≡ self.old }
-        ensures room { self.old.room ≤ self.new.room }
-        ensures max_local { self.new.max_local ≡ self.old.max_local }
-        ensures well_owned { IsWellOwned self.new }
-    {
         let last = self.last;
         if last >= self.slots.len() {
-            return false;
+            return None;
         }
         let Tag::Relation { database, relation } = *tag else {
-            return false;
+            return None;
         };
         if !self.slots[last].is_of_relation(database, relation, mode) {
-            return false;
+            return None;
         }
-        if !lower_held(&mut self.slots, last, owner) {
-            return false;
+        if self.slots[last].can_lower(owner) {
+            lower(&mut self.slots, last, owner);
+            return Some(Unlocked::StillHeld);
         }
-        true
-    }
-
-    /// Takes back the only count there is, of the entry in the last slot, where that slot and the index at its first look show
-    /// it, and says whether it did.
-    #[inline(always)]
-    fn drop_only_one(&mut self, tag: &Tag, mode: Mode, owner: Owner) -> bool
-        ensures held { result ≡ true → 0 < owner_count_of self.old.entries tag.now mode owner }
-        ensures gone { result ≡ true → total_of self.new.entries tag.now mode ≡ 0 }
-        ensures entries { result ≡ true → self.new.entries ≡ with_one_less self.old.entries tag.now mode owner }
-        ensures same { result ≡ false → self.new ≡ self.old }
-        ensures room { self.old.room ≤ self.new.room }
-        ensures max_local { self.new.max_local ≡ self.old.max_local }
-        ensures well_owned { IsWellOwned self.new }
-    {
-        let last = self.last;
-        if last >= self.slots.len() || last + 1 != self.slots.len() {
-            return false;
-        }
-        let Tag::Relation { database, relation } = *tag else {
-            return false;
-        };
-        if !self.slots[last].is_of_relation(database, relation, mode) {
-            return false;
-        }
-        if !self.slots[last].is_only(owner) {
-            return false;
+        if !self.slots[last].is_only(owner) || last + 1 != self.slots.len() {
+            return None;
         }
         let hash = hash_of(pair_bits(database, relation), mode);
         if !take_last(&mut self.slots, &mut self.index, last, hash) {
-            return false;
+            return None;
         }
         self.len -= 1;
         self.last = last.wrapping_sub(1);
-        true
+        Some(Unlocked::Released)
     }
 
     /// The same, of whatever entry and count: cold to the compiler, as `add_looked_up` is.

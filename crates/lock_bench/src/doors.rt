@@ -22,43 +22,47 @@ pub fn pass(passed: u64, tag: &Tag, mode: Mode, owner: Owner) -> u64 {
 /// Acquires, and tells whether that was done: in a register, as the map's doors answer.
 #[inline(never)]
 pub fn acquire(table: &mut LocalTable, tag: &Tag, mode: Mode, owner: Owner) -> bool {
-    let known = table.add_at_once(tag, mode, owner);
-    known == AtOnce::AlreadyHeld || acquire_on(table, tag, mode, owner, known)
-}
-
-/// Goes on with an acquire of what isn't held, or of which it isn't known.
-#[inline(never)]
-fn acquire_on(
-    table: &mut LocalTable,
-    tag: &Tag,
-    mode: Mode,
-    owner: Owner,
-    known: AtOnce,
-) -> bool
-    requires { known ≡ AtOnce.NotHeld → has_entry table.old.entries tag.now mode ≡ false }
-{
-    if known == AtOnce::NotHeld && table.can_add() {
-        table.add_new(tag, mode, owner);
-        return true;
+    match table.add_at_once(tag, mode, owner) {
+        AtOnce::AlreadyHeld => true,
+        AtOnce::NotHeld => acquire_new(table, tag, mode, owner),
+        AtOnce::Unknown => acquire_looked_up(table, tag, mode, owner),
     }
-    acquire_looked_up(table, tag, mode, owner)
 }
 
-/// The same where it takes a whole look to say whether it is held, or the table has to grow.
+/// The same where it takes a whole look to say whether it is held.
 #[cold]
 #[inline(never)]
 fn acquire_looked_up(table: &mut LocalTable, tag: &Tag, mode: Mode, owner: Owner) -> bool {
     match table.add_held(tag, mode, owner) {
         Ok(true) => true,
-        Ok(false) => {
-            if table.reserve_new().is_err() {
-                return false;
-            }
-            table.add_new(tag, mode, owner);
-            true
-        }
+        Ok(false) => acquire_new(table, tag, mode, owner),
         Err(_) => false,
     }
+}
+
+/// The same of what isn't held.
+#[inline(never)]
+fn acquire_new(table: &mut LocalTable, tag: &Tag, mode: Mode, owner: Owner) -> bool
+    requires { has_entry table.old.entries tag.now mode ≡ false }
+{
+    if !table.can_add() {
+        return acquire_grown(table, tag, mode, owner);
+    }
+    table.add_new(tag, mode, owner);
+    true
+}
+
+/// The same where the table is full or has to grow.
+#[cold]
+#[inline(never)]
+fn acquire_grown(table: &mut LocalTable, tag: &Tag, mode: Mode, owner: Owner) -> bool
+    requires { has_entry table.old.entries tag.now mode ≡ false }
+{
+    if table.reserve_new().is_err() {
+        return false;
+    }
+    table.add_new(tag, mode, owner);
+    true
 }
 
 /// Releases, and tells whether that was done.
