@@ -90,8 +90,9 @@ pub(crate) fn push_entry(slots: &mut Vec<Entry>, index: &mut PlaceIndex, hash: u
     ensures slot_room { vec_capacity slots.old ≤ vec_capacity slots.new }
     ensures index_room { index.new.places ≡ index.old.places }
 {
-    index.insert_last(hash, slots.len() as u32);
+    let place = slots.len();
     slots.push_reserved(entry);
+    index.insert_last(hash, place as u32);
 }
 
 /// How many slots stay where the entry at a place goes and so many notes are left: none with the only entry, and else all

@@ -378,10 +378,10 @@ impl LocalTable {
     {
         let place = self.slots.len();
         let entry = Entry::new(tag, mode, owner);
-        push_entry(&mut self.slots, &mut self.index, hash, entry);
         self.len += 1;
         self.last = place;
         self.progress.go_back_to(place);
+        push_entry(&mut self.slots, &mut self.index, hash, entry);
     }
 
     /// Takes one count of this owner back (`LockRelease` in lock.c, where it touches the local lock
