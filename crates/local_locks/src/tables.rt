@@ -131,7 +131,7 @@ impl LocalTable {
         }
     }
 
-    /// `add_held` as far as one cell of the index goes, which mostly shows of a relation whether it is held in the mode, and
+    /// `add_held` as far as the first place of the index goes, which mostly shows of a relation whether it is held in the mode, and
     /// where: `AtOnce::Unknown` says nothing, and `add_held` goes on from there. With neither a loop nor a call in it, it is
     /// short enough to stand in the code of each caller.
     #[inline(always)]
