@@ -490,6 +490,3 @@ impl LocalTable {
         Some(key)
     }
 }
-
-#[cfg(test)]
-mod tests;

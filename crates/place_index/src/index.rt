@@ -156,6 +156,3 @@ impl PlaceIndex {
         self.len -= 1;
     }
 }
-
-#[cfg(test)]
-mod tests;

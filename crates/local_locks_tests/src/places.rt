@@ -1,4 +1,5 @@
-use super::*;
+use place_index::PlaceIndex;
+use std::alloc::Global;
 use std::process::Abort;
 use std::test::Fail;
 

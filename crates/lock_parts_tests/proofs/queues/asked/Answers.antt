@@ -8,7 +8,7 @@ use Rattle.lock_table.specs.Content.{Wait, Content}
 use Rattle.lock_table.specs.PartView.{content_of}
 use Rattle.lock_table.specs.Queue.{waits_there, queue_without, remove_wait}
 use Rattle.lock_table.proofs.PutLemmas.{put_here}
-use Rattle.wait_queue.proofs.tests.asked.Goals as goal
+use Rattle.lock_parts_tests.proofs.queues.asked.Goals as goal
 
 -- Who left waits there no more.
 left-not_there : (content left : Content) (s : ℕ) (tag : Tag) → left ≡ remove_wait content s tag → waits_there (left.waits tag) s ≡ false

@@ -2,11 +2,11 @@
 //! goes when.
 ghost use Rattle.std.specs.Prelude.{◌≡◌, None};
 
-use crate::{Decision, Kind, awaited_in_conflict, decide, release, remove_waiter};
 use lock_table::{PartTable, PlainPart, Woken};
 use modes_core::{How, Mode, Refusal, SessionId, Tag};
 use std::process::Abort;
 use std::test::Fail;
+use wait_queue::{Decision, Kind, awaited_in_conflict, decide, release, remove_waiter};
 
 fn session(rt: &impl Abort, number: u8) -> SessionId {
     SessionId::new(number).expect(rt, "a session number")

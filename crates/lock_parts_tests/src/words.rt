@@ -1,7 +1,7 @@
 ghost use Rattle.std.specs.Prelude.{◌≡◌, IfOk};
 ghost use Rattle.lw_word.specs.LockState.{word_of};
 
-use crate::{LwMode, LwWaiter, LwWord, SlotWord, WaitList};
+use lw_word::{LwMode, LwWaiter, LwWord, SlotWord, WaitList};
 use modes_core::{Mode, SessionId};
 use std::process::Abort;
 use std::test::Fail;

@@ -1,4 +1,4 @@
-use crate::{How, Mode, ModeSet, Refusal, SessionId, Tag, conflicts, is_eligible, is_strong};
+use modes_core::{How, Mode, ModeSet, Refusal, SessionId, Tag, conflicts, is_eligible, is_strong};
 use std::test::Fail;
 
 // The numbers, names and masks are those of PostgreSQL's lockdefs.h and lock.c.

@@ -3,8 +3,7 @@ ghost use Rattle.lock_table.specs.PartView.{content_of};
 ghost use Rattle.lock_table.specs.Queue.{waits_there};
 ghost use Rattle.lock_table.specs.declared.request.Request.{Request};
 
-use super::PlainPart;
-use crate::{Answer, NoMemory, PartTable, TableRow, waiting_answer};
+use lock_table::{Answer, NoMemory, PartTable, PlainPart, TableRow, empty_parts, waiting_answer};
 use modes_core::{Mode, SessionId, Tag};
 use std::process::Abort;
 use std::test::Fail;
@@ -321,5 +320,16 @@ fn a_copy_is_a_part_of_its_own(rt: HostRuntime) -> Result<(), Fail> {
     assert!(rt; copy.has_hold_of(b));
     assert!(rt; !part.has_hold_of(b));
     queue_is(&rt, &part, object(), &[1]);
+    Ok(())
+}
+
+#[test]
+fn a_new_table_has_sixteen_empty_parts(rt: HostRuntime) -> Result<(), Fail> {
+    let parts = empty_parts(rt.alloc())?;
+    assert_eq!(rt; parts.len(), 16);
+    for part in &parts {
+        assert!(rt; part.holds().is_empty());
+        assert!(rt; part.waits().is_empty());
+    }
     Ok(())
 }

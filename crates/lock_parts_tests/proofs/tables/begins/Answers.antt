@@ -11,7 +11,7 @@ use Rattle.lock_table.specs.PartView.{content_of}
 use Rattle.lock_table.specs.Queue.{waits_there, awaits_mode, queue_without, remove_wait}
 use Rattle.lock_table.proofs.PutLemmas.{put_here}
 use Rattle.lock_table.proofs.ListLemmas.{any_weaker}
-use Rattle.lock_table.proofs.plain_part.tests.begins.Goals as goal
+use Rattle.lock_parts_tests.proofs.tables.begins.Goals as goal
 
 -- Who left waits there no more.
 left-not_there : (content left : Content) (s : ℕ) (tag : Tag) → left ≡ remove_wait content s tag → waits_there (left.waits tag) s ≡ false

@@ -1,7 +1,7 @@
 //! Texts, and each part of the language once, since no clause says that memory and bytes are there.
 ghost use Rattle.std.specs.Prelude.{◌≡◌, length, IfOk};
 
-use crate::{
+use lock_script::{
     Command, Crew, Defect, Fault, LineReader, Name, Names, Opened, Place, Speaker, Target, parse,
 };
 use modes_core::{Mode, Owner, SessionId, Tag};

@@ -1,7 +1,8 @@
 ghost use Rattle.std.specs.Prelude.{◌≤◌};
 
-use super::*;
-use modes_core::Mode;
+use local_locks::{Acquired, AtOnce, End, Entry, LocalTable, Unlocked};
+use modes_core::{Mode, Owner, Refusal, Tag};
+use std::alloc::Global;
 use std::process::Abort;
 
 fn acquire(
