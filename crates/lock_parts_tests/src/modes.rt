@@ -1,20 +1,24 @@
+//! Modes, tags, session numbers and refusals: their numbers and texts, and what goes by the fast path.
+
+use crate::fixtures::{ANOTHER_OBJECT, OBJECT};
 use modes_core::{How, Mode, ModeSet, Refusal, SessionId, Tag, conflicts, is_eligible, is_strong};
 use std::test::Fail;
 
-// The numbers, names and masks are those of PostgreSQL's lockdefs.h and lock.c.
+/// Numbers, names and conflicts of the modes, as in PostgreSQL's lockdefs.h and lock.c.
+const MODES: [(u8, &str, u16); 8] = [
+    (1, "AccessShareLock", 0x100),
+    (2, "RowShareLock", 0x180),
+    (3, "RowExclusiveLock", 0x1E0),
+    (4, "ShareUpdateExclusiveLock", 0x1F0),
+    (5, "ShareLock", 0x1D8),
+    (6, "ShareRowExclusiveLock", 0x1F8),
+    (7, "ExclusiveLock", 0x1FC),
+    (8, "AccessExclusiveLock", 0x1FE),
+];
+
 #[test]
 fn modes_have_their_numbers_names_and_conflicts(rt: HostRuntime) -> Result<(), Fail> {
-    let table = [
-        (1, "AccessShareLock", 0x100),
-        (2, "RowShareLock", 0x180),
-        (3, "RowExclusiveLock", 0x1E0),
-        (4, "ShareUpdateExclusiveLock", 0x1F0),
-        (5, "ShareLock", 0x1D8),
-        (6, "ShareRowExclusiveLock", 0x1F8),
-        (7, "ExclusiveLock", 0x1FC),
-        (8, "AccessExclusiveLock", 0x1FE),
-    ];
-    for (number, name, mask) in table {
+    for (number, name, mask) in MODES {
         let mode = Mode::from_number(number).ok_or("no such number")?;
         assert_eq!(rt; mode.number(), number);
         assert_eq!(rt; mode.name(), name);
@@ -44,7 +48,7 @@ fn sets_have_what_was_put_in(rt: HostRuntime) {
 #[test]
 fn tags_have_their_hashes_and_texts(rt: HostRuntime) -> Result<(), Fail> {
     let table = [
-        (Tag::relation(5, 16384), 2389211932, 12, 796, "5/16384"),
+        (OBJECT, 2389211932, 12, 796, "5/16384"),
         (Tag::relation(5, 17408), 3334897436, 12, 796, "5/17408"),
         (Tag::relation(0, 1262), 1165483503, 15, 495, "0/1262"),
         (
@@ -74,31 +78,49 @@ fn tags_have_their_hashes_and_texts(rt: HostRuntime) -> Result<(), Fail> {
     Ok(())
 }
 
+/// A session's database, an object and a mode, and whether that may go by the fast path.
+const ELIGIBLE: [(u32, Tag, Mode, bool); 5] = [
+    (5, OBJECT, Mode::RowExclusive, true),
+    (5, OBJECT, Mode::ShareUpdateExclusive, false),
+    (6, OBJECT, Mode::AccessShare, false),
+    (
+        0,
+        Tag::Relation {
+            database: 0,
+            relation: 1262,
+        },
+        Mode::AccessShare,
+        false,
+    ),
+    (5, ANOTHER_OBJECT, Mode::AccessShare, false),
+];
+
+/// An object and a mode, and whether that is counted as strong.
+const STRONG: [(Tag, Mode, bool); 3] = [
+    (OBJECT, Mode::Share, true),
+    (OBJECT, Mode::ShareUpdateExclusive, false),
+    (ANOTHER_OBJECT, Mode::AccessExclusive, false),
+];
+
 #[test]
 fn the_fast_path_has_its_modes(rt: HostRuntime) {
-    let relation = Tag::relation(5, 16384);
-    let object = Tag::object(5, 1259, 16384, 0);
-    assert!(rt; is_eligible(5, relation, Mode::RowExclusive));
-    assert!(rt; !is_eligible(5, relation, Mode::ShareUpdateExclusive));
-    assert!(rt; !is_eligible(6, relation, Mode::AccessShare));
-    assert!(rt; !is_eligible(0, Tag::relation(0, 1262), Mode::AccessShare));
-    assert!(rt; !is_eligible(5, object, Mode::AccessShare));
-    assert!(rt; is_strong(relation, Mode::Share));
-    assert!(rt; !is_strong(relation, Mode::ShareUpdateExclusive));
-    assert!(rt; !is_strong(object, Mode::AccessExclusive));
+    for (database, tag, mode, eligible) in ELIGIBLE {
+        assert_eq!(rt;
+            is_eligible(database, tag, mode),
+            eligible,
+            "{mode} on {tag}"
+        );
+    }
+    for (tag, mode, strong) in STRONG {
+        assert_eq!(rt; is_strong(tag, mode), strong, "{mode} on {tag}");
+    }
 }
 
 #[test]
-fn sessions_have_numbers(rt: HostRuntime) -> Result<(), Fail> {
+fn sessions_and_refusals_have_their_numbers_and_texts(rt: HostRuntime) -> Result<(), Fail> {
     let session = SessionId::new(63).ok_or("no session 63")?;
     assert_eq!(rt; session.number(), 63);
     assert_eq!(rt; SessionId::new(64), None);
-    Ok(())
-}
-
-#[test]
-fn refusals_have_their_numbers_and_texts(rt: HostRuntime) -> Result<(), Fail> {
-    let session = SessionId::new(63).ok_or("no session 63")?;
     let conflict = |how| Refusal::Conflict {
         session,
         mode: Mode::Share,

@@ -1,240 +1,221 @@
 //! Queues worked by hand on the plain keeper of a partition: who is granted, who waits where, and who
 //! goes when.
+
 ghost use Rattle.std.specs.Prelude.{◌≡◌, None};
 
-use lock_table::{PartTable, PlainPart, Woken};
-use modes_core::{How, Mode, Refusal, SessionId, Tag};
+use crate::fixtures::{OBJECT, expect_woken, may_ask, may_release, new_part, session};
+use lock_table::PlainPart;
+use modes_core::Mode::{AccessExclusive, AccessShare, Exclusive, RowExclusive, RowShare, Share};
+use modes_core::{How, Mode, Refusal, SessionId};
 use std::process::Abort;
 use std::test::Fail;
+use wait_queue::Kind::{Conditional, Waiting};
 use wait_queue::{Decision, Kind, awaited_in_conflict, decide, release, remove_waiter};
 
-fn session(rt: &impl Abort, number: u8) -> SessionId {
-    SessionId::new(number).expect(rt, "a session number")
+/// What the session of a number does, and what that leads to.
+#[derive(Clone, Copy)]
+enum Step {
+    /// It asks, and is answered this.
+    Asks(u8, Mode, Kind, Told),
+    /// It releases a hold, which wakes these, in this order.
+    Releases(u8, Mode, &'static [(u8, Mode)]),
+    /// Its wait is taken out; whether it had been granted, and whom that wakes.
+    Leaves(u8, bool, &'static [(u8, Mode)]),
+    /// Whether somebody waits for a mode in conflict with this one.
+    Awaited(Mode, bool),
 }
 
-fn object() -> Tag {
-    Tag::relation(5, 16384)
+/// What a request is answered.
+#[derive(Clone, Copy)]
+enum Told {
+    Granted,
+    Queued,
+    /// This session holds this mode.
+    Held(u8, Mode),
+    /// This session waits for this mode.
+    Ahead(u8, Mode),
+    /// It and this session would wait for one another.
+    Deadlock(u8),
 }
 
-/// What a request of the session is answered.
+use Told::{Ahead, Deadlock, Granted, Held, Queued};
+
+const A_WAITER_GOES_BEHIND_THOSE_LEFT_BEFORE_IT: [Step; 11] = [
+    Step::Asks(0, AccessExclusive, Waiting, Granted),
+    Step::Asks(1, Share, Waiting, Queued),
+    Step::Asks(2, RowExclusive, Waiting, Queued),
+    Step::Asks(3, RowShare, Waiting, Queued),
+    Step::Asks(4, Share, Waiting, Queued),
+    Step::Awaited(RowExclusive, true),
+    Step::Awaited(AccessShare, false),
+    Step::Releases(0, AccessExclusive, &[(1, Share), (3, RowShare)]),
+    Step::Releases(1, Share, &[(2, RowExclusive)]),
+    Step::Releases(3, RowShare, &[]),
+    Step::Releases(2, RowExclusive, &[(4, Share)]),
+];
+
+const A_CONDITIONAL_REQUEST_IS_REFUSED_BY_A_HOLD: [Step; 6] = [
+    Step::Asks(2, Share, Waiting, Granted),
+    Step::Asks(1, AccessShare, Waiting, Granted),
+    Step::Asks(0, RowExclusive, Conditional, Held(2, Share)),
+    Step::Asks(0, RowShare, Conditional, Granted),
+    Step::Releases(2, Share, &[]),
+    Step::Asks(3, RowExclusive, Conditional, Granted),
+];
+
+const A_CONDITIONAL_REQUEST_DOES_NOT_PASS_A_WAITER: [Step; 5] = [
+    Step::Asks(0, AccessShare, Waiting, Granted),
+    Step::Asks(1, AccessExclusive, Waiting, Queued),
+    Step::Asks(2, AccessShare, Conditional, Ahead(1, AccessExclusive)),
+    // The place of a holder's request would let it go at once, and only one that may wait has a place.
+    Step::Asks(0, RowExclusive, Conditional, Ahead(1, AccessExclusive)),
+    Step::Asks(0, RowExclusive, Waiting, Granted),
+];
+
+const A_CONDITIONAL_REQUEST_IS_REFUSED_WITH_THE_LOWEST_HOLDER: [Step; 4] = [
+    Step::Asks(3, Share, Waiting, Granted),
+    Step::Asks(1, Share, Waiting, Granted),
+    Step::Asks(2, RowExclusive, Conditional, Held(1, Share)),
+    Step::Asks(2, RowShare, Conditional, Granted),
+];
+
+const A_HOLDER_STANDS_BEFORE_WHOM_IT_KEEPS_WAITING: [Step; 5] = [
+    Step::Asks(0, AccessShare, Waiting, Granted),
+    Step::Asks(2, RowExclusive, Waiting, Granted),
+    Step::Asks(1, AccessExclusive, Waiting, Queued),
+    Step::Asks(0, Share, Waiting, Queued),
+    Step::Releases(2, RowExclusive, &[(0, Share)]),
+];
+
+const TWO_THAT_WAIT_FOR_ONE_ANOTHER_ARE_TOLD: [Step; 5] = [
+    Step::Asks(0, Share, Waiting, Granted),
+    Step::Asks(1, Share, Waiting, Granted),
+    Step::Asks(0, Exclusive, Waiting, Queued),
+    Step::Asks(1, Exclusive, Waiting, Deadlock(0)),
+    Step::Releases(1, Share, &[(0, Exclusive)]),
+];
+
+const A_WAITER_THAT_LEAVES_LETS_OTHERS_GO: [Step; 5] = [
+    Step::Asks(0, AccessShare, Waiting, Granted),
+    Step::Asks(1, AccessExclusive, Waiting, Queued),
+    Step::Asks(2, AccessShare, Waiting, Queued),
+    Step::Leaves(1, false, &[(2, AccessShare)]),
+    Step::Leaves(2, true, &[]),
+];
+
+/// What a request of the session is answered, at the second attempt where memory was wanting: all is as before then.
 fn asked(
     rt: &impl Abort,
     part: &mut PlainPart,
-    number: u8,
+    session: SessionId,
     mode: Mode,
     kind: Kind,
 ) -> Result<Decision, Refusal>
     requires { part.old.begun ≡ None }
     ensures { part.new.begun ≡ None }
 {
-    let session = session(rt, number);
-    let tag = object();
-    if part.held(session, &tag).has(mode) {
-        panic!(rt; "session {number} holds it already");
-    }
-    if part.leave(session, &tag).is_some() {
-        panic!(rt; "session {number} waits already");
-    }
-    decide(part, session, &tag, mode, kind)
-}
-
-/// The refusal that names this session's wait.
-fn awaited_by(rt: &impl Abort, number: u8, mode: Mode) -> Refusal {
-    Refusal::Conflict {
-        session: session(rt, number),
-        mode,
-        how: How::Awaited,
+    may_ask(rt, part, session, &OBJECT, mode);
+    match decide(part, session, &OBJECT, mode, kind) {
+        Err(Refusal::NoMemory) => decide(part, session, &OBJECT, mode, kind),
+        answer => answer,
     }
 }
 
-/// Asks for requests that may wait, one after another, each of a session, and checks that they are
-/// granted or queued.
-fn expect_asked(rt: &impl Abort, part: &mut PlainPart, requests: &[(u8, Mode, Decision)])
+/// What an answer of the lists is.
+fn answer_told(rt: &impl Abort, told: Told) -> Result<Decision, Refusal> {
+    match told {
+        Granted => Ok(Decision::Granted),
+        Queued => Ok(Decision::Queued),
+        Held(number, mode) => Err(Refusal::Conflict {
+            session: session(rt, number),
+            mode,
+            how: How::Held,
+        }),
+        Ahead(number, mode) => Err(Refusal::Conflict {
+            session: session(rt, number),
+            mode,
+            how: How::Awaited,
+        }),
+        Deadlock(number) => Err(Refusal::SimpleDeadlock {
+            session: session(rt, number),
+        }),
+    }
+}
+
+/// Makes the step, and looks at what it leads to.
+fn make(rt: &impl Abort, part: &mut PlainPart, step: Step)
     requires { part.old.begun ≡ None }
     ensures { part.new.begun ≡ None }
 {
-    for (number, mode, decision) in requests {
-        let answer = asked(rt, part, *number, *mode, Kind::Waiting);
-        assert!(rt; answer == Ok(*decision), "session {number}");
+    match step {
+        Step::Asks(number, mode, kind, expected) => {
+            let answer = asked(rt, part, session(rt, number), mode, kind);
+            assert_eq!(rt; answer, answer_told(rt, expected), "session {number}");
+        }
+        Step::Releases(number, mode, expected) => {
+            let session = session(rt, number);
+            may_release(rt, part, session, &OBJECT, mode);
+            match release(part, session, &OBJECT, mode) {
+                None => assert!(rt; expected.is_empty()),
+                Some(woken) => expect_woken(rt, &woken, expected),
+            }
+        }
+        Step::Leaves(number, was_granted, expected) => {
+            let removed = remove_waiter(part, session(rt, number), &OBJECT);
+            assert_eq!(rt; removed.was_granted, was_granted);
+            expect_woken(rt, &removed.woken, expected);
+        }
+        Step::Awaited(mode, awaited) => {
+            assert_eq!(rt; awaited_in_conflict(part, &OBJECT, mode), awaited);
+        }
     }
 }
 
-/// Checks whom a wakeup granted, in order.
-fn expect_woken(rt: &impl Abort, woken: &Woken, expected: &[(u8, Mode)]) {
-    assert_eq!(rt; woken.len(), expected.len(), "how many are woken");
-    for ((session, mode), (number, its)) in woken.as_slice().iter().zip(expected) {
-        assert_eq!(rt; session.number(), *number);
-        assert!(rt; *mode == *its, "the mode of session {number}");
-    }
-}
-
-/// Releases a hold of the session, and checks whom that wakes.
-fn expect_released(
-    rt: &impl Abort,
-    part: &mut PlainPart,
-    number: u8,
-    mode: Mode,
-    expected: &[(u8, Mode)],
-)
-    ensures { part.new.begun ≡ part.old.begun }
+/// All steps, in order.
+fn play(rt: &impl Abort, part: &mut PlainPart, steps: &[Step])
+    requires { part.old.begun ≡ None }
+    ensures { part.new.begun ≡ None }
 {
-    let session = session(rt, number);
-    let tag = object();
-    if !part.held(session, &tag).has(mode) {
-        panic!(rt; "session {number} doesn't hold it");
-    }
-    match release(part, session, &tag, mode) {
-        None => assert!(rt; expected.is_empty()),
-        Some(woken) => expect_woken(rt, &woken, expected),
+    'steps: for step in steps {
+        make(rt, part, *step);
     }
 }
 
 #[test]
-fn a_waiter_goes_behind_those_left_before_it(rt: HostRuntime) -> Result<(), Fail> {
-    let mut part = PlainPart::new(rt.alloc())?;
-    expect_asked(
-        &rt,
-        &mut part,
-        &[
-            (0, Mode::AccessExclusive, Decision::Granted),
-            (1, Mode::Share, Decision::Queued),
-            (2, Mode::RowExclusive, Decision::Queued),
-            (3, Mode::RowShare, Decision::Queued),
-            (4, Mode::Share, Decision::Queued),
-        ],
-    );
-    assert!(rt; awaited_in_conflict(&part, &object(), Mode::RowExclusive));
-    assert!(rt; !awaited_in_conflict(&part, &object(), Mode::AccessShare));
-    let first = [(1, Mode::Share), (3, Mode::RowShare)];
-    expect_released(&rt, &mut part, 0, Mode::AccessExclusive, &first);
-    expect_released(&rt, &mut part, 1, Mode::Share, &[(2, Mode::RowExclusive)]);
-    expect_released(&rt, &mut part, 3, Mode::RowShare, &[]);
-    expect_released(&rt, &mut part, 2, Mode::RowExclusive, &[(4, Mode::Share)]);
-    Ok(())
-}
-
-#[test]
-fn a_conditional_request_is_refused_by_a_hold(rt: HostRuntime) -> Result<(), Fail> {
-    let mut part = PlainPart::new(rt.alloc())?;
-    let holds = [
-        (2, Mode::Share, Decision::Granted),
-        (1, Mode::AccessShare, Decision::Granted),
-    ];
-    expect_asked(&rt, &mut part, &holds);
-    let held = Refusal::Conflict {
-        session: session(&rt, 2),
-        mode: Mode::Share,
-        how: How::Held,
-    };
-    let refused = asked(&rt, &mut part, 0, Mode::RowExclusive, Kind::Conditional);
-    assert!(rt; refused == Err(held));
-    let beside = asked(&rt, &mut part, 0, Mode::RowShare, Kind::Conditional);
-    assert!(rt; beside == Ok(Decision::Granted));
-    expect_released(&rt, &mut part, 2, Mode::Share, &[]);
-    let free = asked(&rt, &mut part, 3, Mode::RowExclusive, Kind::Conditional);
-    assert!(rt; free == Ok(Decision::Granted));
-    Ok(())
-}
-
-#[test]
-fn a_conditional_request_does_not_pass_a_waiter(rt: HostRuntime) -> Result<(), Fail> {
-    let mut part = PlainPart::new(rt.alloc())?;
-    expect_asked(
-        &rt,
-        &mut part,
-        &[
-            (0, Mode::AccessShare, Decision::Granted),
-            (1, Mode::AccessExclusive, Decision::Queued),
-        ],
-    );
-    let another = asked(&rt, &mut part, 2, Mode::AccessShare, Kind::Conditional);
-    assert!(rt; another == Err(awaited_by(&rt, 1, Mode::AccessExclusive)));
-    // The place of a holder's request would let it go at once, and only one that may wait has a place.
-    let conditional = asked(&rt, &mut part, 0, Mode::RowExclusive, Kind::Conditional);
-    assert!(rt; conditional == Err(awaited_by(&rt, 1, Mode::AccessExclusive)));
-    let waiting = asked(&rt, &mut part, 0, Mode::RowExclusive, Kind::Waiting);
-    assert!(rt; waiting == Ok(Decision::Granted));
-    Ok(())
-}
-
-#[test]
-fn a_conditional_request_is_refused_with_the_lowest_holder(rt: HostRuntime) -> Result<(), Fail> {
-    let mut part = PlainPart::new(rt.alloc())?;
-    expect_asked(
-        &rt,
-        &mut part,
-        &[
-            (3, Mode::Share, Decision::Granted),
-            (1, Mode::Share, Decision::Granted),
-        ],
-    );
-    let refused = asked(&rt, &mut part, 2, Mode::RowExclusive, Kind::Conditional);
-    let held = Refusal::Conflict {
-        session: session(&rt, 1),
-        mode: Mode::Share,
-        how: How::Held,
-    };
-    assert!(rt; refused == Err(held));
-    let beside = asked(&rt, &mut part, 2, Mode::RowShare, Kind::Conditional);
-    assert!(rt; beside == Ok(Decision::Granted));
-    Ok(())
-}
-
-#[test]
-fn a_holder_stands_before_whom_it_keeps_waiting(rt: HostRuntime) -> Result<(), Fail> {
-    let mut part = PlainPart::new(rt.alloc())?;
-    expect_asked(
-        &rt,
-        &mut part,
-        &[
-            (0, Mode::AccessShare, Decision::Granted),
-            (2, Mode::RowExclusive, Decision::Granted),
-            (1, Mode::AccessExclusive, Decision::Queued),
-            (0, Mode::Share, Decision::Queued),
-        ],
-    );
-    expect_released(&rt, &mut part, 2, Mode::RowExclusive, &[(0, Mode::Share)]);
-    Ok(())
-}
-
-#[test]
-fn two_that_wait_for_one_another_are_told(rt: HostRuntime) -> Result<(), Fail> {
-    let mut part = PlainPart::new(rt.alloc())?;
-    expect_asked(
-        &rt,
-        &mut part,
-        &[
-            (0, Mode::Share, Decision::Granted),
-            (1, Mode::Share, Decision::Granted),
-            (0, Mode::Exclusive, Decision::Queued),
-        ],
-    );
-    let deadlock = Refusal::SimpleDeadlock {
-        session: session(&rt, 0),
-    };
-    let refused = asked(&rt, &mut part, 1, Mode::Exclusive, Kind::Waiting);
-    assert!(rt; refused == Err(deadlock));
-    expect_released(&rt, &mut part, 1, Mode::Share, &[(0, Mode::Exclusive)]);
-    Ok(())
-}
-
-#[test]
-fn a_waiter_that_leaves_lets_others_go(rt: HostRuntime) -> Result<(), Fail> {
-    let mut part = PlainPart::new(rt.alloc())?;
-    expect_asked(
-        &rt,
-        &mut part,
-        &[
-            (0, Mode::AccessShare, Decision::Granted),
-            (1, Mode::AccessExclusive, Decision::Queued),
-            (2, Mode::AccessShare, Decision::Queued),
-        ],
-    );
-    let first = remove_waiter(&mut part, session(&rt, 1), &object());
-    assert!(rt; !first.was_granted);
-    expect_woken(&rt, &first.woken, &[(2, Mode::AccessShare)]);
-    let granted = remove_waiter(&mut part, session(&rt, 2), &object());
-    assert!(rt; granted.was_granted);
-    expect_woken(&rt, &granted.woken, &[]);
+fn queues_go_as_the_lists_say(rt: HostRuntime) -> Result<(), Fail> {
+    for (name, steps) in [
+        (
+            "a waiter goes behind those left before it",
+            A_WAITER_GOES_BEHIND_THOSE_LEFT_BEFORE_IT.as_slice(),
+        ),
+        (
+            "a conditional request is refused by a hold",
+            A_CONDITIONAL_REQUEST_IS_REFUSED_BY_A_HOLD.as_slice(),
+        ),
+        (
+            "a conditional request does not pass a waiter",
+            A_CONDITIONAL_REQUEST_DOES_NOT_PASS_A_WAITER.as_slice(),
+        ),
+        (
+            "a conditional request is refused with the lowest holder",
+            A_CONDITIONAL_REQUEST_IS_REFUSED_WITH_THE_LOWEST_HOLDER.as_slice(),
+        ),
+        (
+            "a holder stands before whom it keeps waiting",
+            A_HOLDER_STANDS_BEFORE_WHOM_IT_KEEPS_WAITING.as_slice(),
+        ),
+        (
+            "two that wait for one another are told",
+            TWO_THAT_WAIT_FOR_ONE_ANOTHER_ARE_TOLD.as_slice(),
+        ),
+        (
+            "a waiter that leaves lets others go",
+            A_WAITER_THAT_LEAVES_LETS_OTHERS_GO.as_slice(),
+        ),
+    ] {
+        println!(rt; "{name}")?;
+        let mut part = new_part(rt.alloc())?;
+        play(&rt, &mut part, steps);
+    }
     Ok(())
 }

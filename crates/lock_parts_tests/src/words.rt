@@ -1,187 +1,210 @@
-ghost use Rattle.std.specs.Prelude.{◌≡◌, IfOk};
+//! Lightweight words, wait lists and slot words. The numbers are worked by hand from the bits, and are not this code's
+//! answers.
+
+ghost use Rattle.std.specs.Prelude.{◌≡◌};
 ghost use Rattle.lw_word.specs.LockState.{word_of};
 
+use crate::fixtures::session;
+use lw_word::LwMode::{Exclusive, Shared};
 use lw_word::{LwMode, LwWaiter, LwWord, SlotWord, WaitList};
-use modes_core::{Mode, SessionId};
+use modes_core::Mode;
 use std::process::Abort;
-use std::test::Fail;
 
-// The numbers in these tests are worked by hand from the bits, not this code's answers.
-
-fn word(number: u64) -> Result<LwWord, Fail>
-    ensures { IfOk result (λ word. word_of word ≡ number) }
+/// The word with this number.
+fn word(rt: &impl Abort, number: u64) -> LwWord
+    ensures { word_of result ≡ number }
 {
-    Ok(LwWord::from_number(number).ok_or("no lightweight word")?)
+    LwWord::from_number(number).expect(rt, "a lightweight word")
 }
 
-#[test]
-fn a_free_word_is_taken_and_a_taken_one_is_not(rt: HostRuntime) -> Result<(), Fail> {
-    let free = word(0)?;
-    let taken = free.attempt(LwMode::Exclusive).ok_or("free")?;
-    assert_eq!(rt; taken.number(), 0x0100_0000);
-    assert!(rt; taken.is_exclusive());
-    assert!(rt; !taken.is_free_for(LwMode::Shared));
-    assert_eq!(rt; taken.attempt(LwMode::Exclusive), None);
-    assert!(rt; taken.shared() < 0xFF_FFFF);
-    assert_eq!(rt; taken.attempt(LwMode::Shared), None);
-    Ok(())
-}
+/// A number; what its word says: how many share it, whether it is held exclusively, whether its list is locked, and the
+/// flags release-ok and has-waiters; and whether whoever made it by a release must wake.
+type Bits = (u64, u64, bool, [bool; 3], bool);
+
+const BITS: [Bits; 14] = [
+    (0, 0, false, [false, false, false], false),
+    (2, 2, false, [false, false, false], false),
+    (3, 3, false, [false, false, false], false),
+    (0x0100_0000, 0, true, [false, false, false], false),
+    (0x1000_0000, 0, false, [true, false, false], false),
+    (0x2000_0000, 0, false, [false, true, false], false),
+    (0x4000_0000, 0, false, [false, false, true], false),
+    (0x4100_0000, 0, true, [false, false, true], false),
+    (0x6000_0000, 0, false, [false, true, true], true),
+    (0x6000_0001, 1, false, [false, true, true], false),
+    (0x60FF_FFFE, 0xFF_FFFE, false, [false, true, true], false),
+    (0x6100_0000, 0, true, [false, true, true], false),
+    (0x7000_0000, 0, false, [true, true, true], true),
+    (0x71FF_FFFF, 0xFF_FFFF, true, [true, true, true], false),
+];
 
 #[test]
-fn a_shared_word_is_shared_by_one_more_and_not_taken(rt: HostRuntime) -> Result<(), Fail> {
-    let twice = word(2)?;
-    assert_eq!(rt; twice.attempt(LwMode::Exclusive), None);
-    assert_eq!(rt; twice.shared(), 2);
-    let thrice = twice.attempt(LwMode::Shared).ok_or("shared")?;
-    assert_eq!(rt; thrice.number(), 3);
-    assert_eq!(rt; thrice.shared(), 3);
-    assert_eq!(rt; thrice.release(LwMode::Shared).number(), 2);
-    let all_but_one = word(0x60FF_FFFE)?;
-    assert_eq!(rt; all_but_one.shared(), 0xFF_FFFE);
-    let all = all_but_one.attempt(LwMode::Shared).ok_or("room for one")?;
-    assert_eq!(rt; all.number(), 0x60FF_FFFF);
-    Ok(())
-}
-
-#[test]
-fn a_release_must_wake_where_nobody_holds_and_both_flags_are_set(
-    rt: HostRuntime,
-) -> Result<(), Fail> {
-    let waited_for = word(0x6100_0000)?;
-    assert!(rt; waited_for.is_exclusive());
-    let released = waited_for.release(LwMode::Exclusive);
-    assert_eq!(rt; released.number(), 0x6000_0000);
-    assert!(rt; released.must_wake());
-    let woken_already = word(0x4100_0000)?;
-    assert!(rt; woken_already.is_exclusive());
-    let released = woken_already.release(LwMode::Exclusive);
-    assert_eq!(rt; released.number(), 0x4000_0000);
-    assert!(rt; !released.must_wake());
-    let table = [
-        (0x7000_0000, true),
-        (0x2000_0000, false),
-        (0x6000_0001, false),
-        (0x6100_0000, false),
-        (0, false),
-    ];
-    for (number, wakes) in table {
-        assert_eq!(rt; word(number)?.must_wake(), wakes, "at {number}");
-    }
-    Ok(())
-}
-
-#[test]
-fn words_have_their_bits_and_no_others(rt: HostRuntime) -> Result<(), Fail> {
+fn words_have_their_bits_and_no_others(rt: HostRuntime) {
     assert_eq!(rt; LwWord::opening().number(), 0x2000_0000);
-    let full = word(0x71FF_FFFF)?;
-    assert_eq!(rt; full.number(), 0x71FF_FFFF);
-    assert_eq!(rt; full.shared(), 0xFF_FFFF);
-    assert!(rt;
-        full.is_exclusive() && full.is_list_locked() && full.is_release_ok() && full.has_waiters()
-    );
+    for (number, shared, exclusive, flags, wakes) in BITS {
+        let word = word(&rt, number);
+        assert_eq!(rt; word.number(), number);
+        assert_eq!(rt; word.shared(), shared, "at {number}");
+        assert_eq!(rt; word.is_exclusive(), exclusive, "at {number}");
+        let its = [
+            word.is_list_locked(),
+            word.is_release_ok(),
+            word.has_waiters(),
+        ];
+        assert_eq!(rt; its, flags, "at {number}");
+        assert_eq!(rt; word.must_wake(), wakes, "at {number}");
+    }
     for number in [1 << 25, 1 << 26, 1 << 27, 1 << 31, 1 << 63, u64::MAX] {
         assert_eq!(rt; LwWord::from_number(number), None, "at {number}");
     }
-    let table = [
-        (0x1000_0000, (true, false, false)),
-        (0x2000_0000, (false, true, false)),
-        (0x4000_0000, (false, false, true)),
-    ];
-    for (number, (locked, release_ok, waiters)) in table {
-        let one = word(number)?;
-        assert_eq!(rt; one.is_list_locked(), locked, "at {number}");
-        assert_eq!(rt; one.is_release_ok(), release_ok, "at {number}");
-        assert_eq!(rt; one.has_waiters(), waiters, "at {number}");
+}
+
+/// A word, how it is attempted, and the word that comes of it, if it is free.
+const ATTEMPTS: [(u64, LwMode, Option<u64>); 6] = [
+    (0, Exclusive, Some(0x0100_0000)),
+    (0x0100_0000, Exclusive, None),
+    (0x0100_0000, Shared, None),
+    (2, Exclusive, None),
+    (2, Shared, Some(3)),
+    (0x60FF_FFFE, Shared, Some(0x60FF_FFFF)),
+];
+
+/// A word, how it is given up, and the word that comes of it.
+const RELEASES: [(u64, LwMode, u64); 3] = [
+    (3, Shared, 2),
+    (0x6100_0000, Exclusive, 0x6000_0000),
+    (0x4100_0000, Exclusive, 0x4000_0000),
+];
+
+/// The word that comes of an attempt.
+fn attempted(rt: &impl Abort, word: LwWord, mode: LwMode) -> Option<u64> {
+    assert!(rt; word.shared() < 0xFF_FFFF);
+    Some(word.attempt(mode)?.number())
+}
+
+/// The word that comes of a release.
+fn released(rt: &impl Abort, word: LwWord, mode: LwMode) -> u64 {
+    match mode {
+        Exclusive => {
+            assert!(rt; word.is_exclusive());
+            word.release(Exclusive).number()
+        }
+        Shared => {
+            assert!(rt; word.shared() > 0);
+            word.release(Shared).number()
+        }
     }
-    Ok(())
 }
 
 #[test]
-fn a_wait_list_is_locked_once_and_unlocked_with_its_flags(rt: HostRuntime) -> Result<(), Fail> {
-    let held = word(0x2100_0000)?;
-    let locked = held.lock_list().ok_or("not locked")?;
+fn a_free_word_is_taken_and_a_held_one_given_up(rt: HostRuntime) {
+    for (number, mode, after) in ATTEMPTS {
+        let word = word(&rt, number);
+        assert_eq!(rt; attempted(&rt, word, mode), after, "at {number}");
+        assert_eq!(rt; word.is_free_for(mode), after.is_some(), "at {number}");
+    }
+    for (number, mode, after) in RELEASES {
+        assert_eq!(rt;
+            released(&rt, word(&rt, number), mode),
+            after,
+            "at {number}"
+        );
+    }
+    assert_eq!(rt; Exclusive.amount(), 0x0100_0000);
+    assert_eq!(rt; Shared.amount(), 1);
+}
+
+/// The flags has-waiters and release-ok as a list is unlocked, what is set for them, what is kept, and the word that comes
+/// of 0x3100_0000.
+const UNLOCKS: [(bool, bool, u64, u64, u64); 4] = [
+    (true, true, 0x6000_0000, 0xFFFF_FFFF_EFFF_FFFF, 0x6100_0000),
+    (true, false, 0x4000_0000, 0xFFFF_FFFF_CFFF_FFFF, 0x4100_0000),
+    (false, true, 0x2000_0000, 0xFFFF_FFFF_AFFF_FFFF, 0x2100_0000),
+    (false, false, 0, 0xFFFF_FFFF_8FFF_FFFF, 0x0100_0000),
+];
+
+#[test]
+fn a_wait_list_is_locked_once_and_unlocked_with_its_flags(rt: HostRuntime) {
+    let locked = word(&rt, 0x2100_0000).lock_list().expect(&rt, "locked");
     assert_eq!(rt; locked.number(), 0x3100_0000);
     assert_eq!(rt; locked.lock_list(), None);
     assert_eq!(rt; locked.set_has_waiters().number(), 0x7100_0000);
-    assert_eq!(rt; locked.unlock_list(true, true).number(), 0x6100_0000);
-    assert_eq!(rt; locked.unlock_list(true, false).number(), 0x4100_0000);
-    assert_eq!(rt; locked.unlock_list(false, true).number(), 0x2100_0000);
-    assert_eq!(rt; locked.unlock_list(false, false).number(), 0x0100_0000);
-    assert_eq!(rt; LwWord::kept_bits(true, true), 0xFFFF_FFFF_EFFF_FFFF);
-    assert_eq!(rt; LwWord::kept_bits(true, false), 0xFFFF_FFFF_CFFF_FFFF);
-    assert_eq!(rt; LwWord::kept_bits(false, true), 0xFFFF_FFFF_AFFF_FFFF);
-    assert_eq!(rt; LwWord::flag_bits(true, false), 0x4000_0000);
-    assert_eq!(rt; word(5)?.set_release_ok().number(), 0x2000_0005);
-    assert_eq!(rt; word(0x6000_0000)?.set_release_ok().number(), 0x6000_0000);
-    assert_eq!(rt; LwMode::Exclusive.amount(), 0x0100_0000);
-    assert_eq!(rt; LwMode::Shared.amount(), 1);
-    Ok(())
+    for (waiters, release_ok, set, kept, after) in UNLOCKS {
+        assert_eq!(rt; LwWord::flag_bits(waiters, release_ok), set);
+        assert_eq!(rt; LwWord::kept_bits(waiters, release_ok), kept);
+        assert_eq!(rt; locked.unlock_list(waiters, release_ok).number(), after);
+    }
+    for (number, after) in [(5, 0x2000_0005), (0x6000_0000, 0x6000_0000)] {
+        assert_eq!(rt; word(&rt, number).set_release_ok().number(), after);
+    }
 }
 
-fn waiter(number: u8, mode: LwMode) -> Result<LwWaiter, Fail> {
-    let session = SessionId::new(number).ok_or("no session")?;
-    Ok(LwWaiter { session, mode })
+/// Sessions by their numbers, and how they wait.
+type Waiters = &'static [(u8, LwMode)];
+
+/// Who stands in a wait list, whom a wakeup takes off, whom it leaves, and whether release-ok is to be set.
+const WAKEUPS: [(Waiters, Waiters, Waiters, bool); 3] = [
+    // Sharers are taken off together.
+    (
+        &[(1, Shared), (2, Exclusive), (3, Shared)],
+        &[(1, Shared), (3, Shared)],
+        &[(2, Exclusive)],
+        false,
+    ),
+    // An exclusive first is taken off alone.
+    (
+        &[(2, Exclusive), (3, Shared)],
+        &[(2, Exclusive)],
+        &[(3, Shared)],
+        false,
+    ),
+    // Nobody is taken off an empty list.
+    (&[], &[], &[], true),
+];
+
+/// The session joins the list, in which it doesn't stand.
+fn join(rt: &impl Abort, list: &mut WaitList, number: u8, mode: LwMode) {
+    let session = session(rt, number);
+    assert!(rt; !list.has(session));
+    list.join(session, mode);
 }
 
-fn join(rt: &impl Abort, list: &mut WaitList, one: LwWaiter) {
-    assert!(rt; !list.has(one.session));
-    list.join(one.session, one.mode);
-}
-
-#[test]
-fn sharers_are_taken_off_together(rt: HostRuntime) -> Result<(), Fail> {
-    let (first, second, third) = (
-        waiter(1, LwMode::Shared)?,
-        waiter(2, LwMode::Exclusive)?,
-        waiter(3, LwMode::Shared)?,
-    );
-    let mut list = WaitList::new();
-    join(&rt, &mut list, first);
-    join(&rt, &mut list, second);
-    join(&rt, &mut list, third);
-    let wakeup = list.wake_split();
-    assert_eq!(rt; wakeup.taken.as_slice(), [first, third].as_slice());
-    assert_eq!(rt; list.waiters(), [second].as_slice());
-    assert!(rt; !wakeup.release_ok);
-    Ok(())
-}
-
-#[test]
-fn an_exclusive_first_is_taken_off_alone(rt: HostRuntime) -> Result<(), Fail> {
-    let (second, third) = (waiter(2, LwMode::Exclusive)?, waiter(3, LwMode::Shared)?);
-    let mut list = WaitList::new();
-    join(&rt, &mut list, second);
-    join(&rt, &mut list, third);
-    let wakeup = list.wake_split();
-    assert_eq!(rt; wakeup.taken.as_slice(), [second].as_slice());
-    assert_eq!(rt; list.waiters(), [third].as_slice());
-    assert!(rt; !wakeup.release_ok);
-    Ok(())
+/// Looks at who waits, and how.
+fn expect_waiters(rt: &impl Abort, waiters: &[LwWaiter], expected: &[(u8, LwMode)]) {
+    assert_eq!(rt; waiters.len(), expected.len());
+    for (waiter, (number, mode)) in waiters.iter().zip(expected) {
+        assert_eq!(rt; (waiter.session.number(), waiter.mode), (*number, *mode));
+    }
 }
 
 #[test]
-fn nobody_is_taken_off_an_empty_list(rt: HostRuntime) {
-    let mut list = WaitList::new();
-    assert!(rt; list.is_empty());
-    let wakeup = list.wake_split();
-    assert!(rt; wakeup.taken.is_empty());
-    assert!(rt; wakeup.release_ok);
-    assert!(rt; list.is_empty());
+fn a_wakeup_takes_sharers_off_together_and_an_exclusive_first_alone(rt: HostRuntime) {
+    for (waiters, taken, left, release_ok) in WAKEUPS {
+        let mut list = WaitList::new();
+        for (number, mode) in waiters {
+            join(&rt, &mut list, *number, *mode);
+        }
+        assert_eq!(rt; list.is_empty(), waiters.is_empty());
+        let wakeup = list.wake_split();
+        expect_waiters(&rt, wakeup.taken.as_slice(), taken);
+        expect_waiters(&rt, list.waiters(), left);
+        assert_eq!(rt; list.is_empty(), left.is_empty());
+        assert_eq!(rt; wakeup.release_ok, release_ok);
+    }
 }
 
 #[test]
-fn sixty_four_sessions_wait_and_one_leaves(rt: HostRuntime) -> Result<(), Fail> {
+fn sixty_four_sessions_wait_and_one_leaves(rt: HostRuntime) {
     let mut list = WaitList::new();
     for number in 0..64 {
-        join(&rt, &mut list, waiter(number, LwMode::Exclusive)?);
+        join(&rt, &mut list, number, Exclusive);
     }
     assert_eq!(rt; list.waiters().len(), 64);
-    let left = waiter(17, LwMode::Exclusive)?.session;
+    let left = session(&rt, 17);
     assert!(rt; list.leave(left));
     assert!(rt; !list.has(left));
     assert!(rt; !list.leave(left));
     assert_eq!(rt; list.waiters().len(), 63);
-    Ok(())
 }
 
 #[test]
