@@ -1,8 +1,7 @@
-//! What tests of partitions begin with.
+//! What tests of partitions share: objects, sessions, a part to begin with, and what has to be so before a call.
 
 ghost use Rattle.std.specs.Prelude.{◌≡◌, true, false, None, IfOk};
-ghost use Rattle.lock_table.specs.PartView.{content_of};
-ghost use Rattle.lock_table.specs.Queue.{waits_there};
+ghost use Rattle.lock_table.specs.Queue.{awaits_mode, waits_there};
 
 use lock_table::{NoMemory, PartTable, PlainPart, Woken};
 use modes_core::{Mode, SessionId, Tag};
@@ -36,32 +35,52 @@ pub fn new_part(alloc: Global) -> Result<PlainPart, NoMemory>
 }
 
 /// Stops where the session holds the object in this mode already, or waits for it.
-pub fn may_ask(rt: &impl Abort, part: &PlainPart, session: SessionId, tag: &Tag, mode: Mode)
-    ensures new { (content_of part.now).holds session tag.now mode ≡ false }
-    ensures no_wait { waits_there ((content_of part.now).waits tag.now) session ≡ false }
+pub fn may_ask<P: PartTable>(
+    rt: &impl Abort,
+    part: &mut P,
+    session: SessionId,
+    tag: &Tag,
+    mode: Mode,
+)
+    ensures new { (P.content part.new).holds session tag.now mode ≡ false }
+    ensures no_wait { waits_there ((P.content part.new).waits tag.now) session ≡ false }
+    ensures not_awaited { awaits_mode ((P.content part.new).waits tag.now) session mode ≡ false }
+    ensures begun { P.begun part.new ≡ P.begun part.old }
 {
-    assert!(rt;
-        !part.held(session, tag).has(mode),
-        "session {session} has it"
-    );
-    assert!(rt; !part.has_wait_of(session, tag), "session {session} waits");
+    if part.held(session, tag).has(mode) {
+        panic!(rt; "session {session} holds it already");
+    }
+    if part.leave(session, tag).is_some() {
+        panic!(rt; "session {session} waits already");
+    }
 }
 
 /// Stops where the session doesn't hold the object in this mode.
-pub fn may_release(rt: &impl Abort, part: &PlainPart, session: SessionId, tag: &Tag, mode: Mode)
-    ensures { (content_of part.now).holds session tag.now mode ≡ true }
+pub fn may_release<P: PartTable>(
+    rt: &impl Abort,
+    part: &P,
+    session: SessionId,
+    tag: &Tag,
+    mode: Mode,
+)
+    ensures { (P.content part.now).holds session tag.now mode ≡ true }
 {
-    assert!(rt;
-        part.held(session, tag).has(mode),
-        "session {session} doesn't have it"
-    );
+    if !part.held(session, tag).has(mode) {
+        panic!(rt; "session {session} doesn't hold it");
+    }
 }
 
-/// Looks at whom a wakeup granted, and in which order.
-pub fn expect_woken(rt: &impl Abort, woken: &Woken, expected: &[(u8, Mode)]) {
-    assert_eq!(rt; woken.len(), expected.len(), "how many are woken");
-    for ((session, mode), (number, its)) in woken.as_slice().iter().zip(expected) {
-        assert_eq!(rt; session.number(), *number);
-        assert!(rt; *mode == *its, "the mode of session {number}");
+/// Whether a wakeup granted these, in this order.
+pub fn are_woken(woken: &Woken, expected: &[(u8, Mode)]) -> bool {
+    if woken.len() != expected.len() {
+        return false;
     }
+    for place in 0..expected.len() {
+        let (session, mode) = woken[place];
+        let (number, its) = expected[place];
+        if session.number() != number || mode != its {
+            return false;
+        }
+    }
+    true
 }

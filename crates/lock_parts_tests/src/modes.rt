@@ -2,6 +2,7 @@
 
 use crate::fixtures::{ANOTHER_OBJECT, OBJECT};
 use modes_core::{How, Mode, ModeSet, Refusal, SessionId, Tag, conflicts, is_eligible, is_strong};
+use std::alloc::{AllocError, Global};
 use std::test::Fail;
 
 /// Numbers, names and conflicts of the modes, as in PostgreSQL's lockdefs.h and lock.c.
@@ -16,66 +17,144 @@ const MODES: [(u8, &str, u16); 8] = [
     (8, "AccessExclusiveLock", 0x1FE),
 ];
 
+/// The number, name and conflicts of the mode with this number.
+fn described(number: u8) -> Option<(u8, &'static str, u16)> {
+    let mode = Mode::from_number(number)?;
+    Some((mode.number(), mode.name(), conflicts(mode).mask()))
+}
+
 #[test]
-fn modes_have_their_numbers_names_and_conflicts(rt: HostRuntime) -> Result<(), Fail> {
-    for (number, name, mask) in MODES {
-        let mode = Mode::from_number(number).ok_or("no such number")?;
-        assert_eq!(rt; mode.number(), number);
-        assert_eq!(rt; mode.name(), name);
-        assert_eq!(rt; Mode::from_name(name), Some(mode));
-        assert_eq!(rt; conflicts(mode).mask(), mask, "the conflicts of {name}");
-        assert!(rt; mode.to_string(rt.alloc())?.as_str() == name);
+fn modes_have_their_numbers_names_and_conflicts(rt: HostRuntime) {
+    for row in MODES {
+        assert!(rt; described(row.0) == Some(row), "{}", row.1);
     }
-    assert_eq!(rt; Mode::from_number(0), None);
-    assert_eq!(rt; Mode::from_number(9), None);
-    assert_eq!(rt; Mode::from_name("ShareLocks"), None);
+    for number in [0, 9] {
+        assert!(rt; Mode::from_number(number).is_none(), "{number}");
+    }
+}
+
+/// The number of the mode with this name, and whether the mode prints so.
+fn named(alloc: Global, name: &str) -> Result<Option<(u8, bool)>, AllocError> {
+    let Some(mode) = Mode::from_name(name) else {
+        return Ok(None);
+    };
+    let printed = mode.to_string(alloc)?;
+    Ok(Some((mode.number(), printed.as_str() == name)))
+}
+
+#[test]
+fn modes_are_found_by_their_names_and_print_so(rt: HostRuntime) -> Result<(), Fail> {
+    for (number, name, _) in MODES {
+        let mode = named(rt.alloc(), name)?;
+        assert!(rt; mode == Some((number, true)), "{name}");
+    }
+    assert!(rt; Mode::from_name("ShareLocks").is_none());
     Ok(())
+}
+
+/// A set from which one of the modes put in was taken out again.
+fn access_share_alone() -> ModeSet {
+    ModeSet::empty()
+        .with(Mode::Share)
+        .with(Mode::AccessShare)
+        .without(Mode::Share)
 }
 
 #[test]
 fn sets_have_what_was_put_in(rt: HostRuntime) {
-    let set = ModeSet::empty()
-        .with(Mode::Share)
-        .with(Mode::AccessShare)
-        .without(Mode::Share);
-    assert!(rt; set.has(Mode::AccessShare));
-    assert!(rt; !set.has(Mode::Share));
+    let set = access_share_alone();
+    assert!(rt; set.has(Mode::AccessShare) && !set.has(Mode::Share));
     assert!(rt; set.meets(conflicts(Mode::AccessExclusive)));
     assert!(rt; !set.meets(conflicts(Mode::Exclusive)));
 }
 
-// The hashes are worked examples of the rule, not this code's answers.
+/// Tags, their hashes, partitions and strong lock counters, and their texts. The hashes are worked examples of the rule,
+/// not this code's answers.
+const TAGS: [(Tag, u32, u8, u16, &str); 5] = [
+    (OBJECT, 2389211932, 12, 796, "5/16384"),
+    (
+        Tag::Relation {
+            database: 5,
+            relation: 17408,
+        },
+        3334897436,
+        12,
+        796,
+        "5/17408",
+    ),
+    (SHARED_RELATION, 1165483503, 15, 495, "0/1262"),
+    (
+        Tag::Relation {
+            database: 4294967295,
+            relation: 4294967295,
+        },
+        4265414625,
+        1,
+        993,
+        "4294967295/4294967295",
+    ),
+    (ANOTHER_OBJECT, 1793954687, 15, 895, "5/1259/16384/0"),
+];
+
+/// A relation of no one database.
+const SHARED_RELATION: Tag = Tag::Relation {
+    database: 0,
+    relation: 1262,
+};
+
+/// The hash of a tag, its partition, and its strong lock counter.
+fn indexes(tag: Tag) -> (u32, u8, u16) {
+    (tag.hash(), tag.partition(), tag.strong_index())
+}
+
+/// Whether the tag prints so.
+fn prints(alloc: Global, tag: Tag, text: &str) -> Result<bool, AllocError> {
+    let printed = tag.to_string(alloc)?;
+    Ok(printed.as_str() == text)
+}
+
 #[test]
 fn tags_have_their_hashes_and_texts(rt: HostRuntime) -> Result<(), Fail> {
-    let table = [
-        (OBJECT, 2389211932, 12, 796, "5/16384"),
-        (Tag::relation(5, 17408), 3334897436, 12, 796, "5/17408"),
-        (Tag::relation(0, 1262), 1165483503, 15, 495, "0/1262"),
-        (
-            Tag::relation(4294967295, 4294967295),
-            4265414625,
-            1,
-            993,
-            "4294967295/4294967295",
-        ),
-        (
-            Tag::object(5, 1259, 16384, 0),
-            1793954687,
-            15,
-            895,
-            "5/1259/16384/0",
-        ),
-    ];
-    for (tag, hash, partition, strong, text) in table {
-        assert_eq!(rt; tag.hash(), hash, "the hash of {text}");
-        assert_eq!(rt; tag.partition(), partition);
-        assert_eq!(rt; tag.strong_index(), strong);
-        assert!(rt; tag.to_string(rt.alloc())?.as_str() == text);
-        assert!(rt; tag.is_same(tag));
+    for (tag, hash, partition, strong, text) in TAGS {
+        assert!(rt; indexes(tag) == (hash, partition, strong), "{text}");
+        assert!(rt;
+            tag.is_same(tag) && prints(rt.alloc(), tag, text)?,
+            "{text}"
+        );
     }
-    assert!(rt; Tag::object(5, 1, 2, 3) < Tag::relation(5, 2));
-    assert!(rt; Tag::relation(5, 16384) < Tag::object(5, 16384, 0, 0));
     Ok(())
+}
+
+/// A tag, and one that is greater.
+const ORDERS: [(Tag, Tag); 2] = [
+    (
+        Tag::Object {
+            database: 5,
+            class: 1,
+            object: 2,
+            sub_object: 3,
+        },
+        Tag::Relation {
+            database: 5,
+            relation: 2,
+        },
+    ),
+    (
+        OBJECT,
+        Tag::Object {
+            database: 5,
+            class: 16384,
+            object: 0,
+            sub_object: 0,
+        },
+    ),
+];
+
+#[test]
+fn tags_are_ordered_by_their_numbers(rt: HostRuntime) {
+    for (lesser, greater) in ORDERS {
+        assert!(rt; lesser < greater && !lesser.is_same(greater));
+    }
 }
 
 /// A session's database, an object and a mode, and whether that may go by the fast path.
@@ -83,15 +162,7 @@ const ELIGIBLE: [(u32, Tag, Mode, bool); 5] = [
     (5, OBJECT, Mode::RowExclusive, true),
     (5, OBJECT, Mode::ShareUpdateExclusive, false),
     (6, OBJECT, Mode::AccessShare, false),
-    (
-        0,
-        Tag::Relation {
-            database: 0,
-            relation: 1262,
-        },
-        Mode::AccessShare,
-        false,
-    ),
+    (0, SHARED_RELATION, Mode::AccessShare, false),
     (5, ANOTHER_OBJECT, Mode::AccessShare, false),
 ];
 
@@ -105,28 +176,30 @@ const STRONG: [(Tag, Mode, bool); 3] = [
 #[test]
 fn the_fast_path_has_its_modes(rt: HostRuntime) {
     for (database, tag, mode, eligible) in ELIGIBLE {
-        assert_eq!(rt;
-            is_eligible(database, tag, mode),
-            eligible,
-            "{mode} on {tag}"
-        );
+        let is = is_eligible(database, tag, mode);
+        assert!(rt; is == eligible, "{} in {database}", mode.name());
     }
     for (tag, mode, strong) in STRONG {
-        assert_eq!(rt; is_strong(tag, mode), strong, "{mode} on {tag}");
+        assert!(rt; is_strong(tag, mode) == strong, "{}", mode.name());
     }
 }
 
 #[test]
-fn sessions_and_refusals_have_their_numbers_and_texts(rt: HostRuntime) -> Result<(), Fail> {
+fn sessions_have_numbers(rt: HostRuntime) -> Result<(), Fail> {
     let session = SessionId::new(63).ok_or("no session 63")?;
-    assert_eq!(rt; session.number(), 63);
-    assert_eq!(rt; SessionId::new(64), None);
+    assert!(rt; session.number() == 63);
+    assert!(rt; SessionId::new(64).is_none());
+    Ok(())
+}
+
+/// Each refusal, with the last session where it names one.
+fn refusals(session: SessionId) -> [(Refusal, u8, &'static str); 14] {
     let conflict = |how| Refusal::Conflict {
         session,
         mode: Mode::Share,
         how,
     };
-    for (refusal, number, text) in [
+    [
         (conflict(How::Held), 1, "conflict: session 63 has ShareLock"),
         (
             conflict(How::Awaited),
@@ -149,10 +222,21 @@ fn sessions_and_refusals_have_their_numbers_and_texts(rt: HostRuntime) -> Result
         (Refusal::NotEligible, 11, "not eligible for the fast path"),
         (Refusal::NoMoreSessions, 12, "no more sessions"),
         (Refusal::BadConfig, 13, "the configuration is out of range"),
-    ] {
-        assert_eq!(rt; refusal.number(), number);
-        let printed = refusal.to_string(rt.alloc())?;
-        assert!(rt; printed.as_str() == text, "the text of refusal {number}");
+    ]
+}
+
+/// The number of a refusal, and whether it prints so.
+fn printed(alloc: Global, refusal: Refusal, text: &str) -> Result<(u8, bool), AllocError> {
+    let printed = refusal.to_string(alloc)?;
+    Ok((refusal.number(), printed.as_str() == text))
+}
+
+#[test]
+fn refusals_have_their_numbers_and_texts(rt: HostRuntime) -> Result<(), Fail> {
+    let session = SessionId::new(63).ok_or("no session 63")?;
+    for (refusal, number, text) in refusals(session) {
+        let its = printed(rt.alloc(), refusal, text)?;
+        assert!(rt; its == (number, true), "{text}");
     }
     Ok(())
 }

@@ -3,10 +3,11 @@
 
 ghost use Rattle.std.specs.Prelude.{◌≡◌, None};
 
-use crate::fixtures::{OBJECT, expect_woken, may_ask, may_release, new_part, session};
-use lock_table::PlainPart;
+use crate::fixtures::{OBJECT, are_woken, may_ask, may_release, new_part, session};
+use lock_table::PartTable;
 use modes_core::Mode::{AccessExclusive, AccessShare, Exclusive, RowExclusive, RowShare, Share};
 use modes_core::{How, Mode, Refusal, SessionId};
+use std::alloc::Global;
 use std::process::Abort;
 use std::test::Fail;
 use wait_queue::Kind::{Conditional, Waiting};
@@ -104,25 +105,27 @@ const A_WAITER_THAT_LEAVES_LETS_OTHERS_GO: [Step; 5] = [
 ];
 
 /// What a request of the session is answered, at the second attempt where memory was wanting: all is as before then.
-fn asked(
+fn asked<P: PartTable>(
     rt: &impl Abort,
-    part: &mut PlainPart,
+    part: &mut P,
     session: SessionId,
     mode: Mode,
     kind: Kind,
 ) -> Result<Decision, Refusal>
-    requires { part.old.begun ≡ None }
-    ensures { part.new.begun ≡ None }
+    requires { P.begun part.old ≡ None }
+    ensures { P.begun part.new ≡ None }
 {
     may_ask(rt, part, session, &OBJECT, mode);
-    match decide(part, session, &OBJECT, mode, kind) {
-        Err(Refusal::NoMemory) => decide(part, session, &OBJECT, mode, kind),
-        answer => answer,
+    let answer = decide(part, session, &OBJECT, mode, kind);
+    if answer != Err(Refusal::NoMemory) {
+        return answer;
     }
+    may_ask(rt, part, session, &OBJECT, mode);
+    decide(part, session, &OBJECT, mode, kind)
 }
 
-/// What an answer of the lists is.
-fn answer_told(rt: &impl Abort, told: Told) -> Result<Decision, Refusal> {
+/// The answer that is meant.
+fn meant(rt: &impl Abort, told: Told) -> Result<Decision, Refusal> {
     match told {
         Granted => Ok(Decision::Granted),
         Queued => Ok(Decision::Queued),
@@ -142,80 +145,120 @@ fn answer_told(rt: &impl Abort, told: Told) -> Result<Decision, Refusal> {
     }
 }
 
-/// Makes the step, and looks at what it leads to.
-fn make(rt: &impl Abort, part: &mut PlainPart, step: Step)
-    requires { part.old.begun ≡ None }
-    ensures { part.new.begun ≡ None }
+/// Whether a release wakes these, in this order.
+fn wakes<P: PartTable>(
+    rt: &impl Abort,
+    part: &mut P,
+    session: SessionId,
+    mode: Mode,
+    expected: &[(u8, Mode)],
+) -> bool
+    ensures { P.begun part.new ≡ P.begun part.old }
+{
+    may_release(rt, part, session, &OBJECT, mode);
+    match release(part, session, &OBJECT, mode) {
+        None => expected.is_empty(),
+        Some(woken) => are_woken(&woken, expected),
+    }
+}
+
+/// Makes the step, and whether it leads to what it says.
+fn make<P: PartTable>(rt: &impl Abort, part: &mut P, step: Step) -> bool
+    requires { P.begun part.old ≡ None }
+    ensures { P.begun part.new ≡ None }
 {
     match step {
-        Step::Asks(number, mode, kind, expected) => {
-            let answer = asked(rt, part, session(rt, number), mode, kind);
-            assert_eq!(rt; answer, answer_told(rt, expected), "session {number}");
+        Step::Asks(number, mode, kind, told) => {
+            asked(rt, part, session(rt, number), mode, kind) == meant(rt, told)
         }
         Step::Releases(number, mode, expected) => {
-            let session = session(rt, number);
-            may_release(rt, part, session, &OBJECT, mode);
-            match release(part, session, &OBJECT, mode) {
-                None => assert!(rt; expected.is_empty()),
-                Some(woken) => expect_woken(rt, &woken, expected),
-            }
+            wakes(rt, part, session(rt, number), mode, expected)
         }
         Step::Leaves(number, was_granted, expected) => {
             let removed = remove_waiter(part, session(rt, number), &OBJECT);
-            assert_eq!(rt; removed.was_granted, was_granted);
-            expect_woken(rt, &removed.woken, expected);
+            removed.was_granted == was_granted && are_woken(&removed.woken, expected)
         }
-        Step::Awaited(mode, awaited) => {
-            assert_eq!(rt; awaited_in_conflict(part, &OBJECT, mode), awaited);
-        }
+        Step::Awaited(mode, awaited) => awaited_in_conflict(part, &OBJECT, mode) == awaited,
     }
 }
 
 /// All steps, in order.
-fn play(rt: &impl Abort, part: &mut PlainPart, steps: &[Step])
-    requires { part.old.begun ≡ None }
-    ensures { part.new.begun ≡ None }
+fn play<P: PartTable>(rt: &impl Abort, part: &mut P, steps: &[Step])
+    requires { P.begun part.old ≡ None }
+    ensures { P.begun part.new ≡ None }
 {
-    'steps: for step in steps {
-        make(rt, part, *step);
+    'steps: for place in 0..steps.len() {
+        let is_right = make(rt, part, steps[place]);
+        assert!(rt; is_right, "step {place}");
     }
 }
 
-#[test]
-fn queues_go_as_the_lists_say(rt: HostRuntime) -> Result<(), Fail> {
-    for (name, steps) in [
-        (
-            "a waiter goes behind those left before it",
-            A_WAITER_GOES_BEHIND_THOSE_LEFT_BEFORE_IT.as_slice(),
-        ),
-        (
-            "a conditional request is refused by a hold",
-            A_CONDITIONAL_REQUEST_IS_REFUSED_BY_A_HOLD.as_slice(),
-        ),
-        (
-            "a conditional request does not pass a waiter",
-            A_CONDITIONAL_REQUEST_DOES_NOT_PASS_A_WAITER.as_slice(),
-        ),
-        (
-            "a conditional request is refused with the lowest holder",
-            A_CONDITIONAL_REQUEST_IS_REFUSED_WITH_THE_LOWEST_HOLDER.as_slice(),
-        ),
-        (
-            "a holder stands before whom it keeps waiting",
-            A_HOLDER_STANDS_BEFORE_WHOM_IT_KEEPS_WAITING.as_slice(),
-        ),
-        (
-            "two that wait for one another are told",
-            TWO_THAT_WAIT_FOR_ONE_ANOTHER_ARE_TOLD.as_slice(),
-        ),
-        (
-            "a waiter that leaves lets others go",
-            A_WAITER_THAT_LEAVES_LETS_OTHERS_GO.as_slice(),
-        ),
-    ] {
-        println!(rt; "{name}")?;
-        let mut part = new_part(rt.alloc())?;
-        play(&rt, &mut part, steps);
-    }
+/// The steps, on a part of their own.
+fn run(rt: &impl Abort, alloc: Global, steps: &[Step]) -> Result<(), Fail> {
+    let mut part = new_part(alloc)?;
+    play(rt, &mut part, steps);
     Ok(())
+}
+
+#[test]
+fn a_waiter_goes_behind_those_left_before_it(rt: HostRuntime) -> Result<(), Fail> {
+    run(
+        &rt,
+        rt.alloc(),
+        A_WAITER_GOES_BEHIND_THOSE_LEFT_BEFORE_IT.as_slice(),
+    )
+}
+
+#[test]
+fn a_conditional_request_is_refused_by_a_hold(rt: HostRuntime) -> Result<(), Fail> {
+    run(
+        &rt,
+        rt.alloc(),
+        A_CONDITIONAL_REQUEST_IS_REFUSED_BY_A_HOLD.as_slice(),
+    )
+}
+
+#[test]
+fn a_conditional_request_does_not_pass_a_waiter(rt: HostRuntime) -> Result<(), Fail> {
+    run(
+        &rt,
+        rt.alloc(),
+        A_CONDITIONAL_REQUEST_DOES_NOT_PASS_A_WAITER.as_slice(),
+    )
+}
+
+#[test]
+fn a_conditional_request_is_refused_with_the_lowest_holder(rt: HostRuntime) -> Result<(), Fail> {
+    run(
+        &rt,
+        rt.alloc(),
+        A_CONDITIONAL_REQUEST_IS_REFUSED_WITH_THE_LOWEST_HOLDER.as_slice(),
+    )
+}
+
+#[test]
+fn a_holder_stands_before_whom_it_keeps_waiting(rt: HostRuntime) -> Result<(), Fail> {
+    run(
+        &rt,
+        rt.alloc(),
+        A_HOLDER_STANDS_BEFORE_WHOM_IT_KEEPS_WAITING.as_slice(),
+    )
+}
+
+#[test]
+fn two_that_wait_for_one_another_are_told(rt: HostRuntime) -> Result<(), Fail> {
+    run(
+        &rt,
+        rt.alloc(),
+        TWO_THAT_WAIT_FOR_ONE_ANOTHER_ARE_TOLD.as_slice(),
+    )
+}
+
+#[test]
+fn a_waiter_that_leaves_lets_others_go(rt: HostRuntime) -> Result<(), Fail> {
+    run(
+        &rt,
+        rt.alloc(),
+        A_WAITER_THAT_LEAVES_LETS_OTHERS_GO.as_slice(),
+    )
 }

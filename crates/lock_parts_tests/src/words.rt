@@ -7,7 +7,7 @@ ghost use Rattle.lw_word.specs.LockState.{word_of};
 use crate::fixtures::session;
 use lw_word::LwMode::{Exclusive, Shared};
 use lw_word::{LwMode, LwWaiter, LwWord, SlotWord, WaitList};
-use modes_core::Mode;
+use modes_core::{Mode, SessionId};
 use std::process::Abort;
 
 /// The word with this number.
@@ -38,24 +38,34 @@ const BITS: [Bits; 14] = [
     (0x71FF_FFFF, 0xFF_FFFF, true, [true, true, true], false),
 ];
 
+/// What the word with this number says.
+fn bits(number: u64) -> Option<Bits> {
+    let word = LwWord::from_number(number)?;
+    let flags = [
+        word.is_list_locked(),
+        word.is_release_ok(),
+        word.has_waiters(),
+    ];
+    Some((
+        word.number(),
+        word.shared(),
+        word.is_exclusive(),
+        flags,
+        word.must_wake(),
+    ))
+}
+
 #[test]
-fn words_have_their_bits_and_no_others(rt: HostRuntime) {
-    assert_eq!(rt; LwWord::opening().number(), 0x2000_0000);
-    for (number, shared, exclusive, flags, wakes) in BITS {
-        let word = word(&rt, number);
-        assert_eq!(rt; word.number(), number);
-        assert_eq!(rt; word.shared(), shared, "at {number}");
-        assert_eq!(rt; word.is_exclusive(), exclusive, "at {number}");
-        let its = [
-            word.is_list_locked(),
-            word.is_release_ok(),
-            word.has_waiters(),
-        ];
-        assert_eq!(rt; its, flags, "at {number}");
-        assert_eq!(rt; word.must_wake(), wakes, "at {number}");
+fn words_have_their_bits(rt: HostRuntime) {
+    for row in BITS {
+        assert!(rt; bits(row.0) == Some(row), "at {}", row.0);
     }
+}
+
+#[test]
+fn words_have_no_other_bits(rt: HostRuntime) {
     for number in [1 << 25, 1 << 26, 1 << 27, 1 << 31, 1 << 63, u64::MAX] {
-        assert_eq!(rt; LwWord::from_number(number), None, "at {number}");
+        assert!(rt; LwWord::from_number(number).is_none(), "at {number}");
     }
 }
 
@@ -76,14 +86,20 @@ const RELEASES: [(u64, LwMode, u64); 3] = [
     (0x4100_0000, Exclusive, 0x4000_0000),
 ];
 
-/// The word that comes of an attempt.
-fn attempted(rt: &impl Abort, word: LwWord, mode: LwMode) -> Option<u64> {
+/// The word that comes of an attempt, and whether the lock is free for it.
+fn attempted(rt: &impl Abort, number: u64, mode: LwMode) -> (Option<u64>, bool) {
+    let word = word(rt, number);
     assert!(rt; word.shared() < 0xFF_FFFF);
-    Some(word.attempt(mode)?.number())
+    let after = match word.attempt(mode) {
+        Some(after) => Some(after.number()),
+        None => None,
+    };
+    (after, word.is_free_for(mode))
 }
 
 /// The word that comes of a release.
-fn released(rt: &impl Abort, word: LwWord, mode: LwMode) -> u64 {
+fn released(rt: &impl Abort, number: u64, mode: LwMode) -> u64 {
+    let word = word(rt, number);
     match mode {
         Exclusive => {
             assert!(rt; word.is_exclusive());
@@ -97,21 +113,28 @@ fn released(rt: &impl Abort, word: LwWord, mode: LwMode) -> u64 {
 }
 
 #[test]
-fn a_free_word_is_taken_and_a_held_one_given_up(rt: HostRuntime) {
+fn a_free_word_is_taken_and_a_taken_one_is_not(rt: HostRuntime) {
     for (number, mode, after) in ATTEMPTS {
-        let word = word(&rt, number);
-        assert_eq!(rt; attempted(&rt, word, mode), after, "at {number}");
-        assert_eq!(rt; word.is_free_for(mode), after.is_some(), "at {number}");
+        let wanted = (after, after.is_some());
+        assert!(rt; attempted(&rt, number, mode) == wanted, "at {number}");
     }
+}
+
+#[test]
+fn a_held_word_is_given_up(rt: HostRuntime) {
     for (number, mode, after) in RELEASES {
-        assert_eq!(rt;
-            released(&rt, word(&rt, number), mode),
-            after,
-            "at {number}"
-        );
+        assert!(rt; released(&rt, number, mode) == after, "at {number}");
     }
-    assert_eq!(rt; Exclusive.amount(), 0x0100_0000);
-    assert_eq!(rt; Shared.amount(), 1);
+}
+
+#[test]
+fn words_open_with_release_ok_and_count_by_mode(rt: HostRuntime) {
+    let numbers = (
+        LwWord::opening().number(),
+        Exclusive.amount(),
+        Shared.amount(),
+    );
+    assert!(rt; numbers == (0x2000_0000, 0x0100_0000, 1));
 }
 
 /// The flags has-waiters and release-ok as a list is unlocked, what is set for them, what is kept, and the word that comes
@@ -123,19 +146,57 @@ const UNLOCKS: [(bool, bool, u64, u64, u64); 4] = [
     (false, false, 0, 0xFFFF_FFFF_8FFF_FFFF, 0x0100_0000),
 ];
 
+/// The word that comes of locking a wait list.
+fn locked(rt: &impl Abort, number: u64) -> Option<u64> {
+    Some(word(rt, number).lock_list()?.number())
+}
+
+/// What is set and what is kept for these flags, and the word that comes of them.
+fn unlocked(rt: &impl Abort, number: u64, waiters: bool, release_ok: bool) -> (u64, u64, u64) {
+    (
+        LwWord::flag_bits(waiters, release_ok),
+        LwWord::kept_bits(waiters, release_ok),
+        word(rt, number).unlock_list(waiters, release_ok).number(),
+    )
+}
+
+/// The words that come of setting has-waiters, and of setting release-ok.
+fn flagged(rt: &impl Abort, number: u64) -> (u64, u64) {
+    let word = word(rt, number);
+    (
+        word.set_has_waiters().number(),
+        word.set_release_ok().number(),
+    )
+}
+
+/// A word, and those that come of setting has-waiters and of setting release-ok.
+const FLAGS: [(u64, u64, u64); 4] = [
+    (5, 0x4000_0005, 0x2000_0005),
+    (0x1100_0000, 0x5100_0000, 0x3100_0000),
+    (0x3100_0000, 0x7100_0000, 0x3100_0000),
+    (0x6000_0000, 0x6000_0000, 0x6000_0000),
+];
+
 #[test]
-fn a_wait_list_is_locked_once_and_unlocked_with_its_flags(rt: HostRuntime) {
-    let locked = word(&rt, 0x2100_0000).lock_list().expect(&rt, "locked");
-    assert_eq!(rt; locked.number(), 0x3100_0000);
-    assert_eq!(rt; locked.lock_list(), None);
-    assert_eq!(rt; locked.set_has_waiters().number(), 0x7100_0000);
-    for (waiters, release_ok, set, kept, after) in UNLOCKS {
-        assert_eq!(rt; LwWord::flag_bits(waiters, release_ok), set);
-        assert_eq!(rt; LwWord::kept_bits(waiters, release_ok), kept);
-        assert_eq!(rt; locked.unlock_list(waiters, release_ok).number(), after);
+fn a_wait_list_is_locked_once(rt: HostRuntime) {
+    for (number, after) in [(0x2100_0000, Some(0x3100_0000)), (0x3100_0000, None)] {
+        assert!(rt; locked(&rt, number) == after, "at {number}");
     }
-    for (number, after) in [(5, 0x2000_0005), (0x6000_0000, 0x6000_0000)] {
-        assert_eq!(rt; word(&rt, number).set_release_ok().number(), after);
+}
+
+#[test]
+fn a_wait_list_is_unlocked_with_its_flags(rt: HostRuntime) {
+    for (waiters, release_ok, set, kept, after) in UNLOCKS {
+        let its = unlocked(&rt, 0x3100_0000, waiters, release_ok);
+        assert!(rt; its == (set, kept, after), "at {after}");
+    }
+}
+
+#[test]
+fn a_flag_is_set_alone(rt: HostRuntime) {
+    for (number, with_waiters, with_release_ok) in FLAGS {
+        let its = flagged(&rt, number);
+        assert!(rt; its == (with_waiters, with_release_ok), "at {number}");
     }
 }
 
@@ -143,7 +204,9 @@ fn a_wait_list_is_locked_once_and_unlocked_with_its_flags(rt: HostRuntime) {
 type Waiters = &'static [(u8, LwMode)];
 
 /// Who stands in a wait list, whom a wakeup takes off, whom it leaves, and whether release-ok is to be set.
-const WAKEUPS: [(Waiters, Waiters, Waiters, bool); 3] = [
+type WaitsAndWakeup = (Waiters, Waiters, Waiters, bool);
+
+const WAKEUPS: [WaitsAndWakeup; 3] = [
     // Sharers are taken off together.
     (
         &[(1, Shared), (2, Exclusive), (3, Shared)],
@@ -169,72 +232,147 @@ fn join(rt: &impl Abort, list: &mut WaitList, number: u8, mode: LwMode) {
     list.join(session, mode);
 }
 
-/// Looks at who waits, and how.
-fn expect_waiters(rt: &impl Abort, waiters: &[LwWaiter], expected: &[(u8, LwMode)]) {
-    assert_eq!(rt; waiters.len(), expected.len());
-    for (waiter, (number, mode)) in waiters.iter().zip(expected) {
-        assert_eq!(rt; (waiter.session.number(), waiter.mode), (*number, *mode));
+/// Whether these wait, in this order and in these modes.
+fn are_waiting(waiters: &[LwWaiter], expected: &[(u8, LwMode)]) -> bool {
+    if waiters.len() != expected.len() {
+        return false;
     }
+    for place in 0..expected.len() {
+        let waiter = waiters[place];
+        let (number, mode) = expected[place];
+        if waiter.session.number() != number || waiter.mode != mode {
+            return false;
+        }
+    }
+    true
+}
+
+/// Whether a wakeup of the list takes these off, leaves these, and has release-ok set.
+fn wakes(rt: &impl Abort, (waiters, taken, left, release_ok): WaitsAndWakeup) -> bool {
+    let mut list = WaitList::new();
+    for (number, mode) in waiters {
+        join(rt, &mut list, *number, *mode);
+    }
+    let was_empty = list.is_empty();
+    let wakeup = list.wake_split();
+    was_empty == waiters.is_empty()
+        && are_waiting(wakeup.taken.as_slice(), taken)
+        && are_waiting(list.waiters(), left)
+        && list.is_empty() == left.is_empty()
+        && wakeup.release_ok == release_ok
 }
 
 #[test]
 fn a_wakeup_takes_sharers_off_together_and_an_exclusive_first_alone(rt: HostRuntime) {
-    for (waiters, taken, left, release_ok) in WAKEUPS {
-        let mut list = WaitList::new();
-        for (number, mode) in waiters {
-            join(&rt, &mut list, *number, *mode);
-        }
-        assert_eq!(rt; list.is_empty(), waiters.is_empty());
-        let wakeup = list.wake_split();
-        expect_waiters(&rt, wakeup.taken.as_slice(), taken);
-        expect_waiters(&rt, list.waiters(), left);
-        assert_eq!(rt; list.is_empty(), left.is_empty());
-        assert_eq!(rt; wakeup.release_ok, release_ok);
+    for row in WAKEUPS {
+        assert!(rt; wakes(&rt, row), "a list of {}", row.0.len());
     }
+}
+
+/// A list with all sessions, each behind those with lower numbers.
+fn all_sessions(rt: &impl Abort) -> WaitList {
+    let mut list = WaitList::new();
+    for number in 0..64 {
+        join(rt, &mut list, number, Exclusive);
+    }
+    list
+}
+
+/// Whether the session was in the list, and whether it is there once it left.
+fn left(list: &mut WaitList, session: SessionId) -> (bool, bool) {
+    (list.leave(session), list.has(session))
 }
 
 #[test]
 fn sixty_four_sessions_wait_and_one_leaves(rt: HostRuntime) {
-    let mut list = WaitList::new();
-    for number in 0..64 {
-        join(&rt, &mut list, number, Exclusive);
+    let mut list = all_sessions(&rt);
+    let session = session(&rt, 17);
+    for (count, was) in [(64, true), (63, false)] {
+        assert!(rt; list.waiters().len() == count);
+        assert!(rt; left(&mut list, session) == (was, false));
     }
-    assert_eq!(rt; list.waiters().len(), 64);
-    let left = session(&rt, 17);
-    assert!(rt; list.leave(left));
-    assert!(rt; !list.has(left));
-    assert!(rt; !list.leave(left));
-    assert_eq!(rt; list.waiters().len(), 63);
+    assert!(rt; list.waiters().len() == 63);
+}
+
+/// A slot's word, a mode that is set in it for a relation, and the word that comes of it.
+const SETS: [(u64, u32, Mode, u64); 3] = [
+    (16384, 16384, Mode::AccessShare, 0x1_0000_4000),
+    (0x1_0000_4000, 16384, Mode::RowExclusive, 0x5_0000_4000),
+    (0, u32::MAX, Mode::RowShare, 0x2_FFFF_FFFF),
+];
+
+/// A slot's word, a mode that is cleared in it, and the word that comes of it.
+const CLEARS: [(u64, Mode, u64); 3] = [
+    (0x5_0000_4000, Mode::RowShare, 0x5_0000_4000),
+    (0x5_0000_4000, Mode::AccessShare, 0x4_0000_4000),
+    (0x4_0000_4000, Mode::RowExclusive, 0),
+];
+
+/// Whether the slot word 0x5_0000_4000 shows a mode.
+const SHOWS: [(Mode, bool); 5] = [
+    (Mode::AccessShare, true),
+    (Mode::RowShare, false),
+    (Mode::RowExclusive, true),
+    (Mode::ShareUpdateExclusive, false),
+    (Mode::AccessExclusive, false),
+];
+
+/// The word of a slot that is empty, or the relation's, with a mode set that a slot may show.
+fn with(rt: &impl Abort, number: u64, relation: u32, mode: Mode) -> u64 {
+    let slot = SlotWord::from_number(number);
+    assert!(rt; mode.number() <= 3);
+    assert!(rt; !slot.in_use() || slot.relation() == relation);
+    slot.with(relation, mode).number()
+}
+
+/// The word with such a mode cleared.
+fn without(rt: &impl Abort, number: u64, mode: Mode) -> u64 {
+    assert!(rt; mode.number() <= 3);
+    SlotWord::from_number(number).without(mode).number()
+}
+
+/// Whether a slot is in use, and its relation.
+fn used_by(number: u64) -> (bool, u32) {
+    let slot = SlotWord::from_number(number);
+    (slot.in_use(), slot.relation())
+}
+
+/// Whether a slot shows the mode, the mode of relation 16384, and the mode of relation 16385.
+fn shows(number: u64, mode: Mode) -> [bool; 3] {
+    let slot = SlotWord::from_number(number);
+    [
+        slot.has(mode),
+        slot.shows(16384, mode),
+        slot.shows(16385, mode),
+    ]
+}
+
+#[test]
+fn a_slot_is_in_use_where_it_shows_a_mode(rt: HostRuntime) {
+    for (number, used) in [(16384, false), (0x1_0000_4000, true), (0x5_0000_4000, true)] {
+        assert!(rt; used_by(number) == (used, 16384), "at {number}");
+    }
+    assert!(rt; SlotWord::default().number() == 0);
 }
 
 #[test]
 fn a_slot_shows_the_modes_of_its_relation(rt: HostRuntime) {
-    let empty = SlotWord::from_number(16384);
-    assert!(rt; !empty.in_use());
-    let one = empty.with(16384, Mode::AccessShare);
-    assert_eq!(rt; one.number(), 0x1_0000_4000);
-    assert_eq!(rt; one.relation(), 16384);
-    let two = one.with(16384, Mode::RowExclusive);
-    assert_eq!(rt; two.number(), 21474852864);
-    assert!(rt; two.in_use());
-    let modes = [
-        (Mode::AccessShare, true),
-        (Mode::RowShare, false),
-        (Mode::RowExclusive, true),
-        (Mode::ShareUpdateExclusive, false),
-        (Mode::AccessExclusive, false),
-    ];
-    for (mode, shown) in modes {
-        assert_eq!(rt; two.has(mode), shown, "{mode}");
-        assert_eq!(rt; two.shows(16384, mode), shown, "{mode}");
-        assert!(rt; !two.shows(16385, mode), "{mode}");
+    for (mode, shown) in SHOWS {
+        let its = shows(0x5_0000_4000, mode);
+        assert!(rt; its == [shown, shown, false], "{}", mode.name());
     }
-    assert_eq!(rt; two.without(Mode::RowShare).number(), 21474852864);
-    let last = two.without(Mode::AccessShare);
-    assert_eq!(rt; last.number(), 0x4_0000_4000);
-    assert_eq!(rt; last.without(Mode::RowExclusive).number(), 0);
-    assert_eq!(rt;
-        SlotWord::default().with(u32::MAX, Mode::RowShare).number(),
-        0x2_FFFF_FFFF
-    );
+}
+
+#[test]
+fn a_mode_is_set_in_a_slot(rt: HostRuntime) {
+    for (number, relation, mode, after) in SETS {
+        assert!(rt; with(&rt, number, relation, mode) == after, "at {number}");
+    }
+}
+
+#[test]
+fn a_mode_is_cleared_in_a_slot(rt: HostRuntime) {
+    for (number, mode, after) in CLEARS {
+        assert!(rt; without(&rt, number, mode) == after, "at {number}");
+    }
 }

@@ -2,4 +2,4 @@ use Rattle.std.specs.Prelude.{◌≡◌, None}
 use Rattle.lock_parts_tests.proofs.queues.play.Given as goal
 
 abbrev pub invariant-steps : goal.invariant-steps
-invariant-steps g l = l.part.begun ≡ None
+invariant-steps g l = g.P.PartTable.begun l.part ≡ None
