@@ -9,8 +9,6 @@ mod modes;
 #[cfg(test)]
 mod queues;
 #[cfg(test)]
-mod scripts;
-#[cfg(test)]
 mod tables;
 #[cfg(test)]
 mod words;
