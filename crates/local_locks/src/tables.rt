@@ -524,6 +524,3 @@ impl LocalTable {
         Some(key)
     }
 }
-
-#[cfg(test)]
-mod tests;

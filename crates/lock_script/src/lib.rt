@@ -19,6 +19,3 @@ pub use names::{Name, Names};
 pub use words::{
     parse_name, parse_number, parse_owner, parse_strong_index, parse_tag, split_words,
 };
-
-#[cfg(test)]
-mod tests;

@@ -8,9 +8,6 @@ use crate::plain_part::PlainPart;
 use modes_core::tags::PARTITIONS;
 use std::alloc::Global;
 
-#[cfg(test)]
-mod tests;
-
 /// The partitions of a lock table in which nothing is held or awaited (`InitLocks` in lock.c): sixteen of
 /// them, the partition with number 0 first. After `NoMemory` there is nothing.
 pub fn empty_parts(alloc: Global) -> Result<Vec<PlainPart>, NoMemory>

@@ -10,9 +10,6 @@ use modes_core::{Mode, ModeSet, SessionId, Tag};
 use std::alloc::{AllocError, Global};
 use std::marker::Model;
 
-#[cfg(test)]
-pub mod tests;
-
 /// The plain keeper of a partition: a list of its holds, and one of the waits of all its objects. Most
 /// calls look through a whole list. Both lists are on the heap, so that the part is one pointer wide: who
 /// takes a partition gets it by value, and puts it back so. The boxes of two parts share no cache line.

@@ -10,6 +10,3 @@ pub mod words;
 pub use slot_words::SlotWord;
 pub use wait_lists::{LwWaiter, TakenOff, WaitList, Wakeup};
 pub use words::{LwMode, LwWord};
-
-#[cfg(test)]
-mod tests;

@@ -13,6 +13,3 @@ pub use modes::Mode;
 pub use refusals::{How, Refusal};
 pub use sessions::{Owner, SessionId};
 pub use tags::{Tag, is_eligible, is_strong};
-
-#[cfg(test)]
-mod tests;

@@ -9,6 +9,3 @@ pub mod requests;
 pub use releases::{awaited_in_conflict, release};
 pub use removals::{Removed, remove_waiter};
 pub use requests::{Decision, Kind, decide};
-
-#[cfg(test)]
-mod tests;

@@ -1,9 +1,29 @@
+//! The local lock table: lists of calls with their answers, and many calls against plain lists.
+
 ghost use Rattle.std.specs.Prelude.{◌≤◌};
 
-use super::*;
-use modes_core::Mode;
-use std::process::Abort;
+mod turns;
 
+use local_locks::{Acquired, End, Entry, LocalTable, Unlocked};
+use modes_core::Mode::{AccessExclusive, AccessShare, Exclusive, RowExclusive, RowShare, Share};
+use modes_core::Owner::{Session, Transaction};
+use modes_core::{Mode, Owner, Refusal, Tag};
+use std::alloc::Global;
+use std::process::Abort;
+use turns::{Answer, Call, Turn, play};
+
+/// A table, at the second attempt where memory was wanting.
+fn new_table(rt: &impl Abort, alloc: Global, max_local: u32) -> LocalTable
+    requires from { 1 ≤ max_local }
+    requires to { max_local ≤ 65536 }
+{
+    match LocalTable::new(alloc, max_local) {
+        Ok(table) => table,
+        Err(_) => LocalTable::new(alloc, max_local).expect(rt, "memory"),
+    }
+}
+
+/// Acquires by `reserve` and `add`.
 fn acquire(
     table: &mut LocalTable,
     tag: Tag,
@@ -14,30 +34,7 @@ fn acquire(
     Ok(table.add(tag, mode, owner))
 }
 
-// The same with one look.
-fn acquire_in_one_look(
-    table: &mut LocalTable,
-    tag: Tag,
-    mode: Mode,
-    owner: Owner,
-) -> Result<Acquired, Refusal> {
-    if table.add_held(&tag, mode, owner)? {
-        return Ok(Acquired::AlreadyHeld);
-    }
-    table.reserve_new()?;
-    table.add_new(&tag, mode, owner);
-    Ok(Acquired::Granted)
-}
-
-fn count(table: &LocalTable) -> usize {
-    let mut number = 0usize;
-    for _ in table.entries() {
-        number = number.wrapping_add(1);
-    }
-    number
-}
-
-// Where memory is refused, nothing changes and the next call goes on.
+/// The same; where memory is refused, nothing changes and the next call goes on.
 fn acquire_again(
     rt: &impl Abort,
     table: &mut LocalTable,
@@ -55,134 +52,196 @@ fn acquire_again(
     }
 }
 
-fn new_table(rt: &impl Abort, alloc: Global, max_local: u32) -> LocalTable
-    requires from { 1 ≤ max_local }
-    requires to { max_local ≤ 65536 }
-{
-    match LocalTable::new(alloc, max_local) {
-        Ok(table) => table,
-        Err(_) => LocalTable::new(alloc, max_local).expect(rt, "memory"),
+/// Acquires with one look.
+fn acquire_in_one_look(
+    table: &mut LocalTable,
+    tag: Tag,
+    mode: Mode,
+    owner: Owner,
+) -> Result<Acquired, Refusal> {
+    if table.add_held(&tag, mode, owner)? {
+        return Ok(Acquired::AlreadyHeld);
     }
+    table.reserve_new()?;
+    table.add_new(&tag, mode, owner);
+    Ok(Acquired::Granted)
 }
 
-#[test]
-fn commit_keeps_what_the_session_owns(rt: HostRuntime) {
-    let mut table = new_table(&rt, rt.alloc(), 1024);
-    let first = Tag::relation(5, 16384);
-    let second = Tag::relation(5, 16385);
-    let held = [
-        (
-            first,
-            Mode::AccessShare,
-            Owner::Transaction,
-            Acquired::Granted,
-        ),
-        (
-            second,
-            Mode::RowExclusive,
-            Owner::Transaction,
-            Acquired::Granted,
-        ),
-        (
-            second,
-            Mode::RowExclusive,
-            Owner::Session,
-            Acquired::AlreadyHeld,
-        ),
-        (first, Mode::RowShare, Owner::Transaction, Acquired::Granted),
-    ];
-    for (tag, mode, owner, answer) in held {
-        assert_eq!(rt;
-            acquire_again(&rt, &mut table, tag, mode, owner),
-            Ok(answer)
-        );
+/// How many entries there are.
+fn count(table: &LocalTable) -> u32 {
+    let mut number = 0u32;
+    for _ in table.entries() {
+        number = number.wrapping_add(1);
     }
-    assert_eq!(rt;
-        table.end_next(End::Commit),
-        Some((first, Mode::AccessShare))
-    );
-    assert_eq!(rt; table.end_next(End::Commit), Some((first, Mode::RowShare)));
-    assert_eq!(rt; table.end_next(End::Commit), None);
-    assert_eq!(rt; count(&table), 1);
-    assert_eq!(rt;
-        table.owner_count(second, Mode::RowExclusive, Owner::Transaction),
-        0
-    );
-    assert_eq!(rt;
-        table.owner_count(second, Mode::RowExclusive, Owner::Session),
-        1
-    );
-    assert_eq!(rt;
-        table.end_next(End::Abort),
-        Some((second, Mode::RowExclusive))
-    );
-    assert_eq!(rt; table.end_next(End::Abort), None);
-    assert_eq!(rt; table.end_next(End::Close), None);
+    number
 }
 
+const FIRST: Tag = Tag::Relation {
+    database: 5,
+    relation: 16384,
+};
+
+const SECOND: Tag = Tag::Relation {
+    database: 5,
+    relation: 16385,
+};
+
+const OBJECT: Tag = Tag::Object {
+    database: 5,
+    class: 1259,
+    object: 16384,
+    sub_object: 0,
+};
+
+const COMMIT_KEEPS_WHAT_THE_SESSION_OWNS: [Turn; 13] = [
+    (
+        1,
+        Call::Acquire(FIRST, AccessShare, Transaction),
+        Answer::Granted,
+    ),
+    (
+        1,
+        Call::Acquire(SECOND, RowExclusive, Transaction),
+        Answer::Granted,
+    ),
+    (
+        1,
+        Call::Acquire(SECOND, RowExclusive, Session),
+        Answer::AlreadyHeld,
+    ),
+    (
+        1,
+        Call::Acquire(FIRST, RowShare, Transaction),
+        Answer::Granted,
+    ),
+    (1, Call::Next(End::Commit), Answer::Ends(FIRST, AccessShare)),
+    (1, Call::Next(End::Commit), Answer::Ends(FIRST, RowShare)),
+    (1, Call::Next(End::Commit), Answer::IsOver),
+    (1, Call::Entries, Answer::Number(1)),
+    (
+        1,
+        Call::Count(SECOND, RowExclusive, Transaction),
+        Answer::Number(0),
+    ),
+    (
+        1,
+        Call::Count(SECOND, RowExclusive, Session),
+        Answer::Number(1),
+    ),
+    (
+        1,
+        Call::Next(End::Abort),
+        Answer::Ends(SECOND, RowExclusive),
+    ),
+    (1, Call::Next(End::Abort), Answer::IsOver),
+    (1, Call::Next(End::Close), Answer::IsOver),
+];
+
+const ONE_CELL_SHOWS_WHAT_A_RELATION_IS_HELD_IN: [Turn; 6] = [
+    (
+        1,
+        Call::AddAtOnce(FIRST, AccessShare, Transaction),
+        Answer::NotHeld,
+    ),
+    (
+        1,
+        Call::Acquire(FIRST, AccessShare, Transaction),
+        Answer::Granted,
+    ),
+    (
+        1,
+        Call::AddAtOnce(FIRST, AccessShare, Transaction),
+        Answer::AlreadyHeld,
+    ),
+    (
+        1,
+        Call::AddAtOnce(FIRST, AccessShare, Session),
+        Answer::Unknown,
+    ),
+    (
+        1,
+        Call::AddHeld(FIRST, AccessShare, Session),
+        Answer::AlreadyHeld,
+    ),
+    (1, Call::Total(FIRST, AccessShare), Answer::Number(3)),
+];
+
+/// An owner counts to 65,535, and this table has two entries at most.
+const THE_LIMITS_ARE_KEPT: [Turn; 13] = [
+    (
+        1,
+        Call::Acquire(OBJECT, Share, Transaction),
+        Answer::Granted,
+    ),
+    (
+        65_534,
+        Call::Acquire(OBJECT, Share, Transaction),
+        Answer::AlreadyHeld,
+    ),
+    (
+        1,
+        Call::Acquire(OBJECT, Share, Transaction),
+        Answer::Refused(Refusal::CountFull),
+    ),
+    (
+        1,
+        Call::AddHeld(OBJECT, Share, Transaction),
+        Answer::Refused(Refusal::CountFull),
+    ),
+    (
+        1,
+        Call::AddHeld(OBJECT, Share, Session),
+        Answer::AlreadyHeld,
+    ),
+    (1, Call::Total(OBJECT, Share), Answer::Number(65_536)),
+    (
+        1,
+        Call::Acquire(OBJECT, Exclusive, Session),
+        Answer::Granted,
+    ),
+    (
+        1,
+        Call::Acquire(OBJECT, AccessShare, Session),
+        Answer::Refused(Refusal::LocalFull),
+    ),
+    (
+        1,
+        Call::Drop(OBJECT, AccessShare, Session),
+        Answer::Refused(Refusal::NotHeld),
+    ),
+    (
+        1,
+        Call::Drop(OBJECT, Exclusive, Transaction),
+        Answer::Refused(Refusal::NotHeld),
+    ),
+    (1, Call::Drop(OBJECT, Share, Session), Answer::StillHeld),
+    (1, Call::Drop(OBJECT, Exclusive, Session), Answer::Released),
+    (
+        1,
+        Call::Acquire(OBJECT, AccessShare, Session),
+        Answer::Granted,
+    ),
+];
+
 #[test]
-fn one_cell_shows_what_a_relation_is_held_in(rt: HostRuntime) {
+fn calls_are_answered_as_the_lists_say(rt: HostRuntime) {
     let mut table = new_table(&rt, rt.alloc(), 1024);
-    let tag = Tag::relation(5, 16384);
-    let mode = Mode::AccessShare;
-    assert_eq!(rt;
-        table.add_at_once(&tag, mode, Owner::Transaction),
-        AtOnce::NotHeld
+    play(
+        &rt,
+        &mut table,
+        COMMIT_KEEPS_WHAT_THE_SESSION_OWNS.as_slice(),
     );
-    assert!(rt; acquire_again(&rt, &mut table, tag, mode, Owner::Transaction).is_ok());
-    assert_eq!(rt;
-        table.add_at_once(&tag, mode, Owner::Transaction),
-        AtOnce::AlreadyHeld
+    let mut table = new_table(&rt, rt.alloc(), 1024);
+    play(
+        &rt,
+        &mut table,
+        ONE_CELL_SHOWS_WHAT_A_RELATION_IS_HELD_IN.as_slice(),
     );
-    assert_eq!(rt;
-        table.add_at_once(&tag, mode, Owner::Session),
-        AtOnce::Unknown
-    );
-    assert_eq!(rt; table.add_held(&tag, mode, Owner::Session), Ok(true));
-    assert_eq!(rt; table.total(tag, mode), 3);
-}
-
-#[test]
-fn the_limits_are_kept(rt: HostRuntime) {
     let mut table = new_table(&rt, rt.alloc(), 2);
-    let tag = Tag::object(5, 1259, 16384, 0);
-    for _ in 0..65535u32 {
-        assert!(rt; acquire_again(&rt, &mut table, tag, Mode::Share, Owner::Transaction).is_ok());
-    }
-    assert_eq!(rt;
-        acquire(&mut table, tag, Mode::Share, Owner::Transaction),
-        Err(Refusal::CountFull)
-    );
-    assert_eq!(rt;
-        table.add_held(&tag, Mode::Share, Owner::Transaction),
-        Err(Refusal::CountFull)
-    );
-    assert_eq!(rt; table.add_held(&tag, Mode::Share, Owner::Session), Ok(true));
-    assert_eq!(rt; table.total(tag, Mode::Share), 65536);
-    assert!(rt; acquire_again(&rt, &mut table, tag, Mode::Exclusive, Owner::Session).is_ok());
-    assert_eq!(rt;
-        acquire(&mut table, tag, Mode::AccessShare, Owner::Session),
-        Err(Refusal::LocalFull)
-    );
-    assert_eq!(rt;
-        table.drop_one(tag, Mode::AccessShare, Owner::Session),
-        Err(Refusal::NotHeld)
-    );
-    assert_eq!(rt;
-        table.drop_one(tag, Mode::Exclusive, Owner::Transaction),
-        Err(Refusal::NotHeld)
-    );
-    assert_eq!(rt;
-        table.drop_one(tag, Mode::Share, Owner::Session),
-        Ok(Unlocked::StillHeld)
-    );
-    assert_eq!(rt;
-        table.drop_one(tag, Mode::Exclusive, Owner::Session),
-        Ok(Unlocked::Released)
-    );
-    assert!(rt; acquire_again(&rt, &mut table, tag, Mode::AccessShare, Owner::Session).is_ok());
+    play(&rt, &mut table, THE_LIMITS_ARE_KEPT.as_slice());
 }
 
+/// Whether the transaction and the session own a relation of the long table.
 fn owners_of(relation: u32) -> (bool, bool) {
     (relation % 5 != 0 || relation % 7 == 0, relation % 5 == 0)
 }
@@ -205,14 +264,10 @@ fn a_long_table_is_as_a_plain_list(rt: HostRuntime) {
         let tag = Tag::relation(5, relation);
         let (transaction, session) = owners_of(relation);
         if transaction {
-            assert!(rt;
-                acquire_again(&rt, &mut table, tag, Mode::AccessShare, Owner::Transaction).is_ok()
-            );
+            assert!(rt; acquire_again(&rt, &mut table, tag, AccessShare, Transaction).is_ok());
         }
         if session {
-            assert!(rt;
-                acquire_again(&rt, &mut table, tag, Mode::AccessShare, Owner::Session).is_ok()
-            );
+            assert!(rt; acquire_again(&rt, &mut table, tag, AccessShare, Session).is_ok());
         }
     }
     for k in 0..5000u32 {
@@ -225,14 +280,11 @@ fn a_long_table_is_as_a_plain_list(rt: HostRuntime) {
             } else {
                 Unlocked::Released
             };
-            assert_eq!(rt;
-                table.drop_one(tag, Mode::AccessShare, Owner::Transaction),
-                Ok(left)
-            );
+            assert_eq!(rt; table.drop_one(tag, AccessShare, Transaction), Ok(left));
         }
         if session {
             assert_eq!(rt;
-                table.drop_one(tag, Mode::AccessShare, Owner::Session),
+                table.drop_one(tag, AccessShare, Session),
                 Ok(Unlocked::Released)
             );
         }
@@ -241,7 +293,7 @@ fn a_long_table_is_as_a_plain_list(rt: HostRuntime) {
         let (_, session) = owners_of(relation);
         if !session && is_left(relation) {
             let next = table.end_next(End::Commit);
-            assert_eq!(rt; next, Some((Tag::relation(5, relation), Mode::AccessShare)));
+            assert_eq!(rt; next, Some((Tag::relation(5, relation), AccessShare)));
         }
     }
     assert_eq!(rt; table.end_next(End::Commit), None);
@@ -251,7 +303,7 @@ fn a_long_table_is_as_a_plain_list(rt: HostRuntime) {
         if session && is_left(relation) {
             let kept = Entry {
                 tag: Tag::relation(5, relation),
-                mode: Mode::AccessShare,
+                mode: AccessShare,
                 transaction: 0,
                 session: 1,
             };
@@ -280,14 +332,14 @@ fn plain_acquire(rt: &impl Abort, list: &mut Plain, tag: Tag, mode: Mode, owner:
             assert!(rt; place < list.len());
             let (_, _, transaction, session) = list[place];
             list[place] = match owner {
-                Owner::Transaction => (tag, mode, transaction.saturating_add(1), session),
-                Owner::Session => (tag, mode, transaction, session.saturating_add(1)),
+                Transaction => (tag, mode, transaction.saturating_add(1), session),
+                Session => (tag, mode, transaction, session.saturating_add(1)),
             };
         }
         None => {
             let entry = match owner {
-                Owner::Transaction => (tag, mode, 1, 0),
-                Owner::Session => (tag, mode, 0, 1),
+                Transaction => (tag, mode, 1, 0),
+                Session => (tag, mode, 0, 1),
             };
             assert!(rt; list.push(entry).is_ok());
         }
@@ -302,8 +354,8 @@ fn plain_release(rt: &impl Abort, list: &mut Plain, tag: Tag, mode: Mode, owner:
     assert!(rt; place < list.len());
     let (_, _, transaction, session) = list[place];
     let (transaction, session) = match owner {
-        Owner::Transaction if transaction > 0 => (transaction - 1, session),
-        Owner::Session if session > 0 => (transaction, session - 1),
+        Transaction if transaction > 0 => (transaction - 1, session),
+        Session if session > 0 => (transaction, session - 1),
         _ => return false,
     };
     if transaction == 0 && session == 0 {
@@ -343,15 +395,15 @@ fn random_key(random: u32) -> (Tag, Mode, Owner) {
         Tag::object(5, 1259, number, 0)
     };
     let mode = match random >> 17 & 3 {
-        0 => Mode::AccessShare,
+        0 => AccessShare,
         1 => Mode::RowShare,
         2 => Mode::RowExclusive,
         _ => Mode::AccessExclusive,
     };
     let owner = if random >> 15 & 3 == 0 {
-        Owner::Session
+        Session
     } else {
-        Owner::Transaction
+        Transaction
     };
     (tag, mode, owner)
 }

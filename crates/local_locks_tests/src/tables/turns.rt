@@ -1,0 +1,110 @@
+//! Calls of a local table, and what they are answered: a test is a list of turns.
+
+use super::{acquire_again, count};
+use local_locks::{Acquired, AtOnce, End, LocalTable, Unlocked};
+use modes_core::{Mode, Owner, Refusal, Tag};
+use std::process::Abort;
+
+#[derive(Clone, Copy)]
+pub enum Call {
+    /// By `reserve` and `add`.
+    Acquire(Tag, Mode, Owner),
+    AddHeld(Tag, Mode, Owner),
+    AddAtOnce(Tag, Mode, Owner),
+    Drop(Tag, Mode, Owner),
+    /// How often the owner has it.
+    Count(Tag, Mode, Owner),
+    /// How often both owners have it.
+    Total(Tag, Mode),
+    /// The next that the end takes away.
+    Next(End),
+    /// How many entries there are.
+    Entries,
+}
+
+#[derive(Clone, Copy, PartialEq, Eq)]
+pub enum Answer {
+    Granted,
+    AlreadyHeld,
+    NotHeld,
+    Unknown,
+    Released,
+    StillHeld,
+    Refused(Refusal),
+    Number(u32),
+    Ends(Tag, Mode),
+    IsOver,
+}
+
+/// A call that is made so often, and what it is answered each time.
+pub type Turn = (u32, Call, Answer);
+
+/// What an acquire is answered.
+fn acquired(answer: Result<Acquired, Refusal>) -> Answer {
+    match answer {
+        Ok(Acquired::Granted) => Answer::Granted,
+        Ok(Acquired::AlreadyHeld) => Answer::AlreadyHeld,
+        Err(refusal) => Answer::Refused(refusal),
+    }
+}
+
+/// What a try at a held one is answered.
+fn counted(answer: Result<bool, Refusal>) -> Answer {
+    match answer {
+        Ok(true) => Answer::AlreadyHeld,
+        Ok(false) => Answer::NotHeld,
+        Err(refusal) => Answer::Refused(refusal),
+    }
+}
+
+/// What is known at once.
+fn known(answer: AtOnce) -> Answer {
+    match answer {
+        AtOnce::AlreadyHeld => Answer::AlreadyHeld,
+        AtOnce::NotHeld => Answer::NotHeld,
+        AtOnce::Unknown => Answer::Unknown,
+    }
+}
+
+/// What a release is answered.
+fn released(answer: Result<Unlocked, Refusal>) -> Answer {
+    match answer {
+        Ok(Unlocked::Released) => Answer::Released,
+        Ok(Unlocked::StillHeld) => Answer::StillHeld,
+        Err(refusal) => Answer::Refused(refusal),
+    }
+}
+
+/// What the next step of an end is answered.
+fn ended(answer: Option<(Tag, Mode)>) -> Answer {
+    match answer {
+        Some((tag, mode)) => Answer::Ends(tag, mode),
+        None => Answer::IsOver,
+    }
+}
+
+/// Makes a call.
+fn make(rt: &impl Abort, table: &mut LocalTable, call: Call) -> Answer {
+    match call {
+        Call::Acquire(tag, mode, owner) => acquired(acquire_again(rt, table, tag, mode, owner)),
+        Call::AddHeld(tag, mode, owner) => counted(table.add_held(&tag, mode, owner)),
+        Call::AddAtOnce(tag, mode, owner) => known(table.add_at_once(&tag, mode, owner)),
+        Call::Drop(tag, mode, owner) => released(table.drop_one(tag, mode, owner)),
+        Call::Count(tag, mode, owner) => {
+            Answer::Number(u32::from(table.owner_count(tag, mode, owner)))
+        }
+        Call::Total(tag, mode) => Answer::Number(table.total(tag, mode)),
+        Call::Next(end) => ended(table.end_next(end)),
+        Call::Entries => Answer::Number(count(table)),
+    }
+}
+
+/// All turns, in order.
+pub fn play(rt: &impl Abort, table: &mut LocalTable, turns: &[Turn]) {
+    for (place, (times, call, answer)) in turns.iter().enumerate() {
+        for time in 0..*times {
+            let is_right = make(rt, table, *call) == *answer;
+            assert!(rt; is_right, "turn {place}, for the time {time}");
+        }
+    }
+}

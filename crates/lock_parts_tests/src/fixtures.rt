@@ -1,0 +1,86 @@
+//! What tests of partitions share: objects, sessions, a part to begin with, and what has to be so before a call.
+
+ghost use Rattle.std.specs.Prelude.{◌≡◌, true, false, None, IfOk};
+ghost use Rattle.lock_table.specs.Queue.{awaits_mode, waits_there};
+
+use lock_table::{NoMemory, PartTable, PlainPart, Woken};
+use modes_core::{Mode, SessionId, Tag};
+use std::alloc::Global;
+use std::process::Abort;
+
+pub const OBJECT: Tag = Tag::Relation {
+    database: 5,
+    relation: 16384,
+};
+
+pub const ANOTHER_OBJECT: Tag = Tag::Object {
+    database: 5,
+    class: 1259,
+    object: 16384,
+    sub_object: 0,
+};
+
+pub fn session(rt: &impl Abort, number: u8) -> SessionId {
+    SessionId::new(number).expect(rt, "a session number")
+}
+
+/// A part with nothing in it, at the second attempt where memory was wanting.
+pub fn new_part(alloc: Global) -> Result<PlainPart, NoMemory>
+    ensures { IfOk result (λ part. part.begun ≡ None) }
+{
+    match PlainPart::new(alloc) {
+        Ok(part) => Ok(part),
+        Err(_) => PlainPart::new(alloc),
+    }
+}
+
+/// Stops where the session holds the object in this mode already, or waits for it.
+pub fn may_ask<P: PartTable>(
+    rt: &impl Abort,
+    part: &mut P,
+    session: SessionId,
+    tag: &Tag,
+    mode: Mode,
+)
+    ensures new { (P.content part.new).holds session tag.now mode ≡ false }
+    ensures no_wait { waits_there ((P.content part.new).waits tag.now) session ≡ false }
+    ensures not_awaited { awaits_mode ((P.content part.new).waits tag.now) session mode ≡ false }
+    ensures begun { P.begun part.new ≡ P.begun part.old }
+{
+    if part.held(session, tag).has(mode) {
+        panic!(rt; "session {session} holds it already");
+    }
+    if part.leave(session, tag).is_some() {
+        panic!(rt; "session {session} waits already");
+    }
+}
+
+/// Stops where the session doesn't hold the object in this mode.
+pub fn may_release<P: PartTable>(
+    rt: &impl Abort,
+    part: &P,
+    session: SessionId,
+    tag: &Tag,
+    mode: Mode,
+)
+    ensures { (P.content part.now).holds session tag.now mode ≡ true }
+{
+    if !part.held(session, tag).has(mode) {
+        panic!(rt; "session {session} doesn't hold it");
+    }
+}
+
+/// Whether a wakeup granted these, in this order.
+pub fn are_woken(woken: &Woken, expected: &[(u8, Mode)]) -> bool {
+    if woken.len() != expected.len() {
+        return false;
+    }
+    for place in 0..expected.len() {
+        let (session, mode) = woken[place];
+        let (number, its) = expected[place];
+        if session.number() != number || mode != its {
+            return false;
+        }
+    }
+    true
+}

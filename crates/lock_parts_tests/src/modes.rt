@@ -1,0 +1,242 @@
+//! Modes, tags, session numbers and refusals: their numbers and texts, and what goes by the fast path.
+
+use crate::fixtures::{ANOTHER_OBJECT, OBJECT};
+use modes_core::{How, Mode, ModeSet, Refusal, SessionId, Tag, conflicts, is_eligible, is_strong};
+use std::alloc::{AllocError, Global};
+use std::test::Fail;
+
+/// Numbers, names and conflicts of the modes, as in PostgreSQL's lockdefs.h and lock.c.
+const MODES: [(u8, &str, u16); 8] = [
+    (1, "AccessShareLock", 0x100),
+    (2, "RowShareLock", 0x180),
+    (3, "RowExclusiveLock", 0x1E0),
+    (4, "ShareUpdateExclusiveLock", 0x1F0),
+    (5, "ShareLock", 0x1D8),
+    (6, "ShareRowExclusiveLock", 0x1F8),
+    (7, "ExclusiveLock", 0x1FC),
+    (8, "AccessExclusiveLock", 0x1FE),
+];
+
+/// The number, name and conflicts of the mode with this number.
+fn described(number: u8) -> Option<(u8, &'static str, u16)> {
+    let mode = Mode::from_number(number)?;
+    Some((mode.number(), mode.name(), conflicts(mode).mask()))
+}
+
+#[test]
+fn modes_have_their_numbers_names_and_conflicts(rt: HostRuntime) {
+    for row in MODES {
+        assert!(rt; described(row.0) == Some(row), "{}", row.1);
+    }
+    for number in [0, 9] {
+        assert!(rt; Mode::from_number(number).is_none(), "{number}");
+    }
+}
+
+/// The number of the mode with this name, and whether the mode prints so.
+fn named(alloc: Global, name: &str) -> Result<Option<(u8, bool)>, AllocError> {
+    let Some(mode) = Mode::from_name(name) else {
+        return Ok(None);
+    };
+    let printed = mode.to_string(alloc)?;
+    Ok(Some((mode.number(), printed.as_str() == name)))
+}
+
+#[test]
+fn modes_are_found_by_their_names_and_print_so(rt: HostRuntime) -> Result<(), Fail> {
+    for (number, name, _) in MODES {
+        let mode = named(rt.alloc(), name)?;
+        assert!(rt; mode == Some((number, true)), "{name}");
+    }
+    assert!(rt; Mode::from_name("ShareLocks").is_none());
+    Ok(())
+}
+
+/// A set from which one of the modes put in was taken out again.
+fn access_share_alone() -> ModeSet {
+    ModeSet::empty()
+        .with(Mode::Share)
+        .with(Mode::AccessShare)
+        .without(Mode::Share)
+}
+
+#[test]
+fn sets_have_what_was_put_in(rt: HostRuntime) {
+    let set = access_share_alone();
+    assert!(rt; set.has(Mode::AccessShare) && !set.has(Mode::Share));
+    assert!(rt; set.meets(conflicts(Mode::AccessExclusive)));
+    assert!(rt; !set.meets(conflicts(Mode::Exclusive)));
+}
+
+/// Tags, their hashes, partitions and strong lock counters, and their texts. The hashes are worked examples of the rule,
+/// not this code's answers.
+const TAGS: [(Tag, u32, u8, u16, &str); 5] = [
+    (OBJECT, 2389211932, 12, 796, "5/16384"),
+    (
+        Tag::Relation {
+            database: 5,
+            relation: 17408,
+        },
+        3334897436,
+        12,
+        796,
+        "5/17408",
+    ),
+    (SHARED_RELATION, 1165483503, 15, 495, "0/1262"),
+    (
+        Tag::Relation {
+            database: 4294967295,
+            relation: 4294967295,
+        },
+        4265414625,
+        1,
+        993,
+        "4294967295/4294967295",
+    ),
+    (ANOTHER_OBJECT, 1793954687, 15, 895, "5/1259/16384/0"),
+];
+
+/// A relation of no one database.
+const SHARED_RELATION: Tag = Tag::Relation {
+    database: 0,
+    relation: 1262,
+};
+
+/// The hash of a tag, its partition, and its strong lock counter.
+fn indexes(tag: Tag) -> (u32, u8, u16) {
+    (tag.hash(), tag.partition(), tag.strong_index())
+}
+
+/// Whether the tag prints so.
+fn prints(alloc: Global, tag: Tag, text: &str) -> Result<bool, AllocError> {
+    let printed = tag.to_string(alloc)?;
+    Ok(printed.as_str() == text)
+}
+
+#[test]
+fn tags_have_their_hashes_and_texts(rt: HostRuntime) -> Result<(), Fail> {
+    for (tag, hash, partition, strong, text) in TAGS {
+        assert!(rt; indexes(tag) == (hash, partition, strong), "{text}");
+        assert!(rt;
+            tag.is_same(tag) && prints(rt.alloc(), tag, text)?,
+            "{text}"
+        );
+    }
+    Ok(())
+}
+
+/// A tag, and one that is greater.
+const ORDERS: [(Tag, Tag); 2] = [
+    (
+        Tag::Object {
+            database: 5,
+            class: 1,
+            object: 2,
+            sub_object: 3,
+        },
+        Tag::Relation {
+            database: 5,
+            relation: 2,
+        },
+    ),
+    (
+        OBJECT,
+        Tag::Object {
+            database: 5,
+            class: 16384,
+            object: 0,
+            sub_object: 0,
+        },
+    ),
+];
+
+#[test]
+fn tags_are_ordered_by_their_numbers(rt: HostRuntime) {
+    for (lesser, greater) in ORDERS {
+        assert!(rt; lesser < greater && !lesser.is_same(greater));
+    }
+}
+
+/// A session's database, an object and a mode, and whether that may go by the fast path.
+const ELIGIBLE: [(u32, Tag, Mode, bool); 5] = [
+    (5, OBJECT, Mode::RowExclusive, true),
+    (5, OBJECT, Mode::ShareUpdateExclusive, false),
+    (6, OBJECT, Mode::AccessShare, false),
+    (0, SHARED_RELATION, Mode::AccessShare, false),
+    (5, ANOTHER_OBJECT, Mode::AccessShare, false),
+];
+
+/// An object and a mode, and whether that is counted as strong.
+const STRONG: [(Tag, Mode, bool); 3] = [
+    (OBJECT, Mode::Share, true),
+    (OBJECT, Mode::ShareUpdateExclusive, false),
+    (ANOTHER_OBJECT, Mode::AccessExclusive, false),
+];
+
+#[test]
+fn the_fast_path_has_its_modes(rt: HostRuntime) {
+    for (database, tag, mode, eligible) in ELIGIBLE {
+        let is = is_eligible(database, tag, mode);
+        assert!(rt; is == eligible, "{} in {database}", mode.name());
+    }
+    for (tag, mode, strong) in STRONG {
+        assert!(rt; is_strong(tag, mode) == strong, "{}", mode.name());
+    }
+}
+
+#[test]
+fn sessions_have_numbers(rt: HostRuntime) -> Result<(), Fail> {
+    let session = SessionId::new(63).ok_or("no session 63")?;
+    assert!(rt; session.number() == 63);
+    assert!(rt; SessionId::new(64).is_none());
+    Ok(())
+}
+
+/// Each refusal, with the last session where it names one.
+fn refusals(session: SessionId) -> [(Refusal, u8, &'static str); 14] {
+    let conflict = |how| Refusal::Conflict {
+        session,
+        mode: Mode::Share,
+        how,
+    };
+    [
+        (conflict(How::Held), 1, "conflict: session 63 has ShareLock"),
+        (
+            conflict(How::Awaited),
+            1,
+            "conflict: session 63 has ShareLock",
+        ),
+        (Refusal::NoMemory, 2, "out of memory"),
+        (Refusal::LocalFull, 3, "the local lock table is full"),
+        (Refusal::CountFull, 4, "the count of this lock is full"),
+        (
+            Refusal::SimpleDeadlock { session },
+            5,
+            "simple deadlock with session 63",
+        ),
+        (Refusal::Cancelled, 6, "the wait was cancelled"),
+        (Refusal::NotHeld, 7, "you don't own this lock"),
+        (Refusal::Busy, 8, "the fast-path lock is busy"),
+        (Refusal::SlotsFull, 9, "the fast-path slots are full"),
+        (Refusal::StrongCounted, 10, "a strong lock is counted"),
+        (Refusal::NotEligible, 11, "not eligible for the fast path"),
+        (Refusal::NoMoreSessions, 12, "no more sessions"),
+        (Refusal::BadConfig, 13, "the configuration is out of range"),
+    ]
+}
+
+/// The number of a refusal, and whether it prints so.
+fn printed(alloc: Global, refusal: Refusal, text: &str) -> Result<(u8, bool), AllocError> {
+    let printed = refusal.to_string(alloc)?;
+    Ok((refusal.number(), printed.as_str() == text))
+}
+
+#[test]
+fn refusals_have_their_numbers_and_texts(rt: HostRuntime) -> Result<(), Fail> {
+    let session = SessionId::new(63).ok_or("no session 63")?;
+    for (refusal, number, text) in refusals(session) {
+        let its = printed(rt.alloc(), refusal, text)?;
+        assert!(rt; its == (number, true), "{text}");
+    }
+    Ok(())
+}

@@ -1,0 +1,378 @@
+//! Lightweight words, wait lists and slot words. The numbers are worked by hand from the bits, and are not this code's
+//! answers.
+
+ghost use Rattle.std.specs.Prelude.{◌≡◌};
+ghost use Rattle.lw_word.specs.LockState.{word_of};
+
+use crate::fixtures::session;
+use lw_word::LwMode::{Exclusive, Shared};
+use lw_word::{LwMode, LwWaiter, LwWord, SlotWord, WaitList};
+use modes_core::{Mode, SessionId};
+use std::process::Abort;
+
+/// The word with this number.
+fn word(rt: &impl Abort, number: u64) -> LwWord
+    ensures { word_of result ≡ number }
+{
+    LwWord::from_number(number).expect(rt, "a lightweight word")
+}
+
+/// A number; what its word says: how many share it, whether it is held exclusively, whether its list is locked, and the
+/// flags release-ok and has-waiters; and whether whoever made it by a release must wake.
+type Bits = (u64, u64, bool, [bool; 3], bool);
+
+const BITS: [Bits; 14] = [
+    (0, 0, false, [false, false, false], false),
+    (2, 2, false, [false, false, false], false),
+    (3, 3, false, [false, false, false], false),
+    (0x0100_0000, 0, true, [false, false, false], false),
+    (0x1000_0000, 0, false, [true, false, false], false),
+    (0x2000_0000, 0, false, [false, true, false], false),
+    (0x4000_0000, 0, false, [false, false, true], false),
+    (0x4100_0000, 0, true, [false, false, true], false),
+    (0x6000_0000, 0, false, [false, true, true], true),
+    (0x6000_0001, 1, false, [false, true, true], false),
+    (0x60FF_FFFE, 0xFF_FFFE, false, [false, true, true], false),
+    (0x6100_0000, 0, true, [false, true, true], false),
+    (0x7000_0000, 0, false, [true, true, true], true),
+    (0x71FF_FFFF, 0xFF_FFFF, true, [true, true, true], false),
+];
+
+/// What the word with this number says.
+fn bits(number: u64) -> Option<Bits> {
+    let word = LwWord::from_number(number)?;
+    let flags = [
+        word.is_list_locked(),
+        word.is_release_ok(),
+        word.has_waiters(),
+    ];
+    Some((
+        word.number(),
+        word.shared(),
+        word.is_exclusive(),
+        flags,
+        word.must_wake(),
+    ))
+}
+
+#[test]
+fn words_have_their_bits(rt: HostRuntime) {
+    for row in BITS {
+        assert!(rt; bits(row.0) == Some(row), "at {}", row.0);
+    }
+}
+
+#[test]
+fn words_have_no_other_bits(rt: HostRuntime) {
+    for number in [1 << 25, 1 << 26, 1 << 27, 1 << 31, 1 << 63, u64::MAX] {
+        assert!(rt; LwWord::from_number(number).is_none(), "at {number}");
+    }
+}
+
+/// A word, how it is attempted, and the word that comes of it, if it is free.
+const ATTEMPTS: [(u64, LwMode, Option<u64>); 6] = [
+    (0, Exclusive, Some(0x0100_0000)),
+    (0x0100_0000, Exclusive, None),
+    (0x0100_0000, Shared, None),
+    (2, Exclusive, None),
+    (2, Shared, Some(3)),
+    (0x60FF_FFFE, Shared, Some(0x60FF_FFFF)),
+];
+
+/// A word, how it is given up, and the word that comes of it.
+const RELEASES: [(u64, LwMode, u64); 3] = [
+    (3, Shared, 2),
+    (0x6100_0000, Exclusive, 0x6000_0000),
+    (0x4100_0000, Exclusive, 0x4000_0000),
+];
+
+/// The word that comes of an attempt, and whether the lock is free for it.
+fn attempted(rt: &impl Abort, number: u64, mode: LwMode) -> (Option<u64>, bool) {
+    let word = word(rt, number);
+    assert!(rt; word.shared() < 0xFF_FFFF);
+    let after = match word.attempt(mode) {
+        Some(after) => Some(after.number()),
+        None => None,
+    };
+    (after, word.is_free_for(mode))
+}
+
+/// The word that comes of a release.
+fn released(rt: &impl Abort, number: u64, mode: LwMode) -> u64 {
+    let word = word(rt, number);
+    match mode {
+        Exclusive => {
+            assert!(rt; word.is_exclusive());
+            word.release(Exclusive).number()
+        }
+        Shared => {
+            assert!(rt; word.shared() > 0);
+            word.release(Shared).number()
+        }
+    }
+}
+
+#[test]
+fn a_free_word_is_taken_and_a_taken_one_is_not(rt: HostRuntime) {
+    for (number, mode, after) in ATTEMPTS {
+        let wanted = (after, after.is_some());
+        assert!(rt; attempted(&rt, number, mode) == wanted, "at {number}");
+    }
+}
+
+#[test]
+fn a_held_word_is_given_up(rt: HostRuntime) {
+    for (number, mode, after) in RELEASES {
+        assert!(rt; released(&rt, number, mode) == after, "at {number}");
+    }
+}
+
+#[test]
+fn words_open_with_release_ok_and_count_by_mode(rt: HostRuntime) {
+    let numbers = (
+        LwWord::opening().number(),
+        Exclusive.amount(),
+        Shared.amount(),
+    );
+    assert!(rt; numbers == (0x2000_0000, 0x0100_0000, 1));
+}
+
+/// The flags has-waiters and release-ok as a list is unlocked, what is set for them, what is kept, and the word that comes
+/// of 0x3100_0000.
+const UNLOCKS: [(bool, bool, u64, u64, u64); 4] = [
+    (true, true, 0x6000_0000, 0xFFFF_FFFF_EFFF_FFFF, 0x6100_0000),
+    (true, false, 0x4000_0000, 0xFFFF_FFFF_CFFF_FFFF, 0x4100_0000),
+    (false, true, 0x2000_0000, 0xFFFF_FFFF_AFFF_FFFF, 0x2100_0000),
+    (false, false, 0, 0xFFFF_FFFF_8FFF_FFFF, 0x0100_0000),
+];
+
+/// The word that comes of locking a wait list.
+fn locked(rt: &impl Abort, number: u64) -> Option<u64> {
+    Some(word(rt, number).lock_list()?.number())
+}
+
+/// What is set and what is kept for these flags, and the word that comes of them.
+fn unlocked(rt: &impl Abort, number: u64, waiters: bool, release_ok: bool) -> (u64, u64, u64) {
+    (
+        LwWord::flag_bits(waiters, release_ok),
+        LwWord::kept_bits(waiters, release_ok),
+        word(rt, number).unlock_list(waiters, release_ok).number(),
+    )
+}
+
+/// The words that come of setting has-waiters, and of setting release-ok.
+fn flagged(rt: &impl Abort, number: u64) -> (u64, u64) {
+    let word = word(rt, number);
+    (
+        word.set_has_waiters().number(),
+        word.set_release_ok().number(),
+    )
+}
+
+/// A word, and those that come of setting has-waiters and of setting release-ok.
+const FLAGS: [(u64, u64, u64); 4] = [
+    (5, 0x4000_0005, 0x2000_0005),
+    (0x1100_0000, 0x5100_0000, 0x3100_0000),
+    (0x3100_0000, 0x7100_0000, 0x3100_0000),
+    (0x6000_0000, 0x6000_0000, 0x6000_0000),
+];
+
+#[test]
+fn a_wait_list_is_locked_once(rt: HostRuntime) {
+    for (number, after) in [(0x2100_0000, Some(0x3100_0000)), (0x3100_0000, None)] {
+        assert!(rt; locked(&rt, number) == after, "at {number}");
+    }
+}
+
+#[test]
+fn a_wait_list_is_unlocked_with_its_flags(rt: HostRuntime) {
+    for (waiters, release_ok, set, kept, after) in UNLOCKS {
+        let its = unlocked(&rt, 0x3100_0000, waiters, release_ok);
+        assert!(rt; its == (set, kept, after), "at {after}");
+    }
+}
+
+#[test]
+fn a_flag_is_set_alone(rt: HostRuntime) {
+    for (number, with_waiters, with_release_ok) in FLAGS {
+        let its = flagged(&rt, number);
+        assert!(rt; its == (with_waiters, with_release_ok), "at {number}");
+    }
+}
+
+/// Sessions by their numbers, and how they wait.
+type Waiters = &'static [(u8, LwMode)];
+
+/// Who stands in a wait list, whom a wakeup takes off, whom it leaves, and whether release-ok is to be set.
+type WaitsAndWakeup = (Waiters, Waiters, Waiters, bool);
+
+const WAKEUPS: [WaitsAndWakeup; 3] = [
+    // Sharers are taken off together.
+    (
+        &[(1, Shared), (2, Exclusive), (3, Shared)],
+        &[(1, Shared), (3, Shared)],
+        &[(2, Exclusive)],
+        false,
+    ),
+    // An exclusive first is taken off alone.
+    (
+        &[(2, Exclusive), (3, Shared)],
+        &[(2, Exclusive)],
+        &[(3, Shared)],
+        false,
+    ),
+    // Nobody is taken off an empty list.
+    (&[], &[], &[], true),
+];
+
+/// The session joins the list, in which it doesn't stand.
+fn join(rt: &impl Abort, list: &mut WaitList, number: u8, mode: LwMode) {
+    let session = session(rt, number);
+    assert!(rt; !list.has(session));
+    list.join(session, mode);
+}
+
+/// Whether these wait, in this order and in these modes.
+fn are_waiting(waiters: &[LwWaiter], expected: &[(u8, LwMode)]) -> bool {
+    if waiters.len() != expected.len() {
+        return false;
+    }
+    for place in 0..expected.len() {
+        let waiter = waiters[place];
+        let (number, mode) = expected[place];
+        if waiter.session.number() != number || waiter.mode != mode {
+            return false;
+        }
+    }
+    true
+}
+
+/// Whether a wakeup of the list takes these off, leaves these, and has release-ok set.
+fn wakes(rt: &impl Abort, (waiters, taken, left, release_ok): WaitsAndWakeup) -> bool {
+    let mut list = WaitList::new();
+    for (number, mode) in waiters {
+        join(rt, &mut list, *number, *mode);
+    }
+    let was_empty = list.is_empty();
+    let wakeup = list.wake_split();
+    was_empty == waiters.is_empty()
+        && are_waiting(wakeup.taken.as_slice(), taken)
+        && are_waiting(list.waiters(), left)
+        && list.is_empty() == left.is_empty()
+        && wakeup.release_ok == release_ok
+}
+
+#[test]
+fn a_wakeup_takes_sharers_off_together_and_an_exclusive_first_alone(rt: HostRuntime) {
+    for row in WAKEUPS {
+        assert!(rt; wakes(&rt, row), "a list of {}", row.0.len());
+    }
+}
+
+/// A list with all sessions, each behind those with lower numbers.
+fn all_sessions(rt: &impl Abort) -> WaitList {
+    let mut list = WaitList::new();
+    for number in 0..64 {
+        join(rt, &mut list, number, Exclusive);
+    }
+    list
+}
+
+/// Whether the session was in the list, and whether it is there once it left.
+fn left(list: &mut WaitList, session: SessionId) -> (bool, bool) {
+    (list.leave(session), list.has(session))
+}
+
+#[test]
+fn sixty_four_sessions_wait_and_one_leaves(rt: HostRuntime) {
+    let mut list = all_sessions(&rt);
+    let session = session(&rt, 17);
+    for (count, was) in [(64, true), (63, false)] {
+        assert!(rt; list.waiters().len() == count);
+        assert!(rt; left(&mut list, session) == (was, false));
+    }
+    assert!(rt; list.waiters().len() == 63);
+}
+
+/// A slot's word, a mode that is set in it for a relation, and the word that comes of it.
+const SETS: [(u64, u32, Mode, u64); 3] = [
+    (16384, 16384, Mode::AccessShare, 0x1_0000_4000),
+    (0x1_0000_4000, 16384, Mode::RowExclusive, 0x5_0000_4000),
+    (0, u32::MAX, Mode::RowShare, 0x2_FFFF_FFFF),
+];
+
+/// A slot's word, a mode that is cleared in it, and the word that comes of it.
+const CLEARS: [(u64, Mode, u64); 3] = [
+    (0x5_0000_4000, Mode::RowShare, 0x5_0000_4000),
+    (0x5_0000_4000, Mode::AccessShare, 0x4_0000_4000),
+    (0x4_0000_4000, Mode::RowExclusive, 0),
+];
+
+/// Whether the slot word 0x5_0000_4000 shows a mode.
+const SHOWS: [(Mode, bool); 5] = [
+    (Mode::AccessShare, true),
+    (Mode::RowShare, false),
+    (Mode::RowExclusive, true),
+    (Mode::ShareUpdateExclusive, false),
+    (Mode::AccessExclusive, false),
+];
+
+/// The word of a slot that is empty, or the relation's, with a mode set that a slot may show.
+fn with(rt: &impl Abort, number: u64, relation: u32, mode: Mode) -> u64 {
+    let slot = SlotWord::from_number(number);
+    assert!(rt; mode.number() <= 3);
+    assert!(rt; !slot.in_use() || slot.relation() == relation);
+    slot.with(relation, mode).number()
+}
+
+/// The word with such a mode cleared.
+fn without(rt: &impl Abort, number: u64, mode: Mode) -> u64 {
+    assert!(rt; mode.number() <= 3);
+    SlotWord::from_number(number).without(mode).number()
+}
+
+/// Whether a slot is in use, and its relation.
+fn used_by(number: u64) -> (bool, u32) {
+    let slot = SlotWord::from_number(number);
+    (slot.in_use(), slot.relation())
+}
+
+/// Whether a slot shows the mode, the mode of relation 16384, and the mode of relation 16385.
+fn shows(number: u64, mode: Mode) -> [bool; 3] {
+    let slot = SlotWord::from_number(number);
+    [
+        slot.has(mode),
+        slot.shows(16384, mode),
+        slot.shows(16385, mode),
+    ]
+}
+
+#[test]
+fn a_slot_is_in_use_where_it_shows_a_mode(rt: HostRuntime) {
+    for (number, used) in [(16384, false), (0x1_0000_4000, true), (0x5_0000_4000, true)] {
+        assert!(rt; used_by(number) == (used, 16384), "at {number}");
+    }
+    assert!(rt; SlotWord::default().number() == 0);
+}
+
+#[test]
+fn a_slot_shows_the_modes_of_its_relation(rt: HostRuntime) {
+    for (mode, shown) in SHOWS {
+        let its = shows(0x5_0000_4000, mode);
+        assert!(rt; its == [shown, shown, false], "{}", mode.name());
+    }
+}
+
+#[test]
+fn a_mode_is_set_in_a_slot(rt: HostRuntime) {
+    for (number, relation, mode, after) in SETS {
+        assert!(rt; with(&rt, number, relation, mode) == after, "at {number}");
+    }
+}
+
+#[test]
+fn a_mode_is_cleared_in_a_slot(rt: HostRuntime) {
+    for (number, mode, after) in CLEARS {
+        assert!(rt; without(&rt, number, mode) == after, "at {number}");
+    }
+}

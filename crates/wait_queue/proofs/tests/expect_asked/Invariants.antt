@@ -1,5 +1,0 @@
-use Rattle.std.specs.Prelude.{◌≡◌, None}
-use Rattle.wait_queue.proofs.tests.expect_asked.Given as goal
-
-abbrev pub invariant-loop-number : goal.invariant-loop-number
-invariant-loop-number g l = l.part.begun ≡ None
