@@ -6,6 +6,14 @@ use std::alloc::Global;
 use std::process::Abort;
 use std::test::Fail;
 
+/// An index, at the second attempt where memory was wanting.
+fn new_index(rt: &impl Abort, alloc: Global) -> PlaceIndex {
+    match PlaceIndex::new(alloc) {
+        Ok(index) => index,
+        Err(_) => PlaceIndex::new(alloc).expect(rt, "memory"),
+    }
+}
+
 fn is_noted(index: &PlaceIndex, hash: u32, place: u16) -> bool {
     index
         .find(hash, |found| found == u32::from(place))
@@ -14,20 +22,25 @@ fn is_noted(index: &PlaceIndex, hash: u32, place: u16) -> bool {
 
 /// Notes a place, which is not noted yet. Where memory is refused, nothing changes and the next call goes on.
 fn note(rt: &impl Abort, index: &mut PlaceIndex, hash: u32, place: u16) {
-    assert!(rt; !is_noted(index, hash, place), "{place} is noted");
-    if index.reserve().is_err() {
-        assert!(rt; index.reserve().is_ok(), "memory is refused twice");
+    let place = u32::from(place);
+    if index.reserve(place).is_err() {
+        assert!(rt; index.reserve(place).is_ok(), "memory is refused twice");
     }
-    assert!(rt; index.has_room());
-    index.insert(hash, u32::from(place));
+    let noted = index.has(place);
+    assert!(rt; !noted, "{place} is noted");
+    let room = index.places();
+    assert!(rt; (place as usize) < room);
+    index.insert(hash, place);
 }
 
-/// Forgets the place, if it is noted under the hash, and whether it was.
+/// Forgets the place, if it is noted under the hash, and tells whether it was: each second one at the first look, if that shows it.
 fn forget(index: &mut PlaceIndex, hash: u32, place: u16) -> bool {
     let found = index.find(hash, |other| other == u32::from(place));
     match found {
         Some(place) => {
-            index.remove(hash, place);
+            if place % 2 == 0 || !index.remove_first(hash, place) {
+                index.remove(hash, place);
+            }
             true
         }
         None => false,
@@ -35,8 +48,20 @@ fn forget(index: &mut PlaceIndex, hash: u32, place: u16) -> bool {
 }
 
 #[test]
+fn a_first_look_shows_the_only_place(rt: HostRuntime) {
+    let mut index = new_index(&rt, rt.alloc());
+    assert_eq!(rt; index.first(5), None);
+    note(&rt, &mut index, 5, 1);
+    assert_eq!(rt; (index.first(5), index.first(u32::MAX)), (Some(1), None));
+    assert!(rt; index.has(1) && !index.has(0) && !index.has(u32::MAX));
+    assert!(rt; is_noted(&index, 5, 1));
+    assert!(rt; forget(&mut index, 5, 1));
+    assert_eq!(rt; (index.first(5), index.has(1)), (None, false));
+}
+
+#[test]
 fn a_place_is_noted_until_it_is_forgotten_or_all_are_cleared(rt: HostRuntime) {
-    let mut index = PlaceIndex::new(rt.alloc());
+    let mut index = new_index(&rt, rt.alloc());
     for (hash, place) in [(0, 0), (u32::MAX, 7)] {
         assert!(rt; !is_noted(&index, hash, place), "{place} in an empty index");
     }
@@ -50,13 +75,13 @@ fn a_place_is_noted_until_it_is_forgotten_or_all_are_cleared(rt: HostRuntime) {
         );
     }
     note(&rt, &mut index, 6, 0);
-    let room = index.room();
+    let room = index.places();
     assert_eq!(rt; index.len(), 2);
     for (hash, place, is) in [(5, 0, false), (5, 1, true), (6, 0, true), (6, 1, false)] {
         assert_eq!(rt; is_noted(&index, hash, place), is, "{place} under {hash}");
     }
     index.clear();
-    assert_eq!(rt; (index.len(), index.room()), (0, room + 2));
+    assert_eq!(rt; (index.len(), index.places()), (0, room));
     for (hash, place) in [(5, 1), (6, 0)] {
         assert!(rt;
             !is_noted(&index, hash, place),
@@ -97,7 +122,7 @@ fn forget_by_halves(rt: &impl Abort, index: &mut PlaceIndex, hashes: u32) {
 #[test]
 fn thousands_of_places_are_forgotten_by_halves(rt: HostRuntime) {
     for (first, second) in [(u32::MAX, 1_000), (3, 3)] {
-        let mut index = PlaceIndex::new(rt.alloc());
+        let mut index = new_index(&rt, rt.alloc());
         forget_by_halves(&rt, &mut index, first);
         forget_by_halves(&rt, &mut index, second);
     }
@@ -144,13 +169,14 @@ fn call_both(rt: &impl Abort, index: &mut PlaceIndex, list: &mut Plain, random: 
                 list[at] = None;
             }
         }
+        2 => assert_eq!(rt; index.has(u32::from(place)), its.is_some(), "{place}"),
         _ => assert_eq!(rt; is_noted(index, hash, place), there, "{place} under {hash}"),
     }
 }
 
 #[test]
 fn random_calls_are_as_on_a_list(rt: HostRuntime) -> Result<(), Fail> {
-    let mut index = PlaceIndex::new(rt.alloc());
+    let mut index = new_index(&rt, rt.alloc());
     let mut list = new_list(&rt, rt.alloc());
     for place in 0..PLACES {
         note(&rt, &mut index, u32::from(place) % 40, place);
