@@ -26,11 +26,13 @@ fn note(rt: &impl Abort, index: &mut PlaceIndex, hash: u32, place: u16) {
     if index.reserve(place).is_err() {
         assert!(rt; index.reserve(place).is_ok(), "memory is refused twice");
     }
-    let noted = index.has(place);
-    assert!(rt; !noted, "{place} is noted");
     let room = index.places();
     assert!(rt; (place as usize) < room);
-    index.insert(hash, place);
+    if index.has(place) {
+        assert!(rt; false, "{place} is noted");
+    } else {
+        index.insert(hash, place);
+    }
 }
 
 /// Forgets the place, if it is noted under the hash, and tells whether it was: each second one at the first look, if that shows it.
@@ -179,8 +181,10 @@ fn random_calls_are_as_on_a_list(rt: HostRuntime) -> Result<(), Fail> {
     let mut index = new_index(&rt, rt.alloc());
     let mut list = new_list(&rt, rt.alloc());
     for place in 0..PLACES {
+        let at = usize::from(place);
+        assert!(rt; at < list.len());
         note(&rt, &mut index, u32::from(place) % 40, place);
-        list[usize::from(place)] = Some(u32::from(place) % 40);
+        list[at] = Some(u32::from(place) % 40);
     }
     let mut random = 1u32;
     for _ in 0..20_000u32 {
