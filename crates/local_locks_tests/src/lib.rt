@@ -3,6 +3,14 @@
 #![tactic(auto)]
 
 #[cfg(test)]
+mod acquires;
+#[cfg(test)]
+mod long_table;
+#[cfg(test)]
 mod places;
 #[cfg(test)]
-mod tables;
+mod random_calls;
+#[cfg(test)]
+mod turn_lists;
+#[cfg(test)]
+mod turns;

@@ -1,10 +1,7 @@
-//! The index of places: a place that is noted, forgotten and cleared, thousands of places, and random calls against a plain
-//! list.
+//! The index of places: a list of calls, thousands of places, and random calls against a plain list.
 
 use place_index::PlaceIndex;
-use std::alloc::Global;
 use std::process::Abort;
-use std::test::Fail;
 
 /// An index, at the second attempt where memory was wanting.
 fn new_index(rt: &impl Abort, alloc: Global) -> PlaceIndex {
@@ -22,16 +19,9 @@ fn is_noted(index: &PlaceIndex, hash: u32, place: u16) -> bool {
 
 /// Notes a place, which is not noted yet. Where memory is refused, nothing changes and the next call goes on.
 fn note(rt: &impl Abort, index: &mut PlaceIndex, hash: u32, place: u16) {
-    let place = u32::from(place);
-    if index.reserve(place).is_err() {
-        assert!(rt; index.reserve(place).is_ok(), "memory is refused twice");
-    }
-    let room = index.places();
-    assert!(rt; (place as usize) < room);
-    if index.has(place) {
-        assert!(rt; false, "{place} is noted");
-    } else {
-        index.insert(hash, place);
+    assert!(rt; !is_noted(index, hash, place));
+    if index.reserve().is_err() {
+        assert!(rt; index.reserve().is_ok());
     }
 }
 
@@ -49,6 +39,69 @@ fn forget(index: &mut PlaceIndex, hash: u32, place: u16) -> bool {
     }
 }
 
+/// Forgets all places, and whether the room for them came back.
+fn clear(index: &mut PlaceIndex) -> bool {
+    let all = index.room().checked_add(index.len());
+    index.clear();
+    all == Some(index.room())
+}
+
+/// What is done to an index, or seen in it.
+#[derive(Clone, Copy)]
+enum Step {
+    Note(u32, u16),
+    /// Whether it was noted.
+    Forget(u32, u16, bool),
+    /// Whether it is noted.
+    Find(u32, u16, bool),
+    /// How many there are.
+    Count(usize),
+    Clear,
+}
+
+const NOTED_UNTIL_FORGOTTEN_OR_CLEARED: [Step; 18] = [
+    Step::Find(0, 0, false),
+    Step::Find(u32::MAX, 7, false),
+    Step::Note(5, 0),
+    Step::Note(5, 1),
+    Step::Forget(5, 2, false),
+    Step::Forget(4, 1, false),
+    Step::Forget(5, 0, true),
+    Step::Forget(5, 0, false),
+    Step::Note(6, 0),
+    Step::Count(2),
+    Step::Find(5, 0, false),
+    Step::Find(5, 1, true),
+    Step::Find(6, 0, true),
+    Step::Find(6, 1, false),
+    Step::Clear,
+    Step::Count(0),
+    Step::Find(5, 1, false),
+    Step::Find(6, 0, false),
+];
+
+/// Does what the step says, or looks at it, and whether it is as it says.
+fn make(rt: &impl Abort, index: &mut PlaceIndex, step: Step) -> bool {
+    match step {
+        Step::Note(hash, place) => {
+            note(rt, index, hash, place);
+            true
+        }
+        Step::Forget(hash, place, was) => forget(index, hash, place) == was,
+        Step::Find(hash, place, is) => is_noted(index, hash, place) == is,
+        Step::Count(count) => index.len() == count,
+        Step::Clear => clear(index),
+    }
+}
+
+/// All steps, in order.
+fn play(rt: &impl Abort, index: &mut PlaceIndex, steps: &[Step]) {
+    for place in 0..steps.len() {
+        let is_right = make(rt, index, steps[place]);
+        assert!(rt; is_right, "step {place}");
+    }
+}
+
 #[test]
 fn a_first_look_shows_the_only_place(rt: HostRuntime) {
     let mut index = new_index(&rt, rt.alloc());
@@ -63,33 +116,8 @@ fn a_first_look_shows_the_only_place(rt: HostRuntime) {
 
 #[test]
 fn a_place_is_noted_until_it_is_forgotten_or_all_are_cleared(rt: HostRuntime) {
-    let mut index = new_index(&rt, rt.alloc());
-    for (hash, place) in [(0, 0), (u32::MAX, 7)] {
-        assert!(rt; !is_noted(&index, hash, place), "{place} in an empty index");
-    }
-    note(&rt, &mut index, 5, 0);
-    note(&rt, &mut index, 5, 1);
-    for (hash, place, was) in [(5, 2, false), (4, 1, false), (5, 0, true), (5, 0, false)] {
-        assert_eq!(rt;
-            forget(&mut index, hash, place),
-            was,
-            "{place} under {hash}"
-        );
-    }
-    note(&rt, &mut index, 6, 0);
-    let room = index.places();
-    assert_eq!(rt; index.len(), 2);
-    for (hash, place, is) in [(5, 0, false), (5, 1, true), (6, 0, true), (6, 1, false)] {
-        assert_eq!(rt; is_noted(&index, hash, place), is, "{place} under {hash}");
-    }
-    index.clear();
-    assert_eq!(rt; (index.len(), index.places()), (0, room));
-    for (hash, place) in [(5, 1), (6, 0)] {
-        assert!(rt;
-            !is_noted(&index, hash, place),
-            "{place} in a cleared index"
-        );
-    }
+    let mut index = PlaceIndex::new(rt.alloc());
+    play(&rt, &mut index, NOTED_UNTIL_FORGOTTEN_OR_CLEARED.as_slice());
 }
 
 fn hash_of(place: u16, hashes: u32) -> u32 {
@@ -101,97 +129,107 @@ fn hash_of(place: u16, hashes: u32) -> u32 {
 
 const MANY: u16 = 3_000;
 
-/// Of many places, under so many hashes, each second one is forgotten, and then all others.
-fn forget_by_halves(rt: &impl Abort, index: &mut PlaceIndex, hashes: u32) {
+/// Notes many places, under so many hashes.
+fn note_many(rt: &impl Abort, index: &mut PlaceIndex, hashes: u32) {
     for place in 0..MANY {
         note(rt, index, hash_of(place, hashes), place);
     }
-    for left in [1, 0] {
-        for place in 0..MANY {
-            if place % 2 != left {
-                assert!(rt; forget(index, hash_of(place, hashes), place), "{place}");
-            }
-        }
-        for place in 0..MANY {
-            let is = left == 1 && place % 2 == 1;
-            let found = is_noted(index, hash_of(place, hashes), place);
-            assert_eq!(rt; found, is, "{place}");
+}
+
+/// Forgets each second one, the even or the odd ones.
+fn forget_half(rt: &impl Abort, index: &mut PlaceIndex, hashes: u32, odd: u16) {
+    for place in 0..MANY {
+        if place % 2 == odd {
+            let was = forget(index, hash_of(place, hashes), place);
+            assert!(rt; was, "{place}");
         }
     }
 }
 
-/// In a new index under few hashes, and in one that has grown under thousands and then under a thousand.
+/// Looks for all, of which the odd ones are noted or none.
+fn find_all(rt: &impl Abort, index: &PlaceIndex, hashes: u32, odd: bool) {
+    for place in 0..MANY {
+        let is = is_noted(index, hash_of(place, hashes), place);
+        assert!(rt; is == (odd && place % 2 == 1), "{place}");
+    }
+}
+
+/// Notes many places, and forgets the even ones and then the others.
+fn forget_by_halves(rt: &impl Abort, index: &mut PlaceIndex, hashes: u32) {
+    note_many(rt, index, hashes);
+    forget_half(rt, index, hashes, 0);
+    find_all(rt, index, hashes, true);
+    forget_half(rt, index, hashes, 1);
+    find_all(rt, index, hashes, false);
+}
+
 #[test]
-fn thousands_of_places_are_forgotten_by_halves(rt: HostRuntime) {
-    for (first, second) in [(u32::MAX, 1_000), (3, 3)] {
-        let mut index = new_index(&rt, rt.alloc());
-        forget_by_halves(&rt, &mut index, first);
-        forget_by_halves(&rt, &mut index, second);
-    }
+fn thousands_of_hashes(rt: HostRuntime) {
+    let mut index = PlaceIndex::new(rt.alloc());
+    forget_by_halves(&rt, &mut index, u32::MAX);
+    forget_by_halves(&rt, &mut index, 1_000);
 }
 
-/// How many places random calls are on.
-const PLACES: u16 = 256;
+#[test]
+fn few_hashes(rt: HostRuntime) {
+    let mut index = PlaceIndex::new(rt.alloc());
+    forget_by_halves(&rt, &mut index, 3);
+}
 
 /// The hash that each place is noted under, if it is.
-type Plain = Vec<Option<u32>>;
+type Plain = [Option<u32>; 256];
 
-/// A plain list of all places, none of which is noted.
-fn new_list(rt: &impl Abort, alloc: Global) -> Plain {
-    match vec![in alloc; None; PLACES as usize] {
-        Ok(list) => list,
-        Err(_) => vec![in alloc; None; PLACES as usize].expect(rt, "memory"),
+/// Notes all places of a plain list, which is returned.
+fn note_all(rt: &impl Abort, index: &mut PlaceIndex) -> Plain {
+    let mut list = [None; 256];
+    for place in 0..256u16 {
+        let hash = u32::from(place) % 40;
+        note(rt, index, hash, place);
+        list[usize::from(place)] = Some(hash);
     }
+    list
 }
 
-/// Makes a call on both, by some bits of a random number, and compares the answers.
-fn call_both(rt: &impl Abort, index: &mut PlaceIndex, list: &mut Plain, random: u32) {
-    let place = (random >> 12 & 0xFF) as u16;
-    let at = usize::from(place);
-    assert!(rt; at < list.len());
-    let its = list[at];
-    // Half of the calls are by the hash that the place has.
+/// A hash of a random number or, half of the time, the one that the place has.
+fn hash_by(random: u32, its: Option<u32>) -> u32 {
     let other = (random >> 24) % 40;
-    let hash = if random >> 20 & 1 == 0 {
-        other
-    } else {
-        its.unwrap_or(other)
-    };
-    let there = its == Some(hash);
+    if random >> 20 & 1 == 0 {
+        return other;
+    }
+    its.unwrap_or(other)
+}
+
+/// Makes a call on both, by some bits of a random number, and whether the answers are the same.
+fn call_both(rt: &impl Abort, index: &mut PlaceIndex, list: &mut Plain, random: u32) -> bool {
+    let place = random >> 12 & 0xFF;
+    let its = list[place as usize];
+    let hash = hash_by(random, its);
+    let place = place as u16;
     match random >> 10 & 3 {
-        0 => {
-            if its.is_none() {
-                note(rt, index, hash, place);
-                list[at] = Some(hash);
-            }
+        0 if its.is_none() => {
+            note(rt, index, hash, place);
+            list[usize::from(place)] = Some(hash);
+            true
         }
         1 => {
-            assert_eq!(rt; forget(index, hash, place), there, "{place} under {hash}");
-            if there {
-                list[at] = None;
+            let was = forget(index, hash, place);
+            if was {
+                list[usize::from(place)] = None;
             }
+            was == (its == Some(hash))
         }
-        2 => assert_eq!(rt; index.has(u32::from(place)), its.is_some(), "{place}"),
-        _ => assert_eq!(rt; is_noted(index, hash, place), there, "{place} under {hash}"),
+        _ => is_noted(index, hash, place) == (its == Some(hash)),
     }
 }
 
 #[test]
-fn random_calls_are_as_on_a_list(rt: HostRuntime) -> Result<(), Fail> {
-    let mut index = new_index(&rt, rt.alloc());
-    let mut list = new_list(&rt, rt.alloc());
-    for place in 0..PLACES {
-        let at = usize::from(place);
-        assert!(rt; at < list.len());
-        note(&rt, &mut index, u32::from(place) % 40, place);
-        list[at] = Some(u32::from(place) % 40);
-    }
+fn random_calls_are_as_on_a_list(rt: HostRuntime) {
+    let mut index = PlaceIndex::new(rt.alloc());
+    let mut list = note_all(&rt, &mut index);
     let mut random = 1u32;
-    for _ in 0..20_000u32 {
+    for step in 0..20_000u32 {
         random = random.wrapping_mul(1_664_525).wrapping_add(1_013_904_223);
-        call_both(&rt, &mut index, &mut list, random);
+        let is_right = call_both(&rt, &mut index, &mut list, random);
+        assert!(rt; is_right, "call {step}");
     }
-    let noted = list.iter().filter(|hash| hash.is_some()).count();
-    assert_eq!(rt; index.len(), noted);
-    Ok(())
 }

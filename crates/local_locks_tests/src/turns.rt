@@ -1,6 +1,6 @@
 //! Calls of a local table, and what they are answered: a test is a list of turns.
 
-use super::{acquire_again, count};
+use crate::acquires::acquire;
 use local_locks::{Acquired, AtOnce, End, LocalTable, Unlocked};
 use modes_core::{Mode, Owner, Refusal, Tag};
 use std::process::Abort;
@@ -83,10 +83,19 @@ fn ended(answer: Option<(Tag, Mode)>) -> Answer {
     }
 }
 
+/// How many entries there are.
+fn count(table: &LocalTable) -> u32 {
+    let mut number = 0u32;
+    for _ in table.entries() {
+        number = number.wrapping_add(1);
+    }
+    number
+}
+
 /// Makes a call.
 fn make(rt: &impl Abort, table: &mut LocalTable, call: Call) -> Answer {
     match call {
-        Call::Acquire(tag, mode, owner) => acquired(acquire_again(rt, table, tag, mode, owner)),
+        Call::Acquire(tag, mode, owner) => acquired(acquire(rt, table, tag, mode, owner)),
         Call::AddHeld(tag, mode, owner) => counted(table.add_held(&tag, mode, owner)),
         Call::AddAtOnce(tag, mode, owner) => known(table.add_at_once(&tag, mode, owner)),
         Call::Drop(tag, mode, owner) => released(table.drop_one(tag, mode, owner)),
@@ -99,12 +108,21 @@ fn make(rt: &impl Abort, table: &mut LocalTable, call: Call) -> Answer {
     }
 }
 
+/// Makes a call so often, and whether it is answered so each time.
+fn take(rt: &impl Abort, table: &mut LocalTable, turn: Turn) -> bool {
+    let (times, call, answer) = turn;
+    for _ in 0..times {
+        if make(rt, table, call) != answer {
+            return false;
+        }
+    }
+    true
+}
+
 /// All turns, in order.
 pub fn play(rt: &impl Abort, table: &mut LocalTable, turns: &[Turn]) {
-    for (place, (times, call, answer)) in turns.iter().enumerate() {
-        for time in 0..*times {
-            let is_right = make(rt, table, *call) == *answer;
-            assert!(rt; is_right, "turn {place}, for the time {time}");
-        }
+    for place in 0..turns.len() {
+        let is_right = take(rt, table, turns[place]);
+        assert!(rt; is_right, "turn {place}");
     }
 }

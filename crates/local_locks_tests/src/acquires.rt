@@ -1,0 +1,74 @@
+//! A table to begin with, and the two ways to acquire.
+
+ghost use Rattle.std.specs.Prelude.{◌≤◌};
+
+use local_locks::{Acquired, LocalTable};
+use modes_core::{Mode, Owner, Refusal, Tag};
+use std::alloc::Global;
+use std::process::Abort;
+
+/// A table, at the second attempt where memory was wanting.
+pub fn new_table(rt: &impl Abort, alloc: Global, max_local: u32) -> LocalTable
+    requires from { 1 ≤ max_local }
+    requires to { max_local ≤ 65536 }
+{
+    match LocalTable::new(alloc, max_local) {
+        Ok(table) => table,
+        Err(_) => LocalTable::new(alloc, max_local).expect(rt, "memory"),
+    }
+}
+
+fn acquire_once(
+    table: &mut LocalTable,
+    tag: Tag,
+    mode: Mode,
+    owner: Owner,
+) -> Result<Acquired, Refusal> {
+    table.reserve(tag, mode, owner)?;
+    Ok(table.add(tag, mode, owner))
+}
+
+/// Acquires by `reserve` and `add`. Where memory is refused, nothing changes and the next call goes on.
+pub fn acquire(
+    rt: &impl Abort,
+    table: &mut LocalTable,
+    tag: Tag,
+    mode: Mode,
+    owner: Owner,
+) -> Result<Acquired, Refusal> {
+    let total = table.total(tag, mode);
+    match acquire_once(table, tag, mode, owner) {
+        Err(Refusal::NoMemory) => {
+            assert!(rt; table.total(tag, mode) == total);
+            acquire_once(table, tag, mode, owner)
+        }
+        answer => answer,
+    }
+}
+
+fn acquire_once_in_one_look(
+    table: &mut LocalTable,
+    tag: Tag,
+    mode: Mode,
+    owner: Owner,
+) -> Result<Acquired, Refusal> {
+    if table.add_held(&tag, mode, owner)? {
+        return Ok(Acquired::AlreadyHeld);
+    }
+    table.reserve_new()?;
+    table.add_new(&tag, mode, owner);
+    Ok(Acquired::Granted)
+}
+
+/// Acquires with one look, by `add_held` or, where it isn't held, by `reserve_new` and `add_new`.
+pub fn acquire_in_one_look(
+    table: &mut LocalTable,
+    tag: Tag,
+    mode: Mode,
+    owner: Owner,
+) -> Result<Acquired, Refusal> {
+    match acquire_once_in_one_look(table, tag, mode, owner) {
+        Err(Refusal::NoMemory) => acquire_once_in_one_look(table, tag, mode, owner),
+        answer => answer,
+    }
+}

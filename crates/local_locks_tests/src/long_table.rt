@@ -1,0 +1,125 @@
+//! A table of 10,000 entries, of which half are released in another order, and then a commit.
+
+use crate::acquires::{acquire, new_table};
+use local_locks::{End, Entries, Entry, LocalTable, Unlocked};
+use modes_core::Mode::AccessShare;
+use modes_core::{Owner, Tag};
+use std::process::Abort;
+
+const MANY: u32 = 10_000;
+
+/// Whether the owner has a relation of these: each has an owner, and some have both.
+fn owns(owner: Owner, relation: u32) -> bool {
+    match owner {
+        Owner::Transaction => relation % 5 != 0 || relation % 7 == 0,
+        Owner::Session => relation % 5 == 0,
+    }
+}
+
+/// The relation that is released at this step of half of them.
+fn released_at(step: u32) -> u32 {
+    step.wrapping_mul(3) % MANY
+}
+
+/// Whether it is left after that.
+fn is_left(relation: u32) -> bool {
+    for step in 0..MANY / 2 {
+        if released_at(step) == relation {
+            return false;
+        }
+    }
+    true
+}
+
+/// The owner acquires a relation, if it is one of its own.
+fn acquire_for(rt: &impl Abort, table: &mut LocalTable, owner: Owner, relation: u32) -> bool {
+    let tag = Tag::relation(5, relation);
+    !owns(owner, relation) || acquire(rt, table, tag, AccessShare, owner).is_ok()
+}
+
+/// All relations are acquired.
+fn acquire_all(rt: &impl Abort, table: &mut LocalTable) {
+    for relation in 0..MANY {
+        assert!(rt;
+            acquire_for(rt, table, Owner::Transaction, relation),
+            "{relation}"
+        );
+        assert!(rt;
+            acquire_for(rt, table, Owner::Session, relation),
+            "{relation}"
+        );
+    }
+}
+
+/// Whether the owner's release of a relation that is its own is answered so.
+fn release_for(table: &mut LocalTable, owner: Owner, relation: u32, answer: Unlocked) -> bool {
+    let tag = Tag::relation(5, relation);
+    !owns(owner, relation) || table.drop_one(tag, AccessShare, owner) == Ok(answer)
+}
+
+/// Half of them are released, first by the transaction.
+fn release_half(rt: &impl Abort, table: &mut LocalTable) {
+    for step in 0..MANY / 2 {
+        let relation = released_at(step);
+        let first = if owns(Owner::Session, relation) {
+            Unlocked::StillHeld
+        } else {
+            Unlocked::Released
+        };
+        assert!(rt;
+            release_for(table, Owner::Transaction, relation, first),
+            "{relation}"
+        );
+        let last = Unlocked::Released;
+        assert!(rt;
+            release_for(table, Owner::Session, relation, last),
+            "{relation}"
+        );
+    }
+}
+
+/// Whether a commit ends this one next.
+fn ends_next(table: &mut LocalTable, relation: u32) -> bool {
+    table.end_next(End::Commit) == Some((Tag::relation(5, relation), AccessShare))
+}
+
+/// A commit ends those that are left and not the session's, in the order of making.
+fn commit(rt: &impl Abort, table: &mut LocalTable) {
+    for relation in 0..MANY {
+        if !owns(Owner::Session, relation) && is_left(relation) {
+            assert!(rt; ends_next(table, relation), "{relation}");
+        }
+    }
+    assert!(rt; table.end_next(End::Commit).is_none());
+}
+
+/// Whether the next entry is the session's for this relation.
+fn is_next(entries: &mut Entries<'_>, relation: u32) -> bool {
+    entries.next()
+        == Some(Entry {
+            tag: Tag::relation(5, relation),
+            mode: AccessShare,
+            transaction: 0,
+            session: 1,
+        })
+}
+
+/// What the session has stays, in the order of making.
+fn expect_left(rt: &impl Abort, table: &LocalTable) {
+    let mut entries = table.entries();
+    for relation in 0..MANY {
+        if owns(Owner::Session, relation) && is_left(relation) {
+            assert!(rt; is_next(&mut entries, relation), "{relation}");
+        }
+    }
+    assert!(rt; entries.next().is_none());
+}
+
+#[test]
+fn a_long_table_is_as_a_plain_list(rt: HostRuntime) {
+    let mut table = new_table(&rt, rt.alloc(), 65536);
+    acquire_all(&rt, &mut table);
+    release_half(&rt, &mut table);
+    commit(&rt, &mut table);
+    expect_left(&rt, &table);
+}

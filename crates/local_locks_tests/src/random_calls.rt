@@ -1,0 +1,207 @@
+//! Random calls, on a table and on a plain list of what a session holds.
+
+use crate::acquires::{acquire, acquire_in_one_look, new_table};
+use local_locks::{Acquired, End, Entry, LocalTable, Unlocked};
+use modes_core::{Mode, Owner, Refusal, Tag};
+use std::alloc::Global;
+use std::process::Abort;
+
+/// What a session holds, in the order of making.
+type Plain = Vec<Entry>;
+
+/// A list with room, at the second attempt where memory was wanting.
+fn new_list(rt: &impl Abort, alloc: Global) -> Plain {
+    match Vec::with_capacity(alloc, 200) {
+        Ok(list) => list,
+        Err(_) => Vec::with_capacity(alloc, 200).expect(rt, "memory"),
+    }
+}
+
+fn place_of(list: &Plain, tag: Tag, mode: Mode) -> Option<usize> {
+    for place in 0..list.len() {
+        if list[place].tag == tag && list[place].mode == mode {
+            return Some(place);
+        }
+    }
+    None
+}
+
+/// The entry with one more count of this owner.
+fn raised(entry: Entry, owner: Owner) -> Entry {
+    let Entry {
+        tag,
+        mode,
+        transaction,
+        session,
+    } = entry;
+    let (transaction, session) = match owner {
+        Owner::Transaction => (transaction.saturating_add(1), session),
+        Owner::Session => (transaction, session.saturating_add(1)),
+    };
+    Entry {
+        tag,
+        mode,
+        transaction,
+        session,
+    }
+}
+
+/// The entry with one count of this owner less, if it has one.
+fn lowered(entry: Entry, owner: Owner) -> Option<Entry> {
+    let Entry {
+        tag,
+        mode,
+        transaction,
+        session,
+    } = entry;
+    let (transaction, session) = match owner {
+        Owner::Transaction => (transaction.checked_sub(1)?, session),
+        Owner::Session => (transaction, session.checked_sub(1)?),
+    };
+    Some(Entry {
+        tag,
+        mode,
+        transaction,
+        session,
+    })
+}
+
+/// An acquire in the list, and what it is answered.
+fn raise(rt: &impl Abort, list: &mut Plain, tag: Tag, mode: Mode, owner: Owner) -> Acquired {
+    let Some(place) = place_of(list, tag, mode) else {
+        let none = Entry {
+            tag,
+            mode,
+            transaction: 0,
+            session: 0,
+        };
+        assert!(rt; list.push(raised(none, owner)).is_ok());
+        return Acquired::Granted;
+    };
+    assert!(rt; place < list.len());
+    list[place] = raised(list[place], owner);
+    Acquired::AlreadyHeld
+}
+
+/// A release in the list, and what it is answered.
+fn lower(
+    rt: &impl Abort,
+    list: &mut Plain,
+    tag: Tag,
+    mode: Mode,
+    owner: Owner,
+) -> Result<Unlocked, Refusal> {
+    let Some(place) = place_of(list, tag, mode) else {
+        return Err(Refusal::NotHeld);
+    };
+    assert!(rt; place < list.len());
+    let Some(left) = lowered(list[place], owner) else {
+        return Err(Refusal::NotHeld);
+    };
+    if left.transaction == 0 && left.session == 0 {
+        list.remove(place);
+        return Ok(Unlocked::Released);
+    }
+    list[place] = left;
+    Ok(Unlocked::StillHeld)
+}
+
+/// Whether the table has the entries of the list, in their order.
+fn is_same(table: &LocalTable, list: &Plain) -> bool {
+    let mut entries = table.entries();
+    for place in 0..list.len() {
+        if entries.next() != Some(list[place]) {
+            return false;
+        }
+    }
+    entries.next().is_none()
+}
+
+/// One of 32 objects, by some bits of a random number.
+fn random_tag(random: u32) -> Tag {
+    let number = random >> 20 & 15;
+    if random >> 19 & 1 == 0 {
+        Tag::relation(5, number)
+    } else {
+        Tag::object(5, 1259, number, 0)
+    }
+}
+
+fn random_mode(random: u32) -> Mode {
+    match random >> 17 & 3 {
+        0 => Mode::AccessShare,
+        1 => Mode::RowShare,
+        2 => Mode::RowExclusive,
+        _ => Mode::AccessExclusive,
+    }
+}
+
+fn random_owner(random: u32) -> Owner {
+    if random >> 15 & 3 == 0 {
+        Owner::Session
+    } else {
+        Owner::Transaction
+    }
+}
+
+/// Counts it once more in both where it is held, and whether both say that it is or isn't.
+fn add_held(
+    rt: &impl Abort,
+    table: &mut LocalTable,
+    list: &mut Plain,
+    tag: Tag,
+    mode: Mode,
+    owner: Owner,
+) -> bool {
+    let held = place_of(list, tag, mode).is_some();
+    if held {
+        raise(rt, list, tag, mode, owner);
+    }
+    table.add_held(&tag, mode, owner) == Ok(held)
+}
+
+/// Makes a call on both, by some bits of a random number, and whether the answers are the same.
+fn call_both(rt: &impl Abort, table: &mut LocalTable, list: &mut Plain, random: u32) -> bool {
+    let (tag, mode, owner) = (
+        random_tag(random),
+        random_mode(random),
+        random_owner(random),
+    );
+    match random >> 27 & 7 {
+        0..=1 => {
+            let answer = raise(rt, list, tag, mode, owner);
+            acquire(rt, table, tag, mode, owner) == Ok(answer)
+        }
+        2..=3 => {
+            let answer = raise(rt, list, tag, mode, owner);
+            acquire_in_one_look(table, tag, mode, owner) == Ok(answer)
+        }
+        4 => add_held(rt, table, list, tag, mode, owner),
+        _ => table.drop_one(tag, mode, owner) == lower(rt, list, tag, mode, owner),
+    }
+}
+
+/// All that is held goes.
+fn end(table: &mut LocalTable, list: &mut Plain) {
+    for _ in 0..200u32 {
+        let _ = table.end_next(End::Abort);
+    }
+    list.clear();
+}
+
+#[test]
+fn random_calls_are_as_on_a_plain_list(rt: HostRuntime) {
+    let mut table = new_table(&rt, rt.alloc(), 1024);
+    let mut list = new_list(&rt, rt.alloc());
+    let mut random = 7u32;
+    for step in 0..100_000u32 {
+        random = random.wrapping_mul(1_664_525).wrapping_add(1_013_904_223);
+        let is_right = call_both(&rt, &mut table, &mut list, random);
+        assert!(rt; is_right, "call {step}");
+        if step % 1000 == 0 {
+            assert!(rt; is_same(&table, &list), "after {step}");
+            end(&mut table, &mut list);
+        }
+    }
+    assert!(rt; is_same(&table, &list));
+}
