@@ -1,6 +1,7 @@
 //! The index of places: a list of calls, thousands of places, and random calls against a plain list.
 
 use place_index::PlaceIndex;
+use std::alloc::Global;
 use std::process::Abort;
 
 /// An index, at the second attempt where memory was wanting.
@@ -19,13 +20,20 @@ fn is_noted(index: &PlaceIndex, hash: u32, place: u16) -> bool {
 
 /// Notes a place, which is not noted yet. Where memory is refused, nothing changes and the next call goes on.
 fn note(rt: &impl Abort, index: &mut PlaceIndex, hash: u32, place: u16) {
-    assert!(rt; !is_noted(index, hash, place));
-    if index.reserve().is_err() {
-        assert!(rt; index.reserve().is_ok());
+    let place = u32::from(place);
+    if index.reserve(place).is_err() {
+        assert!(rt; index.reserve(place).is_ok());
+    }
+    let room = index.places();
+    assert!(rt; (place as usize) < room);
+    if index.has(place) {
+        assert!(rt; false, "{place} is noted");
+    } else {
+        index.insert(hash, place);
     }
 }
 
-/// Forgets the place, if it is noted under the hash, and tells whether it was: each second one at the first look, if that shows it.
+/// Forgets the place, if it is noted under the hash, and whether it was: each second one at the first look, if that shows it.
 fn forget(index: &mut PlaceIndex, hash: u32, place: u16) -> bool {
     let found = index.find(hash, |other| other == u32::from(place));
     match found {
@@ -39,11 +47,11 @@ fn forget(index: &mut PlaceIndex, hash: u32, place: u16) -> bool {
     }
 }
 
-/// Forgets all places, and whether the room for them came back.
+/// Forgets all places, and whether the room for them stays.
 fn clear(index: &mut PlaceIndex) -> bool {
-    let all = index.room().checked_add(index.len());
+    let room = index.places();
     index.clear();
-    all == Some(index.room())
+    room == index.places()
 }
 
 /// What is done to an index, or seen in it.
@@ -54,16 +62,26 @@ enum Step {
     Forget(u32, u16, bool),
     /// Whether it is noted.
     Find(u32, u16, bool),
+    /// The place that a look for the hash comes to first.
+    First(u32, Option<u32>),
+    /// Whether it is noted under some hash.
+    Has(u32, bool),
     /// How many there are.
     Count(usize),
     Clear,
 }
 
-const NOTED_UNTIL_FORGOTTEN_OR_CLEARED: [Step; 18] = [
+const NOTED_UNTIL_FORGOTTEN_OR_CLEARED: [Step; 25] = [
     Step::Find(0, 0, false),
     Step::Find(u32::MAX, 7, false),
+    Step::First(5, None),
     Step::Note(5, 0),
+    Step::First(5, Some(0)),
+    Step::First(u32::MAX, None),
     Step::Note(5, 1),
+    Step::Has(1, true),
+    Step::Has(2, false),
+    Step::Has(u32::MAX, false),
     Step::Forget(5, 2, false),
     Step::Forget(4, 1, false),
     Step::Forget(5, 0, true),
@@ -78,6 +96,7 @@ const NOTED_UNTIL_FORGOTTEN_OR_CLEARED: [Step; 18] = [
     Step::Count(0),
     Step::Find(5, 1, false),
     Step::Find(6, 0, false),
+    Step::First(5, None),
 ];
 
 /// Does what the step says, or looks at it, and whether it is as it says.
@@ -89,6 +108,8 @@ fn make(rt: &impl Abort, index: &mut PlaceIndex, step: Step) -> bool {
         }
         Step::Forget(hash, place, was) => forget(index, hash, place) == was,
         Step::Find(hash, place, is) => is_noted(index, hash, place) == is,
+        Step::First(hash, place) => index.first(hash) == place,
+        Step::Has(place, is) => index.has(place) == is,
         Step::Count(count) => index.len() == count,
         Step::Clear => clear(index),
     }
@@ -103,20 +124,8 @@ fn play(rt: &impl Abort, index: &mut PlaceIndex, steps: &[Step]) {
 }
 
 #[test]
-fn a_first_look_shows_the_only_place(rt: HostRuntime) {
-    let mut index = new_index(&rt, rt.alloc());
-    assert_eq!(rt; index.first(5), None);
-    note(&rt, &mut index, 5, 1);
-    assert_eq!(rt; (index.first(5), index.first(u32::MAX)), (Some(1), None));
-    assert!(rt; index.has(1) && !index.has(0) && !index.has(u32::MAX));
-    assert!(rt; is_noted(&index, 5, 1));
-    assert!(rt; forget(&mut index, 5, 1));
-    assert_eq!(rt; (index.first(5), index.has(1)), (None, false));
-}
-
-#[test]
 fn a_place_is_noted_until_it_is_forgotten_or_all_are_cleared(rt: HostRuntime) {
-    let mut index = PlaceIndex::new(rt.alloc());
+    let mut index = new_index(&rt, rt.alloc());
     play(&rt, &mut index, NOTED_UNTIL_FORGOTTEN_OR_CLEARED.as_slice());
 }
 
@@ -165,14 +174,14 @@ fn forget_by_halves(rt: &impl Abort, index: &mut PlaceIndex, hashes: u32) {
 
 #[test]
 fn thousands_of_hashes(rt: HostRuntime) {
-    let mut index = PlaceIndex::new(rt.alloc());
+    let mut index = new_index(&rt, rt.alloc());
     forget_by_halves(&rt, &mut index, u32::MAX);
     forget_by_halves(&rt, &mut index, 1_000);
 }
 
 #[test]
 fn few_hashes(rt: HostRuntime) {
-    let mut index = PlaceIndex::new(rt.alloc());
+    let mut index = new_index(&rt, rt.alloc());
     forget_by_halves(&rt, &mut index, 3);
 }
 
@@ -224,7 +233,7 @@ fn call_both(rt: &impl Abort, index: &mut PlaceIndex, list: &mut Plain, random: 
 
 #[test]
 fn random_calls_are_as_on_a_list(rt: HostRuntime) {
-    let mut index = PlaceIndex::new(rt.alloc());
+    let mut index = new_index(&rt, rt.alloc());
     let mut list = note_all(&rt, &mut index);
     let mut random = 1u32;
     for step in 0..20_000u32 {

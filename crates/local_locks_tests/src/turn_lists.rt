@@ -178,7 +178,7 @@ fn commit_keeps_what_the_session_owns(rt: HostRuntime) {
 }
 
 #[test]
-fn one_cell_shows_what_a_relation_is_held_in(rt: HostRuntime) {
+fn one_look_shows_what_a_relation_is_held_in(rt: HostRuntime) {
     run(
         &rt,
         rt.alloc(),
