@@ -1,7 +1,7 @@
 //! A table of 10,000 entries, of which half are released in another order, and then a commit.
 
 use crate::acquires::{acquire, new_table};
-use local_locks::{End, Entries, Entry, LocalTable, Unlocked};
+use local_locks::{End, Entry, LocalTable, Unlocked};
 use modes_core::Mode::AccessShare;
 use modes_core::{Owner, Tag};
 use std::process::Abort;
@@ -93,26 +93,36 @@ fn commit(rt: &impl Abort, table: &mut LocalTable) {
     assert!(rt; table.end_next(End::Commit).is_none());
 }
 
-/// Whether the next entry is the session's for this relation.
-fn is_next(entries: &mut Entries<'_>, relation: u32) -> bool {
-    entries.next()
-        == Some(Entry {
-            tag: Tag::relation(5, relation),
-            mode: AccessShare,
-            transaction: 0,
-            session: 1,
-        })
+/// The entry of a relation that the session alone has.
+fn kept(relation: u32) -> Entry {
+    Entry {
+        tag: Tag::relation(5, relation),
+        mode: AccessShare,
+        transaction: 0,
+        session: 1,
+    }
 }
 
-/// What the session has stays, in the order of making.
-fn expect_left(rt: &impl Abort, table: &LocalTable) {
-    let mut entries = table.entries();
-    for relation in 0..MANY {
+/// The next relation from this one on that the session has and that is left, or `MANY`.
+fn next_left(from: u32) -> u32 {
+    for relation in from..MANY {
         if owns(Owner::Session, relation) && is_left(relation) {
-            assert!(rt; is_next(&mut entries, relation), "{relation}");
+            return relation;
         }
     }
-    assert!(rt; entries.next().is_none());
+    MANY
+}
+
+/// Whether what the session has and is left is what there is, in the order of making.
+fn are_left(table: &LocalTable) -> bool {
+    let mut next = next_left(0);
+    for entry in table.entries() {
+        if entry != kept(next) {
+            return false;
+        }
+        next = next_left(next.wrapping_add(1));
+    }
+    next == MANY
 }
 
 #[test]
@@ -121,5 +131,5 @@ fn a_long_table_is_as_a_plain_list(rt: HostRuntime) {
     acquire_all(&rt, &mut table);
     release_half(&rt, &mut table);
     commit(&rt, &mut table);
-    expect_left(&rt, &table);
+    assert!(rt; are_left(&table));
 }
