@@ -1,5 +1,5 @@
 use Rattle.std.proofs.Common.{◌≡◌}
-use Rattle.lock_bench.proofs.threads_page.print_case.Given as goal
+use Rattle.lock_bench.proofs.threads_page.time_job.Given as goal
 
 abbrev pub invariant-rounds : goal.invariant-rounds
 invariant-rounds g l = record {
