@@ -12,7 +12,7 @@ use std::time::CpuClock;
 /// How many locks a commit ends, how many the session has that takes held ones again, and how many are refused.
 const FEW: u32 = 10;
 
-const SIZES: [Size; 2] = [
+static SIZES: [Size; 2] = [
     Size {
         sessions: 8,
         held: 0,
@@ -36,7 +36,7 @@ const REFUSED_FLOOR: &str = "floor: atomic steps of a refused try";
 const STRONG_FLOOR: &str = "floor: atomic steps of a strong pair";
 
 /// Each row is compared with its atomic steps. A held pair has none, and is compared with those of a new one.
-const ROWS: [Row<Work>; 10] = [
+static ROWS: [Row<Work>; 10] = [
     Row {
         name: ONE_CALL,
         work: Work::OneEmptyCall,
@@ -126,14 +126,13 @@ pub fn print<R: Wait + CpuClock + AllocGlobal + Print>(
     owner: Owner,
     check: bool,
 ) -> Result<()> {
-    let (rows, sizes) = (ROWS, SIZES);
     let page = Page {
         name: "fast path on one thread",
-        rows: rows.as_slice(),
+        rows: ROWS.as_slice(),
         beside: "to the floor",
         database,
         owner,
         check,
     };
-    print_page(rt, &page, sizes.as_slice())
+    print_page(rt, &page, SIZES.as_slice())
 }

@@ -2,8 +2,8 @@
 
 use crate::pair::Pair;
 use crate::rounds::{ROUNDS, Times, WIDTH, print_header, print_ratio, print_time, wall_nanos};
-use crate::turns::{Plan, Played, pass_lock, pass_turn};
-use anyhow::Result;
+use crate::turns::{Plan, pass_lock, pass_turn};
+use anyhow::{Result, bail};
 use lock_manager::{Config, Manager};
 use modes_core::{Mode, Owner, Tag};
 use std::sync::Wait;
@@ -40,18 +40,24 @@ fn play<R: Threads + Wait + Clock + AllocGlobal + Sync>(
     };
     let (manager, mut opener) = Manager::new(rt.alloc(), config)?;
     let pair = Pair::open(rt, &manager, &mut opener, database)?;
-    let Played {
-        pair,
-        granted,
-        nanos,
-    } = pass_lock(rt, pair, plan);
+    let from = wall_nanos(rt).ok();
+    let (pair, granted) = pass_lock(rt, pair, plan);
+    let to = wall_nanos(rt).ok();
     pair.close(rt, &mut opener);
     let left = manager.finish(opener).table;
     Ok(Round {
-        nanos: nanos?,
+        nanos: nanos_between(from, to)?,
         granted,
         left,
     })
+}
+
+/// The nanoseconds between two readings of the clock.
+fn nanos_between(from: Option<u64>, to: Option<u64>) -> Result<u64> {
+    match (from, to) {
+        (Some(from), Some(to)) => Ok(to.saturating_sub(from)),
+        _ => bail!("the clock could not be read"),
+    }
 }
 
 /// Prints the times of handovers, and of turns beside them.

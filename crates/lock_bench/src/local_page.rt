@@ -34,7 +34,7 @@ const MAP_LOOK_UP: &str = "hash map: look-up";
 
 const MAP_PAIR: &str = "hash map: insert and removal";
 
-const ROWS: [Row<Work>; 11] = [
+static ROWS: [Row<Work>; 11] = [
     Row {
         name: ONE_CALL,
         work: Work::OneEmptyCall,
@@ -164,8 +164,7 @@ fn print_size<R: CpuClock + AllocGlobal + Print>(
     };
     let held = KeyList::Held.keys(rt.alloc(), database, size)?;
     let mut bed = Bed::new(rt.alloc(), owner, held.as_slice())?;
-    let rows = ROWS;
-    let mut lines = lines(rt.alloc(), rows.as_slice(), database, size, check)?;
+    let mut lines = lines(rt.alloc(), ROWS.as_slice(), database, size, check)?;
     if check {
         return check_rows(rt, &mut bed, lines.as_slice(), held.as_slice());
     }

@@ -12,7 +12,7 @@ use std::time::CpuClock;
 /// How many relations the session has that takes held ones again.
 const HELD: u32 = 16;
 
-const SIZES: [Size; 3] = [
+static SIZES: [Size; 3] = [
     Size {
         sessions: 2,
         held: 16,
@@ -45,7 +45,7 @@ const MAP_LOOK_UP: &str = "map in a mutex: look-up";
 const MAP_COMMIT: &str = "map in a mutex: ten taken out, for each";
 
 /// Each row is compared with the same work on the map.
-const ROWS: [Row<Work>; 13] = [
+static ROWS: [Row<Work>; 13] = [
     Row {
         name: ONE_CALL,
         work: Work::OneEmptyCall,
@@ -159,14 +159,13 @@ pub fn print<R: Wait + CpuClock + AllocGlobal + Print>(
     owner: Owner,
     check: bool,
 ) -> Result<()> {
-    let (rows, sizes) = (ROWS, SIZES);
     let page = Page {
         name: "lock manager on one thread",
-        rows: rows.as_slice(),
+        rows: ROWS.as_slice(),
         beside: "to the same work on the map",
         database,
         owner,
         check,
     };
-    print_page(rt, &page, sizes.as_slice())
+    print_page(rt, &page, SIZES.as_slice())
 }

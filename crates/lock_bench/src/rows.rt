@@ -11,7 +11,6 @@ pub const STEPS: u32 = 100_000;
 const STEPS_FOR_CHECKED: u32 = 100;
 
 /// A row of a table of times.
-#[derive(Clone, Copy)]
 pub struct Row<W> {
     /// What it times.
     pub name: &'static str,

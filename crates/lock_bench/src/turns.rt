@@ -4,8 +4,6 @@ ghost use Rattle.std.specs.Prelude.{◌≡◌};
 
 use crate::keys::Key;
 use crate::pair::Pair;
-use crate::rounds::wall_nanos;
-use anyhow::Result;
 use crossbeam_utils::Backoff;
 use lock_manager::{Locked, OwnSession};
 use lock_table::PartTable;
@@ -14,7 +12,6 @@ use shared_rule::board::Board;
 use std::sync::atomic::{AtomicU64, Ordering};
 use std::sync::{Condvar, Mutex, Wait};
 use std::thread::{Threads, join};
-use std::time::Clock;
 
 /// What the two take, and how often each.
 #[derive(Clone, Copy)]
@@ -92,32 +89,23 @@ fn take_turns<T: PartTable, B: Board<T>, R: Wait>(
     Player { session, granted }
 }
 
-/// Two sessions that have taken their turns, how many of these were granted, and how long all took.
-pub struct Played<T: PartTable, B: Board<T>> {
-    pub pair: Pair<T, B>,
-    pub granted: u64,
-    pub nanos: Result<u64>,
-}
-
-/// Both sessions' turns, each in a thread.
-pub fn pass_lock<
-    T: PartTable + Drop + Send,
-    B: Board<T> + Drop + Send,
-    R: Threads + Wait + Clock + Sync,
->(rt: &R, pair: Pair<T, B>, plan: Plan) -> Played<T, B>
-    ensures first { B.seat result.pair.first.board ≡ B.seat pair.first.board }
-    ensures second { B.seat result.pair.second.board ≡ B.seat pair.second.board }
+/// Both sessions' turns, each in a thread, and how many of them were granted.
+pub fn pass_lock<T: PartTable + Drop + Send, B: Board<T> + Drop + Send, R: Threads + Wait + Sync>(
+    rt: &R,
+    pair: Pair<T, B>,
+    plan: Plan,
+) -> (Pair<T, B>, u64)
+    ensures first { B.seat result.0.first.board ≡ B.seat pair.first.board }
+    ensures second { B.seat result.0.second.board ≡ B.seat pair.second.board }
 {
     let players = AtomicU64::new(2);
     let playing = &players;
     let Pair { first, second } = pair;
-    let from = wall_nanos(rt);
     let (first, second) = join(
         rt,
         || take_turns(rt, first, plan, playing),
         || take_turns(rt, second, plan, playing),
     );
-    let nanos = nanos_since(rt, from);
     let Player {
         session: first,
         granted,
@@ -126,17 +114,7 @@ pub fn pass_lock<
         session: second,
         granted: its_granted,
     } = second;
-    Played {
-        pair: Pair { first, second },
-        granted: granted.wrapping_add(its_granted),
-        nanos,
-    }
-}
-
-/// The nanoseconds since an earlier reading of the clock.
-fn nanos_since<R: Clock>(rt: &R, from: Result<u64>) -> Result<u64> {
-    let to = wall_nanos(rt)?;
-    Ok(to.saturating_sub(from?))
+    (Pair { first, second }, granted.wrapping_add(its_granted))
 }
 
 /// Waits for the turn and passes it on, over and over. It is the other one's at the end.
