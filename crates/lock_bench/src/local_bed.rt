@@ -1,6 +1,6 @@
 //! What the rows on a local table run on.
 use crate::doors::{KeyMap, insert};
-use crate::keys::Key;
+use crate::keys::{Key, KeyList, Size};
 use crate::loops::{
     acquire_all, double_passes, in_opposite_order, in_order, look_up_all, map_pairs, pairs, passes,
     refusals,
@@ -39,21 +39,24 @@ pub enum Work {
 /// A table and a map that hold the same keys.
 #[derive(Drop)]
 pub struct Bed {
+    pub held: Vec<Key>,
     table: LocalTable,
     map: KeyMap,
     owner: Owner,
 }
 
 impl Bed {
-    /// With these keys held.
-    pub fn new(alloc: Global, owner: Owner, held: &[Key]) -> Result<Self> {
+    /// With as many keys held as the size says.
+    pub fn new(alloc: Global, database: u32, owner: Owner, size: Size) -> Result<Self> {
         let mut bed = Bed {
+            held: KeyList::Held.keys(alloc, database, size)?,
             table: LocalTable::new(alloc, 65536)?,
             map: HashMap::new(alloc),
             owner,
         };
-        ensure!(acquire_all(&mut bed.table, held, owner), "{REFUSED}");
-        for (tag, mode) in held {
+        let done = acquire_all(&mut bed.table, bed.held.as_slice(), owner);
+        ensure!(done, "{REFUSED}");
+        for (tag, mode) in &bed.held {
             insert(&mut bed.map, tag, *mode, 0)?;
         }
         Ok(bed)

@@ -162,14 +162,13 @@ fn print_size<R: CpuClock + AllocGlobal + Print>(
         held,
         few: 0,
     };
-    let held = KeyList::Held.keys(rt.alloc(), database, size)?;
-    let mut bed = Bed::new(rt.alloc(), owner, held.as_slice())?;
+    let mut bed = Bed::new(rt.alloc(), database, owner, size)?;
     let mut lines = lines(rt.alloc(), ROWS.as_slice(), database, size, check)?;
     if check {
-        return check_rows(rt, &mut bed, lines.as_slice(), held.as_slice());
+        return check_rows(rt, &mut bed, lines.as_slice());
     }
     time_rows(rt, &mut bed, lines.as_mut_slice())?;
-    let commit = time_commit(rt, held.as_slice())?;
+    let commit = time_commit(rt, bed.held.as_slice())?;
     print_rows(rt, lines.as_slice(), commit, size.held)
 }
 
@@ -247,12 +246,7 @@ fn print_rows<R: Print>(rt: &R, lines: &[Line<Work>], commit: Spread, held: u32)
 }
 
 /// Makes every row's steps once, and two commits, and tells what they leave.
-fn check_rows<R: AllocGlobal + Print>(
-    rt: &R,
-    bed: &mut Bed,
-    lines: &[Line<Work>],
-    held: &[Key],
-) -> Result<()> {
+fn check_rows<R: AllocGlobal + Print>(rt: &R, bed: &mut Bed, lines: &[Line<Work>]) -> Result<()> {
     let before = bed.entries();
     for line in lines {
         let name = line.name;
@@ -263,7 +257,7 @@ fn check_rows<R: AllocGlobal + Print>(
             "{before} held, {name}: {steps} steps, counted {counted}, entries {before} and {after}"
         )?;
     }
-    let mut tables = filled(rt.alloc(), held, 2)?;
+    let mut tables = filled(rt.alloc(), bed.held.as_slice(), 2)?;
     let ended = commit_all(tables.as_mut_slice());
     println!(rt; "{before} held, two commits: {ended} ended")?;
     Ok(())

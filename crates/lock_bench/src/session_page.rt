@@ -115,10 +115,25 @@ fn time_rows<T: PartTable, B: Board<T>, R: Wait + CpuClock>(
     ensures second { B.seat pair.new.second.board ≡ B.seat pair.old.second.board }
 {
     'rounds: for round in 0..ROUNDS {
-        'rows: for line in lines.iter_mut() {
-            let (nanos, _) = bed.time(rt, pair, line)?;
-            line.note(round, nanos);
-        }
+        time_round(rt, pair, bed, lines, round)?;
+    }
+    Ok(())
+}
+
+/// Times every row once, in the round with this number.
+fn time_round<T: PartTable, B: Board<T>, R: Wait + CpuClock>(
+    rt: &R,
+    pair: &mut Pair<T, B>,
+    bed: &Bed,
+    lines: &mut [Line<Work>],
+    round: usize,
+) -> Result<()>
+    ensures first { B.seat pair.new.first.board ≡ B.seat pair.old.first.board }
+    ensures second { B.seat pair.new.second.board ≡ B.seat pair.old.second.board }
+{
+    'rows: for line in lines.iter_mut() {
+        let (nanos, _) = bed.time(rt, pair, line)?;
+        line.note(round, nanos);
     }
     Ok(())
 }

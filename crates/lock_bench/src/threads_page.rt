@@ -161,15 +161,44 @@ fn check_job<B: Board<PlainPart> + Send, R: Threads + Wait + AllocGlobal + Print
     ensures third { B.seat crew.new.right.first.board ≡ B.seat crew.old.right.first.board }
     ensures fourth { B.seat crew.new.right.second.board ≡ B.seat crew.old.right.second.board }
 {
-    let map: SharedMap = Mutex::new(HashMap::new(rt.alloc()));
     let acquires = job.acquires(threads);
     let granted = crew.work(rt, job, threads);
-    let counted = on_map(rt, &map, job, threads);
+    let counted = {
+        let map: SharedMap = Mutex::new(HashMap::new(rt.alloc()));
+        on_map(rt, &map, job, threads)
+    };
     let left = crew.holds(rt)?;
     let name = job.name;
     println!(rt;
         "        {name}: {acquires} acquires, granted {granted}, counted {counted}, holds {left}"
     )?;
+    Ok(())
+}
+
+/// All cases, in so many threads.
+fn print_jobs<B: Board<PlainPart> + Send, R: Threads + Wait + Clock + AllocGlobal + Print + Sync>(
+    rt: &R,
+    crew: &mut Crew<B>,
+    jobs: &mut [Job],
+    threads: u32,
+    check: bool,
+) -> Result<()>
+    ensures first { B.seat crew.new.left.first.board ≡ B.seat crew.old.left.first.board }
+    ensures second { B.seat crew.new.left.second.board ≡ B.seat crew.old.left.second.board }
+    ensures third { B.seat crew.new.right.first.board ≡ B.seat crew.old.right.first.board }
+    ensures fourth { B.seat crew.new.right.second.board ≡ B.seat crew.old.right.second.board }
+{
+    'jobs: for job in jobs.iter_mut() {
+        if check {
+            check_job(rt, crew, job, threads)?;
+            continue;
+        }
+        let times = time_job(rt, crew, job, threads)?;
+        print_job(rt, job.name, times, job.alone)?;
+        if threads == 1 {
+            job.alone = Some(times.0);
+        }
+    }
     Ok(())
 }
 
@@ -187,17 +216,7 @@ fn print_crew<B: Board<PlainPart> + Send, R: Threads + Wait + Clock + AllocGloba
 {
     'threads: for threads in THREADS {
         println!(rt; "threads: {threads}")?;
-        'jobs: for job in jobs.iter_mut() {
-            if check {
-                check_job(rt, crew, job, threads)?;
-                continue;
-            }
-            let times = time_job(rt, crew, job, threads)?;
-            print_job(rt, job.name, times, job.alone)?;
-            if threads == 1 {
-                job.alone = Some(times.0);
-            }
-        }
+        print_jobs(rt, crew, jobs, threads, check)?;
     }
     Ok(())
 }
