@@ -4,6 +4,7 @@ ghost use Rattle.std.specs.Prelude.{◌≡◌};
 
 use crate::keys::Key;
 use crate::pair::Pair;
+use crate::rounds::Spread;
 use crate::session_loops::lock_pairs;
 use crate::shared_map::{SharedMap, map_pairs};
 use lock_manager::{OwnSession, Refusal};
@@ -16,9 +17,13 @@ use std::thread::{Threads, join, join_mut};
 /// What each thread takes and releases, over and over.
 #[derive(Drop)]
 pub struct Job {
+    pub name: &'static str,
+    /// The keys of each thread, of all as many.
     pub keys: Vec<Vec<Key>>,
     pub owner: Owner,
     pub laps: u32,
+    /// What it takes in one thread, once that was timed.
+    pub alone: Option<Spread>,
 }
 
 impl Job {
@@ -27,6 +32,13 @@ impl Job {
             Some(keys) => keys.as_slice(),
             None => &[],
         }
+    }
+
+    /// How often something is acquired by so many threads together.
+    pub fn acquires(&self, threads: u32) -> u64 {
+        let keys = u64::try_from(self.keys_of(0).len()).unwrap_or(u64::MAX);
+        keys.saturating_mul(u64::from(self.laps))
+            .saturating_mul(u64::from(threads))
     }
 }
 

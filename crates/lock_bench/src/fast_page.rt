@@ -1,8 +1,9 @@
 //! The page of the fast path.
 
-use crate::rounds::ROUNDS;
-use crate::session_page::{Page, print_size};
-use crate::session_rows::{KeyList, Row, Size, Work};
+use crate::keys::{KeyList, Size};
+use crate::rows::{Row, STEPS};
+use crate::session_bed::Work;
+use crate::session_page::{Page, print_page};
 use anyhow::Result;
 use modes_core::Owner;
 use std::sync::Wait;
@@ -11,15 +12,15 @@ use std::time::CpuClock;
 /// How many locks a commit ends, how many the session has that takes held ones again, and how many are refused.
 const FEW: u32 = 10;
 
-const SIZES: [Size; 2] = [
+static SIZES: [Size; 2] = [
     Size {
         sessions: 8,
-        of_other: 0,
+        held: 0,
         few: FEW,
     },
     Size {
         sessions: 64,
-        of_other: 0,
+        held: 0,
         few: FEW,
     },
 ];
@@ -35,11 +36,12 @@ const REFUSED_FLOOR: &str = "floor: atomic steps of a refused try";
 const STRONG_FLOOR: &str = "floor: atomic steps of a strong pair";
 
 /// Each row is compared with its atomic steps. A held pair has none, and is compared with those of a new one.
-const ROWS: [Row; 10] = [
+static ROWS: [Row<Work>; 10] = [
     Row {
         name: ONE_CALL,
         work: Work::OneEmptyCall,
         list: KeyList::Weak,
+        steps: STEPS,
         empty: None,
         beside: None,
     },
@@ -47,6 +49,7 @@ const ROWS: [Row; 10] = [
         name: TWO_CALLS,
         work: Work::TwoEmptyCalls,
         list: KeyList::Weak,
+        steps: STEPS,
         empty: None,
         beside: None,
     },
@@ -54,6 +57,7 @@ const ROWS: [Row; 10] = [
         name: "new pair by a slot",
         work: Work::Pair,
         list: KeyList::Weak,
+        steps: STEPS,
         empty: Some(TWO_CALLS),
         beside: Some(PAIR_FLOOR),
     },
@@ -61,6 +65,7 @@ const ROWS: [Row; 10] = [
         name: "ten by slots and a commit, for each",
         work: Work::TakeAndCommit,
         list: KeyList::Few,
+        steps: STEPS,
         empty: Some(ONE_CALL),
         beside: Some(PAIR_FLOOR),
     },
@@ -68,6 +73,7 @@ const ROWS: [Row; 10] = [
         name: "held pair",
         work: Work::HeldPair,
         list: KeyList::Few,
+        steps: STEPS,
         empty: Some(TWO_CALLS),
         beside: Some(PAIR_FLOOR),
     },
@@ -75,6 +81,7 @@ const ROWS: [Row; 10] = [
         name: "refused, a strong lock counted",
         work: Work::RefusedBySlot,
         list: KeyList::Few,
+        steps: STEPS,
         empty: Some(ONE_CALL),
         beside: Some(REFUSED_FLOOR),
     },
@@ -82,6 +89,7 @@ const ROWS: [Row; 10] = [
         name: "strong pair",
         work: Work::Pair,
         list: KeyList::Strong,
+        steps: STEPS,
         empty: Some(TWO_CALLS),
         beside: Some(STRONG_FLOOR),
     },
@@ -89,6 +97,7 @@ const ROWS: [Row; 10] = [
         name: PAIR_FLOOR,
         work: Work::PairFloor,
         list: KeyList::Weak,
+        steps: STEPS,
         empty: Some(TWO_CALLS),
         beside: None,
     },
@@ -96,6 +105,7 @@ const ROWS: [Row; 10] = [
         name: REFUSED_FLOOR,
         work: Work::RefusedFloor,
         list: KeyList::Weak,
+        steps: STEPS,
         empty: Some(ONE_CALL),
         beside: None,
     },
@@ -103,35 +113,26 @@ const ROWS: [Row; 10] = [
         name: STRONG_FLOOR,
         work: Work::StrongFloor,
         list: KeyList::Weak,
+        steps: STEPS,
         empty: Some(TWO_CALLS),
         beside: None,
     },
 ];
 
-/// Prints the table of times, or with `check` what the same steps leave.
+/// Prints the table of times, or with `check` what fewer of the same steps leave.
 pub fn print<R: Wait + CpuClock + AllocGlobal + Print>(
     rt: &R,
     database: u32,
     owner: Owner,
     check: bool,
 ) -> Result<()> {
-    if check {
-        println!(rt; "fast path on one thread")?;
-    } else {
-        println!(rt;
-            "fast path on one thread: nanoseconds of the thread's processor time with the empty loop taken off, median of {ROUNDS} rounds (smallest to largest)"
-        )?;
-    }
-    let rows = ROWS;
     let page = Page {
-        rows: rows.as_slice(),
+        name: "fast path on one thread",
+        rows: ROWS.as_slice(),
         beside: "to the floor",
         database,
         owner,
         check,
     };
-    for size in SIZES {
-        print_size(rt, &page, size)?;
-    }
-    Ok(())
+    print_page(rt, &page, SIZES.as_slice())
 }

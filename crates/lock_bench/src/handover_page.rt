@@ -1,9 +1,9 @@
 //! The page of handover.
 
 use crate::pair::Pair;
-use crate::rounds::{ROUNDS, Times, print_ratio, wall_nanos};
+use crate::rounds::{ROUNDS, Times, WIDTH, print_header, print_ratio, print_time, wall_nanos};
 use crate::turns::{Plan, pass_lock, pass_turn};
-use anyhow::Result;
+use anyhow::{Result, bail};
 use lock_manager::{Config, Manager};
 use modes_core::{Mode, Owner, Tag};
 use std::sync::Wait;
@@ -15,6 +15,10 @@ const TURNS: u32 = 5_000;
 
 /// The same where nothing is timed.
 const CHECKED_TURNS: u32 = 100;
+
+const LOCK: &str = "an exclusive lock";
+
+const TURN: &str = "a turn, by mutex and condition variable";
 
 /// What a round of turns came to.
 #[derive(Clone, Copy)]
@@ -36,41 +40,60 @@ fn play<R: Threads + Wait + Clock + AllocGlobal + Sync>(
     };
     let (manager, mut opener) = Manager::new(rt.alloc(), config)?;
     let pair = Pair::open(rt, &manager, &mut opener, database)?;
-    let from = wall_nanos(rt);
+    let from = wall_nanos(rt).ok();
     let (pair, granted) = pass_lock(rt, pair, plan);
-    let to = wall_nanos(rt);
+    let to = wall_nanos(rt).ok();
     pair.close(rt, &mut opener);
     let left = manager.finish(opener).table;
     Ok(Round {
-        nanos: to?.saturating_sub(from?),
+        nanos: nanos_between(from, to)?,
         granted,
         left,
     })
 }
 
+/// The nanoseconds between two readings of the clock.
+fn nanos_between(from: Option<u64>, to: Option<u64>) -> Result<u64> {
+    match (from, to) {
+        (Some(from), Some(to)) => Ok(to.saturating_sub(from)),
+        _ => bail!("the clock could not be read"),
+    }
+}
+
+/// Prints the times of handovers, and of turns beside them.
 fn time<R: Threads + Wait + Clock + AllocGlobal + Print + Sync>(
     rt: &R,
     database: u32,
     plan: Plan,
 ) -> Result<()> {
-    let mut of_lock = Times::new(rt.alloc());
-    let mut of_turn = Times::new(rt.alloc());
+    let mut of_lock = Times::new();
+    let mut of_turn = Times::new();
     let turns = u64::from(plan.turns) * 2;
-    for _ in 0..ROUNDS {
+    for number in 0..ROUNDS {
         let round = play(rt, database, plan)?;
-        of_lock.add(0, round.nanos, round.granted.saturating_sub(1))?;
+        of_lock.note(number, round.nanos, round.granted.saturating_sub(1));
         let from = wall_nanos(rt)?;
         pass_turn(rt, plan.turns);
-        of_turn.add(from, wall_nanos(rt)?, turns)?;
+        let to = wall_nanos(rt)?;
+        of_turn.note(number, to.saturating_sub(from), turns);
     }
-    let of_lock = of_lock.spread();
-    let of_turn = of_turn.spread();
-    println!(rt; "        {:<42} {of_lock}", "an exclusive lock")?;
-    println!(rt;
-        "        {:<42} {of_turn}",
-        "a turn, by mutex and condition variable"
-    )?;
-    print_ratio(rt, "to that", of_lock, of_turn)
+    print_time(rt, WIDTH, LOCK, of_lock.spread())?;
+    print_time(rt, WIDTH, TURN, of_turn.spread())?;
+    print_ratio(rt, "to that", of_lock.spread(), of_turn.spread())?;
+    Ok(())
+}
+
+/// Makes one round, and tells what it leaves.
+fn check<R: Threads + Wait + Clock + AllocGlobal + Print + Sync>(
+    rt: &R,
+    database: u32,
+    plan: Plan,
+) -> Result<()> {
+    let Round { granted, left, .. } = play(rt, database, plan)?;
+    let turn = pass_turn(rt, plan.turns);
+    println!(rt; "        {LOCK}: granted {granted}, holds {left}")?;
+    println!(rt; "        {TURN}: at the end with {turn}")?;
+    Ok(())
 }
 
 /// Prints the times of handovers, or with `check` what the same steps leave.
@@ -78,23 +101,21 @@ pub fn print<R: Threads + Wait + Clock + AllocGlobal + Print + Sync>(
     rt: &R,
     database: u32,
     owner: Owner,
-    check: bool,
+    is_check: bool,
 ) -> Result<()> {
     let plan = Plan {
         key: (Tag::object(database, 1259, 16384, 0), Mode::Exclusive),
         owner,
-        turns: if check { CHECKED_TURNS } else { TURNS },
+        turns: if is_check { CHECKED_TURNS } else { TURNS },
     };
-    if check {
-        let Round { granted, left, .. } = play(rt, database, plan)?;
-        let turn = pass_turn(rt, plan.turns);
+    if is_check {
         println!(rt; "handover between two threads")?;
-        println!(rt; "        an exclusive lock: granted {granted}, holds {left}")?;
-        println!(rt; "        a turn, by mutex and condition variable: at the end with {turn}")?;
-        return Ok(());
+        return check(rt, database, plan);
     }
-    println!(rt;
-        "handover between two threads: nanoseconds by the clock, from the one that has it to the other, median of {ROUNDS} rounds (smallest to largest)"
+    print_header(
+        rt,
+        "handover between two threads",
+        "by the clock, from the one that has it to the other",
     )?;
     time(rt, database, plan)
 }

@@ -4,6 +4,12 @@ use std::alloc::{AllocError, Global};
 
 pub type Key = (Tag, Mode);
 
+/// How many keys a list has that nobody holds.
+const NEW_KEYS: u32 = 1_000;
+
+/// How many locks a commit ends.
+const COMMITTED: u32 = 10;
+
 const MODES: [Mode; 8] = [
     Mode::AccessShare,
     Mode::RowShare,
@@ -15,26 +21,81 @@ const MODES: [Mode; 8] = [
     Mode::AccessExclusive,
 ];
 
-/// What the keys are of.
+/// What keys are of.
 #[derive(Clone, Copy)]
 pub enum Kind {
-    /// Relations, each in AccessShareLock.
-    Relations,
-    /// Other objects of a catalogue, each in AccessShareLock.
-    Objects,
+    /// Relations, each in this mode.
+    Relations(Mode),
+    /// Other objects of a catalogue, each in this mode.
+    Objects(Mode),
     /// Each relation in all eight modes.
     Modes,
 }
 
+/// How many sessions there can be, how many keys are held from the start, and how many a few relations are.
+#[derive(Clone, Copy)]
+pub struct Size {
+    pub sessions: u32,
+    pub held: u32,
+    pub few: u32,
+}
+
+/// The keys that a row goes through.
+#[derive(Clone, Copy)]
+pub enum KeyList {
+    /// The relations that the local table holds, each in AccessShareLock.
+    Held,
+    /// Relations that it doesn't hold, each in AccessShareLock.
+    New,
+    /// Relations that it doesn't hold, each in all modes.
+    Modes,
+    /// Objects that nobody has, each in AccessShareLock.
+    Objects,
+    /// Relations that no session has, each in AccessShareLock.
+    Weak,
+    /// The same relations, each in AccessExclusiveLock.
+    Strong,
+    /// A few other relations, each in AccessShareLock.
+    Few,
+    /// The same few, each in AccessExclusiveLock.
+    FewStrong,
+    /// Ten other relations, each in AccessShareLock.
+    Ten,
+    /// The objects that the other session has, each in AccessShareLock.
+    Refused,
+    /// The same objects, each in AccessExclusiveLock, as the other session has them.
+    OfOther,
+}
+
+impl KeyList {
+    /// The keys of the list.
+    pub fn keys(self, alloc: Global, database: u32, size: Size) -> Result<Vec<Key>, AllocError> {
+        let relations = Kind::Relations(Mode::AccessShare);
+        let objects = Kind::Objects(Mode::AccessShare);
+        let strong_relations = Kind::Relations(Mode::AccessExclusive);
+        let (kind, from, count) = match self {
+            KeyList::Held => (relations, 0, size.held),
+            KeyList::New => (relations, size.held, NEW_KEYS),
+            KeyList::Modes => (Kind::Modes, 1_000_000, NEW_KEYS),
+            KeyList::Objects => (objects, 0, NEW_KEYS),
+            KeyList::Weak => (relations, 0, NEW_KEYS),
+            KeyList::Strong => (strong_relations, 0, NEW_KEYS),
+            KeyList::Few => (relations, 200_000, size.few),
+            KeyList::FewStrong => (strong_relations, 200_000, size.few),
+            KeyList::Ten => (relations, 300_000, COMMITTED),
+            KeyList::Refused => (objects, 100_000, size.held),
+            KeyList::OfOther => (Kind::Objects(Mode::AccessExclusive), 100_000, size.held),
+        };
+        keys(alloc, kind, database, from, count)
+    }
+}
+
 fn key(kind: Kind, database: u32, number: u32) -> Key {
     match kind {
-        Kind::Relations => (
-            Tag::relation(database, 16384u32.wrapping_add(number)),
-            Mode::AccessShare,
-        ),
-        Kind::Objects => (
+        Kind::Relations(mode) => (Tag::relation(database, 16384u32.wrapping_add(number)), mode),
+        Kind::Objects(mode) => (
             Tag::object(database, 1259, 16384u32.wrapping_add(number), 0),
-            Mode::AccessShare,
+            mode,
         ),
         Kind::Modes => (
             Tag::relation(database, 16384u32.wrapping_add(number / 8)),
@@ -59,15 +120,6 @@ pub fn keys(
     Ok(made)
 }
 
-/// The same objects in this mode.
-pub fn in_mode(alloc: Global, keys: &[Key], mode: Mode) -> Result<Vec<Key>, AllocError> {
-    let mut made = Vec::new(alloc);
-    for (tag, _) in keys {
-        made.push((*tag, mode))?;
-    }
-    Ok(made)
-}
-
 /// Objects of one partition in AccessShareLock, so many at most, by numbers from this one on.
 pub fn keys_of_partition(
     alloc: Global,
@@ -78,7 +130,8 @@ pub fn keys_of_partition(
 ) -> Result<Vec<Key>, AllocError> {
     let mut made = Vec::new(alloc);
     for step in 0..10_000u32 {
-        let (tag, mode) = key(Kind::Objects, database, from.wrapping_add(step));
+        let kind = Kind::Objects(Mode::AccessShare);
+        let (tag, mode) = key(kind, database, from.wrapping_add(step));
         if made.len() < count && tag.partition() == partition {
             made.push((tag, mode))?;
         }

@@ -1,7 +1,9 @@
-use crate::bed::{Bed, REFUSED, ROWS, Row};
-use crate::keys::{Key, Kind, keys};
+//! The page of the local table.
+use crate::keys::{Key, KeyList, Size};
+use crate::local_bed::{Bed, REFUSED, Work};
 use crate::loops::{acquire_all, end_all};
-use crate::rounds::{ROUNDS, Spread, Times, cpu_nanos, print_ratio};
+use crate::rounds::{ROUNDS, Spread, Times, cpu_nanos, print_header, print_ratio, print_time};
+use crate::rows::{Line, Row, STEPS, laps_of, lines, print_times, time_of};
 use anyhow::{Result, ensure};
 use local_locks::{End, LocalTable};
 use modes_core::Owner;
@@ -11,152 +13,252 @@ use std::time::CpuClock;
 /// How many entries are held.
 const SIZES: [u32; 4] = [10, 100, 1_000, 10_000];
 
-/// How many steps a round has, at least.
-const STEPS: u32 = 100_000;
+/// The same where nothing is timed.
+const CHECKED_SIZES: [u32; 2] = [10, 100];
 
 /// How many entries a round of commits takes away, at least.
 const COMMITTED: u32 = 10_000;
 
-/// Times every row, each once in a round.
-fn time_rows<R: CpuClock + AllocGlobal>(rt: &R, bed: &mut Bed) -> Result<Vec<(Row, Spread)>> {
-    let mut taken = Vec::new(rt.alloc());
-    for row in ROWS {
-        taken.push((row, Times::new(rt.alloc())))?;
-    }
-    for _ in 0..ROUNDS {
-        for (row, times) in &mut taken {
-            let from = cpu_nanos(rt)?;
-            bed.run(*row)?;
-            times.add(from, cpu_nanos(rt)?, bed.steps(*row))?;
+/// How many columns the names of the rows take.
+const WIDTH: usize = 40;
+
+const ONE_CALL: &str = "empty loop of one call";
+
+const TWO_CALLS: &str = "empty loop of two calls";
+
+const HELD_PAIR: &str = "held pair";
+
+const NEW_PAIR: &str = "new pair";
+
+const MAP_LOOK_UP: &str = "hash map: look-up";
+
+const MAP_PAIR: &str = "hash map: insert and removal";
+
+static ROWS: [Row<Work>; 11] = [
+    Row {
+        name: ONE_CALL,
+        work: Work::OneEmptyCall,
+        list: KeyList::Held,
+        steps: STEPS,
+        empty: None,
+        beside: None,
+    },
+    Row {
+        name: TWO_CALLS,
+        work: Work::TwoEmptyCalls,
+        list: KeyList::Held,
+        steps: STEPS,
+        empty: None,
+        beside: None,
+    },
+    Row {
+        name: HELD_PAIR,
+        work: Work::Pair,
+        list: KeyList::Held,
+        steps: STEPS,
+        empty: Some(TWO_CALLS),
+        beside: None,
+    },
+    Row {
+        name: NEW_PAIR,
+        work: Work::Pair,
+        list: KeyList::New,
+        steps: STEPS,
+        empty: Some(TWO_CALLS),
+        beside: None,
+    },
+    Row {
+        name: "new, released in the order of making",
+        work: Work::InOrder,
+        list: KeyList::New,
+        steps: STEPS,
+        empty: Some(TWO_CALLS),
+        beside: None,
+    },
+    Row {
+        name: "new, released in the opposite order",
+        work: Work::InOppositeOrder,
+        list: KeyList::New,
+        steps: STEPS,
+        empty: Some(TWO_CALLS),
+        beside: None,
+    },
+    Row {
+        name: "new pair of an object",
+        work: Work::Pair,
+        list: KeyList::Objects,
+        steps: STEPS,
+        empty: Some(TWO_CALLS),
+        beside: None,
+    },
+    Row {
+        name: "new pair, eight modes of a relation",
+        work: Work::Pair,
+        list: KeyList::Modes,
+        steps: STEPS,
+        empty: Some(TWO_CALLS),
+        beside: None,
+    },
+    Row {
+        name: "refused release",
+        work: Work::Refused,
+        list: KeyList::New,
+        steps: STEPS,
+        empty: Some(ONE_CALL),
+        beside: None,
+    },
+    Row {
+        name: MAP_LOOK_UP,
+        work: Work::MapLookUp,
+        list: KeyList::Held,
+        steps: STEPS,
+        empty: Some(ONE_CALL),
+        beside: None,
+    },
+    Row {
+        name: MAP_PAIR,
+        work: Work::MapPair,
+        list: KeyList::New,
+        steps: STEPS,
+        empty: Some(TWO_CALLS),
+        beside: None,
+    },
+];
+
+/// Prints the table of times, or with `check` what fewer of the same steps leave.
+pub fn print<R: CpuClock + AllocGlobal + Print>(
+    rt: &R,
+    database: u32,
+    owner: Owner,
+    check: bool,
+) -> Result<()> {
+    if check {
+        for held in CHECKED_SIZES {
+            print_size(rt, database, owner, held, check)?;
         }
+        return Ok(());
     }
-    let mut spreads = Vec::new(rt.alloc());
-    for (row, times) in taken {
-        spreads.push((row, times.spread()))?;
+    print_header(
+        rt,
+        "local table",
+        "of the thread's processor time with the empty loop taken off",
+    )?;
+    for held in SIZES {
+        print_size(rt, database, owner, held, check)?;
     }
-    Ok(spreads)
+    Ok(())
 }
 
-/// Tables that hold the keys.
-fn filled(alloc: Global, keys: &[Key], owner: Owner, count: u32) -> Result<Vec<LocalTable>> {
-    let mut tables = Vec::new(alloc);
-    for _ in 0..count {
-        let mut table = LocalTable::new(alloc, 65536)?;
-        ensure!(acquire_all(&mut table, keys, owner), "{REFUSED}");
-        tables.push(table)?;
-    }
-    Ok(tables)
-}
-
-/// Times a commit, for each entry that it takes away.
-fn time_commit<R: CpuClock + AllocGlobal>(rt: &R, database: u32, held: u32) -> Result<Spread> {
-    let keys = keys(rt.alloc(), Kind::Relations, database, 0, held)?;
-    let count = COMMITTED.checked_div(held).unwrap_or(0).max(1);
-    let mut times = Times::new(rt.alloc());
-    for _ in 0..ROUNDS {
-        let mut tables = filled(rt.alloc(), keys.as_slice(), Owner::Transaction, count)?;
-        let mut ended = 0u64;
-        let from = cpu_nanos(rt)?;
-        for table in &mut tables {
-            ended = ended.wrapping_add(u64::from(end_all(table, End::Commit)));
-        }
-        times.add(from, cpu_nanos(rt)?, ended)?;
-    }
-    Ok(times.spread())
-}
-
-fn spread_of(spreads: &[(Row, Spread)], row: Row) -> Spread {
-    for (other, spread) in spreads {
-        if *other == row {
-            return *spread;
-        }
-    }
-    Spread::default()
-}
-
-/// The row's time with that of its empty loop taken off.
-fn above_empty(spreads: &[(Row, Spread)], row: Row) -> Spread {
-    spread_of(spreads, row).above(spread_of(spreads, row.empty()))
-}
-
+/// Prints the rows for so many entries.
 fn print_size<R: CpuClock + AllocGlobal + Print>(
     rt: &R,
     database: u32,
     owner: Owner,
     held: u32,
+    check: bool,
 ) -> Result<()> {
-    let mut bed = Bed::new(rt.alloc(), database, owner, held, STEPS)?;
-    let spreads = time_rows(rt, &mut bed)?;
-    let spreads = spreads.as_slice();
+    let size = Size {
+        sessions: 1,
+        held,
+        few: 0,
+    };
+    let mut bed = Bed::new(rt.alloc(), database, owner, size)?;
+    let mut lines = lines(rt.alloc(), ROWS.as_slice(), database, size, check)?;
+    if check {
+        return check_rows(rt, &mut bed, lines.as_slice());
+    }
+    time_rows(rt, &mut bed, lines.as_mut_slice())?;
+    let commit = time_commit(rt, bed.held.as_slice())?;
+    print_rows(rt, lines.as_slice(), commit, size.held)
+}
+
+/// Times every row, each once in a round.
+fn time_rows<R: CpuClock>(rt: &R, bed: &mut Bed, lines: &mut [Line<Work>]) -> Result<()> {
+    for round in 0..ROUNDS {
+        for line in lines.iter_mut() {
+            let from = cpu_nanos(rt)?;
+            bed.run(line)?;
+            let to = cpu_nanos(rt)?;
+            line.note(round, to.saturating_sub(from));
+        }
+    }
+    Ok(())
+}
+
+/// Tables that hold the keys.
+fn filled(alloc: Global, keys: &[Key], count: u32) -> Result<Vec<LocalTable>> {
+    let mut tables = Vec::new(alloc);
+    for _ in 0..count {
+        let mut table = LocalTable::new(alloc, 65536)?;
+        let done = acquire_all(&mut table, keys, Owner::Transaction);
+        ensure!(done, "{REFUSED}");
+        tables.push(table)?;
+    }
+    Ok(tables)
+}
+
+/// Commits in each table, and gives how many entries that took away.
+fn commit_all(tables: &mut [LocalTable]) -> u64 {
+    let mut ended = 0u64;
+    for table in tables.iter_mut() {
+        ended = ended.wrapping_add(u64::from(end_all(table, End::Commit)));
+    }
+    ended
+}
+
+/// Times a commit, for each entry that it takes away.
+fn time_commit<R: CpuClock + AllocGlobal>(rt: &R, held: &[Key]) -> Result<Spread> {
+    let count = laps_of(held, COMMITTED);
+    let mut times = Times::new();
+    for round in 0..ROUNDS {
+        let mut tables = filled(rt.alloc(), held, count)?;
+        let from = cpu_nanos(rt)?;
+        let ended = commit_all(tables.as_mut_slice());
+        let to = cpu_nanos(rt)?;
+        times.note(round, to.saturating_sub(from), ended);
+    }
+    Ok(times.spread())
+}
+
+/// Prints what each row and a commit take, and how much that is of what the map takes.
+fn print_rows<R: Print>(rt: &R, lines: &[Line<Work>], commit: Spread, held: u32) -> Result<()> {
     println!(rt; "{held} held")?;
-    for row in ROWS {
-        let name = row.name();
-        let time = match row {
-            Row::OneEmptyCall | Row::TwoEmptyCalls => spread_of(spreads, row),
-            _ => above_empty(spreads, row),
-        };
-        println!(rt; "        {name:<40} {time}")?;
-    }
-    let commit = time_commit(rt, database, held)?;
-    println!(rt; "        {:<40} {commit}", "commit, for each entry")?;
-    let look_up = above_empty(spreads, Row::MapLookUp);
-    let map_pair = above_empty(spreads, Row::MapPair);
-    print_ratio(
-        rt,
-        "held pair to a look-up of the map",
-        above_empty(spreads, Row::HeldPair),
-        look_up,
-    )?;
-    print_ratio(
-        rt,
-        "new pair to an insert with its removal",
-        above_empty(spreads, Row::NewPair),
-        map_pair,
-    )?;
-    print_ratio(rt, "commit of an entry to that", commit, map_pair)?;
-    Ok(())
-}
-
-/// Prints the table of times.
-#[inline(never)]
-pub fn print<R: CpuClock + AllocGlobal + Print>(rt: &R, database: u32, owner: Owner) -> Result<()> {
-    println!(rt;
-        "local table: nanoseconds of the thread's processor time with the empty loop taken off, median of {ROUNDS} rounds (smallest to largest)"
-    )?;
-    for held in SIZES {
-        print_size(rt, database, owner, held)?;
+    print_times(rt, WIDTH, lines)?;
+    print_time(rt, WIDTH, "commit, for each entry", commit)?;
+    let look_up = time_of(lines, MAP_LOOK_UP);
+    let map_pair = time_of(lines, MAP_PAIR);
+    for (what, part, whole) in [
+        (
+            "held pair to a look-up of the map",
+            time_of(lines, HELD_PAIR),
+            look_up,
+        ),
+        (
+            "new pair to an insert with its removal",
+            time_of(lines, NEW_PAIR),
+            map_pair,
+        ),
+        ("commit of an entry to that", commit, map_pair),
+    ] {
+        print_ratio(rt, what, part, whole)?;
     }
     Ok(())
 }
 
-fn check_size<R: AllocGlobal + Print>(
-    rt: &R,
-    database: u32,
-    owner: Owner,
-    held: u32,
-) -> Result<()> {
-    let mut bed = Bed::new(rt.alloc(), database, owner, held, 1000)?;
+/// Makes every row's steps once, and two commits, and tells what they leave.
+fn check_rows<R: AllocGlobal + Print>(rt: &R, bed: &mut Bed, lines: &[Line<Work>]) -> Result<()> {
     let before = bed.entries();
-    for row in ROWS {
-        let name = row.name();
-        let steps = bed.steps(row);
-        let counted = bed.run(row)?;
+    for line in lines {
+        let name = line.name;
+        let steps = line.steps();
+        let counted = bed.run(line)?;
         let after = bed.entries();
         println!(rt;
-            "{held} held, {name}: {steps} steps, counted {counted}, entries {before} and {after}"
+            "{before} held, {name}: {steps} steps, counted {counted}, entries {before} and {after}"
         )?;
     }
-    let keys = keys(rt.alloc(), Kind::Relations, database, 0, held)?;
-    let mut ended = 0u32;
-    for table in &mut filled(rt.alloc(), keys.as_slice(), Owner::Transaction, 2)? {
-        ended = ended.wrapping_add(end_all(table, End::Commit));
-    }
-    println!(rt; "{held} held, two commits: {ended} ended")?;
+    let mut tables = filled(rt.alloc(), bed.held.as_slice(), 2)?;
+    let ended = commit_all(tables.as_mut_slice());
+    println!(rt; "{before} held, two commits: {ended} ended")?;
     Ok(())
-}
-
-/// The same steps once, and what they leave.
-pub fn check<R: AllocGlobal + Print>(rt: &R, database: u32, owner: Owner) -> Result<()> {
-    check_size(rt, database, owner, 10)?;
-    check_size(rt, database, owner, 100)
 }

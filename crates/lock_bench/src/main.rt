@@ -2,23 +2,23 @@
 //! fixed run instead, whose output does not depend on time.
 #![tactic(auto)]
 
-mod bed;
 mod crew;
 mod doors;
 mod fast_page;
 mod floors;
 mod handover_page;
 mod keys;
+mod local_bed;
 mod local_page;
 mod loops;
 mod manager_page;
 mod pair;
 mod rounds;
+mod rows;
 mod session_bed;
 mod session_doors;
 mod session_loops;
 mod session_page;
-mod session_rows;
 mod shared_map;
 mod threads_page;
 mod turns;
@@ -53,21 +53,23 @@ struct Wanted {
 
 /// What the words ask for. Refused words and a call for help are an error.
 fn parse<'a>(alloc: Global, words: &'a [String]) -> Result<Wanted, clap::Error> {
-    let page = Arg::new(alloc, "page")
-        .value_name("PAGE")
-        .value_parser(PAGES.as_slice())
-        .help(
-            "The local table, the lock manager on one thread, its fast path, it in threads, or a lock handed over; all if left out",
-        );
-    let check = Arg::new(alloc, "check")
-        .long("check")
-        .action(ArgAction::SetTrue)
-        .help("A small fixed run, with no times in its output");
-    let command = Command::new(alloc, "lock_bench")
+    let matches = Command::new(alloc, "lock_bench")
         .about("Times the parts of the lock manager")
-        .arg(page)?
-        .arg(check)?;
-    let matches = command.try_get_matches_from(words)?;
+        .arg(
+            Arg::new(alloc, "page")
+                .value_name("PAGE")
+                .value_parser(PAGES.as_slice())
+                .help(
+                    "The local table, the lock manager on one thread, its fast path, it in threads, or a lock handed over; all if left out",
+                ),
+        )?
+        .arg(
+            Arg::new(alloc, "check")
+                .long("check")
+                .action(ArgAction::SetTrue)
+                .help("A small fixed run, with no times in its output"),
+        )?
+        .try_get_matches_from(words)?;
     let page = matches.get_str("page");
     Ok(Wanted {
         check: matches.get_flag("check"),
@@ -131,11 +133,7 @@ fn print_pages<R: Threads + Wait + Clock + CpuClock + AllocGlobal + Print + Sync
     let check = wanted.check;
     let [local, manager, fast, threads, handover] = wanted.pages;
     if local {
-        if check {
-            local_page::check(rt, database, owner)?;
-        } else {
-            local_page::print(rt, database, owner)?;
-        }
+        local_page::print(rt, database, owner, check)?;
     }
     if manager {
         manager_page::print(rt, database, owner, check)?;

@@ -1,8 +1,9 @@
 //! The page of the lock manager on one thread.
 
-use crate::rounds::ROUNDS;
-use crate::session_page::{Page, print_size};
-use crate::session_rows::{KeyList, Row, Size, Work};
+use crate::keys::{KeyList, Size};
+use crate::rows::{Row, STEPS};
+use crate::session_bed::Work;
+use crate::session_page::{Page, print_page};
 use anyhow::Result;
 use modes_core::Owner;
 use std::sync::Wait;
@@ -11,20 +12,20 @@ use std::time::CpuClock;
 /// How many relations the session has that takes held ones again.
 const HELD: u32 = 16;
 
-const SIZES: [Size; 3] = [
+static SIZES: [Size; 3] = [
     Size {
         sessions: 2,
-        of_other: 16,
+        held: 16,
         few: HELD,
     },
     Size {
         sessions: 64,
-        of_other: 16,
+        held: 16,
         few: HELD,
     },
     Size {
         sessions: 64,
-        of_other: 1600,
+        held: 1600,
         few: HELD,
     },
 ];
@@ -44,11 +45,12 @@ const MAP_LOOK_UP: &str = "map in a mutex: look-up";
 const MAP_COMMIT: &str = "map in a mutex: ten taken out, for each";
 
 /// Each row is compared with the same work on the map.
-const ROWS: [Row; 13] = [
+static ROWS: [Row<Work>; 13] = [
     Row {
         name: ONE_CALL,
         work: Work::OneEmptyCall,
         list: KeyList::Objects,
+        steps: STEPS,
         empty: None,
         beside: None,
     },
@@ -56,6 +58,7 @@ const ROWS: [Row; 13] = [
         name: TWO_CALLS,
         work: Work::TwoEmptyCalls,
         list: KeyList::Objects,
+        steps: STEPS,
         empty: None,
         beside: None,
     },
@@ -63,6 +66,7 @@ const ROWS: [Row; 13] = [
         name: "new pair of an object",
         work: Work::Pair,
         list: KeyList::Objects,
+        steps: STEPS,
         empty: Some(TWO_CALLS),
         beside: Some(MAP_PAIR),
     },
@@ -70,6 +74,7 @@ const ROWS: [Row; 13] = [
         name: "new pair of a relation, weak mode",
         work: Work::Pair,
         list: KeyList::Weak,
+        steps: STEPS,
         empty: Some(TWO_CALLS),
         beside: Some(MAP_PAIR),
     },
@@ -77,6 +82,7 @@ const ROWS: [Row; 13] = [
         name: "new pair of a relation, strong mode",
         work: Work::Pair,
         list: KeyList::Strong,
+        steps: STEPS,
         empty: Some(TWO_CALLS),
         beside: Some(MAP_PAIR),
     },
@@ -84,6 +90,7 @@ const ROWS: [Row; 13] = [
         name: "held pair",
         work: Work::HeldPair,
         list: KeyList::Few,
+        steps: STEPS,
         empty: Some(TWO_CALLS),
         beside: Some(MAP_HELD_PAIR),
     },
@@ -91,6 +98,7 @@ const ROWS: [Row; 13] = [
         name: "refused attempt",
         work: Work::Refused,
         list: KeyList::Refused,
+        steps: STEPS,
         empty: Some(ONE_CALL),
         beside: Some(MAP_LOOK_UP),
     },
@@ -98,6 +106,7 @@ const ROWS: [Row; 13] = [
         name: TWO_READINGS,
         work: Work::TwoReadings,
         list: KeyList::Ten,
+        steps: STEPS / 10,
         empty: None,
         beside: None,
     },
@@ -105,6 +114,7 @@ const ROWS: [Row; 13] = [
         name: "commit of ten, for each",
         work: Work::Commit,
         list: KeyList::Ten,
+        steps: STEPS / 10,
         empty: Some(TWO_READINGS),
         beside: Some(MAP_COMMIT),
     },
@@ -112,6 +122,7 @@ const ROWS: [Row; 13] = [
         name: MAP_PAIR,
         work: Work::MapPair,
         list: KeyList::Objects,
+        steps: STEPS,
         empty: Some(TWO_CALLS),
         beside: None,
     },
@@ -119,6 +130,7 @@ const ROWS: [Row; 13] = [
         name: MAP_HELD_PAIR,
         work: Work::MapPair,
         list: KeyList::Few,
+        steps: STEPS,
         empty: Some(TWO_CALLS),
         beside: None,
     },
@@ -126,6 +138,7 @@ const ROWS: [Row; 13] = [
         name: MAP_LOOK_UP,
         work: Work::MapLookUp,
         list: KeyList::OfOther,
+        steps: STEPS,
         empty: Some(ONE_CALL),
         beside: None,
     },
@@ -133,35 +146,26 @@ const ROWS: [Row; 13] = [
         name: MAP_COMMIT,
         work: Work::MapCommit,
         list: KeyList::Ten,
+        steps: STEPS / 10,
         empty: Some(TWO_READINGS),
         beside: None,
     },
 ];
 
-/// Prints the table of times, or with `check` what the same steps leave.
+/// Prints the table of times, or with `check` what fewer of the same steps leave.
 pub fn print<R: Wait + CpuClock + AllocGlobal + Print>(
     rt: &R,
     database: u32,
     owner: Owner,
     check: bool,
 ) -> Result<()> {
-    if check {
-        println!(rt; "lock manager on one thread")?;
-    } else {
-        println!(rt;
-            "lock manager on one thread: nanoseconds of the thread's processor time with the empty loop taken off, median of {ROUNDS} rounds (smallest to largest)"
-        )?;
-    }
-    let rows = ROWS;
     let page = Page {
-        rows: rows.as_slice(),
+        name: "lock manager on one thread",
+        rows: ROWS.as_slice(),
         beside: "to the same work on the map",
         database,
         owner,
         check,
     };
-    for size in SIZES {
-        print_size(rt, &page, size)?;
-    }
-    Ok(())
+    print_page(rt, &page, SIZES.as_slice())
 }

@@ -1,10 +1,13 @@
+//! What is timed in several rounds: the clocks, the times, and how they are printed.
 use anyhow::Result;
-use std::alloc::{AllocError, Global};
-use std::fmt;
 use std::time::{Clock, CpuClock, Duration};
+use std::{fmt, io};
 
 /// How often each time is taken.
-pub const ROUNDS: u32 = 15;
+pub const ROUNDS: usize = 15;
+
+/// How many columns the names of the rows take on the pages of the lock manager.
+pub const WIDTH: usize = 42;
 
 /// The processor time that this thread has used, in nanoseconds.
 pub fn cpu_nanos(rt: &impl CpuClock) -> Result<u64> {
@@ -22,38 +25,33 @@ fn nanos(time: Duration) -> u64 {
         .saturating_add(u64::from(time.subsec_nanos()))
 }
 
-/// The times of several rounds, each in tenths of a nanosecond for one step.
-#[derive(Drop)]
+/// The times of all rounds, each in tenths of a nanosecond for one step.
+#[derive(Clone, Copy)]
 pub struct Times {
-    tenths: Vec<u64>,
+    tenths: [u64; ROUNDS],
 }
 
 impl Times {
-    pub fn new(alloc: Global) -> Self {
+    pub fn new() -> Self {
         Times {
-            tenths: Vec::new(alloc),
+            tenths: [0; ROUNDS],
         }
     }
 
-    /// Adds a round of so many steps, between two readings of the clock.
-    pub fn add(&mut self, from: u64, to: u64, steps: u64) -> Result<(), AllocError> {
-        let tenths = to
-            .saturating_sub(from)
-            .saturating_mul(10)
-            .checked_div(steps)
-            .unwrap_or(0);
-        self.tenths.push(tenths)?;
-        Ok(())
+    /// Notes what the round with this number took, in nanoseconds for so many steps.
+    pub fn note(&mut self, round: usize, nanos: u64, steps: u64) {
+        if let Some(tenths) = self.tenths.get_mut(round) {
+            *tenths = nanos.saturating_mul(10).checked_div(steps).unwrap_or(0);
+        }
     }
 
     /// The median, the smallest and the largest.
     pub fn spread(mut self) -> Spread {
         self.tenths.sort_unstable();
-        let sorted = self.tenths.as_slice();
         Spread {
-            median: sorted.get(sorted.len() / 2).copied().unwrap_or(0),
-            least: sorted.first().copied().unwrap_or(0),
-            most: sorted.last().copied().unwrap_or(0),
+            median: self.tenths[ROUNDS / 2],
+            least: self.tenths[0],
+            most: self.tenths[ROUNDS - 1],
         }
     }
 }
@@ -75,16 +73,9 @@ impl Spread {
             most: self.most.saturating_sub(empty.median),
         }
     }
-
-    /// How many hundredths of another time this one is, by the medians and by the smallest.
-    pub fn hundredths_of(self, other: Spread) -> (u64, u64) {
-        (
-            hundredths(self.median, other.median),
-            hundredths(self.least, other.least),
-        )
-    }
 }
 
+/// How many hundredths of the whole a part is.
 fn hundredths(part: u64, whole: u64) -> u64 {
     part.saturating_mul(100).checked_div(whole).unwrap_or(0)
 }
@@ -96,21 +87,38 @@ impl fmt::Display for Spread {
             least,
             most,
         } = *self;
-        write!(f, "{:>6}.{}", median / 10, median % 10)?;
-        write!(f, " ({}.{}", least / 10, least % 10)?;
-        write!(f, " to {}.{})", most / 10, most % 10)
+        write!(
+            f,
+            "{:>6}.{} ({}.{} to {}.{})",
+            median / 10,
+            median % 10,
+            least / 10,
+            least % 10,
+            most / 10,
+            most % 10
+        )
     }
 }
 
-/// Prints what part one time is of another.
-pub fn print_ratio<R: Print>(rt: &R, what: &str, part: Spread, whole: Spread) -> Result<()> {
-    let (median, least) = part.hundredths_of(whole);
+/// Prints what is timed on a page, and how.
+pub fn print_header<R: Print>(rt: &R, what: &str, measured: &str) -> io::Result<()> {
+    println!(rt; "{what}: nanoseconds {measured}, median of {ROUNDS} rounds (smallest to largest)")
+}
+
+/// Prints a time, after what took it in so many columns.
+pub fn print_time<R: Print>(rt: &R, width: usize, what: &str, time: Spread) -> io::Result<()> {
+    println!(rt; "        {what:<width$} {time}")
+}
+
+/// Prints what part one time is of another, by the medians and by the smallest.
+pub fn print_ratio<R: Print>(rt: &R, what: &str, part: Spread, whole: Spread) -> io::Result<()> {
+    let median = hundredths(part.median, whole.median);
+    let least = hundredths(part.least, whole.least);
     println!(rt;
         "        {what:<44} {}.{:02} (smallest: {}.{:02})",
         median / 100,
         median % 100,
         least / 100,
         least % 100
-    )?;
-    Ok(())
+    )
 }

@@ -5,12 +5,14 @@ ghost use Rattle.std.specs.Prelude.{◌≡◌};
 use crate::crew::{Crew, Job, on_map};
 use crate::keys::{Key, Kind, keys, keys_of_partition};
 use crate::pair::Pair;
-use crate::rounds::{ROUNDS, Spread, Times, print_ratio, wall_nanos};
+use crate::rounds::{
+    ROUNDS, Spread, Times, WIDTH, print_header, print_ratio, print_time, wall_nanos,
+};
 use crate::shared_map::SharedMap;
 use anyhow::Result;
 use lock_manager::{Config, Manager};
 use lock_table::PlainPart;
-use modes_core::Owner;
+use modes_core::{Mode, Owner};
 use shared_rule::board::Board;
 use std::alloc::{AllocError, Global};
 use std::collections::HashMap;
@@ -43,6 +45,9 @@ const OWN_KEYS: usize = 16;
 /// How many steps a thread has in a round.
 const STEPS: u32 = 100_000;
 
+/// The same where nothing is timed.
+const CHECKED_STEPS: u32 = 1_600;
+
 impl Case {
     fn name(self) -> &'static str {
         match self {
@@ -60,7 +65,7 @@ impl Case {
             Case::OneObject => keys_of_partition(alloc, database, 0, 0, 1),
             Case::OnePartition => keys_of_partition(alloc, database, 0, from, OWN_KEYS),
             Case::OwnPartitions => keys_of_partition(alloc, database, thread, from, OWN_KEYS),
-            Case::OneRelation => keys(alloc, Kind::Relations, database, 0, 1),
+            Case::OneRelation => keys(alloc, Kind::Relations(Mode::AccessShare), database, 0, 1),
         }
     }
 
@@ -80,67 +85,75 @@ impl Case {
             Case::OneObject | Case::OneRelation => steps,
             _ => steps / 16,
         };
-        Ok(Job { keys, owner, laps })
-    }
-
-    /// How many steps a thread has with so many laps.
-    fn steps(self, laps: u32) -> u64 {
-        match self {
-            Case::OneObject | Case::OneRelation => u64::from(laps),
-            _ => u64::from(laps) * 16,
-        }
+        Ok(Job {
+            name: self.name(),
+            keys,
+            owner,
+            laps,
+            alone: None,
+        })
     }
 }
 
-/// Times rounds of the sessions' work and of the same work on the map, in turn, and gives the first.
-fn print_case<B: Board<PlainPart> + Send, R: Threads + Wait + Clock + AllocGlobal + Print + Sync>(
+/// The work of all cases.
+fn jobs(alloc: Global, database: u32, owner: Owner, check: bool) -> Result<Vec<Job>, AllocError> {
+    let steps = if check { CHECKED_STEPS } else { STEPS };
+    let mut jobs = Vec::new(alloc);
+    for case in CASES {
+        jobs.push(case.job(alloc, database, owner, steps)?)?;
+    }
+    Ok(jobs)
+}
+
+/// Times rounds of the sessions' work and of the same work on the map, in turn.
+fn time_job<B: Board<PlainPart> + Send, R: Threads + Wait + Clock + AllocGlobal + Sync>(
     rt: &R,
     crew: &mut Crew<B>,
     job: &Job,
-    case: Case,
     threads: u32,
-) -> Result<Spread>
+) -> Result<(Spread, Spread)>
     ensures first { B.seat crew.new.left.first.board ≡ B.seat crew.old.left.first.board }
     ensures second { B.seat crew.new.left.second.board ≡ B.seat crew.old.left.second.board }
     ensures third { B.seat crew.new.right.first.board ≡ B.seat crew.old.right.first.board }
     ensures fourth { B.seat crew.new.right.second.board ≡ B.seat crew.old.right.second.board }
 {
     let map: SharedMap = Mutex::new(HashMap::new(rt.alloc()));
-    let acquires = case.steps(job.laps).wrapping_mul(u64::from(threads));
-    let mut of_crew = Times::new(rt.alloc());
-    let mut of_map = Times::new(rt.alloc());
-    'rounds: for _ in 0..ROUNDS {
+    let acquires = job.acquires(threads);
+    let mut of_crew = Times::new();
+    let mut of_map = Times::new();
+    'rounds: for round in 0..ROUNDS {
         let from = wall_nanos(rt)?;
         crew.work(rt, job, threads);
         let between = wall_nanos(rt)?;
         on_map(rt, &map, job, threads);
         let to = wall_nanos(rt)?;
-        of_crew.add(from, between, acquires)?;
-        of_map.add(between, to, acquires)?;
+        of_crew.note(round, between.saturating_sub(from), acquires);
+        of_map.note(round, to.saturating_sub(between), acquires);
     }
-    let name = case.name();
-    let of_crew = of_crew.spread();
-    let of_map = of_map.spread();
-    println!(rt; "        {name:<42} {of_crew}")?;
-    println!(rt; "        {:<42} {of_map}", "the same on a map in a mutex")?;
-    print_ratio(rt, "to that", of_crew, of_map)?;
-    Ok(of_crew)
+    Ok((of_crew.spread(), of_map.spread()))
 }
 
-/// Prints how many times the throughput of one thread this is.
-fn print_gain<R: Print>(rt: &R, of_one: Option<&Spread>, of_crew: Spread) -> Result<()> {
-    match of_one {
-        Some(of_one) => print_ratio(rt, "times one thread", *of_one, of_crew),
-        None => Ok(()),
+/// Prints the times of the sessions and of the map, and how many times the throughput of one thread that is, if there are more.
+fn print_job<R: Print>(
+    rt: &R,
+    name: &str,
+    (of_crew, of_map): (Spread, Spread),
+    alone: Option<Spread>,
+) -> Result<()> {
+    print_time(rt, WIDTH, name, of_crew)?;
+    print_time(rt, WIDTH, "the same on a map in a mutex", of_map)?;
+    print_ratio(rt, "to that", of_crew, of_map)?;
+    if let Some(alone) = alone {
+        print_ratio(rt, "times one thread", alone, of_crew)?;
     }
+    Ok(())
 }
 
 /// The same once, and what it leaves.
-fn check_case<B: Board<PlainPart> + Send, R: Threads + Wait + AllocGlobal + Print + Sync>(
+fn check_job<B: Board<PlainPart> + Send, R: Threads + Wait + AllocGlobal + Print + Sync>(
     rt: &R,
     crew: &mut Crew<B>,
     job: &Job,
-    case: Case,
     threads: u32,
 ) -> Result<()>
     ensures first { B.seat crew.new.left.first.board ≡ B.seat crew.old.left.first.board }
@@ -148,24 +161,26 @@ fn check_case<B: Board<PlainPart> + Send, R: Threads + Wait + AllocGlobal + Prin
     ensures third { B.seat crew.new.right.first.board ≡ B.seat crew.old.right.first.board }
     ensures fourth { B.seat crew.new.right.second.board ≡ B.seat crew.old.right.second.board }
 {
-    let map: SharedMap = Mutex::new(HashMap::new(rt.alloc()));
-    let acquires = case.steps(job.laps).wrapping_mul(u64::from(threads));
+    let acquires = job.acquires(threads);
     let granted = crew.work(rt, job, threads);
-    let counted = on_map(rt, &map, job, threads);
+    let counted = {
+        let map: SharedMap = Mutex::new(HashMap::new(rt.alloc()));
+        on_map(rt, &map, job, threads)
+    };
     let left = crew.holds(rt)?;
-    let name = case.name();
+    let name = job.name;
     println!(rt;
         "        {name}: {acquires} acquires, granted {granted}, counted {counted}, holds {left}"
     )?;
     Ok(())
 }
 
-/// All cases, in one, two and four threads.
-fn print_crew<B: Board<PlainPart> + Send, R: Threads + Wait + Clock + AllocGlobal + Print + Sync>(
+/// All cases, in so many threads.
+fn print_jobs<B: Board<PlainPart> + Send, R: Threads + Wait + Clock + AllocGlobal + Print + Sync>(
     rt: &R,
     crew: &mut Crew<B>,
-    database: u32,
-    owner: Owner,
+    jobs: &mut [Job],
+    threads: u32,
     check: bool,
 ) -> Result<()>
     ensures first { B.seat crew.new.left.first.board ≡ B.seat crew.old.left.first.board }
@@ -173,22 +188,35 @@ fn print_crew<B: Board<PlainPart> + Send, R: Threads + Wait + Clock + AllocGloba
     ensures third { B.seat crew.new.right.first.board ≡ B.seat crew.old.right.first.board }
     ensures fourth { B.seat crew.new.right.second.board ≡ B.seat crew.old.right.second.board }
 {
-    let steps = if check { 1_600 } else { STEPS };
-    let mut alone = Vec::new(rt.alloc());
+    'jobs: for job in jobs.iter_mut() {
+        if check {
+            check_job(rt, crew, job, threads)?;
+            continue;
+        }
+        let times = time_job(rt, crew, job, threads)?;
+        print_job(rt, job.name, times, job.alone)?;
+        if threads == 1 {
+            job.alone = Some(times.0);
+        }
+    }
+    Ok(())
+}
+
+/// All cases, in one, two and four threads.
+fn print_crew<B: Board<PlainPart> + Send, R: Threads + Wait + Clock + AllocGlobal + Print + Sync>(
+    rt: &R,
+    crew: &mut Crew<B>,
+    jobs: &mut [Job],
+    check: bool,
+) -> Result<()>
+    ensures first { B.seat crew.new.left.first.board ≡ B.seat crew.old.left.first.board }
+    ensures second { B.seat crew.new.left.second.board ≡ B.seat crew.old.left.second.board }
+    ensures third { B.seat crew.new.right.first.board ≡ B.seat crew.old.right.first.board }
+    ensures fourth { B.seat crew.new.right.second.board ≡ B.seat crew.old.right.second.board }
+{
     'threads: for threads in THREADS {
         println!(rt; "threads: {threads}")?;
-        'cases: for (place, case) in CASES.iter().enumerate() {
-            let job = case.job(rt.alloc(), database, owner, steps)?;
-            if check {
-                check_case(rt, crew, &job, *case, threads)?;
-                continue;
-            }
-            let time = print_case(rt, crew, &job, *case, threads)?;
-            print_gain(rt, alone.get(place), time)?;
-            if threads == 1 {
-                alone.push(time)?;
-            }
-        }
+        print_jobs(rt, crew, jobs, threads, check)?;
     }
     Ok(())
 }
@@ -203,10 +231,23 @@ pub fn print<R: Threads + Wait + Clock + AllocGlobal + Print + Sync>(
     if check {
         println!(rt; "lock manager in threads")?;
     } else {
-        println!(rt;
-            "lock manager in threads: nanoseconds by the clock for an acquire with its release, over all threads, median of {ROUNDS} rounds (smallest to largest)"
+        print_header(
+            rt,
+            "lock manager in threads",
+            "by the clock for an acquire with its release, over all threads",
         )?;
     }
+    let mut jobs = jobs(rt.alloc(), database, owner, check)?;
+    print_with_crew(rt, database, jobs.as_mut_slice(), check)
+}
+
+/// The same for four sessions of a manager of their own.
+fn print_with_crew<R: Threads + Wait + Clock + AllocGlobal + Print + Sync>(
+    rt: &R,
+    database: u32,
+    jobs: &mut [Job],
+    check: bool,
+) -> Result<()> {
     let config = Config {
         sessions: 4,
         max_local: 1_024,
@@ -221,7 +262,7 @@ pub fn print<R: Threads + Wait + Clock + AllocGlobal + Print + Sync>(
         }
     };
     let mut crew = Crew { left, right };
-    let printed = print_crew(rt, &mut crew, database, owner, check);
+    let printed = print_crew(rt, &mut crew, jobs, check);
     let Crew { left, right } = crew;
     left.close(rt, &mut opener);
     right.close(rt, &mut opener);

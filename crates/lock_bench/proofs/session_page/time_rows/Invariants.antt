@@ -6,9 +6,3 @@ invariant-rounds g l = record {
   first : g.B.Board.seat l.pair.first.board ≡ g.B.Board.seat l.fn.pair.first.board;
   second : g.B.Board.seat l.pair.second.board ≡ g.B.Board.seat l.fn.pair.second.board;
 }
-
-abbrev pub invariant-rows : goal.invariant-rows
-invariant-rows g l = record {
-  first : g.B.Board.seat l.pair.first.board ≡ g.B.Board.seat l.fn.pair.first.board;
-  second : g.B.Board.seat l.pair.second.board ≡ g.B.Board.seat l.fn.pair.second.board;
-}

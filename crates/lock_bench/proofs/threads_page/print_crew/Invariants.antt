@@ -8,11 +8,3 @@ invariant-threads g l = record {
   third : g.B.Board.seat l.crew.right.first.board ≡ g.B.Board.seat l.fn.crew.right.first.board;
   fourth : g.B.Board.seat l.crew.right.second.board ≡ g.B.Board.seat l.fn.crew.right.second.board;
 }
-
-abbrev pub invariant-cases : goal.invariant-cases
-invariant-cases g l = record {
-  first : g.B.Board.seat l.crew.left.first.board ≡ g.B.Board.seat l.fn.crew.left.first.board;
-  second : g.B.Board.seat l.crew.left.second.board ≡ g.B.Board.seat l.fn.crew.left.second.board;
-  third : g.B.Board.seat l.crew.right.first.board ≡ g.B.Board.seat l.fn.crew.right.first.board;
-  fourth : g.B.Board.seat l.crew.right.second.board ≡ g.B.Board.seat l.fn.crew.right.second.board;
-}

@@ -1,8 +1,8 @@
 use Rattle.std.proofs.Common.{◌≡◌}
-use Rattle.lock_bench.proofs.threads_page.print_case.Given as goal
+use Rattle.lock_bench.proofs.threads_page.print_jobs.Given as goal
 
-abbrev pub invariant-rounds : goal.invariant-rounds
-invariant-rounds g l = record {
+abbrev pub invariant-jobs : goal.invariant-jobs
+invariant-jobs g l = record {
   first : g.B.Board.seat l.crew.left.first.board ≡ g.B.Board.seat l.fn.crew.left.first.board;
   second : g.B.Board.seat l.crew.left.second.board ≡ g.B.Board.seat l.fn.crew.left.second.board;
   third : g.B.Board.seat l.crew.right.first.board ≡ g.B.Board.seat l.fn.crew.right.first.board;

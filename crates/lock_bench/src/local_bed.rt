@@ -1,0 +1,94 @@
+//! What the rows on a local table run on.
+use crate::doors::{KeyMap, insert};
+use crate::keys::{Key, KeyList, Size};
+use crate::loops::{
+    acquire_all, double_passes, in_opposite_order, in_order, look_up_all, map_pairs, pairs, passes,
+    refusals,
+};
+use crate::rows::Line;
+use anyhow::{Result, ensure};
+use local_locks::LocalTable;
+use modes_core::Owner;
+use std::alloc::Global;
+use std::collections::HashMap;
+
+/// What is told where a call is refused that should not be.
+pub const REFUSED: &str = "a call of the local table was refused";
+
+/// What a row does with each key of its list.
+#[derive(Clone, Copy)]
+pub enum Work {
+    /// A call that does nothing.
+    OneEmptyCall,
+    /// Two of them.
+    TwoEmptyCalls,
+    /// It is acquired and released.
+    Pair,
+    /// It is acquired, and after all of them each is released, in the order of making.
+    InOrder,
+    /// The same in the opposite order.
+    InOppositeOrder,
+    /// It is released, which is refused.
+    Refused,
+    /// It is looked up in the map.
+    MapLookUp,
+    /// It is inserted into the map and removed.
+    MapPair,
+}
+
+/// A table and a map that hold the same keys.
+#[derive(Drop)]
+pub struct Bed {
+    pub held: Vec<Key>,
+    table: LocalTable,
+    map: KeyMap,
+    owner: Owner,
+}
+
+impl Bed {
+    /// With as many keys held as the size says.
+    pub fn new(alloc: Global, database: u32, owner: Owner, size: Size) -> Result<Self> {
+        let mut bed = Bed {
+            held: KeyList::Held.keys(alloc, database, size)?,
+            table: LocalTable::new(alloc, 65536)?,
+            map: HashMap::new(alloc),
+            owner,
+        };
+        let done = acquire_all(&mut bed.table, bed.held.as_slice(), owner);
+        ensure!(done, "{REFUSED}");
+        for (tag, mode) in &bed.held {
+            insert(&mut bed.map, tag, *mode, 0)?;
+        }
+        Ok(bed)
+    }
+
+    /// A round of the row, and what it counts.
+    pub fn run(&mut self, line: &Line<Work>) -> Result<u64> {
+        let (owner, laps) = (self.owner, line.laps);
+        let keys = line.keys.as_slice();
+        let done = match line.work {
+            Work::OneEmptyCall => return Ok(passes(keys, owner, laps)),
+            Work::TwoEmptyCalls => return Ok(double_passes(keys, owner, laps)),
+            Work::Pair => pairs(&mut self.table, keys, owner, laps),
+            Work::InOrder => in_order(&mut self.table, keys, owner, laps),
+            Work::InOppositeOrder => in_opposite_order(&mut self.table, keys, owner, laps),
+            Work::Refused => return Ok(refusals(&mut self.table, keys, owner, laps)),
+            Work::MapLookUp => return Ok(look_up_all(&self.map, keys, laps)),
+            Work::MapPair => {
+                map_pairs(&mut self.map, keys, laps)?;
+                true
+            }
+        };
+        ensure!(done, "{REFUSED}");
+        Ok(0)
+    }
+
+    /// How many entries the table has.
+    pub fn entries(&self) -> usize {
+        let mut count = 0usize;
+        for _ in self.table.entries() {
+            count = count.wrapping_add(1);
+        }
+        count
+    }
+}

@@ -1,0 +1,143 @@
+//! Rows of tables of times: with which keys each is timed, which row is taken off it, and beside which it is put.
+use crate::keys::{Key, KeyList, Size};
+use crate::rounds::{Spread, Times, print_ratio, print_time};
+use std::alloc::{AllocError, Global};
+use std::io;
+
+/// How many steps a round of a row has, at least.
+pub const STEPS: u32 = 100_000;
+
+/// Of how many of these steps one is made where nothing is timed.
+const STEPS_FOR_CHECKED: u32 = 100;
+
+/// A row of a table of times.
+pub struct Row<W> {
+    /// What it times.
+    pub name: &'static str,
+    /// What it does with each key of its list.
+    pub work: W,
+    pub list: KeyList,
+    /// How many steps a round has, at least.
+    pub steps: u32,
+    /// The name of the row whose time is taken off.
+    pub empty: Option<&'static str>,
+    /// The name of the row that it is compared with.
+    pub beside: Option<&'static str>,
+}
+
+/// A row with its keys and its times.
+#[derive(Drop)]
+pub struct Line<W> {
+    pub name: &'static str,
+    pub work: W,
+    pub keys: Vec<Key>,
+    /// How often the keys are gone through in a round.
+    pub laps: u32,
+    empty: Option<&'static str>,
+    beside: Option<&'static str>,
+    times: Times,
+}
+
+impl<W: Copy> Line<W> {
+    /// The row with its keys, for rounds of as many steps as it says, or of fewer where nothing is timed.
+    fn new(
+        alloc: Global,
+        row: &Row<W>,
+        database: u32,
+        size: Size,
+        check: bool,
+    ) -> Result<Self, AllocError> {
+        let steps = if check {
+            row.steps / STEPS_FOR_CHECKED
+        } else {
+            row.steps
+        };
+        let keys = row.list.keys(alloc, database, size)?;
+        Ok(Line {
+            name: row.name,
+            work: row.work,
+            laps: laps_of(keys.as_slice(), steps),
+            keys,
+            empty: row.empty,
+            beside: row.beside,
+            times: Times::new(),
+        })
+    }
+
+    /// How many steps a round has.
+    pub fn steps(&self) -> u64 {
+        u64::try_from(self.keys.len())
+            .unwrap_or(u64::MAX)
+            .saturating_mul(u64::from(self.laps))
+    }
+
+    /// Notes what the round with this number took.
+    pub fn note(&mut self, round: usize, nanos: u64) {
+        let steps = self.steps();
+        self.times.note(round, nanos, steps);
+    }
+}
+
+/// How often the keys are gone through for so many steps.
+pub fn laps_of(keys: &[Key], steps: u32) -> u32 {
+    let count = u32::try_from(keys.len()).unwrap_or(u32::MAX);
+    steps.checked_div(count).unwrap_or(0).max(1)
+}
+
+/// The rows with their keys.
+pub fn lines<W: Copy>(
+    alloc: Global,
+    rows: &[Row<W>],
+    database: u32,
+    size: Size,
+    check: bool,
+) -> Result<Vec<Line<W>>, AllocError> {
+    let mut lines = Vec::new(alloc);
+    for row in rows {
+        lines.push(Line::new(alloc, row, database, size, check)?)?;
+    }
+    Ok(lines)
+}
+
+/// The time of the row of this name.
+fn spread_of<W>(lines: &[Line<W>], name: &str) -> Spread {
+    for line in lines {
+        if line.name == name {
+            return line.times.spread();
+        }
+    }
+    Spread::default()
+}
+
+/// The time of the row of this name, with that of its empty row taken off.
+pub fn time_of<W>(lines: &[Line<W>], name: &str) -> Spread {
+    for line in lines {
+        if line.name == name {
+            let spread = line.times.spread();
+            return match line.empty {
+                Some(empty) => spread.above(spread_of(lines, empty)),
+                None => spread,
+            };
+        }
+    }
+    Spread::default()
+}
+
+/// Prints what each row takes, after its name in so many columns.
+pub fn print_times<W, R: Print>(rt: &R, width: usize, lines: &[Line<W>]) -> io::Result<()> {
+    for line in lines {
+        print_time(rt, width, line.name, time_of(lines, line.name))?;
+    }
+    Ok(())
+}
+
+/// Prints how much each row takes of that beside which it is put.
+pub fn print_ratios<W, R: Print>(rt: &R, lines: &[Line<W>]) -> io::Result<()> {
+    for line in lines {
+        if let Some(whole) = line.beside {
+            let part = time_of(lines, line.name);
+            print_ratio(rt, line.name, part, time_of(lines, whole))?;
+        }
+    }
+    Ok(())
+}
