@@ -72,7 +72,7 @@ const COMMIT_KEEPS_WHAT_THE_SESSION_OWNS: [Turn; 13] = [
     (1, Call::Next(End::Close), Answer::IsOver),
 ];
 
-const ONE_CELL_SHOWS_WHAT_A_RELATION_IS_HELD_IN: [Turn; 6] = [
+const ONE_LOOK_SHOWS_WHAT_A_RELATION_IS_HELD_IN: [Turn; 6] = [
     (
         1,
         Call::AddAtOnce(FIRST, AccessShare, Transaction),
@@ -183,7 +183,7 @@ fn one_look_shows_what_a_relation_is_held_in(rt: HostRuntime) {
         &rt,
         rt.alloc(),
         1024,
-        ONE_CELL_SHOWS_WHAT_A_RELATION_IS_HELD_IN.as_slice(),
+        ONE_LOOK_SHOWS_WHAT_A_RELATION_IS_HELD_IN.as_slice(),
     );
 }
 
