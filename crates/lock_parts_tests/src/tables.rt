@@ -413,6 +413,16 @@ fn are_alike(part: &PlainPart, other: &PlainPart) -> bool {
     part.holds() == other.holds() && part.waits() == other.waits()
 }
 
+/// A copy, at first like the part, after the steps.
+fn copy_after(rt: &impl Abort, part: &PlainPart, steps: &[Step]) -> Result<PlainPart, Fail>
+    requires { part.now.begun ≡ None }
+{
+    let mut copy = part.clone()?;
+    assert!(rt; are_alike(&copy, part));
+    play(rt, &mut copy, steps)?;
+    Ok(copy)
+}
+
 /// Whether sessions 0 and 1 hold anything.
 fn holders(rt: &impl Abort, part: &PlainPart) -> (bool, bool) {
     let (a, b) = (session(rt, 0), session(rt, 1));
@@ -422,9 +432,7 @@ fn holders(rt: &impl Abort, part: &PlainPart) -> (bool, bool) {
 #[test]
 fn a_copy_is_a_part_of_its_own(rt: HostRuntime) -> Result<(), Fail> {
     let part = part_after(&rt, rt.alloc(), ONE_WAITS_FOR_ANOTHER.as_slice())?;
-    let mut copy = part.clone()?;
-    assert!(rt; are_alike(&copy, &part));
-    play(&rt, &mut copy, THE_OTHER_GOES.as_slice())?;
+    let copy = copy_after(&rt, &part, THE_OTHER_GOES.as_slice())?;
     assert!(rt; holders(&rt, &copy) == (false, true));
     assert!(rt; holders(&rt, &part) == (true, false));
     assert!(rt; queue_is(&part, &OBJECT, &[1]));
