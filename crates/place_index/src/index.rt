@@ -173,7 +173,12 @@ impl PlaceIndex {
         ensures notes { IsOneMore self.old self.new hash place }
         ensures room { self.new.places ≡ self.old.places }
     {
-        link_first(self.heads.as_mut_slice(), self.links.as_mut_slice(), hash, place);
+        link_first(
+            self.heads.as_mut_slice(),
+            self.links.as_mut_slice(),
+            hash,
+            place,
+        );
         self.len += 1;
     }
 

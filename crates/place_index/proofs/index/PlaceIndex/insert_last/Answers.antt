@@ -37,9 +37,9 @@ link_first-requires-clause-first c =
     let links = c.self.inside.links.items in
     let first : head_at heads (start_of (length heads) c.args.hash) ≢ end_of_chain → head_at heads (start_of (length heads) c.args.hash) < c.args.place
     = λ goes.
-        let begins = start_of-below (length heads) c.args.hash (omega (arith, c.ranges.hash)) c.self.invariant.starts.some in
-        let found = some_first heads links (start_of (length heads) c.args.hash) c.self.invariant.linked begins goes in
-        let was = times-view links _ c.args.self.now (sym c.self.view_is) found.0 (head_at heads (start_of (length heads) c.args.hash)) in
-        c.requires.last found.0 (head_at heads (start_of (length heads) c.args.hash))
-        (subst (λ (n : ℕ). 0 < n) (sym was) (some_of _ (is_under-some found.0 (note_at links (head_at heads (start_of (length heads) c.args.hash))) found.1))) in
+    let begins = start_of-below (length heads) c.args.hash (omega (arith, c.ranges.hash)) c.self.invariant.starts.some in
+    let found = some_first heads links (start_of (length heads) c.args.hash) c.self.invariant.linked begins goes in
+    let was = times-view links _ c.args.self.now (sym c.self.view_is) found.0 (head_at heads (start_of (length heads) c.args.hash)) in
+    c.requires.last found.0 (head_at heads (start_of (length heads) c.args.hash))
+    (subst (λ (n : ℕ). 0 < n) (sym was) (some_of _ (is_under-some found.0 (note_at links (head_at heads (start_of (length heads) c.args.hash))) found.1))) in
     subst (λ (hs : List ℕ). head_at hs (start_of (length hs) c.args.hash) ≢ end_of_chain → head_at hs (start_of (length hs) c.args.hash) < c.args.place) (sym c.as_mut_slice.ensures.value) first
