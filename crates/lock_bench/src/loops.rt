@@ -1,4 +1,5 @@
-//! The loops that are timed: each goes through a list of keys so many times, and calls nothing but doors.
+//! The loops that are timed: each goes through a list of keys so many times, and calls nothing but doors. None is inlined, so
+//! that its code does not depend on what calls it.
 use crate::doors::{KeyMap, acquire, end_next, insert, look_up, pass, release, remove};
 use crate::keys::Key;
 use anyhow::Result;
@@ -6,6 +7,7 @@ use local_locks::{End, LocalTable};
 use modes_core::Owner;
 
 /// A call that does nothing for each key.
+#[inline(never)]
 pub fn passes(keys: &[Key], owner: Owner, laps: u32) -> u64 {
     let mut passed = 0u64;
     for _ in 0..laps {
@@ -17,6 +19,7 @@ pub fn passes(keys: &[Key], owner: Owner, laps: u32) -> u64 {
 }
 
 /// Two such calls for each key.
+#[inline(never)]
 pub fn double_passes(keys: &[Key], owner: Owner, laps: u32) -> u64 {
     let mut passed = 0u64;
     for _ in 0..laps {
@@ -29,6 +32,7 @@ pub fn double_passes(keys: &[Key], owner: Owner, laps: u32) -> u64 {
 }
 
 /// Acquires each and releases it at once, and tells whether all was done.
+#[inline(never)]
 pub fn pairs(table: &mut LocalTable, keys: &[Key], owner: Owner, laps: u32) -> bool {
     for _ in 0..laps {
         for (tag, mode) in keys {
@@ -51,6 +55,7 @@ pub fn acquire_all(table: &mut LocalTable, keys: &[Key], owner: Owner) -> bool {
 }
 
 /// Acquires all and then releases them in the order of making, and tells whether all was done.
+#[inline(never)]
 pub fn in_order(table: &mut LocalTable, keys: &[Key], owner: Owner, laps: u32) -> bool {
     for _ in 0..laps {
         if !acquire_all(table, keys, owner) {
@@ -66,6 +71,7 @@ pub fn in_order(table: &mut LocalTable, keys: &[Key], owner: Owner, laps: u32) -
 }
 
 /// Acquires all and then releases the last one first, and tells whether all was done.
+#[inline(never)]
 pub fn in_opposite_order(table: &mut LocalTable, keys: &[Key], owner: Owner, laps: u32) -> bool {
     for _ in 0..laps {
         if !acquire_all(table, keys, owner) {
@@ -81,6 +87,7 @@ pub fn in_opposite_order(table: &mut LocalTable, keys: &[Key], owner: Owner, lap
 }
 
 /// Releases what is not held, and counts the refusals.
+#[inline(never)]
 pub fn refusals(table: &mut LocalTable, keys: &[Key], owner: Owner, laps: u32) -> u64 {
     let mut refused = 0u64;
     for _ in 0..laps {
@@ -92,6 +99,7 @@ pub fn refusals(table: &mut LocalTable, keys: &[Key], owner: Owner, laps: u32) -
 }
 
 /// Goes through an end, and gives how many entries it took away.
+#[inline(never)]
 pub fn end_all(table: &mut LocalTable, end: End) -> u32 {
     for taken in 0..u32::MAX {
         if end_next(table, end).is_none() {
@@ -102,6 +110,7 @@ pub fn end_all(table: &mut LocalTable, end: End) -> u32 {
 }
 
 /// Looks each up in the map.
+#[inline(never)]
 pub fn look_up_all(map: &KeyMap, keys: &[Key], laps: u32) -> u64 {
     let mut found = 0u64;
     for _ in 0..laps {
@@ -113,6 +122,7 @@ pub fn look_up_all(map: &KeyMap, keys: &[Key], laps: u32) -> u64 {
 }
 
 /// Inserts each into the map and removes it at once.
+#[inline(never)]
 pub fn map_pairs(map: &mut KeyMap, keys: &[Key], laps: u32) -> Result<()> {
     for _ in 0..laps {
         for (tag, mode) in keys {
