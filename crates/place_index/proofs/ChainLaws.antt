@@ -1,9 +1,9 @@
 -- The chains after a place is noted or its note is taken away, over plain functions: what each place is noted under, each
 -- chain's head, and each place's next one.
-use Rattle.std.proofs.Common.{◌≡◌, ◌≢◌, ℕ, ◌+◌, ◌*◌, ◌/◌, ◌^◌, ◌<◌, ◌≤◌, Bool, true, false, eqb, suc, sym, ap, subst, refl, ◌∙◌, inl, inr, arith}
+use Rattle.std.proofs.Common.{◌≡◌, ◌≢◌, ℕ, ◌+◌, ◌*◌, ◌^◌, ◌<◌, ◌≤◌, true, false, sym, ap, subst, refl, ◌∙◌, inl, inr, arith}
 use Rattle.std.specs.Prelude.{Option, Some, None, ◌⊎◌}
 use Rattle.std.proofs.lemmas.Bool.{false≢true, cases_eq, cases_lt, eqb-true, eq-eqb, ne_eqb}
-use Rattle.std.proofs.lemmas.Nat.{div_below, mul-lt, mul-le}
+use Rattle.std.proofs.lemmas.Nat.{div_below, mul-le}
 use Rattle.place_index.specs.Chains.{end_of_chain, start_of, is_in, chain, IsLast, HasHeads, HasNexts}
 use Rattle.place_index.proofs.LastLaws.{last-alike, last-below, last-past, last-here, last-added, last-kept, last-left, last-stays}
 

@@ -1,11 +1,11 @@
 -- What an index knows, and what its links say.
-use Rattle.std.proofs.Common.{◌≡◌, ◌≢◌, ℕ, ◌+◌, ◌<◌, ◌≤◌, Bool, true, false, ◌&&◌, cond, eqb, List, length, set, refl, sym, ap, subst, ◌∙◌, inl, inr, arith}
+use Rattle.std.proofs.Common.{◌≡◌, ◌≢◌, ℕ, ◌+◌, ◌<◌, Bool, true, false, ◌&&◌, eqb, List, refl, ap, ◌∙◌, inl, inr, arith}
 use Rattle.std.specs.Prelude.{Option, Some, None, IfNone}
-use Rattle.std.proofs.lemmas.Bool.{false≢true, cases_eq, and_right, eq-eqb, ne_eqb, cond-true, cond-false}
+use Rattle.std.proofs.lemmas.Bool.{cases_eq, and_right, eq-eqb, ne_eqb, cond-true, cond-false}
 use Rattle.place_index.specs.declared.links.Link.{Link}
-use Rattle.place_index.specs.Notes.{Notes, times, once_at, is_at}
-use Rattle.place_index.specs.Chains.{notes_in, note_at, is_under, NotesMore, NotesLess}
-use Rattle.place_index.proofs.NoteLaws.{one_if, times-view}
+use Rattle.place_index.specs.Notes.{once_at}
+use Rattle.place_index.specs.Chains.{note_at, is_under, NotesMore, NotesLess}
+use Rattle.place_index.proofs.NoteLaws.{one_if}
 
 -- what follows from nothing being there
 pub if_none : {A : Type 0} (P Q : Type 0) (o : Option A) → IfNone o P → (P → Q) → IfNone o Q

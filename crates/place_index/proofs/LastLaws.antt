@@ -1,6 +1,6 @@
 -- What a chain's last place below a number is after the chain has one place more or less, over plain functions.
 use Rattle.std.proofs.Common.{◌≡◌, ◌≢◌, ℕ, ◌+◌, ◌<◌, ◌≤◌, Bool, true, false, sym, ap, ◌∙◌, inl, inr, arith}
-use Rattle.std.proofs.lemmas.Bool.{false≢true, cases_Bool, cases_eq, cases_lt}
+use Rattle.std.proofs.lemmas.Bool.{false≢true, cases_eq}
 use Rattle.place_index.specs.Chains.{end_of_chain, IsLast}
 
 -- below the number the chain is the same

@@ -1,12 +1,12 @@
 -- The chains after a step on heads and links.
-use Rattle.std.proofs.Common.{◌≡◌, ◌≢◌, ℕ, ◌+◌, ◌<◌, ◌≤◌, Bool, true, false, not, cond, eqb, List, length, set, replicate, refl, sym, ap, subst, ◌∙◌, inl, inr, arith}
-use Rattle.std.specs.Prelude.{Option, Some, None, ◌⊎◌}
-use Rattle.std.proofs.lemmas.Bool.{false≢true, cases_Bool, cases_eq, cases_lt, eq-eqb, ne_eqb, not_from_false}
+use Rattle.std.proofs.Common.{◌≡◌, ◌≢◌, ℕ, ◌+◌, ◌<◌, ◌≤◌, true, false, not, cond, eqb, List, length, set, replicate, sym, ap, subst, ◌∙◌, inl, inr, arith}
+use Rattle.std.specs.Prelude.{Some, None}
+use Rattle.std.proofs.lemmas.Bool.{cases_Bool, cases_eq, cases_lt, eq-eqb, ne_eqb}
 use Rattle.std.proofs.lemmas.List.{get_or-set_same, get_or-set_other, get_or-replicate, length-set}
 use Rattle.place_index.specs.declared.links.Link.{Link}
 use Rattle.place_index.specs.Notes.{no_place}
-use Rattle.place_index.specs.Chains.{end_of_chain, free_link, link_at, is_noted, note_of, note_at, next_at, head_at, is_under, is_in, chain, start_of, IsLast, HasHeads, HasNexts, IsLinked, IsLinkedTo}
-use Rattle.place_index.proofs.NoteLaws.{note_of-noted, noted_of, under_of, is_under-some, note_at-set, note_at-set_other, next_at-set, next_at-set_other, note_past, noted_within}
+use Rattle.place_index.specs.Chains.{end_of_chain, free_link, link_at, note_of, note_at, next_at, head_at, is_under, is_in, chain, start_of, IsLast, HasHeads, HasNexts, IsLinked, IsLinkedTo}
+use Rattle.place_index.proofs.NoteLaws.{note_of-noted, noted_of, under_of, is_under-some, note_at-set, note_at-set_other, next_at-set, next_at-set_other, noted_within}
 use Rattle.place_index.proofs.ChainLaws.{Adds, Drops, in_own, in_some, heads-added, heads-behind, nexts-added, nexts-between, heads-left, heads-stay, nexts-left, heads-past, nexts-past, heads-here, nexts-here}
 
 -- ---- what links say

@@ -1,7 +1,7 @@
-use Rattle.std.proofs.Common.{◌≡◌, ℕ, ◌<◌, ◌≤◌, true, false, length, sym, ap, subst, ◌∙◌, inl, inr, arith}
+use Rattle.std.proofs.Common.{ℕ, ◌<◌, false, length, sym, ap, subst, ◌∙◌, inl, inr, arith}
 use Rattle.std.proofs.lemmas.Bool.{false≢true, cases_eq, cases_lt}
 use Rattle.place_index.specs.declared.links.Link.{Link}
-use Rattle.place_index.specs.Chains.{end_of_chain, link_at, note_at, next_at, head_at, is_under, is_in, chain, start_of, IsLast}
+use Rattle.place_index.specs.Chains.{link_at, note_at, head_at, is_under, chain, start_of, IsLast}
 use Rattle.place_index.proofs.NoteLaws.{link_read, note_past, under_of, noted_of}
 use Rattle.place_index.proofs.LinkLaws.{in_chain, next_of, under_read, walk_ends}
 use Rattle.place_index.proofs.chains.find.Goals as goal

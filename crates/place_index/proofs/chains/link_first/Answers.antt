@@ -1,5 +1,5 @@
-use Rattle.std.proofs.Common.{◌≡◌, ◌≢◌, ℕ, ◌<◌, List, length, set, sym, ap, subst, ◌∙◌, inl, inr, arith}
-use Rattle.place_index.specs.Chains.{end_of_chain, head_at, start_of, IsLinked}
+use Rattle.std.proofs.Common.{ℕ, ◌<◌, length, set, sym, ap, subst, ◌∙◌}
+use Rattle.place_index.specs.Chains.{head_at, start_of, IsLinked}
 use Rattle.place_index.proofs.LinkLaws.{linked-first}
 use Rattle.place_index.proofs.chains.link_first.Goals as goal
 

@@ -1,5 +1,5 @@
-use Rattle.std.proofs.Common.{◌≡◌, ◌≢◌, ℕ, ◌<◌, length, subst}
-use Rattle.place_index.specs.Chains.{end_of_chain, head_at, start_of}
+use Rattle.std.proofs.Common.{◌≢◌, ℕ, ◌<◌, subst}
+use Rattle.place_index.specs.Chains.{end_of_chain, head_at}
 use Rattle.place_index.proofs.chains.link_in.Goals as goal
 use Rattle.place_index.proofs.chains.link_in.Goals.{then-head-via-then-head, then-head-via-else-head+then-head-place}
 

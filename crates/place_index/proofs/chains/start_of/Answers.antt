@@ -1,7 +1,6 @@
 use Rattle.std.proofs.Common.{ap}
 use Rattle.std.proofs.Common.{◌*◌, ◌/◌, ◌^◌}
 use Rattle.place_index.specs.Chains.{start_of}
-use Rattle.place_index.proofs.ChainLaws.{start_of-below}
 use Rattle.place_index.proofs.chains.start_of.Goals as goal
 
 pub returns-clause-is : goal.returns-clause-is

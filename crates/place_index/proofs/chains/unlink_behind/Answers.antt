@@ -1,7 +1,7 @@
-use Rattle.std.proofs.Common.{◌≡◌, ◌≢◌, ℕ, ◌<◌, length, set, sym, ap, subst, ◌∙◌, inl, inr, arith}
+use Rattle.std.proofs.Common.{◌≢◌, ◌<◌, length, set, sym, ap, subst, ◌∙◌, arith}
 use Rattle.std.proofs.lemmas.List.{get_or-set_other, length-set}
 use Rattle.place_index.specs.declared.links.Link.{Link}
-use Rattle.place_index.specs.Chains.{end_of_chain, free_link, link_at, note_at, next_at, start_of, IsLinked}
+use Rattle.place_index.specs.Chains.{free_link, link_at, note_at, IsLinked}
 use Rattle.place_index.proofs.NoteLaws.{link_read, under_of, noted_within}
 use Rattle.place_index.proofs.LinkLaws.{read_before, unlinked-behind}
 use Rattle.place_index.proofs.chains.unlink_behind.Goals as goal
