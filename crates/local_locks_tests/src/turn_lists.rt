@@ -72,7 +72,8 @@ const COMMIT_KEEPS_WHAT_THE_SESSION_OWNS: [Turn; 13] = [
     (1, Call::Next(End::Close), Answer::IsOver),
 ];
 
-const ONE_LOOK_SHOWS_WHAT_A_RELATION_IS_HELD_IN: [Turn; 6] = [
+const ONE_LOOK_SHOWS_WHAT_A_RELATION_IS_HELD_IN: [Turn; 14] = [
+    (1, Call::CanAdd, Answer::Can(true)),
     (
         1,
         Call::AddAtOnce(FIRST, AccessShare, Transaction),
@@ -99,10 +100,42 @@ const ONE_LOOK_SHOWS_WHAT_A_RELATION_IS_HELD_IN: [Turn; 6] = [
         Answer::AlreadyHeld,
     ),
     (1, Call::Total(FIRST, AccessShare), Answer::Number(3)),
+    (
+        1,
+        Call::DropAtOnce(FIRST, AccessShare, Transaction),
+        Answer::StillHeld,
+    ),
+    // Both owners have it once now.
+    (
+        1,
+        Call::DropAtOnce(FIRST, AccessShare, Transaction),
+        Answer::Unknown,
+    ),
+    (
+        1,
+        Call::Drop(FIRST, AccessShare, Session),
+        Answer::StillHeld,
+    ),
+    (
+        1,
+        Call::DropAtOnce(FIRST, AccessShare, Session),
+        Answer::Unknown,
+    ),
+    (
+        1,
+        Call::DropAtOnce(FIRST, AccessShare, Transaction),
+        Answer::Released,
+    ),
+    (
+        1,
+        Call::DropAtOnce(FIRST, AccessShare, Transaction),
+        Answer::Unknown,
+    ),
+    (1, Call::Entries, Answer::Number(0)),
 ];
 
 /// An owner counts to 65,535, and this table has two entries at most.
-const THE_LIMITS_ARE_KEPT: [Turn; 13] = [
+const THE_LIMITS_ARE_KEPT: [Turn; 15] = [
     (
         1,
         Call::Acquire(OBJECT, Share, Transaction),
@@ -134,6 +167,7 @@ const THE_LIMITS_ARE_KEPT: [Turn; 13] = [
         Call::Acquire(OBJECT, Exclusive, Session),
         Answer::Granted,
     ),
+    (1, Call::CanAdd, Answer::Can(false)),
     (
         1,
         Call::Acquire(OBJECT, AccessShare, Session),
@@ -151,6 +185,7 @@ const THE_LIMITS_ARE_KEPT: [Turn; 13] = [
     ),
     (1, Call::Drop(OBJECT, Share, Session), Answer::StillHeld),
     (1, Call::Drop(OBJECT, Exclusive, Session), Answer::Released),
+    (1, Call::CanAdd, Answer::Can(true)),
     (
         1,
         Call::Acquire(OBJECT, AccessShare, Session),

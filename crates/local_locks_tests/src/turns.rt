@@ -11,7 +11,10 @@ pub enum Call {
     Acquire(Tag, Mode, Owner),
     AddHeld(Tag, Mode, Owner),
     AddAtOnce(Tag, Mode, Owner),
+    /// Whether one more can be made with neither a refusal nor a growth.
+    CanAdd,
     Drop(Tag, Mode, Owner),
+    DropAtOnce(Tag, Mode, Owner),
     /// How often the owner has it.
     Count(Tag, Mode, Owner),
     /// How often both owners have it.
@@ -28,6 +31,7 @@ pub enum Answer {
     AlreadyHeld,
     NotHeld,
     Unknown,
+    Can(bool),
     Released,
     StillHeld,
     Refused(Refusal),
@@ -75,6 +79,14 @@ fn released(answer: Result<Unlocked, Refusal>) -> Answer {
     }
 }
 
+/// What a release is answered as far as one slot goes.
+fn released_at_once(answer: Option<Unlocked>) -> Answer {
+    match answer {
+        Some(answer) => released(Ok(answer)),
+        None => Answer::Unknown,
+    }
+}
+
 /// What the next step of an end is answered.
 fn ended(answer: Option<(Tag, Mode)>) -> Answer {
     match answer {
@@ -98,6 +110,10 @@ fn make(rt: &impl Abort, table: &mut LocalTable, call: Call) -> Answer {
         Call::Acquire(tag, mode, owner) => acquired(acquire(rt, table, tag, mode, owner)),
         Call::AddHeld(tag, mode, owner) => counted(table.add_held(&tag, mode, owner)),
         Call::AddAtOnce(tag, mode, owner) => known(table.add_at_once(&tag, mode, owner)),
+        Call::CanAdd => Answer::Can(table.can_add()),
+        Call::DropAtOnce(tag, mode, owner) => {
+            released_at_once(table.drop_at_once(&tag, mode, owner))
+        }
         Call::Drop(tag, mode, owner) => released(table.drop_one(tag, mode, owner)),
         Call::Count(tag, mode, owner) => {
             Answer::Number(u32::from(table.owner_count(tag, mode, owner)))
