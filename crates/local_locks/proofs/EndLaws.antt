@@ -8,7 +8,7 @@ use Rattle.modes_core.specs.declared.sessions.Owner.TheVariants.{Session, Transa
 use Rattle.local_locks.specs.declared.records.Entry.{Entry}
 use Rattle.local_locks.specs.declared.ends.End.{End}
 use Rattle.local_locks.specs.declared.ends.End.TheVariants.{Commit, Abort, Close}
-use Rattle.local_locks.specs.Owned.{count_for, count_in_all, lowered, is_ended, after_end, ended_by, left_by, with_next_ended}
+use Rattle.local_locks.specs.Owned.{count_for, count_in_all, lowered, raised, is_ended, after_end, ended_by, left_by, with_next_ended}
 use Rattle.local_locks.specs.Slots.{Slots, slot_at, present}
 
 -- ---- what an end does to one entry
@@ -38,6 +38,15 @@ Keeps-lowered Commit Transaction e keeps some more =
     absurd (omega arith)
 Keeps-lowered Abort owner e keeps some more = absurd (false≢true (sym keeps.0))
 Keeps-lowered Close owner e keeps some more = absurd (false≢true (sym keeps.0))
+
+-- and after one more acquire by an owner that has it
+pub Keeps-raised : (end : End) (owner : Owner) (e : Entry) → Keeps end e → 0 < count_for owner e → Keeps end (raised owner e)
+Keeps-raised Commit Session e keeps some = (ne_eqb (0 + (e.session + 1)) 0 (λ q. omega arith), ap (raised Session) keeps.1)
+Keeps-raised Commit Transaction e keeps some =
+    let none : 0 ≡ e.transaction = ap (λ x. x.transaction) keeps.1 in
+    absurd (omega arith)
+Keeps-raised Abort owner e keeps some = absurd (false≢true (sym keeps.0))
+Keeps-raised Close owner e keeps some = absurd (false≢true (sym keeps.0))
 
 -- ---- what one step of an end does to a list of entries
 

@@ -3,11 +3,13 @@ use Rattle.std.specs.Prelude.{Option, Some, None}
 use Rattle.std.specs.Option.{option_map}
 use Rattle.std.proofs.lemmas.Bool.{cases_eq}
 use Rattle.std.proofs.lemmas.List.{length-set, length-take, length-take-le, take_more, get_or-take}
+use Rattle.modes_core.specs.declared.modes.Mode.{Mode}
+use Rattle.modes_core.specs.declared.tags.Tag.{Tag}
 use Rattle.place_index.specs.Notes.{Notes, times, IsOneMore}
 use Rattle.local_locks.specs.declared.records.Entry.{Entry}
 use Rattle.local_locks.specs.Slots.{Slots, opened, slot_at, entry_at, present, key_at, key_hash, IsCut, IsFull, IsOnce, IsIndexed, IsTakenOut}
 use Rattle.local_locks.proofs.SlotLaws.{is_of-own, entries_but-at, length-present_clear, present-take, slot_at-take, slot_at-past, slot_at-within, slot_at-set, slot_at-set_other}
-use Rattle.local_locks.proofs.IndexLaws.{none_else, noted_some, once_else, times_none, some_key, pushed-indexed}
+use Rattle.local_locks.proofs.IndexLaws.{none_else, noted_some, once_else, times_none, some_key, pushed-indexed, indexed-cleared}
 use Rattle.local_locks.proofs.OpenLaws.{length-opened}
 
 -- ---- an entry leaves its slot
@@ -73,6 +75,24 @@ module _ (slots slots' : Slots) (index index' : Notes) (hash notes place used : 
 
   pub left-present : present slots' ≡ present (set slots place None)
   left-present = ap present is ∙ present-take used (set slots place None) empty_past
+
+-- its slot is emptied and the slots are cut, and its place is not noted any more
+pub leaves :
+    (es es' : List Entry) (index index' : Notes) (hash notes place used : ℕ) → IsIndexed (opened es) index → slot_at (opened es) place ≡ Some (entry_at es place) →
+    hash ≡ key_hash (entry_at es place).tag (entry_at es place).mode → IsOneMore index' index hash place → notes ≡ length index'.notes →
+    IsCut (length (opened es)) notes place used → opened es' ≡ take used (set (opened es) place None) → IsTakenOut es es' place × IsIndexed (opened es') index'
+leaves es es' index index' hash notes place used indexed there hashed more number cut is =
+    let e = entry_at es place in
+    let key : Entry → Tag × Mode = λ y. (y.tag, y.mode) in
+    let taken = taken-out es es' index place indexed there
+    (left-at (opened es) (opened es') index index' hash notes place used e indexed there more number cut is)
+    (left-present (opened es) (opened es') index index' hash notes place used e indexed there more number cut is)
+    (omega (arith, length-opened es, length-opened es', ap (λ (s : Slots). length s) is, length-take used (set (opened es) place None), length-set (opened es) place None)) in (
+      taken,
+      indexed-cleared (opened es) (opened es') index index' place hash (e.tag, e.mode) indexed (ap (option_map key) there) (ap (option_map key) taken.gone)
+          (λ k apart. ap (option_map key) (taken.others k apart))
+          (left-past (opened es) (opened es') index index' hash notes place used e indexed there more number cut is) hashed more,
+    )
 
 -- ---- a further entry is noted
 

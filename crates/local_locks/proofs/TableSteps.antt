@@ -16,7 +16,7 @@ use Rattle.local_locks.specs.Owned.{IsCounted, count_for, count_in_all, raised, 
 use Rattle.local_locks.specs.Slots.{Slots, opened, entry_at, slot_at, present, IsIndexed, IsPlaceOf, IsPast, IsKept, IsTable, reached, back_to}
 use Rattle.local_locks.proofs.SlotLaws.{is_of-same, change-at, length-present_set, slot_at-set, slot_at-set_other, slot_at-push_before, slot_at-past, slot_at-push, slot_at-within, present-push}
 use Rattle.local_locks.proofs.IndexLaws.{none_else, found_entry, indexed-change}
-use Rattle.local_locks.proofs.EndLaws.{Keeps, Keeps-lowered}
+use Rattle.local_locks.proofs.EndLaws.{Keeps, Keeps-lowered, Keeps-raised}
 use Rattle.local_locks.proofs.KeptLaws.{past-back_to, past-fewer}
 use Rattle.std.proofs.lemmas.List.{length_push}
 
@@ -92,6 +92,18 @@ kept-change slots index len max_local progress progress' place e x kept at same_
             | inr apart ↦ kept.counted k y (sym (slot_at-set_other slots place k (Some x) apart) ∙ at_k)
           ]
 
+-- an end is past a changed entry if it keeps that, too
+past-change :
+    (end : End) (slots : Slots) (place : ℕ) (e x : Entry) (past : ℕ) → slot_at slots place ≡ Some e → (Keeps end e → Keeps end x) → IsPast end slots past →
+    IsPast end (set slots place (Some x)) past
+past-change end slots place e x past at keeps was = λ k before.
+    elim (cases_eq k place) [
+      | inl same ↦
+          subst (λ o. IfSome o (Keeps end)) (sym (ap (slot_at (set slots place (Some x))) same ∙ slot_at-set slots place (Some x) (slot_at-within slots place e at)))
+          (keeps (subst (λ o. IfSome o (Keeps end)) (ap (slot_at slots) same ∙ at) (was k before)))
+      | inr apart ↦ subst (λ o. IfSome o (Keeps end)) (sym (slot_at-set_other slots place k (Some x) apart)) (was k before)
+    ]
+
 pub kept-raised :
     (slots : Slots) (index : Notes) (len max_local : ℕ) (progress : Progress) (place : ℕ) (owner : Owner) (e : Entry) →
     IsKept slots index len max_local progress → slot_at slots place ≡ Some e → count_for owner e < max_count →
@@ -117,6 +129,23 @@ IsTable-raised es es' index len max_local progress tag mode place owner table at
       few = omega (arith, number, table.few);
     }
 
+-- the same by an owner that has it already, which changes nothing for an end that is past it
+pub IsTable-raised_held :
+    (es es' : List Entry) (index : Notes) (len max_local : ℕ) (progress : Progress) (tag : Tag) (mode : Mode) (place : ℕ) (owner : Owner) →
+    IsTable es index len max_local progress → IsPlaceOf es tag mode place → 0 < count_for owner (entry_at es place) → count_for owner (entry_at es place) < max_count →
+    opened es' ≡ set (opened es) place (Some (raised owner (entry_at es place))) → length es' ≡ length es →
+    IsTable es' index len max_local progress
+IsTable-raised_held es es' index len max_local progress tag mode place owner table at some below raised_es number =
+    let e = entry_at es place in
+    let key = raised-key owner e in
+    record {
+      kept = subst (λ (s : Slots). IsKept s index len max_local progress) (sym raised_es)
+          (kept-change (opened es) index len max_local progress progress place e (raised owner e) table.kept at.there key.0 key.1
+          (IsCounted-raised owner e below (table.kept.counted place e at.there))
+          (λ end. past-change end (opened es) place e (raised owner e) (reached end progress) at.there (λ keeps. Keeps-raised end owner e keeps some) (table.kept.past end)));
+      few = omega (arith, number, table.few);
+    }
+
 pub kept-lowered :
     (slots : Slots) (index : Notes) (len max_local : ℕ) (progress : Progress) (place : ℕ) (owner : Owner) (e : Entry) →
     IsKept slots index len max_local progress → slot_at slots place ≡ Some e → 0 < count_for owner e → count_in_all e ≢ 1 →
@@ -124,16 +153,8 @@ pub kept-lowered :
 kept-lowered slots index len max_local progress place owner e kept at some more =
     let key = lowered-key owner e in
     kept-change slots index len max_local progress progress place e (lowered owner e) kept at key.0 key.1
-    (IsCounted-lowered owner e some more (kept.counted place e at)) past where
-      past : (end : End) → IsPast end (set slots place (Some (lowered owner e))) (reached end progress)
-      past end k before =
-          elim (cases_eq k place) [
-            | inl same ↦
-                let keeps : Keeps end e = subst (λ o. IfSome o (Keeps end)) (ap (slot_at slots) same ∙ at) (kept.past end k before) in
-                subst (λ o. IfSome o (Keeps end)) (sym (ap (slot_at (set slots place (Some (lowered owner e)))) same ∙ slot_at-set slots place (Some (lowered owner e)) (slot_at-within slots place e at)))
-                (Keeps-lowered end owner e keeps some more)
-            | inr apart ↦ subst (λ o. IfSome o (Keeps end)) (sym (slot_at-set_other slots place k (Some (lowered owner e)) apart)) (kept.past end k before)
-          ]
+    (IsCounted-lowered owner e some more (kept.counted place e at))
+    (λ end. past-change end slots place e (lowered owner e) (reached end progress) at (λ keeps. Keeps-lowered end owner e keeps some more) (kept.past end))
 
 -- a new last entry
 pub kept-pushed :

@@ -74,6 +74,42 @@ fn raise_if_held(slots: &mut Vec<Entry>, place: usize, owner: Owner) -> bool
     true
 }
 
+/// Lowers the count of an owner in the entry at a place where it has more than one, and says whether it did. Each owner has
+/// code of its own here, too.
+#[inline(always)]
+pub(crate) fn lower_held(slots: &mut Vec<Entry>, place: usize, owner: Owner) -> bool
+    requires { place < length slots.old.items }
+    ensures lowered { IsTrue result ↔ (1 < count_for owner (entry_at slots.old.items place)) }
+    ensures slots { result ≡ true → opened slots.new.items
+        ≡ slice_set (opened slots.old.items) place (Some (lowered owner (entry_at slots.old.items place))) }
+    ensures same { result ≡ false → slots.new ≡ slots.old }
+    ensures room { vec_capacity slots.new - length slots.new.items ≡ vec_capacity slots.old - length slots.old.items }
+    ensures number { length slots.new.items ≡ length slots.old.items }
+{
+    match owner {
+        Owner::Session => lower_if_held(slots, place, Owner::Session),
+        Owner::Transaction => lower_if_held(slots, place, Owner::Transaction),
+    }
+}
+
+/// The same, where the owner is known.
+#[inline(always)]
+fn lower_if_held(slots: &mut Vec<Entry>, place: usize, owner: Owner) -> bool
+    requires { place < length slots.old.items }
+    ensures lowered { IsTrue result ↔ (1 < count_for owner (entry_at slots.old.items place)) }
+    ensures slots { result ≡ true → opened slots.new.items
+        ≡ slice_set (opened slots.old.items) place (Some (lowered owner (entry_at slots.old.items place))) }
+    ensures same { result ≡ false → slots.new ≡ slots.old }
+    ensures room { vec_capacity slots.new - length slots.new.items ≡ vec_capacity slots.old - length slots.old.items }
+    ensures number { length slots.new.items ≡ length slots.old.items }
+{
+    if !slots[place].can_lower(owner) {
+        return false;
+    }
+    lower(slots, place, owner);
+    true
+}
+
 /// Makes a last slot with this entry, for which there is room, and notes its place under the hash.
 #[inline(always)]
 pub(crate) fn push_entry(slots: &mut Vec<Entry>, index: &mut PlaceIndex, hash: u32, entry: Entry)
@@ -132,35 +168,24 @@ pub(crate) fn take_out(slots: &mut Vec<Entry>, index: &mut PlaceIndex, place: us
     slots.truncate(used);
 }
 
-/// The same of the last slot, where a look for the hash comes to it first: says whether it does, and changes nothing where
-/// it doesn't. It has neither a loop nor a call.
+/// The same of the last slot, with neither a loop nor a call.
 #[inline(always)]
-pub(crate) fn take_last(
-    slots: &mut Vec<Entry>,
-    index: &mut PlaceIndex,
-    place: usize,
-    hash: u32,
-) -> bool
+pub(crate) fn take_last(slots: &mut Vec<Entry>, index: &mut PlaceIndex, place: usize)
     requires indexed { IsIndexed (opened slots.old.items) index.old }
     requires there { slot_at (opened slots.old.items) place ≡ Some (entry_at slots.old.items place) }
-    requires hashed { hash ≡ key_hash (entry_at slots.old.items place).tag (entry_at slots.old.items place).mode }
+    requires last { place + 1 ≡ length slots.old.items }
     requires few { length slots.old.items ≤ no_place }
-    ensures taken { result ≡ true → IsTakenOut slots.old.items slots.new.items place }
-    ensures indexed { result ≡ true → IsIndexed (opened slots.new.items) index.new }
+    ensures taken { IsTakenOut slots.old.items slots.new.items place }
+    ensures indexed { IsIndexed (opened slots.new.items) index.new }
     ensures slot_room { vec_capacity slots.old - length slots.old.items
         ≤ vec_capacity slots.new - length slots.new.items }
     ensures capacity { vec_capacity slots.new ≡ vec_capacity slots.old }
     ensures index_room { index.new.places ≡ index.old.places }
-    ensures slots { result ≡ false → slots.new ≡ slots.old }
-    ensures index { result ≡ false → index.new ≡ index.old }
 {
-    if !index.remove_first(hash, place as u32) {
-        return false;
-    }
-    slots[place].clear();
-    let used = slots_left(slots.len(), index.len(), place);
+    // The slots first: so their number, which the caller has just read, need not be read again.
+    let used = if index.len() == 1 { 0 } else { place };
     slots.truncate(used);
-    true
+    index.remove_last(place as u32);
 }
 
 /// Takes an entry that an end takes away out of its slot. Its place stays in the index where others have stayed, or where

@@ -5,7 +5,8 @@ ghost use Rattle.local_locks.specs.Owned.{max_count, has_entry, owner_count_of, 
 use crate::ends::Progress;
 use crate::looks::{Glance, glance_at, hash_of, key_hash, look, look_up, pair_bits};
 use crate::slots::{
-    compact, lower, push_entry, raise, raise_held, settle, take_ended, take_last, take_out, tidy,
+    compact, lower, lower_held, push_entry, raise, raise_held, settle, take_ended, take_last,
+    take_out, tidy,
 };
 use crate::{Acquired, AtOnce, End, Entries, Entry, Unlocked};
 use modes_core::{Mode, Owner, Refusal, Tag};
@@ -153,8 +154,8 @@ impl LocalTable {
                 if !raise_held(&mut self.slots, place, owner) {
                     return AtOnce::Unknown;
                 }
+                // An end that is past the slot leaves this count alone, so it need not come back.
                 self.last = place;
-                self.progress.go_back_to(place);
                 AtOnce::AlreadyHeld
             }
             Glance::Unknown => AtOnce::Unknown,
@@ -252,8 +253,7 @@ impl LocalTable {
     /// Whether one more entry is allowed and there is room for it, so that `reserve_new` would neither refuse nor grow.
     #[inline(always)]
     pub fn can_add(&self) -> bool
-        ensures allowed { IsTrue result → length self.now.entries < self.now.max_local }
-        ensures roomy { IsTrue result → 0 < self.now.room }
+        ensures can { IsTrue result ↔ ((length self.now.entries < self.now.max_local) × (0 < self.now.room)) }
         ensures well_owned { IsWellOwned self.now }
     {
         (self.len as u64) < u64::from(self.max_local) && self.has_room()
@@ -262,7 +262,7 @@ impl LocalTable {
     /// Whether one more entry can be made with no growth.
     #[inline(always)]
     fn has_room(&self) -> bool
-        ensures { IsTrue result → 0 < self.now.room }
+        ensures { IsTrue result ↔ (0 < self.now.room) }
     {
         let used = self.slots.len();
         used < self.slots.capacity() && used < self.index.places()
@@ -442,17 +442,13 @@ impl LocalTable {
         if !self.slots[last].is_of_relation(database, relation, mode) {
             return None;
         }
-        if self.slots[last].can_lower(owner) {
-            lower(&mut self.slots, last, owner);
+        if lower_held(&mut self.slots, last, owner) {
             return Some(Unlocked::StillHeld);
         }
         if !self.slots[last].is_only(owner) || last + 1 != self.slots.len() {
             return None;
         }
-        let hash = hash_of(pair_bits(database, relation), mode);
-        if !take_last(&mut self.slots, &mut self.index, last, hash) {
-            return None;
-        }
+        take_last(&mut self.slots, &mut self.index, last);
         self.len -= 1;
         self.last = last.wrapping_sub(1);
         Some(Unlocked::Released)

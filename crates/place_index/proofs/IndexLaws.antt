@@ -1,11 +1,11 @@
 -- What an index knows, and what its links say.
-use Rattle.std.proofs.Common.{◌≡◌, ◌≢◌, ℕ, ◌+◌, ◌<◌, Bool, true, false, ◌&&◌, eqb, List, refl, ap, ◌∙◌, inl, inr, arith}
+use Rattle.std.proofs.Common.{◌≡◌, ◌≢◌, ℕ, ◌+◌, ◌<◌, Bool, true, false, ◌&&◌, eqb, List, length, refl, sym, ap, ◌∙◌, inl, inr, arith}
 use Rattle.std.specs.Prelude.{Option, Some, None, IfNone}
 use Rattle.std.proofs.lemmas.Bool.{cases_eq, and_right, eq-eqb, ne_eqb, cond-true, cond-false}
 use Rattle.place_index.specs.declared.links.Link.{Link}
-use Rattle.place_index.specs.Notes.{once_at}
-use Rattle.place_index.specs.Chains.{note_at, is_under, NotesMore, NotesLess}
-use Rattle.place_index.proofs.NoteLaws.{one_if}
+use Rattle.place_index.specs.Notes.{Notes, times, once_at}
+use Rattle.place_index.specs.Chains.{link_at, note_at, notes_in, is_under, NotesMore, NotesLess}
+use Rattle.place_index.proofs.NoteLaws.{one_if, under_of, noted_of, noted_within, times-view}
 
 -- what follows from nothing being there
 pub if_none : {A : Type 0} (P Q : Type 0) (o : Option A) → IfNone o P → (P → Q) → IfNone o Q
@@ -68,3 +68,11 @@ free_note links place none = go (note_at links place) none where
   go (Some hash) none =
       let one : one_if (eqb hash hash) ≡ 1 = ap one_if (eq-eqb hash hash refl) in
       absurd (omega (arith, one, none hash))
+
+-- what the view says of a place that is noted, its link says, too
+pub noted_link :
+    (links : List Link) (places : ℕ) (index : Notes) → record { notes = notes_in links; places = places } ≡ index → (hash place : ℕ) → 0 < times index hash place →
+    (note_at links place ≡ Some hash) × ((link_at links place).hash ≡ hash) × (place < length links)
+noted_link links places index view hash place some =
+    let noted = under_of hash (note_at links place) (yes_of _ (omega (arith, some, times-view links places index (sym view) hash place))) in
+    (noted, (noted_of (link_at links place) hash noted).1, noted_within links place hash noted)

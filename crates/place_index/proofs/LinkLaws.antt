@@ -86,6 +86,17 @@ some_first heads links start linked begins goes =
     let found = in_some (length heads) start (note_at links (head_at heads start)) ((linked.firsts start begins).there goes) in
     (found.0, found.1)
 
+-- a place of a chain is its head where no higher one is noted
+pub head_of_last :
+    (heads : List ℕ) (links : List Link) (hash place : ℕ) → IsLinked heads links → start_of (length heads) hash < length heads → is_under hash (note_at links place) ≡ true →
+    ((h p : ℕ) → note_at links p ≡ Some h → p ≤ place) → head_at heads (start_of (length heads) hash) ≡ place
+head_of_last heads links hash place linked begins under last =
+    let start : ℕ = start_of (length heads) hash in
+    let within = noted_within links place hash (under_of hash (note_at links place) under) in
+    let far = (linked.firsts start begins).behind place within (in_chain (length heads) links hash place under) in
+    let head = some_first heads links start linked begins far.0 in
+    omega (arith, far.1, last head.0 (head_at heads start) head.1)
+
 -- ---- a place is noted
 
 -- it becomes the head of its chain

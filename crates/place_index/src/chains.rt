@@ -102,29 +102,6 @@ fn link_behind(heads: &[u32], links: &mut [Link], head: u32, hash: u32, place: u
     links[before as usize].set_next(place);
 }
 
-/// Takes away the note of the place under the hash if its chain has it first, and says whether it has.
-#[inline(always)]
-pub(crate) fn unlink_first(heads: &mut [u32], links: &mut [Link], hash: u32, place: u32) -> bool
-    requires linked { IsLinked heads.old links.old }
-    requires starts { HasStarts heads.old }
-    requires few { length links.old ≤ no_place }
-    requires there { is_under hash (note_at links.old place) ≡ true }
-    ensures linked { IsLinked heads.new links.new }
-    ensures notes { result ≡ true → NotesLess links.old links.new place }
-    ensures counted { result ≡ true → count_by is_noted links.new + 1 ≡ count_by is_noted links.old }
-    ensures heads { result ≡ false → heads.new ≡ heads.old }
-    ensures links { result ≡ false → links.new ≡ links.old }
-    ensures first { result ≡ false → place < head_at heads.old (start_of (length heads.old) hash) }
-{
-    let start = start_of(heads.len(), hash);
-    if heads[start] != place {
-        return false;
-    }
-    heads[start] = links[place as usize].next();
-    links[place as usize] = Link::free();
-    true
-}
-
 /// Takes away the note of the place under the hash.
 pub(crate) fn unlink(heads: &mut [u32], links: &mut [Link], hash: u32, place: u32)
     requires linked { IsLinked heads.old links.old }
@@ -135,10 +112,28 @@ pub(crate) fn unlink(heads: &mut [u32], links: &mut [Link], hash: u32, place: u3
     ensures notes { NotesLess links.old links.new place }
     ensures counted { count_by is_noted links.new + 1 ≡ count_by is_noted links.old }
 {
-    if unlink_first(heads, links, hash, place) {
-        return;
+    if heads[start_of(heads.len(), hash)] == place {
+        unlink_first(heads, links, hash, place);
+    } else {
+        unlink_behind(heads, links, hash, place);
     }
-    unlink_behind(heads, links, hash, place);
+}
+
+/// The same where its chain has the place first.
+#[inline(always)]
+pub(crate) fn unlink_first(heads: &mut [u32], links: &mut [Link], hash: u32, place: u32)
+    requires linked { IsLinked heads.old links.old }
+    requires starts { HasStarts heads.old }
+    requires few { length links.old ≤ no_place }
+    requires there { is_under hash (note_at links.old place) ≡ true }
+    requires first { head_at heads.old (start_of (length heads.old) hash) ≡ place }
+    ensures linked { IsLinked heads.new links.new }
+    ensures notes { NotesLess links.old links.new place }
+    ensures counted { count_by is_noted links.new + 1 ≡ count_by is_noted links.old }
+{
+    let start = start_of(heads.len(), hash);
+    heads[start] = links[place as usize].next();
+    links[place as usize] = Link::free();
 }
 
 /// The same where its chain has another place first.

@@ -81,7 +81,12 @@ impl PlaceIndex {
         ensures { IsFirst self.now hash result }
     {
         let head = self.heads[start_of(self.heads.len(), hash)];
-        if head == END { None } else { Some(head) }
+        // What stands for an end is behind all places.
+        if (head as usize) < self.links.len() {
+            Some(head)
+        } else {
+            None
+        }
     }
 
     /// How many places there is room for: each below that can be noted.
@@ -110,7 +115,8 @@ impl PlaceIndex {
         place < self.links.len() && self.links[place].is_noted()
     }
 
-    /// Makes room for the place; nothing else takes memory.
+    /// Makes room for the place. Beside `new`, nothing else takes memory. The error is that memory was refused, or that the
+    /// place is 2^30 or above.
     #[inline(always)]
     pub fn reserve(&mut self, place: u32) -> Result<(), AllocError>
         ensures ok { OnOk result (place < self.new.places) }
@@ -136,10 +142,10 @@ impl PlaceIndex {
         ensures room { self.old.places ≤ self.new.places }
         ensures notes { HasSameNotes self.old self.new }
     {
-        let places = (2 * self.links.len()).max(place + 1);
-        if places > MOST_PLACES {
+        if place >= MOST_PLACES {
             return Err(AllocError);
         }
+        let places = (2 * self.links.len()).min(MOST_PLACES).max(place + 1);
         let mut heads = Vec::new(*self.heads.allocator());
         heads.resize(starts_for(places), END)?;
         self.links.resize(places, Link::free())?;
@@ -197,25 +203,23 @@ impl PlaceIndex {
         self.len -= 1;
     }
 
-    /// The same if a `find` for the hash comes to the place first, with neither a loop nor a call: says whether it does, and
-    /// changes nothing where it doesn't.
+    /// The same of the last place of all that are noted, with neither a loop nor a call. The index knows its hash.
     #[inline(always)]
-    pub fn remove_first(&mut self, hash: u32, place: u32) -> bool
-        requires { 0 < times self.old hash place }
-        ensures notes { result ≡ true → IsOneMore self.new self.old hash place }
+    pub fn remove_last(&mut self, place: u32)
+        requires noted { IsNoted self.old place }
+        requires last { (h p : ℕ) → 0 < times self.old h p → p ≤ place }
+        ensures notes { (hash : ℕ) → 0 < times self.old hash place → IsOneMore self.new self.old hash place }
+        ensures number { length self.new.notes + 1 ≡ length self.old.notes }
         ensures room { self.new.places ≡ self.old.places }
-        ensures same { result ≡ false → self.new ≡ self.old }
     {
-        if !unlink_first(
+        let hash = self.links[place as usize].hash();
+        unlink_first(
             self.heads.as_mut_slice(),
             self.links.as_mut_slice(),
             hash,
             place,
-        ) {
-            return false;
-        }
+        );
         self.len -= 1;
-        true
     }
 
     /// Takes all notes away, and leaves their room.

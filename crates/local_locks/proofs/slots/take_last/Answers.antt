@@ -1,47 +1,44 @@
-use Rattle.std.proofs.Common.{◌≡◌, None, List, length, take, set, sym, ap, subst, ◌∙◌, arith}
-use Rattle.std.specs.Option.{option_map}
-use Rattle.std.proofs.lemmas.List.{length-take, length-set}
-use Rattle.local_locks.specs.declared.records.Entry.{Entry}
-use Rattle.local_locks.specs.Slots.{IsCut, opened, entry_in, entry_at}
-use Rattle.local_locks.proofs.IndexLaws.{noted_some, indexed-cleared}
-use Rattle.local_locks.proofs.OpenLaws.{length-opened, opened-set, opened-take}
-use Rattle.local_locks.proofs.SlotSteps.{taken-out, left-at, left-present, left-past}
+use Rattle.std.proofs.Common.{◌≡◌, ◌≤◌, ◌<◌, ℕ, None, length, take, set, refl, sym, ap, ◌∙◌, inl, inr, arith}
+use Rattle.std.proofs.lemmas.Bool.{cases_lt}
+use Rattle.std.proofs.lemmas.List.{take-set-le}
+use Rattle.local_locks.specs.Slots.{IsCut, IsIndexed, IsTakenOut, opened, entry_at, key_hash}
+use Rattle.local_locks.proofs.IndexLaws.{noted_some}
+use Rattle.local_locks.proofs.OpenLaws.{length-opened, opened-take}
+use Rattle.local_locks.proofs.SlotSteps.{leaves}
 use Rattle.local_locks.proofs.slots.take_last.Goals as goal
+use Rattle.local_locks.proofs.slots.take_last.Goals.{then-len-eq1, else-len-eq1}
 
-pub remove_first-requires : goal.remove_first-requires
-remove_first-requires c =
-    noted_some (opened c.args.slots.now.items) c.args.index.now c.requires.indexed c.args.place c.args.hash (entry_at c.args.slots.now.items c.args.place) c.requires.there c.requires.hashed
+-- the hash that the place is noted under
+pub remove_last-requires-clause-noted : goal.remove_last-requires-clause-noted
+remove_last-requires-clause-noted c =
+    let es = c.args.slots.now.items in
+    let hash : ℕ = key_hash (entry_at es c.args.place).tag (entry_at es c.args.place).mode in
+    (hash, noted_some (opened es) c.args.index.now c.requires.indexed c.args.place hash (entry_at es c.args.place) c.requires.there refl)
 
--- where the slots are cut
-cut : (c : goal.After-truncate) → IsCut (length (opened c.args.slots.now.items)) c.len-2.result c.args.place c.slots_left-used.result
-cut c =
-    let number : c.len.result ≡ length (opened c.args.slots.now.items) = c.len.ensures ∙ (c.args.slots.now.ok.0 ∙ sym (length-opened c.args.slots.now.items)) in
-    subst (λ slots. IsCut slots c.len-2.result c.args.place c.slots_left-used.result) number c.slots_left-used.ensures
+pub remove_last-requires-clause-last : goal.remove_last-requires-clause-last
+remove_last-requires-clause-last c = λ h p some.
+    elim (cases_lt p (length (opened c.args.slots.now.items))) [
+      | inl before ↦ omega (arith, c.requires.last, length-opened c.args.slots.now.items)
+      | inr past ↦ absurd (omega (arith, c.requires.indexed.within h p past))
+    ]
 
--- the slots that are left
-slots_are : (c : goal.After-truncate) → opened c.truncate.new.self.items ≡ take c.slots_left-used.result (set (opened c.args.slots.now.items) c.args.place None)
-slots_are c =
-    ap opened c.truncate.ensures.items
-    ∙ (opened-take c.slots_left-used.result (set c.args.slots.now.items c.args.place c.clear.new.self)
-    ∙ ap (take c.slots_left-used.result)
-    (opened-set c.args.slots.now.items c.args.place c.clear.new.self ∙ ap (λ o. set (opened c.args.slots.now.items) c.args.place o) (ap entry_in c.clear.ensures)))
+-- the slots are cut before the place, or where the last note goes
+left : (c : goal.After-remove_last) → IsTakenOut c.args.slots.now.items c.truncate.new.self.items c.args.place × IsIndexed (opened c.truncate.new.self.items) c.remove_last.new.self
+left c =
+    let es = c.args.slots.now.items in
+    let hash : ℕ = key_hash (entry_at es c.args.place).tag (entry_at es c.args.place).mode in
+    let used = c.if-len-eq1.used in
+    let cut : IsCut (length (opened es)) (length c.remove_last.new.self.notes) c.args.place used = elim c.if-len-eq1.branch [
+      | then-len-eq1 w ↦ inr (inr (omega (arith, c.len.ensures, w.if-len-eq1, c.remove_last.ensures.number)))
+      | else-len-eq1 w ↦ inr (inl (w.used-is, c.requires.last ∙ sym (length-opened es)))
+    ] in
+    let below : used ≤ c.args.place = elim c.if-len-eq1.branch [ then-len-eq1 w ↦ omega (arith, w.used-is) | else-len-eq1 w ↦ omega (arith, w.used-is) ] in
+    leaves es c.truncate.new.self.items c.args.index.now c.remove_last.new.self hash (length c.remove_last.new.self.notes) c.args.place used c.requires.indexed c.requires.there refl
+    (c.remove_last.ensures.notes hash (noted_some (opened es) c.args.index.now c.requires.indexed c.args.place hash (entry_at es c.args.place) c.requires.there refl)) refl cut
+    (ap opened c.truncate.ensures.items ∙ (opened-take used es ∙ sym (take-set-le used (opened es) c.args.place None below)))
 
 pub returns-clause-taken : goal.returns-clause-taken
-returns-clause-taken c = λ _.
-    let es = c.args.slots.now.items in
-    let new = c.truncate.new.self.items in
-    taken-out es new c.args.index.now c.args.place c.requires.indexed c.requires.there
-    (left-at (opened es) (opened new) c.args.index.now c.remove_first.new.self c.args.hash c.len-2.result c.args.place c.slots_left-used.result (entry_at es c.args.place)
-    c.requires.indexed c.requires.there (c.remove_first.ensures.notes c.if-not-remove_first.false) c.len-2.ensures (cut c) (slots_are c))
-    (left-present (opened es) (opened new) c.args.index.now c.remove_first.new.self c.args.hash c.len-2.result c.args.place c.slots_left-used.result (entry_at es c.args.place)
-    c.requires.indexed c.requires.there (c.remove_first.ensures.notes c.if-not-remove_first.false) c.len-2.ensures (cut c) (slots_are c))
-    (omega (arith, ap (λ (l : List Entry). length l) c.truncate.ensures.items, length-take c.slots_left-used.result (set es c.args.place c.clear.new.self), length-set es c.args.place c.clear.new.self))
+returns-clause-taken c = (left c).0
 
 pub returns-clause-indexed : goal.returns-clause-indexed
-returns-clause-indexed c = λ is.
-    indexed-cleared (opened c.args.slots.now.items) (opened c.truncate.new.self.items) c.args.index.now c.remove_first.new.self c.args.place c.args.hash ((entry_at c.args.slots.now.items c.args.place).tag, (entry_at c.args.slots.now.items c.args.place).mode)
-    c.requires.indexed (ap (option_map (λ y. (y.tag, y.mode))) c.requires.there) (ap (option_map (λ y. (y.tag, y.mode))) (returns-clause-taken c is).gone)
-    (λ k apart. ap (option_map (λ y. (y.tag, y.mode))) ((returns-clause-taken c is).others k apart))
-    (left-past (opened c.args.slots.now.items) (opened c.truncate.new.self.items) c.args.index.now c.remove_first.new.self c.args.hash c.len-2.result c.args.place c.slots_left-used.result
-    (entry_at c.args.slots.now.items c.args.place) c.requires.indexed c.requires.there (c.remove_first.ensures.notes c.if-not-remove_first.false) c.len-2.ensures (cut c) (slots_are c))
-    c.requires.hashed (c.remove_first.ensures.notes c.if-not-remove_first.false)
+returns-clause-indexed c = (left c).1

@@ -15,4 +15,4 @@ returns-clause-linked c =
     subst (λ (s : ℕ). IsLinked (set heads s c.next.result) (set links c.args.place c.free.result)) (sym is)
     (subst (λ (l : Link). IsLinked (set heads (start_of (length heads) c.args.hash) c.next.result) (set links c.args.place l)) (sym c.free.ensures)
     (unlinked-first heads links c.args.hash c.args.place c.next.result c.requires.linked c.requires.few c.requires.there begins
-    (ap (head_at heads) (sym is) ∙ c.if-heads-start.false) (c.next.ensures ∙ ap (λ (l : Link). l.next) (link_read links c.args.place _ within))))
+    c.requires.first (c.next.ensures ∙ ap (λ (l : Link). l.next) (link_read links c.args.place _ within))))

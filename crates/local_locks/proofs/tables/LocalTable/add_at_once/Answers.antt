@@ -6,7 +6,7 @@ use Rattle.local_locks.specs.declared.ends.Progress.{Progress}
 use Rattle.local_locks.specs.declared.records.Entry.{Entry}
 use Rattle.local_locks.proofs.KeptLaws.{well_owned}
 use Rattle.local_locks.proofs.LookLaws.{place_read}
-use Rattle.local_locks.proofs.TableSteps.{IsTable-raised, entries-raised, owner_count-at}
+use Rattle.local_locks.proofs.TableSteps.{IsTable-raised_held, entries-raised, owner_count-at}
 use Rattle.local_locks.proofs.tables.LocalTable.add_at_once.Goals as goal
 
 pub returns-in-Nothing-clause-well_owned : goal.returns-in-Nothing-clause-well_owned
@@ -23,24 +23,21 @@ returns-then-not-raise_held-clause-well_owned c =
 
 -- ---- one more is counted
 
-seen : (c : goal.After-go_back_to) → (c.in-Place.place < length c.self.inside.slots.items) × (is_of c.args.tag.now c.args.mode (entry_at c.self.inside.slots.items c.in-Place.place) ≡ true)
+seen : (c : goal.After-self-1) → (c.in-Place.place < length c.self.inside.slots.items) × (is_of c.args.tag.now c.args.mode (entry_at c.self.inside.slots.items c.in-Place.place) ≡ true)
 seen c = subst (λ (l : List Entry). (c.in-Place.place < length l) × (is_of c.args.tag.now c.args.mode (entry_at l c.in-Place.place) ≡ true)) c.deref.ensures.value (c.in-Place.ensures {u = tt})
 
-counts : (c : goal.After-go_back_to) → (0 < count_for c.args.owner (entry_at c.self.inside.slots.items c.in-Place.place)) × (count_for c.args.owner (entry_at c.self.inside.slots.items c.in-Place.place) < max_count)
+counts : (c : goal.After-self-1) → (0 < count_for c.args.owner (entry_at c.self.inside.slots.items c.in-Place.place)) × (count_for c.args.owner (entry_at c.self.inside.slots.items c.in-Place.place) < max_count)
 counts c = c.raise_held.ensures.raised.0 c.if-not-raise_held.false
 
-at : (c : goal.After-go_back_to) → IsPlaceOf c.self.inside.slots.items c.args.tag.now c.args.mode c.in-Place.place
+at : (c : goal.After-self-1) → IsPlaceOf c.self.inside.slots.items c.args.tag.now c.args.mode c.in-Place.place
 at c =
     place_read c.self.inside.slots.items c.self.inside.index c.self.invariant.kept.indexed c.args.tag.now c.args.mode c.args.owner c.in-Place.place
     (entry_at c.self.inside.slots.items c.in-Place.place) refl (seen c).1 (counts c).0
 
 pub invariant_of-self-in-Place : goal.invariant_of-self-in-Place
 invariant_of-self-in-Place c =
-    let es = c.self.inside.slots.items in
-    let limit : count_for c.args.owner (entry_at es c.in-Place.place) ≢ max_count = λ full. omega (arith, (counts c).1, full) in
-    subst (λ (p : Progress). IsTable c.raise_held.new.slots.items c.self.inside.index c.self.inside.len c.self.inside.max_local p) (sym c.go_back_to.ensures)
-    (IsTable-raised es c.raise_held.new.slots.items c.self.inside.index c.self.inside.len c.self.inside.max_local c.self.inside.progress c.args.tag.now c.args.mode
-    c.in-Place.place c.args.owner c.self.invariant (at c) limit (c.raise_held.ensures.slots c.if-not-raise_held.false) c.raise_held.ensures.number)
+    IsTable-raised_held c.self.inside.slots.items c.raise_held.new.slots.items c.self.inside.index c.self.inside.len c.self.inside.max_local c.self.inside.progress c.args.tag.now c.args.mode
+    c.in-Place.place c.args.owner c.self.invariant (at c) (counts c).0 (counts c).1 (c.raise_held.ensures.slots c.if-not-raise_held.false) c.raise_held.ensures.number
 
 pub returns-else-not-raise_held-clause-well_owned : goal.returns-else-not-raise_held-clause-well_owned
 returns-else-not-raise_held-clause-well_owned c = well_owned _ _ _ _ _ _ (invariant_of-self-in-Place c).kept

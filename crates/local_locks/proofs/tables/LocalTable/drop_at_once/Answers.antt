@@ -1,16 +1,19 @@
-use Rattle.std.proofs.Common.{◌≡◌, ◌≢◌, ◌<◌, List, length, refl, sym, ap, subst, ◌∙◌, arith}
+use Rattle.std.proofs.Common.{◌≡◌, ◌≢◌, ℕ, ◌<◌, ◌-◌, List, length, min, true, refl, sym, ap, subst, ◌∙◌, arith}
 use Rattle.std.proofs.lemmas.List.{get_or_default}
 use Rattle.modes_core.specs.declared.tags.Tag.{Tag}
 use Rattle.local_locks.specs.declared.answers.Unlocked.TheVariants.{Released, StillHeld}
-use Rattle.place_index.specs.Notes.{Notes}
+use Rattle.place_index.specs.Notes.{no_place}
+use Rattle.std.specs.Prelude.{vec_capacity, slice_index_or}
+use Rattle.modes_core.specs.declared.sessions.Owner.{Owner}
 use Rattle.local_locks.specs.declared.records.Entry.{Entry}
 use Rattle.local_locks.specs.Owned.{IsWellOwned, is_of, count_for, count_in_all, owner_count_of, total_of, with_one_less}
-use Rattle.local_locks.specs.Slots.{Slots, IsKept, IsPlaceOf, opened, entry_at, present}
-use Rattle.local_locks.proofs.OpenLaws.{more-by}
+use Rattle.local_locks.specs.Slots.{Slots, IsIndexed, IsKept, IsTable, IsPlaceOf, opened, entry_at, present}
+use Rattle.local_locks.proofs.OpenLaws.{slot_at-opened, entry_in-held, more-by}
 use Rattle.local_locks.proofs.LookLaws.{place_read, some_held}
 use Rattle.local_locks.proofs.KeptLaws.{well_owned}
 use Rattle.local_locks.proofs.TableSteps.{kept-lowered, kept-taken, entries-lowered, entries-taken, total-lowered, owner_count-at, IsCounted-lowered}
 use Rattle.local_locks.proofs.tables.LocalTable.drop_at_once.Goals as goal
+use Rattle.local_locks.proofs.tables.LocalTable.drop_at_once.Goals.{Then-lower_held}
 
 -- ---- it doesn't say
 
@@ -24,119 +27,139 @@ pub returns-then-not-is_of_relation-clause-well_owned : goal.returns-then-not-is
 returns-then-not-is_of_relation-clause-well_owned c = subst IsWellOwned c.self.view_is (well_owned _ _ _ _ _ _ c.self.invariant.kept)
 
 pub returns-then-not-is_only-clause-well_owned : goal.returns-then-not-is_only-clause-well_owned
-returns-then-not-is_only-clause-well_owned c = subst IsWellOwned c.self.view_is (well_owned _ _ _ _ _ _ c.self.invariant.kept)
-
-pub returns-then-not-take_last-clause-well_owned : goal.returns-then-not-take_last-clause-well_owned
-returns-then-not-take_last-clause-well_owned c =
-    let e = c.take_last.ensures in
-    let items = ap (λ v. v.items) (e.slots c.if-not-take_last.true) in
-    well_owned _ _ _ _ _ _
-    (subst (λ (es : List Entry). IsKept (opened es) c.take_last.new.index c.self.inside.len c.self.inside.max_local c.self.inside.progress) (sym items)
-    (subst (λ (x : Notes). IsKept (opened c.self.inside.slots.items) x c.self.inside.len c.self.inside.max_local c.self.inside.progress) (sym (e.index c.if-not-take_last.true)) c.self.invariant.kept))
+returns-then-not-is_only-clause-well_owned c =
+    subst (λ (es : List Entry). IsWellOwned (record { entries = present (opened es); room = min (min (vec_capacity c.lower_held.new.slots) no_place) c.self.inside.index.places - length c.lower_held.new.slots.items; max_local = c.self.inside.max_local })) (sym (ap (λ v. v.items) (c.lower_held.ensures.same c.if-lower_held.false)))
+    (well_owned _ _ _ _ _ _ c.self.invariant.kept)
 
 -- ---- the owner has it more than once, so it stays
 
-within : (c : goal.After-lower) → c.self.inside.last < length c.self.inside.slots.items
-within c = omega (arith, c.if-last-len.false, c.len.ensures, c.self.inside.slots.ok.0)
+above_one : (c : Then-lower_held) → 1 < count_for c.args.owner (entry_at c.self.inside.slots.items c.self.inside.last)
+above_one c = c.lower_held.ensures.lowered.0 c.if-lower_held.true
 
-read : (c : goal.After-lower) → c.index-2.result.now ≡ entry_at c.self.inside.slots.items c.self.inside.last
-read c = c.index-2.ensures ∙ get_or_default c.self.inside.slots.items c.self.inside.last c.index-2.result.now _ (within c)
-
-above_one : (c : goal.After-lower) → 1 < count_for c.args.owner (entry_at c.self.inside.slots.items c.self.inside.last)
-above_one c = omega (arith, c.can_lower.ensures.0 c.if-can_lower.true, ap (count_for c.args.owner) (read c))
-
-at : (c : goal.After-lower) → IsPlaceOf c.self.inside.slots.items c.args.tag.now c.args.mode c.self.inside.last
+at : (c : Then-lower_held) → IsPlaceOf c.self.inside.slots.items c.args.tag.now c.args.mode c.self.inside.last
 at c =
-    place_read c.self.inside.slots.items c.self.inside.index c.self.invariant.kept.indexed c.args.tag.now c.args.mode c.args.owner c.self.inside.last
-    c.index.result.now (c.index.ensures ∙ get_or_default c.self.inside.slots.items c.self.inside.last c.index.result.now _ (within c))
-    (ap (λ (tag : Tag). is_of tag c.args.mode c.index.result.now) c.in-Relation.is ∙ (sym c.is_of_relation.ensures ∙ c.if-not-is_of_relation.false))
-    (omega (arith, above_one c))
+    let es = c.self.inside.slots.items in
+    let within : c.self.inside.last < length es = omega (arith, c.if-last-len.false, c.len.ensures, c.self.inside.slots.ok.0) in
+    place_read es c.self.inside.index c.self.invariant.kept.indexed c.args.tag.now c.args.mode c.args.owner c.self.inside.last
+    c.index.result.now (c.index.ensures ∙ get_or_default es c.self.inside.last c.index.result.now _ within)
+    (ap (λ (tag : Tag). is_of tag c.args.mode c.index.result.now) c.in-Relation.is ∙ (sym c.is_of_relation.ensures ∙ c.if-not-is_of_relation.false)) (omega (arith, above_one c))
 
-more : (c : goal.After-lower) → count_in_all (entry_at c.self.inside.slots.items c.self.inside.last) ≢ 1
+more : (c : Then-lower_held) → count_in_all (entry_at c.self.inside.slots.items c.self.inside.last) ≢ 1
 more c = more-by c.args.owner (entry_at c.self.inside.slots.items c.self.inside.last) (above_one c)
 
 pub invariant_of-self : goal.invariant_of-self
 invariant_of-self c =
     let es = c.self.inside.slots.items in
     record {
-      kept = subst (λ (s : Slots). IsKept s c.self.inside.index c.self.inside.len c.self.inside.max_local c.self.inside.progress) (sym c.lower.ensures.slots)
+      kept = subst (λ (s : Slots). IsKept s c.self.inside.index c.self.inside.len c.self.inside.max_local c.self.inside.progress) (sym (c.lower_held.ensures.slots c.if-lower_held.true))
           (kept-lowered (opened es) c.self.inside.index c.self.inside.len c.self.inside.max_local c.self.inside.progress c.self.inside.last c.args.owner (entry_at es c.self.inside.last)
           c.self.invariant.kept (at c).there (omega (arith, above_one c)) (more c));
-      few = omega (arith, c.lower.ensures.number, c.self.invariant.few);
+      few = omega (arith, c.lower_held.ensures.number, c.self.invariant.few);
     }
 
-pub returns-then-can_lower-clause-well_owned : goal.returns-then-can_lower-clause-well_owned
-returns-then-can_lower-clause-well_owned c = well_owned _ _ _ _ _ _ (invariant_of-self c).kept
+pub returns-then-lower_held-clause-well_owned : goal.returns-then-lower_held-clause-well_owned
+returns-then-lower_held-clause-well_owned c = well_owned _ _ _ _ _ _ (invariant_of-self c).kept
 
-pub returns-then-can_lower-clause-entries : goal.returns-then-can_lower-clause-entries
-returns-then-can_lower-clause-entries c = λ _.
+pub returns-then-lower_held-clause-entries : goal.returns-then-lower_held-clause-entries
+returns-then-lower_held-clause-entries c = λ _.
     let es = c.self.inside.slots.items in
-    ap present c.lower.ensures.slots
+    ap present (c.lower_held.ensures.slots c.if-lower_held.true)
     ∙ (entries-lowered (opened es) c.self.inside.index c.args.tag.now c.args.mode c.args.owner c.self.inside.last (entry_at es c.self.inside.last) c.self.invariant.kept.indexed (at c).there (at c).own (more c)
     ∙ ap (λ v. with_one_less v.entries c.args.tag.now c.args.mode c.args.owner) c.self.view_is)
 
-pub returns-then-can_lower-clause-held : goal.returns-then-can_lower-clause-held
-returns-then-can_lower-clause-held c =
+pub returns-then-lower_held-clause-held : goal.returns-then-lower_held-clause-held
+returns-then-lower_held-clause-held c =
     let es = c.self.inside.slots.items in
     let count = owner_count-at (present (opened es)) c.args.tag.now c.args.mode c.args.owner (entry_at es c.self.inside.last) (at c).found in
     let view = ap (λ v. owner_count_of v.entries c.args.tag.now c.args.mode c.args.owner) c.self.view_is in
     λ _. omega (arith, above_one c, count, view)
 
-pub returns-then-can_lower-clause-answer : goal.returns-then-can_lower-clause-answer
-returns-then-can_lower-clause-answer c =
+pub returns-then-lower_held-clause-answer : goal.returns-then-lower_held-clause-answer
+returns-then-lower_held-clause-answer c =
     let es = c.self.inside.slots.items in
     let counted = IsCounted-lowered c.args.owner (entry_at es c.self.inside.last) (omega (arith, above_one c)) (more c) (c.self.invariant.kept.counted c.self.inside.last (entry_at es c.self.inside.last) (at c).there) in
-    let still = subst (λ (s : Slots). 0 < total_of (present s) c.args.tag.now c.args.mode) (sym c.lower.ensures.slots)
+    let some = subst (λ (s : Slots). 0 < total_of (present s) c.args.tag.now c.args.mode) (sym (c.lower_held.ensures.slots c.if-lower_held.true))
     (total-lowered (opened es) c.self.inside.index c.args.tag.now c.args.mode c.args.owner c.self.inside.last (entry_at es c.self.inside.last) c.self.invariant.kept.indexed (at c).there (at c).own counted) in
-    (λ same. still, λ above. refl)
+    (λ same. some, λ above. refl)
 
 -- ---- it is the owner's only count, so it goes
 
+-- the counts of the entry that was read
+counts_read :
+    (es : List Entry) (place : ℕ) (owner : Owner) (e : Entry) → place < length es → e ≡ slice_index_or es place e → (count_for owner e ≡ 1) × (count_in_all e ≡ 1) →
+    (count_for owner (entry_at es place) ≡ 1) × (count_in_all (entry_at es place) ≡ 1)
+counts_read es place owner e within is counts =
+    let read : e ≡ entry_at es place = is ∙ get_or_default es place e _ within in
+    (sym (ap (count_for owner) read) ∙ counts.0, sym (ap count_in_all read) ∙ counts.1)
+
+pub take_last-requires-clause-indexed : goal.take_last-requires-clause-indexed
+take_last-requires-clause-indexed c =
+    subst (λ (es : List Entry). IsIndexed (opened es) c.self.inside.index) (sym (ap (λ v. v.items) (c.lower_held.ensures.same c.if-lower_held.false))) c.self.invariant.kept.indexed
+
+pub take_last-requires-clause-last : goal.take_last-requires-clause-last
+take_last-requires-clause-last c = omega (arith, c.if-last-len-2.false, c.len-else-not-is_only.ensures, c.lower_held.new.slots.ok.0)
+
+pub take_last-requires-clause-there : goal.take_last-requires-clause-there
+take_last-requires-clause-there c =
+    let es = c.lower_held.new.slots.items in
+    let e = entry_at es c.self.inside.last in
+    let one = (counts_read es c.self.inside.last c.args.owner c.index-2.result.now (omega (arith, c.if-last-len-2.false, c.len-else-not-is_only.ensures, c.lower_held.new.slots.ok.0)) c.index-2.ensures
+    ((c.if-not-is_only.ensures {u = tt}).0 refl)).1 in
+    slot_at-opened es c.self.inside.last ∙ entry_in-held e (λ none. omega (arith, one, none))
+
 pub overflow_sub-self : goal.overflow_sub-self
 overflow_sub-self c =
-    let es = c.self.inside.slots.items in
-    let read : c.index-3.result.now ≡ entry_at es c.self.inside.last
-    = c.index-3.ensures ∙ get_or_default es c.self.inside.last c.index-3.result.now _ (omega (arith, c.if-last-len.false, c.len.ensures, c.self.inside.slots.ok.0)) in
-    let one = sym (ap (count_for c.args.owner) read) ∙ ((c.if-not-is_only.ensures {u = tt}).0 refl).0 in
-    omega (arith, c.self.invariant.kept.number, some_held es c.self.inside.index c.self.invariant.kept.indexed c.args.owner c.self.inside.last (omega (arith, one)))
+    let es = c.lower_held.new.slots.items in
+    let same = ap (λ v. v.items) (c.lower_held.ensures.same c.if-lower_held.false) in
+    let one = (counts_read es c.self.inside.last c.args.owner c.index-2.result.now (omega (arith, c.if-last-len-2.false, c.len-else-not-is_only.ensures, c.lower_held.new.slots.ok.0)) c.index-2.ensures
+    ((c.if-not-is_only.ensures {u = tt}).0 refl)).0 in
+    let was : count_for c.args.owner (entry_at c.self.inside.slots.items c.self.inside.last) ≡ 1 = ap (λ (l : List Entry). count_for c.args.owner (entry_at l c.self.inside.last)) (sym same) ∙ one in
+    omega (arith, c.self.invariant.kept.number, some_held c.self.inside.slots.items c.self.inside.index c.self.invariant.kept.indexed c.args.owner c.self.inside.last (omega (arith, was)))
 
-only : (c : goal.After-self-2-1) → (count_for c.args.owner (entry_at c.self.inside.slots.items c.self.inside.last) ≡ 1) × (count_in_all (entry_at c.self.inside.slots.items c.self.inside.last) ≡ 1)
+same : (c : goal.After-self-2-1) → c.lower_held.new.slots.items ≡ c.self.inside.slots.items
+same c = ap (λ v. v.items) (c.lower_held.ensures.same c.if-lower_held.false)
+
+still : (c : goal.After-self-2-1) → IsTable c.lower_held.new.slots.items c.self.inside.index c.self.inside.len c.self.inside.max_local c.self.inside.progress
+still c = subst (λ (es : List Entry). IsTable es c.self.inside.index c.self.inside.len c.self.inside.max_local c.self.inside.progress) (sym (same c)) c.self.invariant
+
+only : (c : goal.After-self-2-1) → (count_for c.args.owner (entry_at c.lower_held.new.slots.items c.self.inside.last) ≡ 1) × (count_in_all (entry_at c.lower_held.new.slots.items c.self.inside.last) ≡ 1)
 only c =
-    let es = c.self.inside.slots.items in
-    let read : c.index-3.result.now ≡ entry_at es c.self.inside.last
-    = c.index-3.ensures ∙ get_or_default es c.self.inside.last c.index-3.result.now _ (omega (arith, c.if-last-len.false, c.len.ensures, c.self.inside.slots.ok.0)) in
-    let counts = (c.if-not-is_only.ensures {u = tt}).0 refl in
-    (sym (ap (count_for c.args.owner) read) ∙ counts.0, sym (ap count_in_all read) ∙ counts.1)
+    counts_read c.lower_held.new.slots.items c.self.inside.last c.args.owner c.index-2.result.now (omega (arith, c.if-last-len-2.false, c.len-else-not-is_only.ensures, c.lower_held.new.slots.ok.0))
+    c.index-2.ensures ((c.if-not-is_only.ensures {u = tt}).0 refl)
 
-at_only : (c : goal.After-self-2-1) → IsPlaceOf c.self.inside.slots.items c.args.tag.now c.args.mode c.self.inside.last
+at_only : (c : goal.After-self-2-1) → IsPlaceOf c.lower_held.new.slots.items c.args.tag.now c.args.mode c.self.inside.last
 at_only c =
-    place_read c.self.inside.slots.items c.self.inside.index c.self.invariant.kept.indexed c.args.tag.now c.args.mode c.args.owner c.self.inside.last
-    c.index.result.now (c.index.ensures ∙ get_or_default c.self.inside.slots.items c.self.inside.last c.index.result.now _ (omega (arith, c.if-last-len.false, c.len.ensures, c.self.inside.slots.ok.0)))
-    (ap (λ (tag : Tag). is_of tag c.args.mode c.index.result.now) c.in-Relation.is ∙ (sym c.is_of_relation.ensures ∙ c.if-not-is_of_relation.false))
-    (omega (arith, (only c).0))
-
-taken : (c : goal.After-self-2-1) → (present (opened c.take_last.new.slots.items) ≡ with_one_less (present (opened c.self.inside.slots.items)) c.args.tag.now c.args.mode c.args.owner) × (total_of (present (opened c.take_last.new.slots.items)) c.args.tag.now c.args.mode ≡ 0)
-taken c =
     let es = c.self.inside.slots.items in
+    let within : c.self.inside.last < length es = omega (arith, c.if-last-len.false, c.len.ensures, c.self.inside.slots.ok.0) in
+    place_read c.lower_held.new.slots.items c.self.inside.index (still c).kept.indexed c.args.tag.now c.args.mode c.args.owner c.self.inside.last c.index.result.now
+    (c.index.ensures ∙ (get_or_default es c.self.inside.last c.index.result.now _ within ∙ ap (λ (l : List Entry). entry_at l c.self.inside.last) (sym (same c))))
+    (ap (λ (tag : Tag). is_of tag c.args.mode c.index.result.now) c.in-Relation.is ∙ (sym c.is_of_relation.ensures ∙ c.if-not-is_of_relation.false)) (omega (arith, (only c).0))
+
+-- the entries that were there
+were : (c : goal.After-self-2-1) → present (opened c.lower_held.new.slots.items) ≡ c.args.self.now.entries
+were c = ap (λ (es : List Entry). present (opened es)) (same c) ∙ ap (λ v. v.entries) c.self.view_is
+
+taken : (c : goal.After-self-2-1) → (present (opened c.take_last.new.slots.items) ≡ with_one_less (present (opened c.lower_held.new.slots.items)) c.args.tag.now c.args.mode c.args.owner) × (total_of (present (opened c.take_last.new.slots.items)) c.args.tag.now c.args.mode ≡ 0)
+taken c =
+    let es = c.lower_held.new.slots.items in
     entries-taken (present (opened es)) (present (opened c.take_last.new.slots.items)) c.args.tag.now c.args.mode c.args.owner (entry_at es c.self.inside.last)
-    (at_only c).found (at_only c).own (only c).1 (c.take_last.ensures.taken c.if-not-take_last.false).entries
+    (at_only c).found (at_only c).own (only c).1 c.take_last.ensures.taken.entries
 
 pub returns-clause-well_owned : goal.returns-clause-well_owned
 returns-clause-well_owned c =
     let e = c.take_last.ensures in
-    let taken = e.taken c.if-not-take_last.false in
     well_owned _ _ _ _ _ _
-    (kept-taken (opened c.self.inside.slots.items) (opened c.take_last.new.slots.items) c.self.inside.index c.take_last.new.index c.self.inside.len c.self.inside.max_local c.self.inside.progress c.self.inside.last
-    c.self.invariant.kept (e.indexed c.if-not-take_last.false) taken.gone taken.others taken.number)
+    (kept-taken (opened c.lower_held.new.slots.items) (opened c.take_last.new.slots.items) c.self.inside.index c.take_last.new.index c.self.inside.len c.self.inside.max_local c.self.inside.progress c.self.inside.last
+    (still c).kept e.indexed e.taken.gone e.taken.others e.taken.number)
 
 pub returns-clause-entries : goal.returns-clause-entries
-returns-clause-entries c = λ _. (taken c).0 ∙ ap (λ v. with_one_less v.entries c.args.tag.now c.args.mode c.args.owner) c.self.view_is
+returns-clause-entries c = λ _. (taken c).0 ∙ ap (λ (es : List Entry). with_one_less es c.args.tag.now c.args.mode c.args.owner) (were c)
 
 pub returns-clause-held : goal.returns-clause-held
 returns-clause-held c =
-    let es = c.self.inside.slots.items in
+    let es = c.lower_held.new.slots.items in
     let count = owner_count-at (present (opened es)) c.args.tag.now c.args.mode c.args.owner (entry_at es c.self.inside.last) (at_only c).found in
-    let view = ap (λ v. owner_count_of v.entries c.args.tag.now c.args.mode c.args.owner) c.self.view_is in
+    let view = ap (λ (es : List Entry). owner_count_of es c.args.tag.now c.args.mode c.args.owner) (were c) in
     λ _. omega (arith, (only c).0, count, view)
 
 pub returns-clause-answer : goal.returns-clause-answer
