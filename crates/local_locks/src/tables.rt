@@ -28,7 +28,7 @@ const MAX_SLOTS: usize = u32::MAX as usize - 1;
 pub struct LocalTable {
     slots: Vec<Entry>,
     index: PlaceIndex,
-    len: usize,
+    len: u32,
     max_local: u32,
     progress: Progress,
     // Where the entry may be that is asked for next.
@@ -241,7 +241,7 @@ impl LocalTable {
         ensures max_local { self.new.max_local ≡ self.old.max_local }
         ensures well_owned { IsWellOwned self.new }
     {
-        if self.len as u64 == u64::from(self.max_local) {
+        if self.len == self.max_local {
             return Err(Refusal::LocalFull);
         }
         if self.has_room() {
@@ -256,7 +256,7 @@ impl LocalTable {
         ensures can { IsTrue result ↔ ((length self.now.entries < self.now.max_local) × (0 < self.now.room)) }
         ensures well_owned { IsWellOwned self.now }
     {
-        (self.len as u64) < u64::from(self.max_local) && self.has_room()
+        self.len < self.max_local && self.has_room()
     }
 
     /// Whether one more entry can be made with no growth.
@@ -300,7 +300,7 @@ impl LocalTable {
         ensures max_local { self.new.max_local ≡ self.old.max_local }
     {
         let slots = self.slots.len();
-        if slots == MAX_SLOTS || slots == self.slots.capacity() && self.len <= slots / 2 {
+        if slots == MAX_SLOTS || slots == self.slots.capacity() && self.len as usize <= slots / 2 {
             compact(&mut self.slots, &mut self.index);
             self.progress = Progress::start();
         }
@@ -508,14 +508,15 @@ impl LocalTable {
         let from = self.progress.reached(end).min(self.slots.len());
         let place = settle(&mut self.slots, end, from);
         if place == self.slots.len() {
-            tidy(&mut self.slots, &mut self.index, self.len);
+            tidy(&mut self.slots, &mut self.index, self.len as usize);
             self.progress.come_to(end, self.slots.len());
             return None;
         }
         self.progress.come_to(end, place + 1);
         let entry = &self.slots[place];
         let key = (entry.tag, entry.mode);
-        take_ended(&mut self.slots, &mut self.index, self.len, place);
+        let len = self.len as usize;
+        take_ended(&mut self.slots, &mut self.index, len, place);
         self.len -= 1;
         Some(key)
     }

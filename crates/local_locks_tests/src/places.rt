@@ -33,14 +33,12 @@ fn note(rt: &impl Abort, index: &mut PlaceIndex, hash: u32, place: u16) {
     }
 }
 
-/// Forgets the place, if it is noted under the hash, and whether it was: each second one at the first look, if that shows it.
+/// Forgets the place, if it is noted under the hash, and whether it was.
 fn forget(index: &mut PlaceIndex, hash: u32, place: u16) -> bool {
     let found = index.find(hash, |other| other == u32::from(place));
     match found {
         Some(place) => {
-            if place % 2 == 0 || !index.remove_first(hash, place) {
-                index.remove(hash, place);
-            }
+            index.remove(hash, place);
             true
         }
         None => false,

@@ -22,11 +22,30 @@ pub fn pass(passed: u64, tag: &Tag, mode: Mode, owner: Owner) -> u64 {
 /// Acquires, and tells whether that was done: in a register, as the map's doors answer.
 #[inline(never)]
 pub fn acquire(table: &mut LocalTable, tag: &Tag, mode: Mode, owner: Owner) -> bool {
-    match table.add_at_once(tag, mode, owner) {
-        AtOnce::AlreadyHeld => true,
-        AtOnce::NotHeld => acquire_new(table, tag, mode, owner),
-        AtOnce::Unknown => acquire_looked_up(table, tag, mode, owner),
+    let known = table.add_at_once(tag, mode, owner);
+    known == AtOnce::AlreadyHeld || acquire_further(table, tag, mode, owner, known)
+}
+
+/// The same where a first look tells that it isn't held, or not whether it is. A call of its own, so that the other goes without
+/// what this one needs.
+#[inline(never)]
+fn acquire_further(
+    table: &mut LocalTable,
+    tag: &Tag,
+    mode: Mode,
+    owner: Owner,
+    known: AtOnce,
+) -> bool
+    requires { known ≡ AtOnce.NotHeld → has_entry table.old.entries tag.now mode ≡ false }
+{
+    if known != AtOnce::NotHeld {
+        return acquire_looked_up(table, tag, mode, owner);
     }
+    if !table.can_add() {
+        return acquire_grown(table, tag, mode, owner);
+    }
+    table.add_new(tag, mode, owner);
+    true
 }
 
 /// The same where it takes a whole look to say whether it is held.
@@ -35,24 +54,12 @@ pub fn acquire(table: &mut LocalTable, tag: &Tag, mode: Mode, owner: Owner) -> b
 fn acquire_looked_up(table: &mut LocalTable, tag: &Tag, mode: Mode, owner: Owner) -> bool {
     match table.add_held(tag, mode, owner) {
         Ok(true) => true,
-        Ok(false) => acquire_new(table, tag, mode, owner),
+        Ok(false) => acquire_grown(table, tag, mode, owner),
         Err(_) => false,
     }
 }
 
-/// The same of what isn't held.
-#[inline(never)]
-fn acquire_new(table: &mut LocalTable, tag: &Tag, mode: Mode, owner: Owner) -> bool
-    requires { has_entry table.old.entries tag.now mode ≡ false }
-{
-    if !table.can_add() {
-        return acquire_grown(table, tag, mode, owner);
-    }
-    table.add_new(tag, mode, owner);
-    true
-}
-
-/// The same where the table is full or has to grow.
+/// The same of what isn't held, where the table may be full or has to grow.
 #[cold]
 #[inline(never)]
 fn acquire_grown(table: &mut LocalTable, tag: &Tag, mode: Mode, owner: Owner) -> bool

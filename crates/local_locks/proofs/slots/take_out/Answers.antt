@@ -1,5 +1,4 @@
-use Rattle.std.proofs.Common.{◌≡◌, None, List, length, take, set, sym, ap, subst, ◌∙◌}
-use Rattle.local_locks.specs.declared.records.Entry.{Entry}
+use Rattle.std.proofs.Common.{take, set, sym, ap, subst, ◌∙◌}
 use Rattle.local_locks.specs.Slots.{IsCut, IsIndexed, IsTakenOut, opened, entry_in, entry_at}
 use Rattle.local_locks.proofs.IndexLaws.{noted_some}
 use Rattle.local_locks.proofs.OpenLaws.{length-opened, opened-set, opened-take}

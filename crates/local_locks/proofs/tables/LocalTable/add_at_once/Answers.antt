@@ -1,8 +1,7 @@
-use Rattle.std.proofs.Common.{◌≡◌, ◌≢◌, ◌<◌, List, length, true, refl, sym, ap, subst, ◌∙◌, arith}
+use Rattle.std.proofs.Common.{◌≡◌, ◌<◌, List, length, true, refl, sym, ap, subst, ◌∙◌, arith}
 use Rattle.std.specs.Prelude.{is_some}
 use Rattle.local_locks.specs.Owned.{IsWellOwned, max_count, is_of, count_for, has_entry, owner_count_of, with_one_more}
-use Rattle.local_locks.specs.Slots.{IsKept, IsTable, IsPlaceOf, opened, entry_at, present}
-use Rattle.local_locks.specs.declared.ends.Progress.{Progress}
+use Rattle.local_locks.specs.Slots.{IsKept, IsPlaceOf, opened, entry_at, present}
 use Rattle.local_locks.specs.declared.records.Entry.{Entry}
 use Rattle.local_locks.proofs.KeptLaws.{well_owned}
 use Rattle.local_locks.proofs.LookLaws.{place_read}

@@ -1,10 +1,10 @@
-use Rattle.std.proofs.Common.{◌≡◌, ℕ, ◌<◌, ◌++◌, length, take, drop, count_by, true, sym, ap, subst, ◌∙◌, arith}
+use Rattle.std.proofs.Common.{◌≡◌, ◌++◌, length, take, drop, count_by, true, sym, ap, ◌∙◌, arith}
 use Rattle.std.specs.Prelude.{Some}
 use Rattle.std.proofs.lemmas.List.{take_at}
-use Rattle.place_index.specs.Notes.{Notes, times}
+use Rattle.place_index.specs.Notes.{Notes}
 use Rattle.place_index.specs.Chains.{head_at, is_noted, note_at, notes_in, is_under, start_of}
 use Rattle.place_index.specs.declared.links.Link.{Link}
-use Rattle.place_index.proofs.NoteLaws.{one_if, link_read, noted_within, is_under-some, times-notes_in, times-view, length-notes_in}
+use Rattle.place_index.proofs.NoteLaws.{one_if, link_read, is_under-some, times-notes_in, times-view, length-notes_in}
 use Rattle.place_index.proofs.LinkLaws.{head_of_last}
 use Rattle.place_index.proofs.IndexLaws.{some_of, times-less, noted_link}
 use Rattle.place_index.proofs.ChainLaws.{start_of-below}
