@@ -56,7 +56,7 @@ eligible-weak (Relation d r) mode strong is weak =
     let some = (and_parts (not (nat_eq d 0)) (nat_le 5 (number_of strong)) is).0 in
     and_from (nat_eq d d) (not (nat_eq d 0) && nat_le (number_of mode) 3) (eq-eqb d d refl)
     (and_from (not (nat_eq d 0)) (nat_le (number_of mode) 3) some (le-leb (number_of mode) 3 weak))
-eligible-weak (Object d c o s) mode strong is weak = absurd (false≢true is)
+eligible-weak (Object s d c o) mode strong is weak = absurd (false≢true is)
 
 -- and in another's slots it is not.
 pub elsewhere-none :
@@ -69,7 +69,7 @@ elsewhere-none (Relation d r) strong database slot mode is other =
     eqb-true d database (and_parts (nat_eq d database) (not (nat_eq d 0) && nat_le (number_of mode) 3)
     found.1.eligible).0 in
     other (sym same))
-elsewhere-none (Object d c o s) strong database slot mode is other = absurd (false≢true is)
+elsewhere-none (Object s d c o) strong database slot mode is other = absurd (false≢true is)
 
 -- Where no slot is in use for its relation no mode is held by one.
 pub no_slot-none :

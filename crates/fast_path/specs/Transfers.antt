@@ -20,7 +20,7 @@ use Rattle.fast_path.specs.Slots.{slot_loads}
 -- the database of a relation's tag; other objects are in no slot
 abbrev pub database_of : Tag → ℕ
 database_of (Relation database relation) = database
-database_of (Object database class object sub_object) = 0
+database_of (Object sub_object database class object) = 0
 
 -- the content with the owner's modes of a slot's word as holds on the object, those with numbers below this one
 abbrev pub adopting : Content → ℕ → Tag → ℕ → ℕ → Content

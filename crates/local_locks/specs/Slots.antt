@@ -50,7 +50,7 @@ pair_bits database number = number * 2 ^ 32 + database
 -- an object in 64 bits
 abbrev pub object_bits : Tag → ℕ
 object_bits (Relation database relation) = pair_bits database relation
-object_bits (Object database class object sub_object) =
+object_bits (Object sub_object database class object) =
     ((class * 2 ^ 16 + sub_object) * multiplier % 2 ^ 64 + pair_bits database object) % 2 ^ 64
 
 -- the hash of an object in 64 bits and a mode: the upper half of a product

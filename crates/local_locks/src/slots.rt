@@ -168,7 +168,8 @@ pub(crate) fn take_out(slots: &mut Vec<Entry>, index: &mut PlaceIndex, place: us
     slots.truncate(used);
 }
 
-/// The same of the last slot, with neither a loop nor a call.
+/// The same of the last slot, with neither a loop nor a call: that slot alone goes, and empty ones before it stay until an end
+/// or until all are used up.
 #[inline(always)]
 pub(crate) fn take_last(slots: &mut Vec<Entry>, index: &mut PlaceIndex, place: usize)
     requires indexed { IsIndexed (opened slots.old.items) index.old }
@@ -183,8 +184,7 @@ pub(crate) fn take_last(slots: &mut Vec<Entry>, index: &mut PlaceIndex, place: u
     ensures index_room { index.new.places ≡ index.old.places }
 {
     // The slots first: so their number, which the caller has just read, need not be read again.
-    let used = if index.len() == 1 { 0 } else { place };
-    slots.truncate(used);
+    slots.truncate(place);
     index.remove_last(place as u32);
 }
 

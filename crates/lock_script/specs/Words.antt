@@ -54,7 +54,7 @@ is_slash b = b == 47
 abbrev pub tag_of_numbers : List (Option ℕ) → Option Tag
 tag_of_numbers (Some database ∷ Some relation ∷ []) = Some (Relation database relation)
 tag_of_numbers (Some database ∷ Some class ∷ Some object ∷ Some sub_object ∷ []) =
-    if nat_le sub_object 65535 then Some (Object database class object sub_object) else None
+    if nat_le sub_object 65535 then Some (Object sub_object database class object) else None
 tag_of_numbers _ = None
 
 -- the tag that a word is, by the numbers between its slashes

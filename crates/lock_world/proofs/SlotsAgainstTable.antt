@@ -22,7 +22,7 @@ conflict-strong database (Relation d r) mode its eligible clash =
     let both = and_parts (nat_eq d database) (not (nat_eq d 0) && nat_le (number_of mode) 3) eligible in
     let rest = and_parts (not (nat_eq d 0)) (nat_le (number_of mode) 3) both.1 in
     and_from (not (nat_eq d 0)) (nat_le 5 (number_of its)) rest.0 (weak-conflict mode its rest.1 clash)
-conflict-strong database (Object d c o s) mode its eligible clash = absurd (false≢true eligible)
+conflict-strong database (Object s d c o) mode its eligible clash = absurd (false≢true eligible)
 
 -- A mode that is done where it is strong conflicts with no hold in a slot: its session is past whoever has the slot.
 slot-no_conflict :

@@ -25,7 +25,7 @@ any_below (suc limit) test = any_below limit test || test limit
 -- the relation of a relation's tag; no other object has a slot
 abbrev pub relation_of : Tag → ℕ
 relation_of (Relation database relation) = relation
-relation_of (Object database class object sub_object) = 0
+relation_of (Object sub_object database class object) = 0
 
 -- the holds that a session with this database and these slots has by the fast path
 abbrev pub slot_holds : ℕ → (ℕ → ℕ) → Tag → Mode → Bool

@@ -11,9 +11,9 @@ use Rattle.modes_core.specs.contracts.modes.ModePartialEq.TheImpl as modes
 -- The code's `==` on tags and on modes is the test that contracts name.
 pub tag_equals : (x y : Tag) → (tags.ghosts).eq x y ≡ tag_eq x y
 tag_equals (Relation d r) (Relation d' r') = refl
-tag_equals (Object d c o s) (Object d' c' o' s') = refl
-tag_equals (Relation d r) (Object d' c' o' s') = refl
-tag_equals (Object d c o s) (Relation d' r') = refl
+tag_equals (Object s d c o) (Object s' d' c' o') = refl
+tag_equals (Relation d r) (Object s' d' c' o') = refl
+tag_equals (Object s d c o) (Relation d' r') = refl
 
 pub mode_equals : (m n : Mode) → (modes.ghosts).eq m n ≡ mode_eq m n
 mode_equals = agree (modes.ghosts).eq mode_eq refl

@@ -80,7 +80,7 @@ both_true false b e = absurd (false≢true e)
 -- The same of tags.
 pub tag_eq-refl : (x : Tag) → tag_eq x x ≡ true
 tag_eq-refl (Relation d r) = grind (arith, nat_tests)
-tag_eq-refl (Object d c o s) = grind (arith, nat_tests)
+tag_eq-refl (Object s d c o) = grind (arith, nat_tests)
 
 pub tag_eq-same : (x y : Tag) → tag_eq x y ≡ true → x ≡ y
 tag_eq-same (Relation d r) (Relation d' r') e =
@@ -88,14 +88,14 @@ tag_eq-same (Relation d r) (Relation d' r') e =
     let first : d ≡ d' = eqb-true d d' both.0 in
     let second : r ≡ r' = eqb-true r r' both.1 in
     λ i. Relation (first i) (second i)
-tag_eq-same (Object d c o s) (Object d' c' o' s') e =
+tag_eq-same (Object s d c o) (Object s' d' c' o') e =
     let a = both_true _ _ e in
     let b = both_true _ _ a.1 in
     let f = both_true _ _ b.1 in
-    let first : d ≡ d' = eqb-true d d' a.0 in
-    let second : c ≡ c' = eqb-true c c' b.0 in
-    let third : o ≡ o' = eqb-true o o' f.0 in
-    let fourth : s ≡ s' = eqb-true s s' f.1 in
+    let first : s ≡ s' = eqb-true s s' a.0 in
+    let second : d ≡ d' = eqb-true d d' b.0 in
+    let third : c ≡ c' = eqb-true c c' f.0 in
+    let fourth : o ≡ o' = eqb-true o o' f.1 in
     λ i. Object (first i) (second i) (third i) (fourth i)
-tag_eq-same (Relation d r) (Object d' c' o' s') e = absurd (false≢true e)
-tag_eq-same (Object d c o s) (Relation d' r') e = absurd (false≢true e)
+tag_eq-same (Relation d r) (Object s' d' c' o') e = absurd (false≢true e)
+tag_eq-same (Object s d c o) (Relation d' r') e = absurd (false≢true e)

@@ -10,21 +10,21 @@ use Rattle.modes_core.specs.Tag.{numbers_of, tag_eq}
 -- Two tags are the same one exactly where their six numbers are in no order.
 tag_eq-by_numbers : (x y : Tag) → tag_eq x y ≡ eq_by_cmp (on numbers_of (slice_cmp nat_cmp)) x y
 tag_eq-by_numbers (Relation d r) (Relation d' r') = grind (arith, nat_tests)
-tag_eq-by_numbers (Object d c o s) (Object d' c' o' s') = grind (arith, nat_tests)
-tag_eq-by_numbers (Relation d r) (Object d' c' o' s') = grind (arith, nat_tests)
-tag_eq-by_numbers (Object d c o s) (Relation d' r') = grind (arith, nat_tests)
+tag_eq-by_numbers (Object s d c o) (Object s' d' c' o') = grind (arith, nat_tests)
+tag_eq-by_numbers (Relation d r) (Object s' d' c' o') = grind (arith, nat_tests)
+tag_eq-by_numbers (Object s d c o) (Relation d' r') = grind (arith, nat_tests)
 
 -- So is any test that compares two tags field by field.
 pub same_tag-by_numbers :
     (same : Tag → Tag → Bool)
     (relations : (d r d' r' : ℕ) → same (Relation d r) (Relation d' r') ≡ ((d == d') && (r == r')))
-    (objects : (d c o s d' c' o' s' : ℕ) → same (Object d c o s) (Object d' c' o' s') ≡ ((d == d') && ((c == c') && ((o == o') && (s == s')))))
-    (relation_object : (d r d' c' o' s' : ℕ) → same (Relation d r) (Object d' c' o' s') ≡ false)
-    (object_relation : (d c o s d' r' : ℕ) → same (Object d c o s) (Relation d' r') ≡ false) →
+    (objects : (s d c o s' d' c' o' : ℕ) → same (Object s d c o) (Object s' d' c' o') ≡ ((s == s') && ((d == d') && ((c == c') && (o == o')))))
+    (relation_object : (d r s' d' c' o' : ℕ) → same (Relation d r) (Object s' d' c' o') ≡ false)
+    (object_relation : (s d c o d' r' : ℕ) → same (Object s d c o) (Relation d' r') ≡ false) →
     (x y : Tag) → same x y ≡ eq_by_cmp (on numbers_of (slice_cmp nat_cmp)) x y
 same_tag-by_numbers same relations objects relation_object object_relation x y = is_tag_eq x y ∙ tag_eq-by_numbers x y where
   is_tag_eq : (x y : Tag) → same x y ≡ tag_eq x y
   is_tag_eq (Relation d r) (Relation d' r') = relations d r d' r'
-  is_tag_eq (Object d c o s) (Object d' c' o' s') = objects d c o s d' c' o' s'
-  is_tag_eq (Relation d r) (Object d' c' o' s') = relation_object d r d' c' o' s'
-  is_tag_eq (Object d c o s) (Relation d' r') = object_relation d c o s d' r'
+  is_tag_eq (Object s d c o) (Object s' d' c' o') = objects s d c o s' d' c' o'
+  is_tag_eq (Relation d r) (Object s' d' c' o') = relation_object d r s' d' c' o'
+  is_tag_eq (Object s d c o) (Relation d' r') = object_relation s d c o d' r'

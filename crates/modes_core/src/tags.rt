@@ -17,7 +17,8 @@ pub const PARTITIONS: u32 = 16;
 /// How many strong lock counters there are (`FAST_PATH_STRONG_LOCK_HASH_PARTITIONS` in lock.c).
 pub const STRONG_COUNTERS: u32 = 1024;
 
-/// What a lock is on (`LOCKTAG` in lock.h). The variants have the default lock method.
+/// What a lock is on (`LOCKTAG` in lock.h). The variants have the default lock method. The smallest field stands first, beside the
+/// number of the variant, so that a tag takes 16 bytes.
 #[derive(Clone, Copy, Debug, PartialEq, Eq, Hash)]
 pub enum Tag {
     /// A table or an index (`LOCKTAG_RELATION`).
@@ -27,10 +28,10 @@ pub enum Tag {
     },
     /// Any other object of a catalogue (`LOCKTAG_OBJECT`).
     Object {
+        sub_object: u16,
         database: u32,
         class: u32,
         object: u32,
-        sub_object: u16,
     },
 }
 
@@ -44,7 +45,7 @@ impl Tag {
 
     /// The tag of an object (`SET_LOCKTAG_OBJECT` in lock.h).
     pub fn object(database: u32, class: u32, object: u32, sub_object: u16) -> Self
-        ensures { result ≡ Tag.Object database class object sub_object }
+        ensures { result ≡ Tag.Object sub_object database class object }
     {
         Tag::Object {
             database,

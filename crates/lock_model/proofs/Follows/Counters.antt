@@ -123,7 +123,7 @@ counted-passed list counted s o t n shows =
 weak_only : (database : ℕ) (slot : ℕ → ℕ) (t : Tag) (n : Mode) → nat_le (number_of n) 3 ≡ false → slot_holds database slot t n ≡ false
 weak_only database slot (Relation own relation) n strong =
     and_left (is_eligible_for database (Relation own relation) n) _ (and_right (nat_eq own database) _ (and_right (not (nat_eq own 0)) (nat_le (number_of n) 3) strong))
-weak_only database slot (Object own class object sub_object) n strong = refl
+weak_only database slot (Object sub_object own class object) n strong = refl
 
 nothing_listed : {X : Type 0} (xs : List X) → length xs ≡ 0 → xs ≡ []
 nothing_listed [] none = refl

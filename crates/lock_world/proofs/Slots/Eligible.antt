@@ -18,7 +18,7 @@ eligible-is database (Relation d r) mode eligible =
     let same : d ≡ database = eqb-true d database both.0 in
     let weak : number_of mode ≤ 3 = leb-true (number_of mode) 3 rest.1 in
     (λ i. Relation (same i) r, λ none. both_ways (nat_eq d 0) (not-true (nat_eq d 0) rest.0) (eq-eqb d 0 (same ∙ none)), weak)
-eligible-is database (Object d c o s) mode eligible = absurd (false≢true eligible)
+eligible-is database (Object s d c o) mode eligible = absurd (false≢true eligible)
 
 -- Eligible objects of one relation are the same.
 pub eligible-same :

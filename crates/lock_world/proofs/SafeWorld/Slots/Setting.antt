@@ -30,7 +30,7 @@ eligible-not_strong database (Relation d r) m eligible strong =
     let weak : number_of m ≤ 3 = (eligible-is database (Relation d r) m eligible).2 in
     let least : 5 ≤ number_of m = leb-true 5 (number_of m) (and_parts (not (nat_eq d 0)) (nat_le 5 (number_of m)) strong).1 in
     omega (arith, weak, least)
-eligible-not_strong database (Object d c o s) m eligible strong = false≢true strong
+eligible-not_strong database (Object s d c o) m eligible strong = false≢true strong
 
 -- Setting a mode in an own slot is safe: nobody who has counted an object of its index is past the session.
 module _ (w : World) (s i : ℕ) (t : Tag) (m : Mode) (safe : SafeWorld w) (may : MaySetSlot w s i t m) where
