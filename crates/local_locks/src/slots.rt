@@ -168,8 +168,8 @@ pub(crate) fn take_out(slots: &mut Vec<Entry>, index: &mut PlaceIndex, place: us
     slots.truncate(used);
 }
 
-/// The same of the last slot, with neither a loop nor a call: that slot alone goes, and empty ones before it stay until an end
-/// or until all are used up.
+/// The same of the last slot, with neither a loop nor a call: that slot alone goes, and empty ones before it stay until the
+/// entries are moved together, or until the last one goes by `take_out`.
 #[inline(always)]
 pub(crate) fn take_last(slots: &mut Vec<Entry>, index: &mut PlaceIndex, place: usize)
     requires indexed { IsIndexed (opened slots.old.items) index.old }
