@@ -11,6 +11,8 @@ mod places;
 #[cfg(test)]
 mod random_calls;
 #[cfg(test)]
+mod sizes;
+#[cfg(test)]
 mod turn_lists;
 #[cfg(test)]
 mod turns;
