@@ -1,42 +1,26 @@
-//! Scripts with what they print, as the language says. They are rows; what plays them is proved once.
+//! The program's own words, its statuses, and what it writes to its output and its errors. What a script prints is tested in
+//! `lock_stage_tests`.
 use crate::arguments::parse_arguments;
-use lock_manager::{Config, MOST_LOCAL, MOST_SESSIONS};
-use lock_script::{Defect, Fault};
-use lock_stage::run_script;
+use crate::program::run_program;
 use std::alloc::Global;
 use std::io::{self, ErrorKind, Read, Write};
 use std::process::Abort;
 use std::sync::Wait;
 use std::test::Fail;
 
-mod program;
-mod rows;
-mod scenes;
-mod texts;
-mod waiting;
-
-use rows::{BadRow, Copies, Row};
-
-/// A reader of a text that gives so many bytes a read, and fails where the text ends if it is to.
+/// A reader of a text, which fails where that ends if it is to.
 #[derive(Drop)]
-struct Script<'a> {
+struct Input<'a> {
     text: &'a [u8],
-    most: usize,
     fails: bool,
-    interrupted: bool,
 }
 
-impl Read for Script<'_> {
+impl Read for Input<'_> {
     fn read(&mut self, buf: &mut [u8]) -> io::Result<usize> {
-        self.interrupted = !self.interrupted;
-        if self.interrupted {
-            return Err(io::Error::from(ErrorKind::Interrupted));
-        }
         if self.text.is_empty() && self.fails {
             return Err(io::Error::from(ErrorKind::Other));
         }
-        let most = self.most.min(buf.len());
-        self.text.read(&mut buf[..most])
+        self.text.read(buf)
     }
 }
 
@@ -67,200 +51,12 @@ impl Write for Pipe {
     }
 }
 
-const EIGHT: Config = Config {
-    sessions: 8,
-    max_local: 1024,
-};
-
-const TWO_LOCKS: Config = Config {
-    sessions: 8,
-    max_local: 2,
-};
-
-const ONE_SESSION: Config = Config {
-    sessions: 1,
-    max_local: 1024,
-};
-
-const ALL_SESSIONS: Config = Config {
-    sessions: 64,
-    max_local: 1024,
-};
-
-/// Runs a script that is read so many bytes at a time, and checks what it prints and the fault that ends it, both as
-/// text. The configuration is put in its range, where it isn't.
-fn expect_read(
-    rt: &(impl Abort + AllocGlobal + Wait),
-    config: Config,
-    most: usize,
-    script: &str,
-    printed: &str,
-    fault: &str,
-) -> Result<(), Fail> {
-    let alloc: Global = rt.alloc();
-    let reader = Script {
-        text: script.as_bytes(),
-        most,
-        fails: false,
-        interrupted: false,
-    };
-    let within = Config {
-        sessions: config.sessions.clamp(1, MOST_SESSIONS),
-        max_local: config.max_local.clamp(1, MOST_LOCAL),
-    };
-    let mut output = Vec::new(alloc);
-    let ended = match run_script(rt, reader, &mut output, within) {
-        Ok(()) => String::new(alloc),
-        Err(fault) => format!(in alloc; "{fault}")?,
-    };
-    assert_eq!(rt; ended.as_str(), fault, "the fault of {script:?}");
-    assert_eq!(rt;
-        output.as_slice(),
-        printed.as_bytes(),
-        "the output of {script:?}"
-    );
-    Ok(())
-}
-
-/// The same where it is read a byte, seven bytes and a page at a time.
-fn expect_run(
-    rt: &(impl Abort + AllocGlobal + Wait),
-    config: Config,
-    script: &str,
-    printed: &str,
-    fault: &str,
-) -> Result<(), Fail> {
-    for most in [1, 7, 4096] {
-        expect_read(rt, config, most, script, printed, fault)?;
+fn words_of(alloc: Global, line: &str) -> Result<Vec<String>, Fail> {
+    let mut words = Vec::new(alloc);
+    for word in line.split(' ') {
+        words.push(String::from_str(alloc, word)?)?;
     }
-    Ok(())
-}
-
-/// Opens so many sessions, `a` to `e`, runs the lines, and checks what they print and the fault that ends them.
-fn expect_row(
-    rt: &(impl Abort + AllocGlobal + Wait),
-    config: Config,
-    row: Row<'_>,
-) -> Result<(), Fail> {
-    let (sessions, lines, printed, fault) = row;
-    let alloc: Global = rt.alloc();
-    let mut script = String::new(alloc);
-    let mut output = String::new(alloc);
-    for (number, name) in ["a", "b", "c", "d", "e"].iter().take(sessions).enumerate() {
-        script.push_str(format!(in alloc; "session {name} 5\n")?.as_str())?;
-        output.push_str(format!(in alloc; "{name}: session {number} database 5\n")?.as_str())?;
-    }
-    script.push_str(lines)?;
-    output.push_str(printed)?;
-    expect_run(rt, config, script.as_str(), output.as_str(), fault)
-}
-
-#[test]
-fn scripts_print_what_the_rows_say(rt: HostRuntime) -> Result<(), Fail> {
-    for (config, rows) in [
-        (EIGHT, rows::LINES.as_slice()),
-        (EIGHT, rows::ENDS.as_slice()),
-        (EIGHT, rows::LISTINGS.as_slice()),
-        (TWO_LOCKS, rows::TWO_LOCKS.as_slice()),
-        (ONE_SESSION, rows::ONE_SESSION.as_slice()),
-        (EIGHT, waiting::WAITS.as_slice()),
-        (EIGHT, waiting::PLACES.as_slice()),
-        (EIGHT, waiting::CANCELS.as_slice()),
-        (ALL_SESSIONS, waiting::PASSES.as_slice()),
-    ] {
-        for row in rows {
-            expect_row(&rt, config, *row)?;
-        }
-    }
-    Ok(())
-}
-
-/// Checks that each of these lines is a fault behind the others, and the end of the script.
-fn expect_bad_lines(
-    rt: &(impl Abort + AllocGlobal + Wait),
-    before: (usize, &str, &str),
-    rows: &[BadRow<'_>],
-) -> Result<(), Fail> {
-    let (sessions, lines, printed) = before;
-    for row in rows {
-        let (line, fault) = *row;
-        let lines = format!(in rt.alloc(); "{lines}{line}\nlist a\n")?;
-        expect_row(rt, EIGHT, (sessions, lines.as_str(), printed, fault))?;
-    }
-    Ok(())
-}
-
-#[test]
-fn a_bad_line_ends_a_script(rt: HostRuntime) -> Result<(), Fail> {
-    for (before, rows) in [
-        ((1, "", ""), rows::BAD_LINES.as_slice()),
-        (
-            (1, "close a\n", "a: closed\n"),
-            rows::CLOSED_LINES.as_slice(),
-        ),
-        (
-            (2, waiting::B_WAITS, waiting::B_IS_QUEUED),
-            waiting::WAITING_LINES.as_slice(),
-        ),
-    ] {
-        expect_bad_lines(&rt, before, rows)?;
-    }
-    Ok(())
-}
-
-/// A text with copies of a piece.
-fn text_of(alloc: Global, copies: Copies<'_>) -> Result<String, Fail> {
-    let (before, count, piece, after) = copies;
-    let mut text = String::from_str(alloc, before)?;
-    for _ in 0..count {
-        text.push_str(piece)?;
-    }
-    text.push_str(after)?;
-    Ok(text)
-}
-
-#[test]
-fn bounds_lines(rt: HostRuntime) -> Result<(), Fail> {
-    for (script, printed, fault) in rows::BOUNDS {
-        let script = text_of(rt.alloc(), script)?;
-        let printed = text_of(rt.alloc(), printed)?;
-        expect_run(&rt, EIGHT, script.as_str(), printed.as_str(), fault)?;
-    }
-    Ok(())
-}
-
-// A byte a read, and an interruption before each: more than a million reads.
-#[test]
-fn bounds_an_owners_count(rt: HostRuntime) -> Result<(), Fail> {
-    let script = text_of(rt.alloc(), rows::COUNTS)?;
-    let printed = text_of(rt.alloc(), rows::COUNTED)?;
-    expect_read(&rt, EIGHT, 1, script.as_str(), printed.as_str(), "")
-}
-
-/// Runs a script whose output takes so many lines, and a flush only if it is to, and checks how it ends.
-fn expect_ended(
-    rt: &(impl Abort + AllocGlobal + Wait),
-    script: &str,
-    pipe: Pipe,
-    expected: Result<(), Fault>,
-) {
-    let ended = run_script(rt, script.as_bytes(), pipe, ALL_SESSIONS);
-    assert!(rt; ended == expected, "{script:?}");
-}
-
-#[test]
-fn bounds_the_number_of_lines(rt: HostRuntime) -> Result<(), Fail> {
-    let script = text_of(rt.alloc(), rows::TOO_MANY_LINES)?;
-    let too_many = Fault::BadLine {
-        line: 1_000_001,
-        what: Defect::TooManyLines,
-    };
-    let silent = Pipe {
-        lines: 0,
-        flushes: true,
-    };
-    expect_ended(&rt, script.as_str(), silent, Err(too_many));
-    Ok(())
+    Ok(words)
 }
 
 #[test]
@@ -286,10 +82,7 @@ fn reads_its_own_words(rt: HostRuntime) -> Result<(), Fail> {
         ("lock_scenario run --slot-groups 1", None),
         ("lock_scenario run more", None),
     ] {
-        let mut words = Vec::new(alloc);
-        for word in line.split(' ') {
-            words.push(String::from_str(alloc, word)?)?;
-        }
+        let words = words_of(alloc, line)?;
         let config = match parse_arguments(alloc, words.as_slice()) {
             Ok(config) => Some((config.sessions, config.max_local)),
             Err(error) => {
@@ -302,23 +95,178 @@ fn reads_its_own_words(rt: HostRuntime) -> Result<(), Fail> {
     Ok(())
 }
 
+/// The text of `--help`.
+const HELP: &str = "\
+Run scripts against PostgreSQL's lock manager
+
+Usage: lock_scenario <COMMAND>
+
+Commands:
+  run   Run the script on standard input
+  help  Print this message or the help of the given subcommand(s)
+
+Options:
+  -h, --help     Print help
+  -V, --version  Print version
+
+Lines of a script begin with:
+  session, try, fast, lock, unlock, commit, abort, owned, waiters, cancel, list, count, hash, close
+
+Example:
+  lock_scenario run --sessions 2 < scenarios/object_lock.scn
+";
+
+/// A script, and whether reading it fails at its end; the status of the program on it, and what it writes to its
+/// output and to its errors.
+type Run = (&'static str, bool, u8, &'static str, &'static str);
+
+const RUN: &str = "lock_scenario run";
+
+const OPENED: &str = "a: session 0 database 5\n";
+
+/// Words with a run of the program on them.
+const RUNS: [(&str, Run); 9] = [
+    (RUN, ("session a 5\n", false, 0, OPENED, "")),
+    (
+        "lock_scenario run --sessions 1 --max-local 2",
+        (
+            "session a 5\nsession b 5\n",
+            false,
+            0,
+            "a: session 0 database 5\nb: refused 12 no more sessions\n",
+            "",
+        ),
+    ),
+    (
+        RUN,
+        (
+            "session a 5\nfrob\n",
+            false,
+            3,
+            OPENED,
+            "line 2: unknown command\n",
+        ),
+    ),
+    (RUN, ("session a 5\nses", true, 1, OPENED, "read failed\n")),
+    (
+        "lock_scenario --help",
+        ("session a 5\n", false, 0, HELP, ""),
+    ),
+    (
+        "lock_scenario --version",
+        ("frob", false, 0, "lock_scenario 0.1.0\n", ""),
+    ),
+    (
+        "lock_scenario -V",
+        ("", false, 0, "lock_scenario 0.1.0\n", ""),
+    ),
+    (
+        "lock_scenario run --sessions 65",
+        (
+            "session a 5\n",
+            false,
+            2,
+            "",
+            "error: invalid value '65' for '--sessions <N>': 65 is not in 1..=64\n\n\
+             For more information, try '--help'.\n",
+        ),
+    ),
+    (
+        "lock_scenario hammer",
+        (
+            "",
+            false,
+            2,
+            "",
+            "error: unrecognized subcommand 'hammer'\n\nUsage: lock_scenario <COMMAND>\n\n\
+             For more information, try '--help'.\n",
+        ),
+    ),
+];
+
+/// Why words can't be read, with a run of the program then.
+const UNREAD: [(ErrorKind, Run); 2] = [
+    (
+        ErrorKind::InvalidData,
+        (
+            "session a 5\n",
+            false,
+            2,
+            "",
+            "error: invalid UTF-8 was detected in one or more arguments\n",
+        ),
+    ),
+    (
+        ErrorKind::OutOfMemory,
+        ("session a 5\n", false, 1, "", "no memory\n"),
+    ),
+];
+
+/// Runs the program on these words, and checks its status and both its texts.
+fn expect_program(
+    rt: &(impl Abort + AllocGlobal + Wait),
+    words: io::Result<Vec<String>>,
+    run: Run,
+) {
+    let (script, fails, status, printed, said) = run;
+    let reader = Input {
+        text: script.as_bytes(),
+        fails,
+    };
+    let alloc: Global = rt.alloc();
+    let (mut output, mut errors) = (Vec::new(alloc), Vec::new(alloc));
+    let answer = run_program(rt, words, reader, &mut output, &mut errors);
+    assert_eq!(rt; answer, status, "the status of {script:?}");
+    assert_eq!(rt;
+        output.as_slice(),
+        printed.as_bytes(),
+        "the output of {script:?}"
+    );
+    assert_eq!(rt;
+        errors.as_slice(),
+        said.as_bytes(),
+        "the errors of {script:?}"
+    );
+}
+
 #[test]
-fn a_line_that_cannot_be_written_ends_a_script(rt: HostRuntime) -> Result<(), Fail> {
-    let failed = Err(Fault::WriteFailed);
-    for (script, lines, flushes, expected) in [
-        (rows::CUT_SHORT, 0, true, failed),
-        (rows::CUT_SHORT, 1, true, failed),
-        (rows::CUT_SHORT, 1000, false, failed),
-        (rows::WAKES, 5, true, failed),
-        (rows::WAKES, 6, true, Ok(())),
-        (waiting::TWELVE_WAIT, 39, true, Ok(())),
-    ] {
-        expect_ended(&rt, script, Pipe { lines, flushes }, expected);
+fn answers_its_words(rt: HostRuntime) -> Result<(), Fail> {
+    for (line, run) in RUNS {
+        expect_program(&rt, Ok(words_of(rt.alloc(), line)?), run);
     }
-    // Whichever of the lines of a pass can't be written.
-    for lines in 27..39 {
-        let flushes = true;
-        expect_ended(&rt, waiting::TWELVE_WAIT, Pipe { lines, flushes }, failed);
+    for (kind, run) in UNREAD {
+        expect_program(&rt, Err(io::Error::from(kind)), run);
+    }
+    Ok(())
+}
+
+/// The words, a script, how many lines the output takes and whether a flush, the status, and how many lines the errors
+/// take: one that isn't taken changes no status.
+const CLOSED: [(&str, &str, u32, bool, u8, u32); 9] = [
+    (RUN, "session a 5\n", 0, true, 1, 1),
+    (RUN, "session a 5\n", 1000, false, 1, 1),
+    ("lock_scenario --help", "", 0, true, 1, 1),
+    ("lock_scenario --help", "", 1000, false, 1, 1),
+    ("lock_scenario --version", "", 0, true, 1, 1),
+    ("lock_scenario --version", "", 1000, false, 1, 1),
+    (RUN, "frob\n", 1000, true, 3, 0),
+    (RUN, "\u{e9}\n", 1000, true, 3, 0),
+    ("lock_scenario hammer", "", 1000, true, 1, 0),
+];
+
+#[test]
+fn tells_of_writers_that_fail(rt: HostRuntime) -> Result<(), Fail> {
+    for (line, script, lines, flushes, status, said) in CLOSED {
+        let words = words_of(rt.alloc(), line)?;
+        let output = Pipe { lines, flushes };
+        let mut errors = Pipe {
+            lines: said,
+            flushes: false,
+        };
+        let answer = run_program(&rt, Ok(words), script.as_bytes(), output, &mut errors);
+        assert_eq!(rt; answer, status, "the status of {line:?}");
+        // What the errors take is written.
+        assert_eq!(rt; errors.lines, 0, "the errors of {line:?}");
     }
     Ok(())
 }

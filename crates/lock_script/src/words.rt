@@ -77,9 +77,9 @@ pub fn parse_name(word: &str) -> Option<Name>
 fn has_name_bytes(word: &str) -> bool
     ensures { result ≡ list_all is_name_byte word.now }
 {
-    word.as_bytes()
-        .iter()
-        .all(|byte| matches!(*byte, b'a'..=b'z' | b'0'..=b'9' | b'_'))
+    word.as_bytes().iter().all(|byte| byte.is_ascii_lowercase()
+        || byte.is_ascii_digit()
+        || *byte == b'_')
 }
 
 /// A number: 1 to 10 decimal digits, at most 4294967295.

@@ -1,15 +1,18 @@
 //! Scripts: a line is read, run and answered before the next one is read.
-ghost use Rattle.std.specs.Prelude.{◌≡◌, ◌≤◌, ◌<◌, [], true, length, Ok};
+ghost use Rattle.std.specs.Prelude.{◌≡◌, ◌≤◌, ◌<◌, [], true, length, Ok, IfOk};
+ghost use Rattle.lock_manager.specs.Managers.{IsOpenerOf};
 ghost use Rattle.lock_script.specs.Command.{Addresses, NamesCounter};
 ghost use Rattle.lock_script.specs.Crew.{IsThere, MayAct};
+ghost use Rattle.lock_stage.specs.Stage.{SeatsAre};
 
+use crate::desk::{Desk, SharedDesk};
 use crate::output::Output;
 use crate::stage::{Began, Looked, Stage};
-use lock_manager::{Config, Manager, Owner, Refusal};
+use lock_manager::{Config, Manager, Opener, OwnSession, Owner, Refusal};
 use lock_script::{Command, Fault, LineReader, Name, Opened, Speaker, Target, parse};
-use lock_table::{PartTable, PlainPart};
+use lock_table::PartTable;
 use shared_rule::board::Board;
-use shared_rule::seat_board::SeatBoard;
+use std::alloc::{AllocError, Global};
 use std::io::{Read, Write};
 use std::sync::Wait;
 
@@ -29,14 +32,44 @@ pub fn run_script<H: AllocGlobal + Wait, R: Read + Drop, W: Write + Drop>(
     let Ok((manager, opener)) = Manager::new(alloc, config) else {
         return Err(Fault::NoMemory);
     };
-    let Ok(stage) = Stage::new(alloc, &manager, opener) else {
+    let played = play(rt, alloc, &SharedDesk, &manager, opener, reader, writer);
+    let Ok((opener, ended)) = played else {
         return Err(Fault::NoMemory);
     };
-    let mut scene = Scene::new(stage, writer);
-    let ended = scene.play(rt, reader);
-    let opener = scene.into_stage().into_opener();
     manager.finish(opener);
     ended
+}
+
+/// Runs a script with the sessions that the desk opens for this manager, of which none is open after it. It is not begun
+/// where memory is wanting for the list of them.
+fn play<
+    'a,
+    T: PartTable + Drop,
+    B: Board<T> + Drop,
+    D: Desk<'a, OwnSession<T, B>>,
+    H: Wait,
+    R: Read + Drop,
+    W: Write + Drop,
+>(
+    rt: &H,
+    alloc: Global,
+    desk: &D,
+    manager: &'a Manager,
+    opener: Opener,
+    reader: R,
+    writer: W,
+) -> Result<(Opener, Result<(), Fault>), AllocError>
+    requires seats { SeatsAre B.seat D.seat }
+    requires own { IsOpenerOf opener manager.now }
+    requires none_issued { opener.issued ≡ 0 }
+    requires none_live { opener.live ≡ 0 }
+    ensures own { IfOk result (λ played. IsOpenerOf played.0 manager.now) }
+    ensures none_live { IfOk result (λ played. played.0.live ≡ 0) }
+{
+    let stage = Stage::new(alloc, manager, opener)?;
+    let mut scene = Scene::new(stage, writer);
+    let ended = scene.play(desk, rt, reader);
+    Ok((scene.into_stage().into_opener(), ended))
 }
 
 /// What the lines of a script act on: a lock manager with its sessions, and the output.
@@ -46,9 +79,9 @@ pub struct Scene<'a, T: PartTable, B: Board<T>, W: Write + Drop> {
     output: Output<W>,
 }
 
-impl<'a, W: Write + Drop> Scene<'a, PlainPart, SeatBoard<'a, PlainPart>, W> {
+impl<'a, T: PartTable + Drop, B: Board<T> + Drop, W: Write + Drop> Scene<'a, T, B, W> {
     /// A scene whose answers go to this writer.
-    pub fn new(stage: Stage<'a, PlainPart, SeatBoard<'a, PlainPart>>, writer: W) -> Self
+    pub fn new(stage: Stage<'a, T, B>, writer: W) -> Self
         ensures { result.stage ≡ stage.entry }
     {
         Scene {
@@ -58,7 +91,7 @@ impl<'a, W: Write + Drop> Scene<'a, PlainPart, SeatBoard<'a, PlainPart>, W> {
     }
 
     /// The stage, where the scene is over.
-    pub fn into_stage(self) -> Stage<'a, PlainPart, SeatBoard<'a, PlainPart>>
+    pub fn into_stage(self) -> Stage<'a, T, B>
         ensures { result ≡ self.entry.stage }
     {
         self.stage
@@ -66,19 +99,31 @@ impl<'a, W: Write + Drop> Scene<'a, PlainPart, SeatBoard<'a, PlainPart>, W> {
 
     /// Plays a script: runs its lines to their end or to the first fault, and then closes the sessions that
     /// are open.
-    pub fn play<H: Wait, R: Read + Drop>(&mut self, rt: &H, reader: R) -> Result<(), Fault>
+    pub fn play<D: Desk<'a, OwnSession<T, B>>, H: Wait, R: Read + Drop>(
+        &mut self,
+        desk: &D,
+        rt: &H,
+        reader: R,
+    ) -> Result<(), Fault>
+        requires seats { SeatsAre B.seat D.seat }
         ensures manager { self.new.stage.manager.now ≡ self.old.stage.manager.now }
         ensures none_waits { self.new.stage.crew.waiting ≡ [] }
         ensures none_open { self.new.stage.crew.resting ≡ [] }
         ensures none_live { self.new.stage.opener.live ≡ 0 }
     {
-        let ended = self.run_lines(rt, reader);
-        self.stage.close_all(rt);
+        let ended = self.run_lines(desk, rt, reader);
+        self.stage.close_all(desk, rt);
         ended
     }
 
     /// Runs the lines of the reader, to its end or to the first fault.
-    fn run_lines<H: Wait, R: Read + Drop>(&mut self, rt: &H, reader: R) -> Result<(), Fault>
+    fn run_lines<D: Desk<'a, OwnSession<T, B>>, H: Wait, R: Read + Drop>(
+        &mut self,
+        desk: &D,
+        rt: &H,
+        reader: R,
+    ) -> Result<(), Fault>
+        requires seats { SeatsAre B.seat D.seat }
         ensures manager { self.new.stage.manager.now ≡ self.old.stage.manager.now }
     {
         let mut lines = LineReader::new(reader);
@@ -91,40 +136,58 @@ impl<'a, W: Write + Drop> Scene<'a, PlainPart, SeatBoard<'a, PlainPart>, W> {
                 what,
             })?;
             if let Some(command) = command {
-                self.run(rt, command)?;
+                self.run(desk, rt, command)?;
             }
         }
         Ok(())
     }
 
     /// Runs a command and then polls those who wait, and passes on what both print.
-    fn run<H: Wait>(&mut self, rt: &H, command: Command) -> Result<(), Fault>
+    fn run<D: Desk<'a, OwnSession<T, B>>, H: Wait>(
+        &mut self,
+        desk: &D,
+        rt: &H,
+        command: Command,
+    ) -> Result<(), Fault>
+        requires seats { SeatsAre B.seat D.seat }
         requires addressed { Addresses self.old.stage.crew command }
         requires counter { NamesCounter command }
         ensures manager { self.new.stage.manager.now ≡ self.old.stage.manager.now }
     {
-        self.act(rt, command)?;
+        self.act(desk, rt, command)?;
         self.poll_all(rt)?;
         self.output.flush()
     }
 
     /// Runs a command.
-    fn act<H: Wait>(&mut self, rt: &H, command: Command) -> Result<(), Fault>
+    fn act<D: Desk<'a, OwnSession<T, B>>, H: Wait>(
+        &mut self,
+        desk: &D,
+        rt: &H,
+        command: Command,
+    ) -> Result<(), Fault>
+        requires seats { SeatsAre B.seat D.seat }
         requires addressed { Addresses self.old.stage.crew command }
         requires counter { NamesCounter command }
         ensures manager { self.new.stage.manager.now ≡ self.old.stage.manager.now }
     {
         match command {
-            Command::Session { name, database } => self.open(name, database),
-            Command::Close(speaker) => self.close(rt, speaker),
+            Command::Session { name, database } => self.open(desk, name, database),
+            Command::Close(speaker) => self.close(desk, rt, speaker),
             _ => self.call(rt, command),
         }
     }
 
-    fn open(&mut self, name: Name, database: u32) -> Result<(), Fault>
+    fn open<D: Desk<'a, OwnSession<T, B>>>(
+        &mut self,
+        desk: &D,
+        name: Name,
+        database: u32,
+    ) -> Result<(), Fault>
+        requires seats { SeatsAre B.seat D.seat }
         ensures manager { self.new.stage.manager.now ≡ self.old.stage.manager.now }
     {
-        match self.stage.open(name, database) {
+        match self.stage.open(desk, name, database) {
             Ok(session) => self.output.opened(&name, session, database),
             Err(refusal) => {
                 let stage = &self.stage;
@@ -133,16 +196,20 @@ impl<'a, W: Write + Drop> Scene<'a, PlainPart, SeatBoard<'a, PlainPart>, W> {
         }
     }
 
-    fn close<H: Wait>(&mut self, rt: &H, speaker: Speaker) -> Result<(), Fault>
-        requires { MayAct self.old.stage.crew speaker.place }
+    fn close<D: Desk<'a, OwnSession<T, B>>, H: Wait>(
+        &mut self,
+        desk: &D,
+        rt: &H,
+        speaker: Speaker,
+    ) -> Result<(), Fault>
+        requires seats { SeatsAre B.seat D.seat }
+        requires place { MayAct self.old.stage.crew speaker.place }
         ensures manager { self.new.stage.manager.now ≡ self.old.stage.manager.now }
     {
-        self.stage.close(rt, speaker.place);
+        self.stage.close(desk, rt, speaker.place);
         self.output.closed(&speaker.name)
     }
-}
 
-impl<'a, T: PartTable + Drop, B: Board<T> + Drop, W: Write + Drop> Scene<'a, T, B, W> {
     /// Has a session make the call of a command. Those that open and close one are not made here (`act`).
     fn call<H: Wait>(&mut self, rt: &H, command: Command) -> Result<(), Fault>
         requires addressed { Addresses self.old.stage.crew command }

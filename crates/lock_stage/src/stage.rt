@@ -1,16 +1,17 @@
-//! The lock manager of a script with its open sessions, which are called by their places. Sessions are opened and closed on
-//! the shared table; all else is over any board.
-ghost use Rattle.std.specs.Prelude.{◌≡◌, ◌≤◌, ◌<◌, ◌+◌, [], All, length, IfOk};
+//! The lock manager of a script with its open sessions, which are called by their places. All is over any board: a desk
+//! opens and closes the sessions.
+ghost use Rattle.std.specs.Prelude.{◌≡◌, ◌≤◌, ◌<◌, ◌+◌, [], All, length, IfOk, IfErr};
 ghost use Rattle.lock_manager.specs.Managers.{IsOpenerOf};
+ghost use Rattle.lock_stage.specs.Stage.{SeatsAre, going_on};
 
+use crate::desk::Desk;
 use lock_manager::{
     Acquired, Asked, Cancelled, Listing, Manager, Mode, Opener, OwnSession, OwnWaiting, Owner,
     Polled, Refusal, SessionId, Started, Tag, Unlocked,
 };
 use lock_script::{Crew, Name, Named, Names, Place};
-use lock_table::{PartTable, PlainPart};
+use lock_table::PartTable;
 use shared_rule::board::Board;
-use shared_rule::seat_board::SeatBoard;
 use std::alloc::{AllocError, Global};
 use std::sync::Wait;
 
@@ -50,8 +51,8 @@ pub struct Stage<'a, T: PartTable, B: Board<T>> {
     ghost waiting: { All (λ one. (B.seat one.session.board).table ≡ opener.table) crew.waiting },
 }
 
-impl<'a> Stage<'a, PlainPart, SeatBoard<'a, PlainPart>> {
-    ghost use Rattle.lock_script.specs.Crew.{MayAct};
+impl<'a, T: PartTable + Drop, B: Board<T> + Drop> Stage<'a, T, B> {
+    ghost use Rattle.lock_script.specs.Crew.{IsThere, MayAct};
 
     /// A manager that has no session yet, with its opener.
     pub fn new(alloc: Global, manager: &'a Manager, opener: Opener) -> Result<Self, AllocError>
@@ -69,11 +70,17 @@ impl<'a> Stage<'a, PlainPart, SeatBoard<'a, PlainPart>> {
         })
     }
 
-    /// Opens a session of this database under this name, and gives its number.
-    pub fn open(&mut self, name: Name, database: u32) -> Result<SessionId, Refusal>
+    /// Has the desk open a session of this database under this name, and gives its number.
+    pub fn open<D: Desk<'a, OwnSession<T, B>>>(
+        &mut self,
+        desk: &D,
+        name: Name,
+        database: u32,
+    ) -> Result<SessionId, Refusal>
+        requires seats { SeatsAre B.seat D.seat }
         ensures manager { self.new.manager.now ≡ self.old.manager.now }
     {
-        match self.opener.session(self.manager, database) {
+        match desk.open(self.manager, &mut self.opener, database) {
             Ok(session) => {
                 let number = session.id();
                 self.names.push(name);
@@ -84,18 +91,20 @@ impl<'a> Stage<'a, PlainPart, SeatBoard<'a, PlainPart>> {
         }
     }
 
-    /// Closes a session. Its name is free again, and its number is not.
-    pub fn close<H: Wait>(&mut self, rt: &H, place: usize)
-        requires { MayAct self.old.crew place }
+    /// Has the desk close a session. Its name is free again, and its number is not.
+    pub fn close<D: Desk<'a, OwnSession<T, B>>, H: Wait>(&mut self, desk: &D, rt: &H, place: usize)
+        requires seats { SeatsAre B.seat D.seat }
+        requires place { MayAct self.old.crew place }
         ensures manager { self.new.manager.now ≡ self.old.manager.now }
         ensures live { self.new.opener.live + 1 ≡ self.old.opener.live }
     {
         let Named { session, .. } = self.crew.resting.take(place);
-        session.close(rt, &mut self.opener);
+        desk.close(rt, &mut self.opener, session);
     }
 
     /// Cancels the waits of those that wait, and then closes all sessions, in the byte order of their names.
-    pub fn close_all<H: Wait>(&mut self, rt: &H)
+    pub fn close_all<D: Desk<'a, OwnSession<T, B>>, H: Wait>(&mut self, desk: &D, rt: &H)
+        requires seats { SeatsAre B.seat D.seat }
         ensures manager { self.new.manager.now ≡ self.old.manager.now }
         ensures none_waits { self.new.crew.waiting ≡ [] }
         ensures none_open { self.new.crew.resting ≡ [] }
@@ -103,7 +112,7 @@ impl<'a> Stage<'a, PlainPart, SeatBoard<'a, PlainPart>> {
     {
         self.cancel_all(rt);
         'sessions: while let Some(first) = self.crew.resting.take_first() {
-            first.session.close(rt, &mut self.opener);
+            desk.close(rt, &mut self.opener, first.session);
         }
     }
 
@@ -114,11 +123,6 @@ impl<'a> Stage<'a, PlainPart, SeatBoard<'a, PlainPart>> {
     {
         self.opener
     }
-}
-
-impl<'a, T: PartTable + Drop, B: Board<T> + Drop> Stage<'a, T, B> {
-    ghost use Rattle.lock_script.specs.Crew.{IsThere, MayAct};
-    ghost use Rattle.lock_stage.specs.Stage.{going_on};
 
     /// Takes a mode on an object for an owner, or refuses at once.
     pub fn try_lock<H: Wait>(
@@ -168,22 +172,14 @@ impl<'a, T: PartTable + Drop, B: Board<T> + Drop> Stage<'a, T, B> {
         ensures manager { self.new.manager.now ≡ self.old.manager.now }
     {
         let Named { name, session } = self.crew.resting.take(place);
-        match session.start(rt, tag, mode, owner) {
-            Started::Granted(session) => {
+        match begin(rt, session, tag, mode, owner) {
+            Ok((session, answer)) => {
                 self.crew.resting.put(name, session);
-                Ok(Began::Acquired(Acquired::Granted))
+                answer.map(Began::Acquired)
             }
-            Started::AlreadyHeld(session) => {
-                self.crew.resting.put(name, session);
-                Ok(Began::Acquired(Acquired::AlreadyHeld))
-            }
-            Started::Queued(waiting) => {
+            Err(waiting) => {
                 self.crew.waiting.put(name, waiting);
                 Ok(Began::Waits)
-            }
-            Started::Refused(session, refusal) => {
-                self.crew.resting.put(name, session);
-                Err(refusal)
             }
         }
     }
@@ -294,25 +290,15 @@ impl<'a, T: PartTable + Drop, B: Board<T> + Drop> Stage<'a, T, B> {
         ensures manager { self.new.manager.now ≡ self.old.manager.now }
     {
         let Named { name, session } = self.crew.waiting.take(place);
-        match session.poll() {
-            Polled::Still(waiting) => {
+        match look_at(rt, name, session) {
+            Ok((session, looked)) => {
+                self.crew.resting.put(name, session);
+                looked
+            }
+            Err(waiting) => {
                 self.crew.waiting.put(name, waiting);
                 Looked::Waits
             }
-            Polled::Granted(session) => {
-                self.crew.resting.put(name, session);
-                Looked::Granted(name)
-            }
-            Polled::CancelAsked(waiting) => match waiting.cancel(rt) {
-                Cancelled::Removed(session) => {
-                    self.crew.resting.put(name, session);
-                    Looked::Cancelled(name)
-                }
-                Cancelled::WasGranted(session) => {
-                    self.crew.resting.put(name, session);
-                    Looked::Granted(name)
-                }
-            },
         }
     }
 
@@ -322,10 +308,62 @@ impl<'a, T: PartTable + Drop, B: Board<T> + Drop> Stage<'a, T, B> {
         ensures none_waits { self.new.crew.waiting ≡ [] }
     {
         'waits: while let Some(first) = self.crew.waiting.take_first() {
-            match first.session.cancel(rt) {
-                Cancelled::Removed(session) => self.crew.resting.put(first.name, session),
-                Cancelled::WasGranted(session) => self.crew.resting.put(first.name, session),
-            }
+            let Named { name, session } = first;
+            let (session, _) = cancel(rt, session);
+            self.crew.resting.put(name, session);
         }
+    }
+}
+
+/// A request that may wait: the session with its answer, or what it is while it waits.
+fn begin<T: PartTable, B: Board<T>, H: Wait>(
+    rt: &H,
+    session: OwnSession<T, B>,
+    tag: Tag,
+    mode: Mode,
+    owner: Owner,
+) -> Result<(OwnSession<T, B>, Result<Acquired, Refusal>), OwnWaiting<T, B>>
+    ensures rests { IfOk result (λ begun. B.seat begun.0.board ≡ B.seat session.board) }
+    ensures waits { IfErr result (λ waiting. B.seat waiting.board ≡ B.seat session.board) }
+{
+    match session.start(rt, tag, mode, owner) {
+        Started::Granted(session) => Ok((session, Ok(Acquired::Granted))),
+        Started::AlreadyHeld(session) => Ok((session, Ok(Acquired::AlreadyHeld))),
+        Started::Queued(waiting) => Err(waiting),
+        Started::Refused(session, refusal) => Ok((session, Err(refusal))),
+    }
+}
+
+/// A look at a wait, which carries a cancel out that was asked: the session that waits no more with what came of it, or the
+/// wait that goes on.
+fn look_at<T: PartTable, B: Board<T>, H: Wait>(
+    rt: &H,
+    name: Name,
+    waiting: OwnWaiting<T, B>,
+) -> Result<(OwnSession<T, B>, Looked), OwnWaiting<T, B>>
+    ensures rests { IfOk result (λ seen. B.seat seen.0.board ≡ B.seat waiting.board) }
+    ensures goes_on { IfOk result (λ seen. going_on seen.1 ≡ 1) }
+    ensures waits { IfErr result (λ still. B.seat still.board ≡ B.seat waiting.board) }
+{
+    match waiting.poll() {
+        Polled::Still(waiting) => Err(waiting),
+        Polled::Granted(session) => Ok((session, Looked::Granted(name))),
+        Polled::CancelAsked(waiting) => match cancel(rt, waiting) {
+            (session, true) => Ok((session, Looked::Granted(name))),
+            (session, false) => Ok((session, Looked::Cancelled(name))),
+        },
+    }
+}
+
+/// The session of a wait that is given up, and whether it was granted before that.
+fn cancel<T: PartTable, B: Board<T>, H: Wait>(
+    rt: &H,
+    waiting: OwnWaiting<T, B>,
+) -> (OwnSession<T, B>, bool)
+    ensures seat { B.seat result.0.board ≡ B.seat waiting.board }
+{
+    match waiting.cancel(rt) {
+        Cancelled::Removed(session) => (session, false),
+        Cancelled::WasGranted(session) => (session, true),
     }
 }

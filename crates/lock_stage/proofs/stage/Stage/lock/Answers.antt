@@ -7,61 +7,27 @@ pub invariant_of-self-clause-counted : goal.invariant_of-self-clause-counted
 invariant_of-self-clause-counted g c =
     c.args.self.now.counted ∙ ap (λ (n : ℕ). n + length c.args.self.now.crew.waiting)
     (sym (length-put_back c.args.self.now.crew.resting c.take-name.new.self c.put.new.self c.args.place
-    (record { name = c.take-name.result.name; session = c.in-Granted.session }) c.requires c.take-name.ensures.left c.put.ensures))
+    (record { name = c.take-name.result.name; session = c.in-Ok.session }) c.requires c.take-name.ensures.left c.put.ensures))
 
 pub invariant_of-self-clause-resting : goal.invariant_of-self-clause-resting
 invariant_of-self-clause-resting g c =
     All-put_back c.args.self.now.crew.resting c.take-name.new.self c.put.new.self c.args.place c.take-name.result
-    (record { name = c.take-name.result.name; session = c.in-Granted.session }) c.requires c.take-name.ensures.taken c.take-name.ensures.left c.put.ensures
-    (λ one. (g.B.Board.seat one.session.board).table ≡ c.args.self.now.opener.table) c.args.self.now.resting (λ h. ap (λ (seat : Seated). seat.table) c.in-Granted.ensures.same.seat_ ∙ h)
+    (record { name = c.take-name.result.name; session = c.in-Ok.session }) c.requires c.take-name.ensures.taken c.take-name.ensures.left c.put.ensures
+    (λ one. (g.B.Board.seat one.session.board).table ≡ c.args.self.now.opener.table) c.args.self.now.resting (λ h. ap (λ (seat : Seated). seat.table) c.in-Ok.ensures.rests ∙ h)
 
-pub put-requires-in-AlreadyHeld : goal.put-requires-in-AlreadyHeld
-put-requires-in-AlreadyHeld g c =
+pub invariant_of-self-in-Err-clause-counted : goal.invariant_of-self-in-Err-clause-counted
+invariant_of-self-in-Err-clause-counted g c =
     let left = length-left c.args.self.now.crew.resting c.take-name.new.self c.args.place c.requires c.take-name.ensures.left in
-    omega (arith, left, c.args.self.now.counted, c.args.self.now.within, c.args.self.now.few)
-
-pub invariant_of-self-in-AlreadyHeld-clause-counted : goal.invariant_of-self-in-AlreadyHeld-clause-counted
-invariant_of-self-in-AlreadyHeld-clause-counted g c =
-    c.args.self.now.counted ∙ ap (λ (n : ℕ). n + length c.args.self.now.crew.waiting)
-    (sym (length-put_back c.args.self.now.crew.resting c.take-name.new.self c.put-in-AlreadyHeld.new.self c.args.place
-    (record { name = c.take-name.result.name; session = c.in-AlreadyHeld.session }) c.requires c.take-name.ensures.left c.put-in-AlreadyHeld.ensures))
-
-pub invariant_of-self-in-AlreadyHeld-clause-resting : goal.invariant_of-self-in-AlreadyHeld-clause-resting
-invariant_of-self-in-AlreadyHeld-clause-resting g c =
-    All-put_back c.args.self.now.crew.resting c.take-name.new.self c.put-in-AlreadyHeld.new.self c.args.place c.take-name.result
-    (record { name = c.take-name.result.name; session = c.in-AlreadyHeld.session }) c.requires c.take-name.ensures.taken c.take-name.ensures.left c.put-in-AlreadyHeld.ensures
-    (λ one. (g.B.Board.seat one.session.board).table ≡ c.args.self.now.opener.table) c.args.self.now.resting (λ h. ap (λ (seat : Seated). seat.table) c.in-AlreadyHeld.ensures.same.seat_ ∙ h)
-
-pub put-requires-in-Refused : goal.put-requires-in-Refused
-put-requires-in-Refused g c =
-    let left = length-left c.args.self.now.crew.resting c.take-name.new.self c.args.place c.requires c.take-name.ensures.left in
-    omega (arith, left, c.args.self.now.counted, c.args.self.now.within, c.args.self.now.few)
-
-pub invariant_of-self-in-Refused-clause-counted : goal.invariant_of-self-in-Refused-clause-counted
-invariant_of-self-in-Refused-clause-counted g c =
-    c.args.self.now.counted ∙ ap (λ (n : ℕ). n + length c.args.self.now.crew.waiting)
-    (sym (length-put_back c.args.self.now.crew.resting c.take-name.new.self c.put-in-Refused.new.self c.args.place
-    (record { name = c.take-name.result.name; session = c.in-Refused.session }) c.requires c.take-name.ensures.left c.put-in-Refused.ensures))
-
-pub invariant_of-self-in-Refused-clause-resting : goal.invariant_of-self-in-Refused-clause-resting
-invariant_of-self-in-Refused-clause-resting g c =
-    All-put_back c.args.self.now.crew.resting c.take-name.new.self c.put-in-Refused.new.self c.args.place c.take-name.result
-    (record { name = c.take-name.result.name; session = c.in-Refused.session }) c.requires c.take-name.ensures.taken c.take-name.ensures.left c.put-in-Refused.ensures
-    (λ one. (g.B.Board.seat one.session.board).table ≡ c.args.self.now.opener.table) c.args.self.now.resting (λ h. ap (λ (seat : Seated). seat.table) c.in-Refused.ensures.same.seat_ ∙ h)
-
-pub invariant_of-self-in-Queued-clause-counted : goal.invariant_of-self-in-Queued-clause-counted
-invariant_of-self-in-Queued-clause-counted g c =
-    let left = length-left c.args.self.now.crew.resting c.take-name.new.self c.args.place c.requires c.take-name.ensures.left in
-    let more = length-put c.args.self.now.crew.waiting c.put-in-Queued.new.self (record { name = c.take-name.result.name; session = c.in-Queued.waiting }) c.put-in-Queued.ensures in
+    let more = length-put c.args.self.now.crew.waiting c.put-in-Err.new.self (record { name = c.take-name.result.name; session = c.in-Err.waiting }) c.put-in-Err.ensures in
     omega (arith, left, more, c.args.self.now.counted)
 
-pub invariant_of-self-in-Queued-clause-resting : goal.invariant_of-self-in-Queued-clause-resting
-invariant_of-self-in-Queued-clause-resting g c =
+pub invariant_of-self-in-Err-clause-resting : goal.invariant_of-self-in-Err-clause-resting
+invariant_of-self-in-Err-clause-resting g c =
     All-left c.args.self.now.crew.resting c.take-name.new.self c.args.place c.requires c.take-name.ensures.left (λ one. (g.B.Board.seat one.session.board).table ≡ c.args.self.now.opener.table) c.args.self.now.resting
 
-pub invariant_of-self-in-Queued-clause-waiting : goal.invariant_of-self-in-Queued-clause-waiting
-invariant_of-self-in-Queued-clause-waiting g c =
-    All-put c.args.self.now.crew.waiting c.put-in-Queued.new.self (record { name = c.take-name.result.name; session = c.in-Queued.waiting }) c.put-in-Queued.ensures
+pub invariant_of-self-in-Err-clause-waiting : goal.invariant_of-self-in-Err-clause-waiting
+invariant_of-self-in-Err-clause-waiting g c =
+    All-put c.args.self.now.crew.waiting c.put-in-Err.new.self (record { name = c.take-name.result.name; session = c.in-Err.waiting }) c.put-in-Err.ensures
     (λ one. (g.B.Board.seat one.session.board).table ≡ c.args.self.now.opener.table) c.args.self.now.waiting
-    (ap (λ (seat : Seated). seat.table) c.in-Queued.ensures.waiting.seat_ ∙
+    (ap (λ (seat : Seated). seat.table) c.in-Err.ensures.waits ∙
     taken (λ one. (g.B.Board.seat one.session.board).table ≡ c.args.self.now.opener.table) c.args.self.now.crew.resting c.args.place c.take-name.result c.requires c.args.self.now.resting c.take-name.ensures.taken)

@@ -1,5 +1,5 @@
 //! Scripts in which sessions wait, as rows, with what they print by the rules of the queue.
-use super::rows::{BadRow, Row};
+use crate::rows::{BadRow, Row};
 
 /// Who waits, and who wakes.
 pub const WAITS: [Row<'static>; 9] = [

@@ -1,6 +1,6 @@
 use Rattle.std.proofs.Common.{◌≡◌, arith}
 use Rattle.lock_script.proofs.CrewLemmas.{All-rest, length-rest}
-use Rattle.lock_stage.proofs.stage.Stage+PlainPart+SeatBoard+PlainPart.close_all.Goals as goal
+use Rattle.lock_stage.proofs.stage.Stage.close_all.Goals as goal
 
 pub invariant_of-self : goal.invariant_of-self
 invariant_of-self g c =
@@ -14,6 +14,6 @@ invariant_of-self g c =
       counted = omega (arith, left, c.sessions.self.counted);
       resting =
           All-rest c.sessions.self.crew.resting c.take_first.new.self c.in-Some.first c.in-Some.ensures.first
-          (λ one. one.session.board.table.now.table_id ≡ c.sessions.self.opener.table) c.sessions.self.resting;
+          (λ one. (g.B.Board.seat one.session.board).table ≡ c.sessions.self.opener.table) c.sessions.self.resting;
       waiting = c.sessions.self.waiting;
     })

@@ -1,5 +1,5 @@
 use Rattle.std.proofs.Common.{◌≡◌, [], length}
-use Rattle.lock_stage.proofs.stage.Stage+PlainPart+SeatBoard+PlainPart.close_all.Given as goal
+use Rattle.lock_stage.proofs.stage.Stage.close_all.Given as goal
 
 abbrev pub invariant-sessions : goal.invariant-sessions
 invariant-sessions g l = record {

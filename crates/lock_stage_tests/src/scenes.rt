@@ -1,8 +1,16 @@
 //! Scripts of as many sessions as there can be, and what is left when a script has ended.
-use super::{ALL_SESSIONS, expect_run};
-use lock_manager::Manager;
-use lock_stage::{Scene, Stage};
+ghost use Rattle.std.specs.Prelude.{◌≡◌};
+ghost use Rattle.lock_manager.specs.Managers.{IsOpenerOf};
+ghost use Rattle.lock_stage.specs.Stage.{SeatsAre};
+
+use crate::scripts::{ALL_SESSIONS, expect_run};
+use lock_manager::{Manager, Opener, OwnSession};
+use lock_stage::{Desk, Scene, SharedDesk, Stage};
+use lock_table::PartTable;
+use shared_rule::board::Board;
 use std::alloc::Global;
+use std::process::Abort;
+use std::sync::Wait;
 use std::test::Fail;
 
 /// Lines that open sixty-four sessions, out of the order of their names, each of which takes a lock, and what they
@@ -55,17 +63,41 @@ const PRINTED: &str = "b: session 0 database 5\na: session 1 database 5\nc: sess
     b: granted\na: granted\na: waits\nc: waits\na: session 3 database 6\na: granted\n\
     a: session 4 database 7\nrows 0\na: granted\n";
 
-#[test]
-fn an_end_closes_every_session(rt: HostRuntime) -> Result<(), Fail> {
-    let mut output = Vec::new(rt.alloc());
-    let (manager, opener) = Manager::new(rt.alloc(), ALL_SESSIONS)?;
-    let stage = Stage::new(rt.alloc(), &manager, opener)?;
-    let mut scene = Scene::new(stage, &mut output);
+/// Plays them on one stage, whose sessions the desk opens for this manager.
+fn play_in_turn<
+    'a,
+    T: PartTable + Drop,
+    B: Board<T> + Drop,
+    D: Desk<'a, OwnSession<T, B>>,
+    R: Abort + Wait,
+>(
+    rt: &R,
+    alloc: Global,
+    desk: &D,
+    manager: &'a Manager,
+    opener: Opener,
+    output: &mut Vec<u8>,
+) -> Result<(), Fail>
+    requires seats { SeatsAre B.seat D.seat }
+    requires own { IsOpenerOf opener manager.now }
+    requires none_issued { opener.issued ≡ 0 }
+    requires none_live { opener.live ≡ 0 }
+{
+    let stage = Stage::new(alloc, manager, opener)?;
+    let mut scene = Scene::new(stage, output);
     for (script, is_good) in IN_TURN {
-        let ended = scene.play(&rt, script.as_bytes());
+        let ended = scene.play(desk, rt, script.as_bytes());
         assert_eq!(rt; ended.is_ok(), is_good, "{script:?}");
     }
-    drop(scene);
+    Ok(())
+}
+
+#[test]
+fn an_end_closes_every_session(rt: HostRuntime) -> Result<(), Fail> {
+    let alloc = rt.alloc();
+    let mut output = Vec::new(alloc);
+    let (manager, opener) = Manager::new(alloc, ALL_SESSIONS)?;
+    play_in_turn(&rt, alloc, &SharedDesk, &manager, opener, &mut output)?;
     assert_eq!(rt; output.as_slice(), PRINTED.as_bytes());
     Ok(())
 }
