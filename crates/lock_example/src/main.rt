@@ -1,7 +1,9 @@
 //! Two threads of a server share a lock manager: one reads and writes a table, which the other wants to alter.
 #![tactic(auto)]
 
-use lock_manager::{Acquired, Config, Final, Manager, Mode, Owner, Refusal, Tag};
+ghost use Rattle.std.specs.Prelude.{◌≡◌};
+
+use lock_manager::{Acquired, Config, Final, Manager, Mode, Owner, Refusal, Session, Tag};
 use std::alloc::Global;
 use std::io;
 use std::sync::Wait;
@@ -66,26 +68,25 @@ fn tell<R: Threads + Wait + Sync>(rt: &R, alloc: Global) -> Result<Story, Refusa
             return Err(refusal);
         }
     };
-    let owner = Owner::Transaction;
 
     // A turn runs in two threads, each of which borrows a session, and is over once both are joined. None of the
     // requests of a turn stands in the way of the other, so the answers are the same in each run.
     let (read, index) = join_mut(
         rt,
-        &mut || worker.try_lock(rt, ACCOUNTS, Mode::AccessShare, owner),
-        &mut || migration.try_lock(rt, BRANCHES, Mode::Share, owner),
+        &mut || ask(rt, &mut worker, ACCOUNTS, Mode::AccessShare),
+        &mut || ask(rt, &mut migration, BRANCHES, Mode::Share),
     );
     let (write, alter) = join_mut(
         rt,
-        &mut || worker.try_lock(rt, ACCOUNTS, Mode::RowExclusive, owner),
-        &mut || migration.try_lock(rt, ACCOUNTS, Mode::AccessExclusive, owner),
+        &mut || ask(rt, &mut worker, ACCOUNTS, Mode::RowExclusive),
+        &mut || ask(rt, &mut migration, ACCOUNTS, Mode::AccessExclusive),
     );
     join_mut(
         rt,
-        &mut || worker.commit(rt),
-        &mut || { migration.commit(rt) },
+        &mut || commit(rt, &mut worker),
+        &mut || commit(rt, &mut migration),
     );
-    let alter_again = migration.try_lock(rt, ACCOUNTS, Mode::AccessExclusive, owner);
+    let alter_again = ask(rt, &mut migration, ACCOUNTS, Mode::AccessExclusive);
 
     // What a session still has is released as it is closed.
     worker.close(rt, &mut opener);
@@ -98,6 +99,20 @@ fn tell<R: Threads + Wait + Sync>(rt: &R, alloc: Global) -> Result<Story, Refusa
         alter_again,
         stood: manager.finish(opener),
     })
+}
+
+/// Asks for a table on behalf of the session's transaction. The session stays one of the same manager, as its close wants.
+fn ask<R: Wait>(rt: &R, session: &mut Session<'_>, table: Tag, mode: Mode) -> Answer
+    ensures same_manager { session.new.board.table.now.table_id ≡ session.old.board.table.now.table_id }
+{
+    session.try_lock(rt, table, mode, Owner::Transaction)
+}
+
+/// Ends the session's transaction.
+fn commit<R: Wait>(rt: &R, session: &mut Session<'_>)
+    ensures same_manager { session.new.board.table.now.table_id ≡ session.old.board.table.now.table_id }
+{
+    session.commit(rt);
 }
 
 /// Prints what a request was answered. A refusal says who stands in the way.

@@ -59,29 +59,33 @@ fn words_of(alloc: Global, line: &str) -> Result<Vec<String>, Fail> {
     Ok(words)
 }
 
+/// Words, and how many sessions and local entries they ask for, where they aren't refused.
+static WORDS: [(&str, Option<(u32, u32)>); 15] = [
+    ("lock_scenario run", Some((8, 1024))),
+    ("lock_scenario run --sessions 1", Some((1, 1024))),
+    ("lock_scenario run --sessions=64", Some((64, 1024))),
+    ("lock_scenario run --max-local 1", Some((8, 1))),
+    (
+        "lock_scenario run --max-local 65536 --sessions 2",
+        Some((2, 65_536)),
+    ),
+    ("lock_scenario", None),
+    ("lock_scenario hammer", None),
+    ("lock_scenario run --sessions 0", None),
+    ("lock_scenario run --sessions 65", None),
+    ("lock_scenario run --sessions x", None),
+    ("lock_scenario run --sessions 1 --sessions 2", None),
+    ("lock_scenario run --max-local 0", None),
+    ("lock_scenario run --max-local 65537", None),
+    ("lock_scenario run --slot-groups 1", None),
+    ("lock_scenario run more", None),
+];
+
 #[test]
 fn reads_its_own_words(rt: HostRuntime) -> Result<(), Fail> {
     let alloc = rt.alloc();
-    for (line, expected) in [
-        ("lock_scenario run", Some((8, 1024))),
-        ("lock_scenario run --sessions 1", Some((1, 1024))),
-        ("lock_scenario run --sessions=64", Some((64, 1024))),
-        ("lock_scenario run --max-local 1", Some((8, 1))),
-        (
-            "lock_scenario run --max-local 65536 --sessions 2",
-            Some((2, 65_536)),
-        ),
-        ("lock_scenario", None),
-        ("lock_scenario hammer", None),
-        ("lock_scenario run --sessions 0", None),
-        ("lock_scenario run --sessions 65", None),
-        ("lock_scenario run --sessions x", None),
-        ("lock_scenario run --sessions 1 --sessions 2", None),
-        ("lock_scenario run --max-local 0", None),
-        ("lock_scenario run --max-local 65537", None),
-        ("lock_scenario run --slot-groups 1", None),
-        ("lock_scenario run more", None),
-    ] {
+    for row in &WORDS {
+        let (line, expected) = *row;
         let words = words_of(alloc, line)?;
         let config = match parse_arguments(alloc, words.as_slice()) {
             Ok(config) => Some((config.sessions, config.max_local)),
@@ -125,7 +129,7 @@ const RUN: &str = "lock_scenario run";
 const OPENED: &str = "a: session 0 database 5\n";
 
 /// Words with a run of the program on them.
-const RUNS: [(&str, Run); 9] = [
+static RUNS: [(&str, Run); 9] = [
     (RUN, ("session a 5\n", false, 0, OPENED, "")),
     (
         "lock_scenario run --sessions 1 --max-local 2",
@@ -185,7 +189,7 @@ const RUNS: [(&str, Run); 9] = [
 ];
 
 /// Why words can't be read, with a run of the program then.
-const UNREAD: [(ErrorKind, Run); 2] = [
+static UNREAD: [(ErrorKind, Run); 2] = [
     (
         ErrorKind::InvalidData,
         (
@@ -231,18 +235,23 @@ fn expect_program(
 
 #[test]
 fn answers_its_words(rt: HostRuntime) -> Result<(), Fail> {
-    for (line, run) in RUNS {
+    for row in &RUNS {
+        let (line, run) = *row;
         expect_program(&rt, Ok(words_of(rt.alloc(), line)?), run);
     }
-    for (kind, run) in UNREAD {
+    for row in &UNREAD {
+        let (kind, run) = *row;
         expect_program(&rt, Err(io::Error::from(kind)), run);
     }
     Ok(())
 }
 
 /// The words, a script, how many lines the output takes and whether a flush, the status, and how many lines the errors
-/// take: one that isn't taken changes no status.
-const CLOSED: [(&str, &str, u32, bool, u8, u32); 9] = [
+/// take.
+type Closed = (&'static str, &'static str, u32, bool, u8, u32);
+
+/// Runs with writers that fail. A line that the errors don't take changes no status.
+static CLOSED: [Closed; 9] = [
     (RUN, "session a 5\n", 0, true, 1, 1),
     (RUN, "session a 5\n", 1000, false, 1, 1),
     ("lock_scenario --help", "", 0, true, 1, 1),
@@ -254,19 +263,23 @@ const CLOSED: [(&str, &str, u32, bool, u8, u32); 9] = [
     ("lock_scenario hammer", "", 1000, true, 1, 0),
 ];
 
+/// Runs the program with these writers, and checks its status, and that it writes what the errors take.
+fn expect_closed(rt: &(impl Abort + AllocGlobal + Wait), words: Vec<String>, run: Closed) {
+    let (line, script, lines, flushes, status, said) = run;
+    let output = Pipe { lines, flushes };
+    let mut errors = Pipe {
+        lines: said,
+        flushes: false,
+    };
+    let answer = run_program(rt, Ok(words), script.as_bytes(), output, &mut errors);
+    assert_eq!(rt; answer, status, "the status of {line:?}");
+    assert_eq!(rt; errors.lines, 0, "the errors of {line:?}");
+}
+
 #[test]
 fn tells_of_writers_that_fail(rt: HostRuntime) -> Result<(), Fail> {
-    for (line, script, lines, flushes, status, said) in CLOSED {
-        let words = words_of(rt.alloc(), line)?;
-        let output = Pipe { lines, flushes };
-        let mut errors = Pipe {
-            lines: said,
-            flushes: false,
-        };
-        let answer = run_program(&rt, Ok(words), script.as_bytes(), output, &mut errors);
-        assert_eq!(rt; answer, status, "the status of {line:?}");
-        // What the errors take is written.
-        assert_eq!(rt; errors.lines, 0, "the errors of {line:?}");
+    for run in &CLOSED {
+        expect_closed(&rt, words_of(rt.alloc(), run.0)?, *run);
     }
     Ok(())
 }

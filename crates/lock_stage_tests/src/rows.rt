@@ -13,7 +13,7 @@ pub type Copies<'a> = (&'a str, u32, &'a str, &'a str);
 const OPENED: &str = "a: session 0 database 5\n";
 
 /// Lines that do nothing, lines that end in every way, hashes, and counters.
-pub const LINES: [Row<'static>; 17] = [
+pub static LINES: [Row<'static>; 17] = [
     (0, "", "", ""),
     (0, "\n", "", ""),
     (
@@ -74,7 +74,7 @@ pub const LINES: [Row<'static>; 17] = [
 ];
 
 /// Lines that are no lines of the language, as the second of a script.
-pub const BAD_LINES: [BadRow<'static>; 71] = [
+pub static BAD_LINES: [BadRow<'static>; 71] = [
     // bytes
     ("try a 5/1 Shar\u{e9}", "line 2: not ASCII text"),
     ("# \u{7f}", "line 2: not ASCII text"),
@@ -170,7 +170,7 @@ pub const BAD_LINES: [BadRow<'static>; 71] = [
 ];
 
 /// A session that was closed isn't there.
-pub const CLOSED_LINES: [BadRow<'static>; 4] = [
+pub static CLOSED_LINES: [BadRow<'static>; 4] = [
     ("list a", "line 3: no such session"),
     ("close a", "line 3: no such session"),
     ("try a 5/1 ShareLock", "line 3: no such session"),
@@ -178,7 +178,7 @@ pub const CLOSED_LINES: [BadRow<'static>; 4] = [
 ];
 
 /// Ends of locks, transactions and sessions.
-pub const ENDS: [Row<'static>; 6] = [
+pub static ENDS: [Row<'static>; 6] = [
     // counts of a transaction and of the session
     (
         1,
@@ -255,7 +255,7 @@ pub const ENDS: [Row<'static>; 6] = [
 ];
 
 /// What is in the way, what goes by a slot, and what a listing shows.
-pub const LISTINGS: [Row<'static>; 14] = [
+pub static LISTINGS: [Row<'static>; 14] = [
     // an object is not the relation of its numbers
     (
         0,
@@ -486,7 +486,7 @@ pub const LISTINGS: [Row<'static>; 14] = [
 ];
 
 /// A session that may have two different locks.
-pub const TWO_LOCKS: [Row<'static>; 2] = [
+pub static TWO_LOCKS: [Row<'static>; 2] = [
     (
         0,
         "session a 5\ntry a 5/1 ShareLock\ntry a 5/1 RowShareLock\ntry a 5/2 ShareLock\n\
@@ -509,7 +509,7 @@ pub const TWO_LOCKS: [Row<'static>; 2] = [
 ];
 
 /// A script that may open one session.
-pub const ONE_SESSION: [Row<'static>; 1] = [(
+pub static ONE_SESSION: [Row<'static>; 1] = [(
     0,
     "session a 5\nsession b 5\nsession b 6\nlist b\n",
     "a: session 0 database 5\nb: refused 12 no more sessions\nb: refused 12 no more sessions\n",
@@ -525,7 +525,7 @@ const NOTHING: Copies<'static> = ("", 0, "", "");
 const TOO_LONG: &str = "line 1: line too long";
 
 /// The bounds of lines: a script, what it prints, and the fault that ends it.
-pub const BOUNDS: [(Copies<'static>, Copies<'static>, &str); 8] = [
+pub static BOUNDS: [(Copies<'static>, Copies<'static>, &str); 8] = [
     (("hash 5/16384", 1_012, " ", ""), HASHED, ""),
     (("hash 5/16384", 1_012, " ", "\n"), HASHED, ""),
     (("hash 5/16384", 1_011, " ", "\r\n"), HASHED, ""),

@@ -42,7 +42,7 @@ fn opens_all_sessions_and_no_more(rt: HostRuntime) -> Result<(), Fail> {
 }
 
 /// Scripts on one stage, and whether they run to their end.
-const IN_TURN: [(&str, bool); 3] = [
+static IN_TURN: [(&str, bool); 3] = [
     (
         "session b 5\nsession a 5\nsession c 5\ntry b 5/1 ExclusiveLock session\n\
          try a 5/2 ShareLock\nlock a 5/1 ExclusiveLock\nlock c 5/1 AccessExclusiveLock\n",
@@ -85,7 +85,8 @@ fn play_in_turn<
 {
     let stage = Stage::new(alloc, manager, opener)?;
     let mut scene = Scene::new(stage, output);
-    for (script, is_good) in IN_TURN {
+    for turn in &IN_TURN {
+        let (script, is_good) = *turn;
         let ended = scene.play(desk, rt, script.as_bytes());
         assert_eq!(rt; ended.is_ok(), is_good, "{script:?}");
     }

@@ -124,6 +124,15 @@ pub fn expect_run(
     Ok(())
 }
 
+/// Lines that open sessions, and what each prints.
+static OPENED: [(&str, &str); 5] = [
+    ("session a 5\n", "a: session 0 database 5\n"),
+    ("session b 5\n", "b: session 1 database 5\n"),
+    ("session c 5\n", "c: session 2 database 5\n"),
+    ("session d 5\n", "d: session 3 database 5\n"),
+    ("session e 5\n", "e: session 4 database 5\n"),
+];
+
 /// Opens so many sessions, `a` to `e`, runs the lines, and checks what they print and the fault that ends them.
 fn expect_row(
     rt: &(impl Abort + AllocGlobal + Wait),
@@ -134,33 +143,38 @@ fn expect_row(
     let alloc: Global = rt.alloc();
     let mut script = String::new(alloc);
     let mut output = String::new(alloc);
-    for (number, name) in ["a", "b", "c", "d", "e"].iter().take(sessions).enumerate() {
-        script.push_str(format!(in alloc; "session {name} 5\n")?.as_str())?;
-        output.push_str(format!(in alloc; "{name}: session {number} database 5\n")?.as_str())?;
+    for opened in &OPENED[..sessions.min(OPENED.len())] {
+        script.push_str(opened.0)?;
+        output.push_str(opened.1)?;
     }
     script.push_str(lines)?;
     output.push_str(printed)?;
     expect_run(rt, config, script.as_str(), output.as_str(), fault)
 }
 
-#[test]
-fn scripts_print_what_the_rows_say(rt: HostRuntime) -> Result<(), Fail> {
-    for (config, rows) in [
-        (EIGHT, rows::LINES.as_slice()),
-        (EIGHT, rows::ENDS.as_slice()),
-        (EIGHT, rows::LISTINGS.as_slice()),
-        (TWO_LOCKS, rows::TWO_LOCKS.as_slice()),
-        (ONE_SESSION, rows::ONE_SESSION.as_slice()),
-        (EIGHT, waiting::WAITS.as_slice()),
-        (EIGHT, waiting::PLACES.as_slice()),
-        (EIGHT, waiting::CANCELS.as_slice()),
-        (ALL_SESSIONS, waiting::PASSES.as_slice()),
-    ] {
-        for row in rows {
-            expect_row(&rt, config, *row)?;
-        }
+/// Does so with each row.
+fn expect_rows(
+    rt: &(impl Abort + AllocGlobal + Wait),
+    config: Config,
+    rows: &[Row<'_>],
+) -> Result<(), Fail> {
+    for row in rows {
+        expect_row(rt, config, *row)?;
     }
     Ok(())
+}
+
+#[test]
+fn scripts_print_what_the_rows_say(rt: HostRuntime) -> Result<(), Fail> {
+    expect_rows(&rt, EIGHT, &rows::LINES)?;
+    expect_rows(&rt, EIGHT, &rows::ENDS)?;
+    expect_rows(&rt, EIGHT, &rows::LISTINGS)?;
+    expect_rows(&rt, TWO_LOCKS, &rows::TWO_LOCKS)?;
+    expect_rows(&rt, ONE_SESSION, &rows::ONE_SESSION)?;
+    expect_rows(&rt, EIGHT, &waiting::WAITS)?;
+    expect_rows(&rt, EIGHT, &waiting::PLACES)?;
+    expect_rows(&rt, EIGHT, &waiting::CANCELS)?;
+    expect_rows(&rt, ALL_SESSIONS, &waiting::PASSES)
 }
 
 /// Checks that each of these lines is a fault behind the others, and the end of the script.
@@ -180,20 +194,11 @@ fn expect_bad_lines(
 
 #[test]
 fn a_bad_line_ends_a_script(rt: HostRuntime) -> Result<(), Fail> {
-    for (before, rows) in [
-        ((1, "", ""), rows::BAD_LINES.as_slice()),
-        (
-            (1, "close a\n", "a: closed\n"),
-            rows::CLOSED_LINES.as_slice(),
-        ),
-        (
-            (2, waiting::B_WAITS, waiting::B_IS_QUEUED),
-            waiting::WAITING_LINES.as_slice(),
-        ),
-    ] {
-        expect_bad_lines(&rt, before, rows)?;
-    }
-    Ok(())
+    let closed = (1, "close a\n", "a: closed\n");
+    let waiting = (2, waiting::B_WAITS, waiting::B_IS_QUEUED);
+    expect_bad_lines(&rt, (1, "", ""), &rows::BAD_LINES)?;
+    expect_bad_lines(&rt, closed, &rows::CLOSED_LINES)?;
+    expect_bad_lines(&rt, waiting, &waiting::WAITING_LINES)
 }
 
 /// A text with copies of a piece.
@@ -209,7 +214,8 @@ fn text_of(alloc: Global, copies: Copies<'_>) -> Result<String, Fail> {
 
 #[test]
 fn bounds_lines(rt: HostRuntime) -> Result<(), Fail> {
-    for (script, printed, fault) in rows::BOUNDS {
+    for row in &rows::BOUNDS {
+        let (script, printed, fault) = *row;
         let script = text_of(rt.alloc(), script)?;
         let printed = text_of(rt.alloc(), printed)?;
         expect_run(&rt, EIGHT, script.as_str(), printed.as_str(), fault)?;

@@ -63,27 +63,43 @@ fn a_refusal_has_its_number_and_text(rt: HostRuntime) -> Result<(), Fail> {
     Ok(())
 }
 
-/// Prints an answer of each variant.
-fn print_answers(rt: &impl Abort, output: &mut Output<&mut Vec<u8>>) -> Result<(), Fault> {
-    let (a, b) = (name(rt, "a"), name(rt, "b"));
+/// Prints what requests and waits come to, in each variant.
+fn print_requests(rt: &impl Abort, output: &mut Output<&mut Vec<u8>>) -> Result<(), Fault> {
+    let b = name(rt, "b");
     for acquired in [Acquired::Granted, Acquired::AlreadyHeld] {
         output.acquired(&b, acquired)?;
     }
     output.waits(&b)?;
     output.granted_after_waiting(&b)?;
-    output.cancelled(&b)?;
+    output.cancelled(&b)
+}
+
+/// Prints what a session is told of others that wait, in each variant.
+fn print_waits(rt: &impl Abort, output: &mut Output<&mut Vec<u8>>) -> Result<(), Fault> {
+    let (a, b) = (name(rt, "a"), name(rt, "b"));
     for asked in [Asked::Waiting, Asked::NotWaiting] {
         output.asked(&a, &b, asked)?;
     }
     for is_awaited in [true, false] {
         output.waiters(&a, is_awaited)?;
     }
+    Ok(())
+}
+
+/// Prints what releases and ends come to, in each variant.
+fn print_ends(rt: &impl Abort, output: &mut Output<&mut Vec<u8>>) -> Result<(), Fault> {
+    let a = name(rt, "a");
     for unlocked in [Unlocked::Released, Unlocked::StillHeld] {
         output.unlocked(&a, unlocked)?;
     }
     output.committed(&a)?;
     output.aborted(&a)?;
-    output.closed(&a)?;
+    output.closed(&a)
+}
+
+/// Prints counts.
+fn print_counts(rt: &impl Abort, output: &mut Output<&mut Vec<u8>>) -> Result<(), Fault> {
+    let a = name(rt, "a");
     output.owned(&a, 12, 65_535)?;
     output.not_owned(&a, Mode::ShareRowExclusive)?;
     output.strong(0, 0)?;
@@ -95,7 +111,10 @@ fn print_answers(rt: &impl Abort, output: &mut Output<&mut Vec<u8>>) -> Result<(
 fn an_answer_has_its_text(rt: HostRuntime) -> Result<(), Fail> {
     let mut printed = Vec::new(rt.alloc());
     let mut output = Output::new(&mut printed);
-    assert!(rt; print_answers(&rt, &mut output) == Ok(()));
+    assert!(rt; print_requests(&rt, &mut output) == Ok(()));
+    assert!(rt; print_waits(&rt, &mut output) == Ok(()));
+    assert!(rt; print_ends(&rt, &mut output) == Ok(()));
+    assert!(rt; print_counts(&rt, &mut output) == Ok(()));
     drop(output);
     let text = "b: granted\nb: already held\nb: waits\n\
                 b: granted after waiting\nb: cancelled\na: asked b\nb isn't waiting\n\

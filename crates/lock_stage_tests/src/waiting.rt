@@ -2,7 +2,7 @@
 use crate::rows::{BadRow, Row};
 
 /// Who waits, and who wakes.
-pub const WAITS: [Row<'static>; 9] = [
+pub static WAITS: [Row<'static>; 9] = [
     // a reader, whoever waits for it, and what the listing shows of both
     (
         2,
@@ -102,7 +102,7 @@ pub const WAITS: [Row<'static>; 9] = [
 ];
 
 /// Places in the queue.
-pub const PLACES: [Row<'static>; 5] = [
+pub static PLACES: [Row<'static>; 5] = [
     // a holder passes whom it keeps waiting, if nothing else is in its way
     (
         2,
@@ -157,7 +157,7 @@ pub const PLACES: [Row<'static>; 5] = [
 ];
 
 /// Waits that are cancelled.
-pub const CANCELS: [Row<'static>; 7] = [
+pub static CANCELS: [Row<'static>; 7] = [
     // a cancel lets another go in the same pass
     (
         3,
@@ -234,7 +234,7 @@ pub const B_WAITS: &str = "try a 5/16384 AccessExclusiveLock\nlock b 5/16384 Acc
 pub const B_IS_QUEUED: &str = "a: granted\nb: waits\n";
 
 /// A session that waits, which is `b`, is addressed by a cancel alone.
-pub const WAITING_LINES: [BadRow<'static>; 23] = [
+pub static WAITING_LINES: [BadRow<'static>; 23] = [
     ("commit b", "line 5: session waits"),
     ("abort b", "line 5: session waits"),
     ("close b", "line 5: session waits"),
@@ -264,7 +264,7 @@ pub const WAITING_LINES: [BadRow<'static>; 23] = [
 ];
 
 /// Passes over more than a few who wait.
-pub const PASSES: [Row<'static>; 4] = [
+pub static PASSES: [Row<'static>; 4] = [
     // from name to name in their byte order
     (0, TWELVE_WAIT, TWELVE_WAKE, ""),
     // reads queue up behind an ALTER

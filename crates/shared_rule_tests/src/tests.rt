@@ -1,10 +1,19 @@
-use lock_table::empty_parts;
+//! Where words and contents stand, and steps on boards.
+
+ghost use Rattle.std.specs.Prelude.{◌≡◌, [], IfOk};
+ghost use Rattle.shared_rule.specs.History.{blank_account};
+ghost use Rattle.shared_rule.specs.Opening.{AreNew};
+
+use lock_table::{PartTable, PlainPart, empty_parts};
 use modes_core::SessionId;
+use shared_rule::board::Board;
 use shared_rule::layout::{
     CONTENT_SLOTS, TABLE_WORDS, content_slot, database_word, fast_word, partition_word, sleep_word,
     slot_word, strong_word, wait_word,
 };
-use shared_rule::table::{in_slots, open};
+use shared_rule::one_thread::OneThread;
+use shared_rule::table::in_slots;
+use std::alloc::Global;
 use std::process::Abort;
 use std::test::Fail;
 
@@ -67,21 +76,26 @@ fn each_content_has_eight_slots_to_itself(rt: HostRuntime) -> Result<(), Fail> {
     Ok(())
 }
 
-// One thread makes the steps of both sessions.
-#[test]
-fn two_sessions_open_meet_part_and_close(rt: HostRuntime) -> Result<(), Fail> {
-    let alloc = rt.alloc();
-    let slots = in_slots(alloc, empty_parts(alloc)?)?;
-    let Ok((table, mut opener)) = open(alloc, 2, slots) else {
-        return Err("out of memory".into());
-    };
-    let mut first = opener.session(&table.shared).ok_or("no first session")?;
-    let Some(second) = opener.session(&table.shared) else {
-        opener.close(first);
-        return Err("no second session".into());
-    };
-    let second = first.meet(second);
-    opener.close(second);
-    opener.close(first);
-    Ok(())
+/// Sixteen empty partitions, each in its slot.
+fn empty_slots(alloc: Global) -> Result<Vec<Option<PlainPart>>, Fail>
+    ensures new { let T = ⟦<PlainPart as PartTable>⟧ in IfOk result (λ slots. AreNew T.content T.begun slots.items) }
+{
+    Ok(in_slots(alloc, empty_parts(alloc)?)?)
+}
+
+/// A board for tests, of a table for two sessions.
+fn one_thread(alloc: Global) -> Result<OneThread<PlainPart>, Fail>
+    ensures blank { let B = ⟦<OneThread<PlainPart> as Board<PlainPart>>⟧ in
+        IfOk result (λ board. B.view board ≡ blank_account) }
+    ensures stack { let B = ⟦<OneThread<PlainPart> as Board<PlainPart>>⟧ in
+        IfOk result (λ board. B.stack board ≡ []) }
+    ensures number { let B = ⟦<OneThread<PlainPart> as Board<PlainPart>>⟧ in
+        IfOk result (λ board. (B.seat board).number ≡ 0) }
+    ensures limit { let B = ⟦<OneThread<PlainPart> as Board<PlainPart>>⟧ in
+        IfOk result (λ board. (B.seat board).limit ≡ 2) }
+{
+    match OneThread::new(alloc, 2, empty_slots(alloc)?) {
+        Ok(board) => Ok(board),
+        Err(_) => Err("out of memory".into()),
+    }
 }

@@ -1,15 +1,13 @@
 //! Steps on boards, by one thread and by two.
 
 ghost use Rattle.std.specs.Prelude.{◌≡◌, ◌<◌, []};
-ghost use Rattle.shared_rule.specs.History.{first_account};
-ghost use Rattle.shared_rule.specs.Boards.{parts_in_hand};
+ghost use Rattle.shared_rule.specs.History.{blank_account};
 ghost use Rattle.shared_rule.specs.Seats.{MayCloseBy};
 
-use lock_table::{Move, PartTable, empty_parts};
+use super::{empty_slots, one_thread};
+use lock_table::{Move, PartTable};
 use shared_rule::board::Board;
-use shared_rule::one_thread::OneThread;
-use shared_rule::seat_board::SeatBoard;
-use shared_rule::table::{in_slots, open};
+use shared_rule::table::open;
 use std::process::Abort;
 use std::sync::Wait;
 use std::test::Fail;
@@ -29,64 +27,61 @@ fn keep_once<T: PartTable, B: Board<T>, R: Wait>(rt: &R, board: &mut B, part: u8
     board.put_part(part, &Move::Keep, content);
 }
 
-// Does so over and over, with a board of the shared table.
-fn keep_often<'a, T: PartTable, R: Wait>(rt: &R, mut board: SeatBoard<'a, T>) -> SeatBoard<'a, T>
-    requires idle { MayCloseBy (⟦<SeatBoard<'a, T> as Board<T>>⟧.view board) }
-    requires stack { ⟦<SeatBoard<'a, T> as Board<T>>⟧.stack board ≡ [] }
-    ensures idle { MayCloseBy (⟦<SeatBoard<'a, T> as Board<T>>⟧.view result) }
-    ensures stack { ⟦<SeatBoard<'a, T> as Board<T>>⟧.stack result ≡ [] }
-    ensures seat { ⟦<SeatBoard<'a, T> as Board<T>>⟧.seat result ≡ ⟦<SeatBoard<'a, T> as Board<T>>⟧.seat board.entry }
+// Does so over and over.
+fn keep_often<T: PartTable + Drop, B: Board<T> + Drop, R: Wait>(rt: &R, mut board: B) -> B
+    requires idle { MayCloseBy (B.view board) }
+    requires stack { B.stack board ≡ [] }
+    ensures idle { MayCloseBy (B.view result) }
+    ensures stack { B.stack result ≡ [] }
+    ensures seat { B.seat result ≡ B.seat board }
 {
-    for _ in 0..ROUNDS {
+    'rounds: for _ in 0..ROUNDS {
         keep_once(rt, &mut board, 3);
     }
     board
 }
 
 // Each in a thread of its own.
-fn in_two_threads<'a, T: PartTable + Send, R: Threads + Wait + Sync>(
+fn in_two_threads<T: PartTable + Drop + Send, B: Board<T> + Drop + Send, R: Threads + Wait + Sync>(
     rt: &R,
-    first: SeatBoard<'a, T>,
-    second: SeatBoard<'a, T>,
-) -> (SeatBoard<'a, T>, SeatBoard<'a, T>)
-    requires idle { MayCloseBy (⟦<SeatBoard<'a, T> as Board<T>>⟧.view first) }
-    requires stack { ⟦<SeatBoard<'a, T> as Board<T>>⟧.stack first ≡ [] }
-    requires its_idle { MayCloseBy (⟦<SeatBoard<'a, T> as Board<T>>⟧.view second) }
-    requires its_stack { ⟦<SeatBoard<'a, T> as Board<T>>⟧.stack second ≡ [] }
-    ensures idle { MayCloseBy (⟦<SeatBoard<'a, T> as Board<T>>⟧.view result.0) }
-    ensures stack { ⟦<SeatBoard<'a, T> as Board<T>>⟧.stack result.0 ≡ [] }
-    ensures seat { ⟦<SeatBoard<'a, T> as Board<T>>⟧.seat result.0 ≡ ⟦<SeatBoard<'a, T> as Board<T>>⟧.seat first.entry }
-    ensures its_idle { MayCloseBy (⟦<SeatBoard<'a, T> as Board<T>>⟧.view result.1) }
-    ensures its_stack { ⟦<SeatBoard<'a, T> as Board<T>>⟧.stack result.1 ≡ [] }
-    ensures its_seat { ⟦<SeatBoard<'a, T> as Board<T>>⟧.seat result.1
-        ≡ ⟦<SeatBoard<'a, T> as Board<T>>⟧.seat second.entry }
+    first: B,
+    second: B,
+) -> (B, B)
+    requires idle { MayCloseBy (B.view first) }
+    requires stack { B.stack first ≡ [] }
+    requires its_idle { MayCloseBy (B.view second) }
+    requires its_stack { B.stack second ≡ [] }
+    ensures idle { MayCloseBy (B.view result.0) }
+    ensures stack { B.stack result.0 ≡ [] }
+    ensures seat { B.seat result.0 ≡ B.seat first }
+    ensures its_idle { MayCloseBy (B.view result.1) }
+    ensures its_stack { B.stack result.1 ≡ [] }
+    ensures its_seat { B.seat result.1 ≡ B.seat second }
 {
     join(
         rt,
-        move || -> SeatBoard<T>
-            requires idle { MayCloseBy (first_account T.content first.place.me.0.sessions) }
-            requires stack { parts_in_hand first.place.me.1 ≡ [] }
-            ensures idle { MayCloseBy (first_account T.content result.place.me.0.sessions) }
-            ensures stack { parts_in_hand result.place.me.1 ≡ [] }
-            ensures seat { (result.number ≡ first.entry.number) × (result.sessions ≡ first.entry.sessions)
-                × (result.table.now.table_id ≡ first.entry.table.now.table_id) }
+        move || -> B
+            requires idle { MayCloseBy (B.view first) }
+            requires stack { B.stack first ≡ [] }
+            ensures idle { MayCloseBy (B.view result) }
+            ensures stack { B.stack result ≡ [] }
+            ensures seat { B.seat result ≡ B.seat first }
         { keep_often(rt, first) },
-        move || -> SeatBoard<T>
-            requires idle { MayCloseBy (first_account T.content second.place.me.0.sessions) }
-            requires stack { parts_in_hand second.place.me.1 ≡ [] }
-            ensures idle { MayCloseBy (first_account T.content result.place.me.0.sessions) }
-            ensures stack { parts_in_hand result.place.me.1 ≡ [] }
-            ensures seat { (result.number ≡ second.entry.number) × (result.sessions ≡ second.entry.sessions)
-                × (result.table.now.table_id ≡ second.entry.table.now.table_id) }
+        move || -> B
+            requires idle { MayCloseBy (B.view second) }
+            requires stack { B.stack second ≡ [] }
+            ensures idle { MayCloseBy (B.view result) }
+            ensures stack { B.stack result ≡ [] }
+            ensures seat { B.seat result ≡ B.seat second }
         { keep_often(rt, second) },
     )
 }
 
+// Two sessions open, make their steps side by side, meet, part and close.
 #[test]
 fn two_threads_take_one_partition(rt: HostRuntime) -> Result<(), Fail> {
     let alloc = rt.alloc();
-    let slots = in_slots(alloc, empty_parts(alloc)?)?;
-    let Ok((table, mut opener)) = open(alloc, 2, slots) else {
+    let Ok((table, mut opener)) = open(alloc, 2, empty_slots(alloc)?) else {
         return Err("out of memory".into());
     };
     let first = opener.session(&table.shared).ok_or("no first session")?;
@@ -96,29 +91,25 @@ fn two_threads_take_one_partition(rt: HostRuntime) -> Result<(), Fail> {
     };
     let (mut first, second) = in_two_threads(&rt, first, second);
     let second = first.meet(second);
-    opener.close(first);
     opener.close(second);
+    opener.close(first);
     Ok(())
 }
 
-// Lets a board go that has nothing any more.
-fn let_go<T: PartTable + Drop>(board: OneThread<T>)
-    requires idle { MayCloseBy (⟦<OneThread<T> as Board<T>>⟧.view board) }
-    requires stack { ⟦<OneThread<T> as Board<T>>⟧.stack board ≡ [] }
+// Keeps it twice, on the board of a session that has nothing. What the wait word shows then.
+fn keep_twice<T: PartTable, B: Board<T>, R: Wait>(rt: &R, board: &mut B) -> u64
+    requires blank { B.view board.old ≡ blank_account }
+    ensures idle { MayCloseBy (B.view board.new) }
 {
-    drop(board);
+    keep_once(rt, board, 3);
+    keep_once(rt, board, 3);
+    board.load_wait()
 }
 
 #[test]
 fn a_partition_is_taken_and_put_on_a_board_for_tests(rt: HostRuntime) -> Result<(), Fail> {
-    let alloc = rt.alloc();
-    let slots = in_slots(alloc, empty_parts(alloc)?)?;
-    let Ok(mut board) = OneThread::new(alloc, 2, slots) else {
-        return Err("out of memory".into());
-    };
-    keep_once(&rt, &mut board, 3);
-    keep_once(&rt, &mut board, 3);
-    assert_eq!(rt; board.load_wait(), 0);
-    let_go(board);
+    let mut board = one_thread(rt.alloc())?;
+    let shown = keep_twice(&rt, &mut board);
+    assert_eq!(rt; shown, 0);
     Ok(())
 }

@@ -3,19 +3,17 @@
 ghost use Rattle.std.specs.Prelude.{◌≡◌, ◌<◌};
 ghost use Rattle.shared_rule.specs.History.{blank_account};
 
-use lock_table::{PartTable, empty_parts};
-use lw_word::SlotWord;
+use super::one_thread;
+use lock_table::PartTable;
 use modes_core::{Mode, Tag};
 use shared_rule::board::Board;
-use shared_rule::one_thread::OneThread;
-use shared_rule::table::in_slots;
 use std::process::Abort;
 use std::sync::Wait;
 use std::test::Fail;
 
-// What the first slot shows once a session that has nothing has set two modes of a relation there, one after the other;
+// The number that the first slot shows once a session that has nothing has set two modes of a relation there, one after the other;
 // `None` where somebody has counted a strong lock of the relation's index.
-fn set_twice<T: PartTable, B: Board<T>, R: Wait>(rt: &R, board: &mut B) -> Option<SlotWord>
+fn set_twice<T: PartTable, B: Board<T>, R: Wait>(rt: &R, board: &mut B) -> Option<u64>
     requires blank { B.view board.old ≡ blank_account }
     requires exists { (B.seat board.old).number < (B.seat board.old).limit }
 {
@@ -34,7 +32,7 @@ fn set_twice<T: PartTable, B: Board<T>, R: Wait>(rt: &R, board: &mut B) -> Optio
     board.set_slot(0, empty, &tag, Mode::AccessShare);
     let shown = board.load_slot(own, 0);
     board.set_slot(0, shown, &tag, Mode::RowExclusive);
-    Some(board.load_slot(own, 0))
+    Some(board.load_slot(own, 0).number())
 }
 
 // What the counter of a relation shows once a session that has nothing has counted a strong lock on it.
@@ -52,34 +50,23 @@ fn count_once<T: PartTable, B: Board<T>>(board: &mut B) -> u64
 // 16384 + 2^32 * (1 + 4): the bits of AccessShareLock and RowExclusiveLock are the first and the third.
 #[test]
 fn two_modes_of_a_relation_stand_in_one_slot(rt: HostRuntime) -> Result<(), Fail> {
-    let alloc = rt.alloc();
-    let slots = in_slots(alloc, empty_parts(alloc)?)?;
-    let Ok(mut board) = OneThread::new(alloc, 2, slots) else {
-        return Err("out of memory".into());
-    };
-    let shown = set_twice(&rt, &mut board).ok_or("somebody has counted a strong lock")?;
-    assert_eq!(rt; shown.number(), 21_474_852_864);
+    let mut board = one_thread(rt.alloc())?;
+    let shown = set_twice(&rt, &mut board);
+    assert_eq!(rt; shown, Some(21_474_852_864));
     Ok(())
 }
 
 #[test]
 fn a_counter_shows_what_is_counted(rt: HostRuntime) -> Result<(), Fail> {
-    let alloc = rt.alloc();
-    let slots = in_slots(alloc, empty_parts(alloc)?)?;
-    let Ok(mut board) = OneThread::new(alloc, 2, slots) else {
-        return Err("out of memory".into());
-    };
-    assert_eq!(rt; count_once(&mut board), 1);
+    let mut board = one_thread(rt.alloc())?;
+    let shown = count_once(&mut board);
+    assert_eq!(rt; shown, 1);
     Ok(())
 }
 
 #[test]
 fn a_lock_that_is_held_is_busy(rt: HostRuntime) -> Result<(), Fail> {
-    let alloc = rt.alloc();
-    let slots = in_slots(alloc, empty_parts(alloc)?)?;
-    let Ok(mut board) = OneThread::new(alloc, 2, slots) else {
-        return Err("out of memory".into());
-    };
+    let mut board = one_thread(rt.alloc())?;
     assert!(rt; board.try_take_fast().is_ok());
     assert!(rt; board.try_take_fast().is_err());
     Ok(())
