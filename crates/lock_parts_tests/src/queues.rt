@@ -104,8 +104,8 @@ const A_WAITER_THAT_LEAVES_LETS_OTHERS_GO: [Step; 5] = [
     Step::Leaves(2, true, &[]),
 ];
 
-/// What a request of the session is answered, at the second attempt where memory was wanting: all is as before then.
-fn asked<P: PartTable>(
+/// What a request of the session is answered, which may be made.
+fn asked_once<P: PartTable>(
     rt: &impl Abort,
     part: &mut P,
     session: SessionId,
@@ -116,12 +116,24 @@ fn asked<P: PartTable>(
     ensures { P.begun part.new ≡ None }
 {
     may_ask(rt, part, session, &OBJECT, mode);
-    let answer = decide(part, session, &OBJECT, mode, kind);
-    if answer != Err(Refusal::NoMemory) {
-        return answer;
-    }
-    may_ask(rt, part, session, &OBJECT, mode);
     decide(part, session, &OBJECT, mode, kind)
+}
+
+/// What it is answered at the second attempt where memory was wanting: all is as before then.
+fn asked<P: PartTable>(
+    rt: &impl Abort,
+    part: &mut P,
+    session: SessionId,
+    mode: Mode,
+    kind: Kind,
+) -> Result<Decision, Refusal>
+    requires { P.begun part.old ≡ None }
+    ensures { P.begun part.new ≡ None }
+{
+    match asked_once(rt, part, session, mode, kind) {
+        Err(Refusal::NoMemory) => asked_once(rt, part, session, mode, kind),
+        answer => answer,
+    }
 }
 
 /// The answer that is meant.

@@ -118,8 +118,8 @@ const A_REQUEST_IS_TOLD_WHERE_IT_STANDS: [Step; 10] = [
     Step::Asks(1, ANOTHER_OBJECT, Exclusive, Told::Deadlock(0)),
 ];
 
-/// Begins a request, at the second attempt where memory was wanting: all is as before then.
-fn begins<P: PartTable>(
+/// Begins a request that may be made.
+fn begins_once<P: PartTable>(
     rt: &impl Abort,
     part: &mut P,
     session: SessionId,
@@ -133,11 +133,27 @@ fn begins<P: PartTable>(
     ensures no_wait { waits_there ((P.content part.new).waits tag.now) session ≡ false }
 {
     may_ask(rt, part, session, tag, mode);
-    if part.begin(session, tag, mode).is_ok() {
-        return Ok(());
-    }
-    may_ask(rt, part, session, tag, mode);
     part.begin(session, tag, mode)
+}
+
+/// Begins it at the second attempt where memory was wanting: all is as before then.
+fn begins<P: PartTable>(
+    rt: &impl Abort,
+    part: &mut P,
+    session: SessionId,
+    tag: &Tag,
+    mode: Mode,
+) -> Result<(), NoMemory>
+    requires none_begun { P.begun part.old ≡ None }
+    ensures begun { OnOk result
+        (P.begun part.new ≡ Some (record { session = session; tag = tag.now; mode = mode })) }
+    ensures none_begun { OnErr result (P.begun part.new ≡ None) }
+    ensures no_wait { waits_there ((P.content part.new).waits tag.now) session ≡ false }
+{
+    match begins_once(rt, part, session, tag, mode) {
+        Ok(()) => Ok(()),
+        Err(_) => begins_once(rt, part, session, tag, mode),
+    }
 }
 
 /// The session comes to hold the object.
