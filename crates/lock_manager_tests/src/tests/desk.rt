@@ -1,6 +1,6 @@
 //! Desks, which give the sessions of a manager out and take them back.
 
-ghost use Rattle.std.specs.Prelude.{◌≡◌, ◌+◌, ◌-◌, IfOk, OnOk, OnErr, vec_len};
+ghost use Rattle.std.specs.Prelude.{◌≡◌, ◌+◌, ◌-◌, ◌++◌, ◌∷◌, [], IfOk, OnOk, OnErr, vec_len};
 ghost use Rattle.lock_manager.specs.Managers.{IsOpenerOf};
 ghost use Rattle.lock_manager_tests.specs.Crews.{AreOf, SeatsAre};
 
@@ -139,6 +139,13 @@ pub fn open<T: PartTable, B: Board<T>, D: Desk<OwnSession<T, B>>, R: Abort>(
     }
 }
 
+/// Puts it behind the others.
+pub fn append<S: Drop, R: Abort>(rt: &R, list: &mut Vec<S>, session: S)
+    ensures { list.new.items ≡ list.old.items ++ session ∷ [] }
+{
+    assert!(rt; list.push(session).is_ok());
+}
+
 /// So many sessions, in the order of their numbers.
 pub fn open_many<T: PartTable + Drop, B: Board<T> + Drop, D: Desk<OwnSession<T, B>>, R: Abort>(
     rt: &R,
@@ -154,7 +161,7 @@ pub fn open_many<T: PartTable + Drop, B: Board<T> + Drop, D: Desk<OwnSession<T, 
     let mut sessions = Vec::new(alloc);
     'sessions: for _ in 0..number {
         let session = open(rt, desk);
-        assert!(rt; sessions.push(session).is_ok());
+        append(rt, &mut sessions, session);
     }
     sessions
 }
