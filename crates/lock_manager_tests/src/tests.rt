@@ -81,6 +81,19 @@ fn make_at_last(alloc: Global, config: Config) -> Result<(Manager, Opener), Refu
     }
 }
 
+/// Tells it at the desk of a manager.
+fn tell_at<R: Abort + Threads + Wait + Sync>(
+    rt: &R,
+    alloc: Global,
+    desk: &mut ManagerDesk<'_>,
+    story: Story<'_>,
+)
+    ensures manager { desk.new.manager.now ≡ desk.old.manager.now }
+    ensures live { desk.new.opener.live ≡ desk.old.opener.live }
+{
+    tell(rt, alloc, desk, story);
+}
+
 /// A story from the manager's beginning to its end.
 fn run<R: Abort + Threads + Wait + Sync>(
     rt: &R,
@@ -90,7 +103,7 @@ fn run<R: Abort + Threads + Wait + Sync>(
 ) -> Result<(), Fail> {
     let (manager, opener) = make_at_last(alloc, config)?;
     let mut desk = ManagerDesk::new(&manager, opener);
-    tell(rt, alloc, &mut desk, story);
+    tell_at(rt, alloc, &mut desk, story);
     let opener = desk.into_opener();
     expect_nothing(rt, manager.finish(opener));
     Ok(())

@@ -14,7 +14,10 @@ pub fn expect_answer<R: Abort>(rt: &R, answer: Answer, expected: Answer) {
 
 /// What was done was to be a request that is answered this.
 pub fn expect_acted<R: Abort>(rt: &R, answer: Option<Answer>, expected: Answer) {
-    assert_eq!(rt; answer, Some(expected));
+    match answer {
+        Some(answer) => expect_answer(rt, answer, expected),
+        None => panic!(rt; "no request"),
+    }
 }
 
 /// A look for waiters was to see this.
@@ -23,20 +26,24 @@ pub fn expect_seen<R: Abort>(
     answer: Result<bool, Refusal>,
     expected: Result<bool, Refusal>,
 ) {
-    assert_eq!(rt; answer, expected);
+    assert!(rt; answer == expected);
+}
+
+/// So it was to be with this mode.
+fn expect_with<R: Abort>(rt: &R, is_right: bool, tag: Tag, mode: Mode, what: &str) {
+    assert!(rt; is_right, "{mode} of {tag} is {what}");
 }
 
 /// A request was to be granted.
 pub fn expect_granted<R: Abort>(rt: &R, answer: Answer, tag: Tag, mode: Mode) {
-    assert!(rt; answer == Ok(Acquired::Granted), "{mode} of {tag} is taken");
+    let is_granted = answer == Ok(Acquired::Granted);
+    expect_with(rt, is_granted, tag, mode, "taken");
 }
 
 /// A release was to be the last one of its mode.
 pub fn expect_released<R: Abort>(rt: &R, answer: Result<Unlocked, Refusal>, tag: Tag, mode: Mode) {
-    assert!(rt;
-        answer == Ok(Unlocked::Released),
-        "{mode} of {tag} is given back"
-    );
+    let is_released = answer == Ok(Unlocked::Released);
+    expect_with(rt, is_released, tag, mode, "given back");
 }
 
 /// A listing was to have so many rows of slots, and so many of the table.

@@ -17,10 +17,11 @@ use std::thread::Threads;
 
 /// Whether the slots were found busy. Else the mode was granted, or a strong one counted.
 fn is_busy<R: Abort>(rt: &R, answer: Answer) -> bool {
-    let is_busy = answer == Err(Refusal::Busy);
-    let is_known = answer == Ok(Acquired::Granted) || answer == Err(Refusal::StrongCounted);
-    assert!(rt; is_busy || is_known);
-    is_busy
+    match answer {
+        Err(Refusal::Busy) => true,
+        Ok(Acquired::Granted) | Err(Refusal::StrongCounted) => false,
+        _ => panic!(rt; "answered otherwise"),
+    }
 }
 
 /// Tries a weak mode by a slot, and gives it back. Whether the lock of the slots was found taken, which is not waited for.

@@ -232,11 +232,10 @@ fn take_beside<T: PartTable, B: Board<T>, R: Abort + Wait>(
     session: &mut OwnSession<T, B>,
     transfer: u32,
 )
-    requires few { transfer < 6 }
     ensures seat { B.seat session.new.board ≡ B.seat session.old.board }
 {
     for place in 0..BESIDE {
-        let tag = Tag::relation(5, 32_768 + 16 * (BESIDE * transfer + place));
+        let tag = Tag::relation(5, 32_768 | transfer << 6 | place << 4);
         assert_eq!(rt; tag.partition(), TABLE.partition());
         take_at_last(rt, session, tag, Mode::ShareUpdateExclusive);
     }

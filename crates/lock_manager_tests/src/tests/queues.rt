@@ -124,6 +124,37 @@ fn wake_all<
     (holder, woken)
 }
 
+/// A session that waits for the table.
+fn open_queued<T: PartTable + Drop, B: Board<T> + Drop, D: Desk<OwnSession<T, B>>, R: Abort + Wait>(
+    rt: &R,
+    desk: &mut D,
+) -> OwnWaiting<T, B>
+    requires seats { SeatsAre B.seat D.seat }
+    ensures manager { D.manager desk.new ≡ D.manager desk.old }
+    ensures own { (B.seat result.board).table ≡ (D.manager desk.old).table }
+    ensures live { D.live desk.new ≡ D.live desk.old + 1 }
+{
+    queue(rt, open(rt, desk), Mode::AccessExclusive)
+}
+
+/// One more stands in the queue, behind the others.
+fn queue_behind<
+    T: PartTable + Drop,
+    B: Board<T> + Drop,
+    D: Desk<OwnSession<T, B>>,
+    R: Abort + Wait,
+>(rt: &R, desk: &mut D, queued: &mut Vec<OwnWaiting<T, B>>)
+    requires seats { SeatsAre B.seat D.seat }
+    requires own { WaitAt B.seat (D.manager desk.old) queued.old.items }
+    ensures manager { D.manager desk.new ≡ D.manager desk.old }
+    ensures own { WaitAt B.seat (D.manager desk.old) queued.new.items }
+    ensures live { D.live desk.new ≡ D.live desk.old + 1 }
+    ensures more { vec_len queued.new ≡ vec_len queued.old + 1 }
+{
+    let waiting = open_queued(rt, desk);
+    append(rt, queued, waiting);
+}
+
 /// Sessions that wait for the table, the first of them first.
 fn queue_many<T: PartTable + Drop, B: Board<T> + Drop, D: Desk<OwnSession<T, B>>, R: Abort + Wait>(
     rt: &R,
@@ -137,9 +168,7 @@ fn queue_many<T: PartTable + Drop, B: Board<T> + Drop, D: Desk<OwnSession<T, B>>
 {
     let mut queued = Vec::new(alloc);
     'queued: for _ in 0..MANY {
-        let session = open(rt, desk);
-        let waiting = queue(rt, session, Mode::AccessExclusive);
-        append(rt, &mut queued, waiting);
+        queue_behind(rt, desk, &mut queued);
     }
     queued
 }

@@ -35,10 +35,11 @@ fn expect_in_the_way<R: Abort>(rt: &R, answer: Option<Answer>, session: SessionI
 
 /// Whether a weak mode was granted. Else a strong one was counted, or the slots were busy.
 fn is_granted<R: Abort>(rt: &R, answer: Option<Answer>) -> bool {
-    let is_granted = answer == Some(Ok(Acquired::Granted));
-    let is_counted = answer == Some(Err(Refusal::StrongCounted));
-    assert!(rt; is_granted || is_counted || answer == Some(Err(Refusal::Busy)));
-    is_granted
+    match answer {
+        Some(Ok(Acquired::Granted)) => true,
+        Some(Err(Refusal::StrongCounted | Refusal::Busy)) => false,
+        _ => panic!(rt; "answered otherwise"),
+    }
 }
 
 /// One of the two is granted and the other one refused, since only what is granted stands in another's way.
@@ -114,6 +115,20 @@ fn try_strong_over_weak<
     pair
 }
 
+/// Gives a mode back that was granted.
+fn give_back_if<T: PartTable + Drop, B: Board<T> + Drop, R: Abort + Wait>(
+    rt: &R,
+    session: &mut OwnSession<T, B>,
+    mode: Mode,
+    was_granted: bool,
+)
+    ensures seat { B.seat session.new.board ≡ B.seat session.old.board }
+{
+    if was_granted {
+        give_back(rt, session, mode);
+    }
+}
+
 /// Cancels the wait. Where it was granted the mode is given back.
 fn cancel<T: PartTable + Drop, B: Board<T> + Drop, R: Abort + Wait>(
     rt: &R,
@@ -125,9 +140,7 @@ fn cancel<T: PartTable + Drop, B: Board<T> + Drop, R: Abort + Wait>(
 {
     begin(rt, arrived);
     let (mut session, was_granted) = waits::cancel(rt, waiting);
-    if was_granted {
-        give_back(rt, &mut session, mode);
-    }
+    give_back_if(rt, &mut session, mode, was_granted);
     session
 }
 
@@ -143,6 +156,11 @@ fn release<T: PartTable + Drop, B: Board<T> + Drop, R: Abort + Wait>(
     begin(rt, arrived);
     give_back(rt, &mut session, mode);
     session
+}
+
+/// The session hasn't the table.
+fn expect_none<T: PartTable, B: Board<T>, R: Abort>(rt: &R, session: &OwnSession<T, B>) {
+    assert_eq!(rt; session.held(TABLE).mask(), 0);
 }
 
 /// The second one waits for a mode that the first one's is in the way of.
@@ -163,8 +181,8 @@ fn cancel_as_released<
         || cancel(rt, &arrived, waiting, awaited),
         || release(rt, &arrived, first, held),
     );
-    assert_eq!(rt; first.held(TABLE).mask(), 0);
-    assert_eq!(rt; second.held(TABLE).mask(), 0);
+    expect_none(rt, &first);
+    expect_none(rt, &second);
     Pair { first, second }
 }
 

@@ -47,13 +47,11 @@ impl Plan {
         }
     }
 
-    fn tag(self, object: u32) -> Tag
-        requires { object < 4 }
-    {
+    fn tag(self, object: u32) -> Tag {
         if self.relations {
-            Tag::relation(5, 16_384 + object)
+            Tag::relation(5, 16_384 | object)
         } else {
-            Tag::object(5, 1_259, 16_384 + object, 0)
+            Tag::object(5, 1_259, 16_384 | object, 0)
         }
     }
 }

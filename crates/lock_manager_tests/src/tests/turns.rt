@@ -58,13 +58,13 @@ pub enum Who {
 
 /// A refusal, which may name a hold in the way.
 fn refused(refusal: Refusal) -> Answer {
-    match refusal {
-        Refusal::Conflict {
-            session,
-            mode,
-            how: How::Held,
-        } => Answer::Conflict(session.number(), mode),
-        _ => Answer::Refused(refusal.number()),
+    let Refusal::Conflict { session, mode, how } = refusal else {
+        return Answer::Refused(refusal.number());
+    };
+    if how == How::Held {
+        Answer::Conflict(session.number(), mode)
+    } else {
+        Answer::Refused(refusal.number())
     }
 }
 

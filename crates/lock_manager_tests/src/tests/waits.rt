@@ -57,10 +57,10 @@ pub fn queue<T: PartTable + Drop, B: Board<T> + Drop, R: Abort + Wait>(
 ) -> OwnWaiting<T, B>
     ensures seat { B.seat result.board ≡ B.seat session.board }
 {
-    let Started::Queued(waiting) = session.start(rt, TABLE, mode, OWNER) else {
-        panic!(rt; "{mode} is not queued")
-    };
-    waiting
+    match session.start(rt, TABLE, mode, OWNER) {
+        Started::Queued(waiting) => waiting,
+        _ => panic!(rt; "{mode} is not queued"),
+    }
 }
 
 /// Takes a mode on the table, or is refused it, with no wait for it, and is answered this.
@@ -147,10 +147,10 @@ fn find_granted<T: PartTable + Drop, B: Board<T> + Drop, R: Abort>(
 ) -> OwnSession<T, B>
     ensures seat { B.seat result.board ≡ B.seat waiting.board }
 {
-    let Polled::Granted(session) = waiting.poll() else {
-        panic!(rt; "not granted")
-    };
-    session
+    match waiting.poll() {
+        Polled::Granted(session) => session,
+        _ => panic!(rt; "not granted"),
+    }
 }
 
 /// Finds that the wait goes on, and whether another session asked to cancel it.
