@@ -4,7 +4,10 @@ ghost use Rattle.std.specs.Prelude.{◌≡◌, IfOk};
 ghost use Rattle.lock_manager.specs.Managers.{IsNew};
 ghost use Rattle.lock_manager_tests.specs.Crews.{SeatsAre};
 
+mod answers;
+mod busy;
 mod conflicts;
+mod deeds;
 mod desk;
 mod listings;
 mod memory;
@@ -30,6 +33,7 @@ use std::sync::Wait;
 use std::test::Fail;
 use std::thread::Threads;
 use threads::Plan;
+use turn_lists::LISTS;
 
 /// What the sessions of a manager do.
 #[derive(Clone, Copy)]
@@ -77,6 +81,19 @@ fn make_at_last(alloc: Global, config: Config) -> Result<(Manager, Opener), Refu
     }
 }
 
+/// Tells it at the desk of a manager.
+fn tell_at<R: Abort + Threads + Wait + Sync>(
+    rt: &R,
+    alloc: Global,
+    desk: &mut ManagerDesk<'_>,
+    story: Story<'_>,
+)
+    ensures manager { desk.new.manager.now ≡ desk.old.manager.now }
+    ensures live { desk.new.opener.live ≡ desk.old.opener.live }
+{
+    tell(rt, alloc, desk, story);
+}
+
 /// A story from the manager's beginning to its end.
 fn run<R: Abort + Threads + Wait + Sync>(
     rt: &R,
@@ -86,43 +103,60 @@ fn run<R: Abort + Threads + Wait + Sync>(
 ) -> Result<(), Fail> {
     let (manager, opener) = make_at_last(alloc, config)?;
     let mut desk = ManagerDesk::new(&manager, opener);
-    tell(rt, alloc, &mut desk, story);
+    tell_at(rt, alloc, &mut desk, story);
     let opener = desk.into_opener();
-    let Final {
-        fast,
-        table,
-        strong,
-    } = manager.finish(opener);
-    assert!(rt; (fast, table, strong) == (0, 0, 0));
+    expect_nothing(rt, manager.finish(opener));
     Ok(())
+}
+
+/// Nothing stood at the end.
+fn expect_nothing<R: Abort>(rt: &R, stood: Final) {
+    let nothing = Final {
+        fast: 0,
+        table: 0,
+        strong: 0,
+    };
+    assert_eq!(rt; stood, nothing);
+}
+
+/// How many sessions, with how many entries each, and whether a manager has a range for both.
+static CONFIGURATIONS: [(u32, u32, bool); 9] = [
+    (0, 8, false),
+    (65, 8, false),
+    (8, 0, false),
+    (8, 65_537, false),
+    (0, 0, false),
+    (1, 8, true),
+    (64, 8, true),
+    (8, 1, true),
+    (8, 65_536, true),
+];
+
+/// A manager was refused if a number of its configuration is out of its range, and else made.
+fn expect_made<R: Abort>(rt: &R, refusal: Option<Refusal>, config: Config, is_in_range: bool) {
+    let expected = if is_in_range {
+        None
+    } else {
+        Some(Refusal::BadConfig)
+    };
+    let Config {
+        sessions,
+        max_local,
+    } = config;
+    assert_eq!(rt; refusal, expected, "{sessions} and {max_local}");
 }
 
 #[test]
 fn a_manager_is_made_within_the_ranges_of_its_configuration_alone(
     rt: HostRuntime,
 ) -> Result<(), Fail> {
-    for (sessions, max_local, is_in_range) in [
-        (0, 8, false),
-        (65, 8, false),
-        (8, 0, false),
-        (8, 65_537, false),
-        (0, 0, false),
-        (1, 8, true),
-        (64, 8, true),
-        (8, 1, true),
-        (8, 65_536, true),
-    ] {
+    for (sessions, max_local, is_in_range) in &CONFIGURATIONS {
         let config = Config {
-            sessions,
-            max_local,
+            sessions: *sessions,
+            max_local: *max_local,
         };
         let refusal = Manager::new(rt.alloc(), config).err();
-        if is_in_range {
-            assert_eq!(rt; refusal, None, "{sessions} and {max_local}");
-        } else {
-            let bad = Some(Refusal::BadConfig);
-            assert_eq!(rt; refusal, bad, "{sessions} and {max_local}");
-        }
+        expect_made(&rt, refusal, config, *is_in_range);
     }
     Ok(())
 }
@@ -137,34 +171,13 @@ fn two(max_local: u32) -> Config {
 
 #[test]
 fn turns_are_answered_as_the_lists_say(rt: HostRuntime) -> Result<(), Fail> {
-    let all_numbers = Config {
-        sessions: 64,
-        max_local: 8,
-    };
-    for (name, config, turns, rounds) in [
-        ("own holds", two(8), turn_lists::OWN_HOLDS.as_slice(), 1),
-        ("ends", two(8), turn_lists::ENDS.as_slice(), 1),
-        ("last counts", two(8), turn_lists::LAST_COUNTS.as_slice(), 1),
-        ("entries", two(2), turn_lists::ENTRIES.as_slice(), 1),
-        ("counts", two(1), turn_lists::COUNTS.as_slice(), 1),
-        ("strong", all_numbers, turn_lists::STRONG.as_slice(), 2_000),
-        ("by slot", two(8), turn_lists::BY_SLOT.as_slice(), 1),
-        ("slots", two(20), turn_lists::SLOTS.as_slice(), 1),
-        (
-            "entries by slot",
-            two(2),
-            turn_lists::ENTRIES_BY_SLOT.as_slice(),
-            1,
-        ),
-        (
-            "counts by slot",
-            two(1),
-            turn_lists::COUNTS_BY_SLOT.as_slice(),
-            1,
-        ),
-    ] {
-        println!(rt; "{name}")?;
-        let story = Story::OfTwo(Scene::Turns(turns, rounds));
+    for list in &LISTS {
+        println!(rt; "{}", list.name)?;
+        let config = Config {
+            sessions: list.sessions,
+            max_local: list.max_local,
+        };
+        let story = Story::OfTwo(Scene::Turns(list.turns, list.rounds));
         run(&rt, rt.alloc(), config, story)?;
     }
     Ok(())

@@ -2,8 +2,9 @@
 
 ghost use Rattle.std.specs.Prelude.{◌≡◌, ◌<◌};
 
+use super::answers::{Answer, expect_granted, expect_released};
 use super::pair::Pair;
-use lock_manager::{Acquired, How, Mode, OwnSession, Owner, Refusal, SessionId, Tag, Unlocked};
+use lock_manager::{Acquired, How, Mode, OwnSession, Owner, Refusal, SessionId, Tag};
 use lock_table::PartTable;
 use shared_rule::board::Board;
 use std::process::Abort;
@@ -11,7 +12,7 @@ use std::sync::Wait;
 
 // PostgreSQL's table of conflicts: a row for each mode that is asked for, in the order of their numbers, and in it a
 // place for each mode that another session has, 1 where the two conflict.
-const CONFLICTS: [[u8; 8]; 8] = [
+static CONFLICTS: [[u8; 8]; 8] = [
     [0, 0, 0, 0, 0, 0, 0, 1],
     [0, 0, 0, 0, 0, 0, 1, 1],
     [0, 0, 0, 0, 1, 1, 1, 1],
@@ -30,24 +31,44 @@ pub fn conflicts(asked: usize, held: usize) -> bool
     CONFLICTS[asked][held] == 1
 }
 
-/// Asks for a mode and gives it back where it is granted. Why not, where it isn't.
-fn refusal_of<T: PartTable, B: Board<T>, R: Abort + Wait>(
+/// What a request is answered for one of two modes while another session has the other one, both given by their places.
+fn expected(asked: usize, session: SessionId, held: usize) -> Answer
+    requires asked { asked < 8 }
+    requires held { held < 8 }
+{
+    if conflicts(asked, held) {
+        let mode = Mode::ALL[held];
+        let how = How::Held;
+        Err(Refusal::Conflict { session, mode, how })
+    } else {
+        Ok(Acquired::Granted)
+    }
+}
+
+/// It was answered so.
+fn expect_beside<R: Abort>(rt: &R, answer: Answer, asked: usize, session: SessionId, held: usize)
+    requires asked { asked < 8 }
+    requires held { held < 8 }
+{
+    let is_right = answer == expected(asked, session, held);
+    assert!(rt; is_right, "{asked} beside {held}");
+}
+
+/// Asks for a mode and gives it back where it is granted.
+fn ask<T: PartTable, B: Board<T>, R: Abort + Wait>(
     rt: &R,
     asker: &mut OwnSession<T, B>,
     tag: Tag,
     mode: Mode,
-) -> Option<Refusal>
+) -> Answer
     ensures seat { B.seat asker.new.board ≡ B.seat asker.old.board }
 {
     let owner = Owner::Transaction;
-    match asker.try_lock(rt, tag, mode, owner) {
-        Ok(answer) => {
-            assert!(rt; answer == Acquired::Granted);
-            assert!(rt; asker.unlock(rt, tag, mode, owner) == Ok(Unlocked::Released));
-            None
-        }
-        Err(refusal) => Some(refusal),
+    let answer = asker.try_lock(rt, tag, mode, owner);
+    if answer.is_ok() {
+        expect_released(rt, asker.unlock(rt, tag, mode, owner), tag, mode);
     }
+    answer
 }
 
 /// Asks for each mode while another session has one, given by its place.
@@ -61,16 +82,9 @@ fn ask_for_each<T: PartTable, B: Board<T>, R: Abort + Wait>(
     requires held { held < 8 }
     ensures seat { B.seat asker.new.board ≡ B.seat asker.old.board }
 {
-    let mode = Mode::ALL[held];
-    let how = How::Held;
     'asked: for asked in 0..8 {
-        let expected = if conflicts(asked, held) {
-            Some(Refusal::Conflict { session, mode, how })
-        } else {
-            None
-        };
-        let refusal = refusal_of(rt, asker, tag, Mode::ALL[asked]);
-        assert!(rt; refusal == expected, "{asked} beside {mode}");
+        let answer = ask(rt, asker, tag, Mode::ALL[asked]);
+        expect_beside(rt, answer, asked, session, held);
     }
 }
 
@@ -86,8 +100,9 @@ pub fn ask_for_each_beside_each<T: PartTable, B: Board<T>, R: Abort + Wait>(
 {
     let session = holder.id();
     'held: for held in 0..8 {
-        let answer = holder.try_lock(rt, tag, Mode::ALL[held], Owner::Transaction);
-        assert!(rt; answer == Ok(Acquired::Granted));
+        let mode = Mode::ALL[held];
+        let answer = holder.try_lock(rt, tag, mode, Owner::Transaction);
+        expect_granted(rt, answer, tag, mode);
         ask_for_each(rt, asker, tag, session, held);
         holder.commit(rt);
     }

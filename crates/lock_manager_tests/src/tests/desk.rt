@@ -1,6 +1,6 @@
 //! Desks, which give the sessions of a manager out and take them back.
 
-ghost use Rattle.std.specs.Prelude.{◌≡◌, ◌+◌, ◌-◌, IfOk, OnOk, OnErr, vec_len};
+ghost use Rattle.std.specs.Prelude.{◌≡◌, ◌+◌, ◌-◌, ◌++◌, ◌∷◌, [], IfOk, OnOk, OnErr, vec_len};
 ghost use Rattle.lock_manager.specs.Managers.{IsOpenerOf};
 ghost use Rattle.lock_manager_tests.specs.Crews.{AreOf, SeatsAre};
 
@@ -139,6 +139,30 @@ pub fn open<T: PartTable, B: Board<T>, D: Desk<OwnSession<T, B>>, R: Abort>(
     }
 }
 
+/// Puts it behind the others.
+pub fn append<S: Drop, R: Abort>(rt: &R, list: &mut Vec<S>, session: S)
+    ensures { list.new.items ≡ list.old.items ++ session ∷ [] }
+{
+    assert!(rt; list.push(session).is_ok());
+}
+
+/// Opens a session, and puts it behind the others.
+fn open_behind<T: PartTable + Drop, B: Board<T> + Drop, D: Desk<OwnSession<T, B>>, R: Abort>(
+    rt: &R,
+    desk: &mut D,
+    sessions: &mut Vec<OwnSession<T, B>>,
+)
+    requires seats { SeatsAre B.seat D.seat }
+    requires own { AreOf B.seat (D.manager desk.old) sessions.old.items }
+    ensures manager { D.manager desk.new ≡ D.manager desk.old }
+    ensures own { AreOf B.seat (D.manager desk.old) sessions.new.items }
+    ensures live { D.live desk.new ≡ D.live desk.old + 1 }
+    ensures more { vec_len sessions.new ≡ vec_len sessions.old + 1 }
+{
+    let session = open(rt, desk);
+    append(rt, sessions, session);
+}
+
 /// So many sessions, in the order of their numbers.
 pub fn open_many<T: PartTable + Drop, B: Board<T> + Drop, D: Desk<OwnSession<T, B>>, R: Abort>(
     rt: &R,
@@ -153,8 +177,7 @@ pub fn open_many<T: PartTable + Drop, B: Board<T> + Drop, D: Desk<OwnSession<T, 
 {
     let mut sessions = Vec::new(alloc);
     'sessions: for _ in 0..number {
-        let session = open(rt, desk);
-        assert!(rt; sessions.push(session).is_ok());
+        open_behind(rt, desk, &mut sessions);
     }
     sessions
 }

@@ -2,8 +2,9 @@
 
 ghost use Rattle.std.specs.Prelude.{◌≡◌};
 
+use super::answers::{expect_granted, expect_rows};
 use super::pair::Pair;
-use lock_manager::{Acquired, Mode, OwnSession, Owner, TableRow, Tag};
+use lock_manager::{Mode, OwnSession, Owner, TableRow, Tag};
 use lock_table::PartTable;
 use shared_rule::board::Board;
 use std::process::Abort;
@@ -18,7 +19,7 @@ fn share_many<T: PartTable, B: Board<T>, R: Abort + Wait>(rt: &R, session: &mut 
     for number in 0..MANY {
         let tag = Tag::object(5, 1_259, number * 77 % MANY, 0);
         let answer = session.try_lock(rt, tag, Mode::Share, Owner::Session);
-        assert!(rt; answer == Ok(Acquired::Granted), "{tag}");
+        expect_granted(rt, answer, tag, Mode::Share);
     }
 }
 
@@ -45,7 +46,6 @@ pub fn list_many<T: PartTable, B: Board<T>, R: Abort + Wait>(rt: &R, pair: &mut 
     share_many(rt, &mut pair.first);
     share_many(rt, &mut pair.second);
     let listing = pair.first.list(rt).expect(rt, "a listing");
-    assert_eq!(rt; listing.table.len(), 2 * MANY as usize);
-    assert_eq!(rt; listing.fast.len(), 0);
+    expect_rows(rt, &listing, 0, 2 * MANY as usize);
     expect_order(rt, listing.table.as_slice());
 }

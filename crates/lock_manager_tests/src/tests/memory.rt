@@ -3,10 +3,11 @@
 ghost use Rattle.std.specs.Prelude.{◌≡◌, ◌<◌};
 ghost use Rattle.lock_manager_tests.specs.Crews.{SeatsAre};
 
+use super::answers::{Answer, expect_answer, expect_granted, expect_released};
 use super::desk::{Desk, open};
 use super::pair::Pair;
 use lock_manager::{
-    Acquired, How, Listing, Mode, OwnSession, Owner, Refusal, SessionId, Tag, Unlocked,
+    How, Listing, Mode, OwnSession, Owner, Refusal, SessionId, SlotRow, TableRow, Tag,
 };
 use lock_table::PartTable;
 use shared_rule::board::Board;
@@ -22,7 +23,30 @@ fn object(number: u32) -> (Tag, Mode) {
     (Tag::object(5, 1_259, number, 0), mode)
 }
 
-/// Takes the mode, and again where memory was wanting. A refusal leaves what the session had.
+/// Whether memory was wanting.
+fn is_wanting(answer: &Answer) -> bool {
+    *answer == Err(Refusal::NoMemory)
+}
+
+/// Asks for the mode, and again where memory was wanting. A refusal for that leaves what the session had.
+fn try_at_last<T: PartTable, B: Board<T>, R: Abort + Wait>(
+    rt: &R,
+    session: &mut OwnSession<T, B>,
+    tag: Tag,
+    mode: Mode,
+) -> Answer
+    ensures seat { B.seat session.new.board ≡ B.seat session.old.board }
+{
+    let held = session.held(tag).mask();
+    let answer = session.try_lock(rt, tag, mode, Owner::Session);
+    if !is_wanting(&answer) {
+        return answer;
+    }
+    assert_eq!(rt; session.held(tag).mask(), held);
+    session.try_lock(rt, tag, mode, Owner::Session)
+}
+
+/// Takes it so.
 fn take_at_last<T: PartTable, B: Board<T>, R: Abort + Wait>(
     rt: &R,
     session: &mut OwnSession<T, B>,
@@ -31,13 +55,8 @@ fn take_at_last<T: PartTable, B: Board<T>, R: Abort + Wait>(
 )
     ensures seat { B.seat session.new.board ≡ B.seat session.old.board }
 {
-    let held = session.held(tag).mask();
-    let mut answer = session.try_lock(rt, tag, mode, Owner::Session);
-    if answer == Err(Refusal::NoMemory) {
-        assert_eq!(rt; session.held(tag).mask(), held);
-        answer = session.try_lock(rt, tag, mode, Owner::Session);
-    }
-    assert!(rt; answer == Ok(Acquired::Granted), "{tag}");
+    let answer = try_at_last(rt, session, tag, mode);
+    expect_granted(rt, answer, tag, mode);
 }
 
 fn take_many<T: PartTable, B: Board<T>, R: Abort + Wait>(rt: &R, session: &mut OwnSession<T, B>)
@@ -73,7 +92,7 @@ fn give_back<T: PartTable, B: Board<T>, R: Abort + Wait>(
     ensures seat { B.seat session.new.board ≡ B.seat session.old.board }
 {
     let released = session.unlock(rt, tag, mode, Owner::Session);
-    assert!(rt; released == Ok(Unlocked::Released), "{tag}");
+    expect_released(rt, released, tag, mode);
 }
 
 /// All that were taken are held, each is listed, and each goes.
@@ -121,20 +140,33 @@ const BESIDE: u32 = 3;
 /// How many entries the second session has at the end.
 pub const MOVED: u32 = TRANSFERS * BESIDE + 1;
 
+/// How many rows of slots show the table in this mode.
+fn count_in_slots(rows: &[SlotRow], mode: Mode) -> u32 {
+    let mut shown = 0u32;
+    for row in rows {
+        if row.tag == TABLE && row.mode == mode {
+            shown = shown.saturating_add(1);
+        }
+    }
+    shown
+}
+
+/// How many of the table's rows do.
+fn count_in_table(rows: &[TableRow], mode: Mode) -> u32 {
+    let mut shown = 0u32;
+    for row in rows {
+        if row.tag == TABLE && row.mode == mode {
+            shown = shown.saturating_add(1);
+        }
+    }
+    shown
+}
+
 /// Each weak mode of the table is listed once, in a slot or in the table.
 fn expect_once<R: Abort>(rt: &R, listing: &Listing, mode: Mode) {
-    let mut rows = 0u32;
-    for row in &listing.fast {
-        if row.tag == TABLE && row.mode == mode {
-            rows = rows.saturating_add(1);
-        }
-    }
-    for row in &listing.table {
-        if row.tag == TABLE && row.mode == mode {
-            rows = rows.saturating_add(1);
-        }
-    }
-    assert_eq!(rt; rows, 1, "{mode}");
+    let in_slots = count_in_slots(listing.fast.as_slice(), mode);
+    let in_table = count_in_table(listing.table.as_slice(), mode);
+    assert_eq!(rt; in_slots.saturating_add(in_table), 1, "{mode}");
 }
 
 /// Nothing of a strong mode is left that was refused, and the weak ones are where they may be.
@@ -147,7 +179,22 @@ fn see_no_trace<T: PartTable, B: Board<T>, R: Abort + Wait>(rt: &R, session: &mu
     expect_once(rt, &listing, Mode::RowExclusive);
 }
 
-/// Asks for a strong mode, which another session's weak ones are in the way of.
+/// Asks for the strong mode, and again where memory was wanting.
+fn try_strong_at_last<T: PartTable, B: Board<T>, R: Abort + Wait>(
+    rt: &R,
+    session: &mut OwnSession<T, B>,
+) -> Answer
+    ensures seat { B.seat session.new.board ≡ B.seat session.old.board }
+{
+    let answer = session.try_lock(rt, TABLE, Mode::AccessExclusive, Owner::Session);
+    if !is_wanting(&answer) {
+        return answer;
+    }
+    see_no_trace(rt, session);
+    session.try_lock(rt, TABLE, Mode::AccessExclusive, Owner::Session)
+}
+
+/// Asks for it, which another session's weak ones are in the way of.
 fn ask_for_strong<T: PartTable, B: Board<T>, R: Abort + Wait>(
     rt: &R,
     session: &mut OwnSession<T, B>,
@@ -155,18 +202,13 @@ fn ask_for_strong<T: PartTable, B: Board<T>, R: Abort + Wait>(
 )
     ensures seat { B.seat session.new.board ≡ B.seat session.old.board }
 {
-    let mode = Mode::AccessExclusive;
-    let mut answer = session.try_lock(rt, TABLE, mode, Owner::Session);
-    if answer == Err(Refusal::NoMemory) {
-        see_no_trace(rt, session);
-        answer = session.try_lock(rt, TABLE, mode, Owner::Session);
-    }
+    let answer = try_strong_at_last(rt, session);
     let conflict = Refusal::Conflict {
         session: other,
         mode: Mode::AccessShare,
         how: How::Held,
     };
-    assert!(rt; answer == Err(conflict), "the weak modes are in the way");
+    expect_answer(rt, answer, Err(conflict));
     see_no_trace(rt, session);
 }
 
@@ -190,11 +232,10 @@ fn take_beside<T: PartTable, B: Board<T>, R: Abort + Wait>(
     session: &mut OwnSession<T, B>,
     transfer: u32,
 )
-    requires few { transfer < 6 }
     ensures seat { B.seat session.new.board ≡ B.seat session.old.board }
 {
     for place in 0..BESIDE {
-        let tag = Tag::relation(5, 32_768 + 16 * (BESIDE * transfer + place));
+        let tag = Tag::relation(5, 32_768 | transfer << 6 | place << 4);
         assert_eq!(rt; tag.partition(), TABLE.partition());
         take_at_last(rt, session, tag, Mode::ShareUpdateExclusive);
     }

@@ -5,10 +5,10 @@ ghost use denote.Param.Send.{IsSync, IsSend};
 ghost use Rattle.lock_manager.specs.Managers.{ManagerView};
 ghost use Rattle.lock_manager_tests.specs.Crews.{AreOf, SeatsAre, WaitAt};
 
-use super::desk::{Desk, close_many, open};
+use super::desk::{Desk, append, close_many, open};
 use super::races::see_nothing;
-use super::waits::{give_back, queue, take};
-use lock_manager::{Mode, OwnSession, OwnWaiting, Waited};
+use super::waits::{give_back, queue, take, wait_as};
+use lock_manager::{Acquired, Mode, OwnSession, OwnWaiting, SessionId};
 use lock_table::PartTable;
 use shared_rule::board::Board;
 use std::alloc::Global;
@@ -28,8 +28,32 @@ struct Tally {
     woken: AtomicU64,
 }
 
-/// Sleeps until the wait is granted, and gives the mode back to the next one. So many were woken before it as its number
-/// says: the holder's is 0, and those in the queue follow in its order.
+impl Tally {
+    /// One more was woken. So many were before it as its number says: the holder's is 0, and those in the queue follow in
+    /// its order.
+    fn wake<R: Abort>(&self, rt: &R, number: SessionId) {
+        let before = self.woken.fetch_add(1, Ordering::SeqCst);
+        assert_eq!(rt; before.saturating_add(1), u64::from(number.number()));
+    }
+
+    /// Waits until all are about to sleep, none of whom is woken.
+    fn wait_for_all<R: Abort + Wait>(&self, rt: &R) {
+        for _ in rt.forever() {
+            if self.begun.load(Ordering::SeqCst) == u64::from(MANY) {
+                break;
+            }
+            thread::yield_now();
+        }
+        assert_eq!(rt; self.woken.load(Ordering::SeqCst), 0);
+    }
+
+    /// All were woken.
+    fn expect_all<R: Abort>(&self, rt: &R) {
+        assert_eq!(rt; self.woken.load(Ordering::SeqCst), u64::from(MANY));
+    }
+}
+
+/// Sleeps until the wait is granted, and gives the mode back to the next one.
 fn sleep_and_pass_on<T: PartTable + Drop, B: Board<T> + Drop, R: Abort + Wait>(
     rt: &R,
     tally: &Tally,
@@ -38,11 +62,8 @@ fn sleep_and_pass_on<T: PartTable + Drop, B: Board<T> + Drop, R: Abort + Wait>(
     ensures seat { B.seat result.board ≡ B.seat waiting.board }
 {
     tally.begun.fetch_add(1, Ordering::SeqCst);
-    let Waited::Granted(mut session) = waiting.wait(rt) else {
-        panic!(rt; "not granted")
-    };
-    let before = tally.woken.fetch_add(1, Ordering::SeqCst);
-    assert_eq!(rt; before.saturating_add(1), u64::from(session.id().number()));
+    let mut session = wait_as(rt, waiting, Ok(Acquired::Granted));
+    tally.wake(rt, session.id());
     give_back(rt, &mut session, Mode::AccessExclusive);
     session
 }
@@ -55,15 +76,9 @@ fn release_once_asleep<T: PartTable + Drop, B: Board<T> + Drop, R: Abort + Wait>
 ) -> OwnSession<T, B>
     ensures seat { B.seat result.board ≡ B.seat session.board }
 {
-    for _ in rt.forever() {
-        if tally.begun.load(Ordering::SeqCst) == u64::from(MANY) {
-            assert_eq!(rt; tally.woken.load(Ordering::SeqCst), 0);
-            give_back(rt, &mut session, Mode::AccessExclusive);
-            return session;
-        }
-        thread::yield_now();
-    }
-    unreachable!()
+    tally.wait_for_all(rt);
+    give_back(rt, &mut session, Mode::AccessExclusive);
+    session
 }
 
 /// Those that wait sleep, each in a thread of its own, and pass the mode on.
@@ -105,8 +120,39 @@ fn wake_all<
         ensures own { (manager : ManagerView) → WaitAt B.seat manager queued.items → AreOf B.seat manager result.items }
     { sleep_side_by_side(rt, &tally, queued) };
     let (holder, woken) = join(rt, || release_once_asleep(rt, &tally, holder), sleepers);
-    assert_eq!(rt; tally.woken.load(Ordering::SeqCst), u64::from(MANY));
+    tally.expect_all(rt);
     (holder, woken)
+}
+
+/// A session that waits for the table.
+fn open_queued<T: PartTable + Drop, B: Board<T> + Drop, D: Desk<OwnSession<T, B>>, R: Abort + Wait>(
+    rt: &R,
+    desk: &mut D,
+) -> OwnWaiting<T, B>
+    requires seats { SeatsAre B.seat D.seat }
+    ensures manager { D.manager desk.new ≡ D.manager desk.old }
+    ensures own { (B.seat result.board).table ≡ (D.manager desk.old).table }
+    ensures live { D.live desk.new ≡ D.live desk.old + 1 }
+{
+    queue(rt, open(rt, desk), Mode::AccessExclusive)
+}
+
+/// One more stands in the queue, behind the others.
+fn queue_behind<
+    T: PartTable + Drop,
+    B: Board<T> + Drop,
+    D: Desk<OwnSession<T, B>>,
+    R: Abort + Wait,
+>(rt: &R, desk: &mut D, queued: &mut Vec<OwnWaiting<T, B>>)
+    requires seats { SeatsAre B.seat D.seat }
+    requires own { WaitAt B.seat (D.manager desk.old) queued.old.items }
+    ensures manager { D.manager desk.new ≡ D.manager desk.old }
+    ensures own { WaitAt B.seat (D.manager desk.old) queued.new.items }
+    ensures live { D.live desk.new ≡ D.live desk.old + 1 }
+    ensures more { vec_len queued.new ≡ vec_len queued.old + 1 }
+{
+    let waiting = open_queued(rt, desk);
+    append(rt, queued, waiting);
 }
 
 /// Sessions that wait for the table, the first of them first.
@@ -122,9 +168,7 @@ fn queue_many<T: PartTable + Drop, B: Board<T> + Drop, D: Desk<OwnSession<T, B>>
 {
     let mut queued = Vec::new(alloc);
     'queued: for _ in 0..MANY {
-        let session = open(rt, desk);
-        let waiting = queue(rt, session, Mode::AccessExclusive);
-        assert!(rt; queued.push(waiting).is_ok());
+        queue_behind(rt, desk, &mut queued);
     }
     queued
 }

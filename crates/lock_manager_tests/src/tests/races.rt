@@ -2,17 +2,16 @@
 
 ghost use Rattle.std.specs.Prelude.{◌≡◌};
 
+use super::answers::{Answer, expect_acted, expect_granted, expect_rows};
+use super::deeds::{Deed, act_side_by_side, begin};
 use super::pair::Pair;
-use super::waits::{OWNER, TABLE, give_back, queue, sleep, take};
-use lock_manager::{
-    Acquired, Asked, Cancelled, How, Mode, OwnSession, OwnWaiting, Refusal, SessionId,
-};
+use super::waits::{self, OWNER, TABLE, give_back, queue, take};
+use lock_manager::{Acquired, How, Mode, OwnSession, OwnWaiting, Refusal, SessionId};
 use lock_table::PartTable;
 use shared_rule::board::Board;
 use std::process::Abort;
 use std::sync::Wait;
-use std::sync::atomic::{AtomicBool, AtomicU64, Ordering};
-use std::thread;
+use std::sync::atomic::AtomicU64;
 use std::thread::{Threads, join};
 
 /// What two sessions race for.
@@ -28,68 +27,33 @@ pub enum Race {
     AskAgainstSleep,
 }
 
-/// Waits until both threads have come here.
-fn begin<R: Wait>(rt: &R, arrived: &AtomicU64) {
-    arrived.fetch_add(1, Ordering::SeqCst);
-    for _ in rt.forever() {
-        if arrived.load(Ordering::SeqCst) >= 2 {
-            return;
-        }
-        thread::yield_now();
+/// A strong mode was refused, since the session holds this mode.
+fn expect_in_the_way<R: Abort>(rt: &R, answer: Option<Answer>, session: SessionId, mode: Mode) {
+    let how = How::Held;
+    expect_acted(rt, answer, Err(Refusal::Conflict { session, mode, how }));
+}
+
+/// Whether a weak mode was granted. Else a strong one was counted, or the slots were busy.
+fn is_granted<R: Abort>(rt: &R, answer: Option<Answer>) -> bool {
+    match answer {
+        Some(Ok(Acquired::Granted)) => true,
+        Some(Err(Refusal::StrongCounted | Refusal::Busy)) => false,
+        _ => panic!(rt; "answered otherwise"),
     }
 }
 
-/// What a request is answered.
-type Answer = Result<Acquired, Refusal>;
-
-/// Asks for a weak mode by a slot.
-fn try_weak<T: PartTable, B: Board<T>, R: Wait>(
-    rt: &R,
-    arrived: &AtomicU64,
-    mut session: OwnSession<T, B>,
-    mode: Mode,
-) -> (OwnSession<T, B>, Answer)
-    ensures seat { B.seat result.0.board ≡ B.seat session.board }
-{
-    begin(rt, arrived);
-    let answer = session.try_fast(TABLE, mode, OWNER);
-    (session, answer)
-}
-
-/// Asks for a strong mode.
-fn try_strong<T: PartTable, B: Board<T>, R: Wait>(
-    rt: &R,
-    arrived: &AtomicU64,
-    mut session: OwnSession<T, B>,
-    mode: Mode,
-) -> (OwnSession<T, B>, Answer)
-    ensures seat { B.seat result.0.board ≡ B.seat session.board }
-{
-    begin(rt, arrived);
-    let answer = session.try_lock(rt, TABLE, mode, OWNER);
-    (session, answer)
-}
-
-/// A strong mode was refused, since the session holds this mode.
-fn expect_in_the_way<R: Abort>(rt: &R, answer: Answer, session: SessionId, mode: Mode) {
-    let how = How::Held;
-    assert!(rt;
-        answer == Err(Refusal::Conflict { session, mode, how }),
-        "{mode} is not named"
-    );
-}
-
 /// One of the two is granted and the other one refused, since only what is granted stands in another's way.
-fn expect_one<R: Abort>(rt: &R, weak: Answer, strong: Answer, session: SessionId, mode: Mode) {
-    match weak {
-        Ok(answer) => {
-            assert!(rt; answer == Acquired::Granted);
-            expect_in_the_way(rt, strong, session, mode);
-        }
-        Err(refusal) => {
-            assert!(rt; refusal == Refusal::StrongCounted || refusal == Refusal::Busy);
-            assert!(rt; strong == Ok(Acquired::Granted), "both are refused");
-        }
+fn expect_one<R: Abort>(
+    rt: &R,
+    weak: Option<Answer>,
+    strong: Option<Answer>,
+    session: SessionId,
+    mode: Mode,
+) {
+    if is_granted(rt, weak) {
+        expect_in_the_way(rt, strong, session, mode);
+    } else {
+        expect_acted(rt, strong, Ok(Acquired::Granted));
     }
 }
 
@@ -102,17 +66,16 @@ fn try_weak_against_strong<
     ensures first { B.seat result.first.board ≡ B.seat pair.first.board }
     ensures second { B.seat result.second.board ≡ B.seat pair.second.board }
 {
-    let arrived = AtomicU64::new(0);
-    let Pair { first, second } = pair;
-    let ((mut first, for_weak), (mut second, for_strong)) = join(
+    let (mut pair, for_weak, for_strong) = act_side_by_side(
         rt,
-        || try_weak(rt, &arrived, first, weak),
-        || try_strong(rt, &arrived, second, strong),
+        pair,
+        Deed::TryFast(weak),
+        Deed::Try(strong),
     );
-    expect_one(rt, for_weak, for_strong, first.id(), weak);
-    first.commit(rt);
-    second.commit(rt);
-    Pair { first, second }
+    expect_one(rt, for_weak, for_strong, pair.first.id(), weak);
+    pair.first.commit(rt);
+    pair.second.commit(rt);
+    pair
 }
 
 /// Takes a weak mode by a slot.
@@ -124,10 +87,7 @@ fn take_fast<T: PartTable, B: Board<T>, R: Abort>(
     ensures seat { B.seat session.new.board ≡ B.seat session.old.board }
 {
     let answer = session.try_fast(TABLE, mode, OWNER);
-    assert!(rt;
-        answer == Ok(Acquired::Granted),
-        "{mode} is taken by a slot"
-    );
+    expect_granted(rt, answer, TABLE, mode);
 }
 
 /// Both have a weak mode, and ask for a strong one.
@@ -139,23 +99,34 @@ fn try_strong_over_weak<
     ensures first { B.seat result.first.board ≡ B.seat pair.first.board }
     ensures second { B.seat result.second.board ≡ B.seat pair.second.board }
 {
-    let arrived = AtomicU64::new(0);
-    let Pair {
-        mut first,
-        mut second,
-    } = pair;
-    take_fast(rt, &mut first, weak);
-    take_fast(rt, &mut second, weak);
-    let ((mut first, for_first), (mut second, for_second)) = join(
+    let mut pair = pair;
+    take_fast(rt, &mut pair.first, weak);
+    take_fast(rt, &mut pair.second, weak);
+    let (mut pair, for_first, for_second) = act_side_by_side(
         rt,
-        || try_strong(rt, &arrived, first, strong),
-        || try_strong(rt, &arrived, second, strong),
+        pair,
+        Deed::Try(strong),
+        Deed::Try(strong),
     );
-    expect_in_the_way(rt, for_first, second.id(), weak);
-    expect_in_the_way(rt, for_second, first.id(), weak);
-    give_back(rt, &mut first, weak);
-    give_back(rt, &mut second, weak);
-    Pair { first, second }
+    expect_in_the_way(rt, for_first, pair.second.id(), weak);
+    expect_in_the_way(rt, for_second, pair.first.id(), weak);
+    give_back(rt, &mut pair.first, weak);
+    give_back(rt, &mut pair.second, weak);
+    pair
+}
+
+/// Gives a mode back that was granted.
+fn give_back_if<T: PartTable + Drop, B: Board<T> + Drop, R: Abort + Wait>(
+    rt: &R,
+    session: &mut OwnSession<T, B>,
+    mode: Mode,
+    was_granted: bool,
+)
+    ensures seat { B.seat session.new.board ≡ B.seat session.old.board }
+{
+    if was_granted {
+        give_back(rt, session, mode);
+    }
 }
 
 /// Cancels the wait. Where it was granted the mode is given back.
@@ -168,13 +139,9 @@ fn cancel<T: PartTable + Drop, B: Board<T> + Drop, R: Abort + Wait>(
     ensures seat { B.seat result.board ≡ B.seat waiting.board }
 {
     begin(rt, arrived);
-    match waiting.cancel(rt) {
-        Cancelled::Removed(session) => session,
-        Cancelled::WasGranted(mut session) => {
-            give_back(rt, &mut session, mode);
-            session
-        }
-    }
+    let (mut session, was_granted) = waits::cancel(rt, waiting);
+    give_back_if(rt, &mut session, mode, was_granted);
+    session
 }
 
 /// Gives a mode back.
@@ -189,6 +156,11 @@ fn release<T: PartTable + Drop, B: Board<T> + Drop, R: Abort + Wait>(
     begin(rt, arrived);
     give_back(rt, &mut session, mode);
     session
+}
+
+/// The session hasn't the table.
+fn expect_none<T: PartTable, B: Board<T>, R: Abort>(rt: &R, session: &OwnSession<T, B>) {
+    assert_eq!(rt; session.held(TABLE).mask(), 0);
 }
 
 /// The second one waits for a mode that the first one's is in the way of.
@@ -209,39 +181,9 @@ fn cancel_as_released<
         || cancel(rt, &arrived, waiting, awaited),
         || release(rt, &arrived, first, held),
     );
-    assert_eq!(rt; first.held(TABLE).mask(), 0);
-    assert_eq!(rt; second.held(TABLE).mask(), 0);
+    expect_none(rt, &first);
+    expect_none(rt, &second);
     Pair { first, second }
-}
-
-/// Asks the session to cancel until it is heard, which is once it waits.
-fn ask_until_heard<T: PartTable + Drop, B: Board<T> + Drop, R: Wait>(
-    rt: &R,
-    arrived: &AtomicU64,
-    mut session: OwnSession<T, B>,
-    number: SessionId,
-) -> OwnSession<T, B>
-    ensures seat { B.seat result.board ≡ B.seat session.board }
-{
-    begin(rt, arrived);
-    for _ in rt.forever() {
-        if session.ask_cancel(number) == Asked::Waiting {
-            return session;
-        }
-    }
-    unreachable!()
-}
-
-/// Goes from a start to a sleep, out of which it is asked.
-fn go_to_sleep<T: PartTable + Drop, B: Board<T> + Drop, R: Abort + Wait>(
-    rt: &R,
-    arrived: &AtomicU64,
-    session: OwnSession<T, B>,
-) -> OwnSession<T, B>
-    ensures seat { B.seat result.board ≡ B.seat session.board }
-{
-    begin(rt, arrived);
-    sleep(rt, session, false)
 }
 
 /// The second one waits, and the first one asks it to cancel as soon as it does.
@@ -253,17 +195,13 @@ fn ask_before_sleep<
     ensures first { B.seat result.first.board ≡ B.seat pair.first.board }
     ensures second { B.seat result.second.board ≡ B.seat pair.second.board }
 {
-    let arrived = AtomicU64::new(0);
-    let Pair { mut first, second } = pair;
-    let number = second.id();
-    take(rt, &mut first, Mode::AccessExclusive);
-    let (second, mut first) = join(
-        rt,
-        || go_to_sleep(rt, &arrived, second),
-        || ask_until_heard(rt, &arrived, first, number),
-    );
-    give_back(rt, &mut first, Mode::AccessExclusive);
-    Pair { first, second }
+    let mut pair = pair;
+    let asks = Deed::AskUntilHeard(pair.second.id());
+    take(rt, &mut pair.first, Mode::AccessExclusive);
+    let (mut pair, _, answer) = act_side_by_side(rt, pair, asks, Deed::Lock(Mode::AccessShare));
+    expect_acted(rt, answer, Err(Refusal::Cancelled));
+    give_back(rt, &mut pair.first, Mode::AccessExclusive);
+    pair
 }
 
 /// One round of a race, after which both hold what they held.
@@ -291,8 +229,7 @@ pub fn see_nothing<T: PartTable, B: Board<T>, R: Abort + Wait>(
     ensures seat { B.seat session.new.board ≡ B.seat session.old.board }
 {
     let listing = session.list(rt).expect(rt, "a listing");
-    assert_eq!(rt; listing.fast.len(), 0);
-    assert_eq!(rt; listing.table.len(), 0);
+    expect_rows(rt, &listing, 0, 0);
     assert_eq!(rt; session.strong_count(TABLE.strong_index()), 0);
 }
 
@@ -311,64 +248,4 @@ pub fn race_often<
     }
     see_nothing(rt, &mut pair.first);
     pair
-}
-
-/// Tries a weak mode by a slot until the lock of the slots is found taken, which is not waited for.
-fn try_until_busy<T: PartTable + Drop, B: Board<T> + Drop, R: Abort + Wait>(
-    rt: &R,
-    mut session: OwnSession<T, B>,
-    is_seen: &AtomicBool,
-) -> OwnSession<T, B>
-    ensures seat { B.seat result.board ≡ B.seat session.board }
-{
-    for _ in rt.forever() {
-        let answer = session.try_fast(TABLE, Mode::AccessShare, OWNER);
-        if answer == Err(Refusal::Busy) {
-            is_seen.store(true, Ordering::SeqCst);
-            return session;
-        }
-        let is_known = answer == Ok(Acquired::Granted) || answer == Err(Refusal::StrongCounted);
-        assert!(rt; is_known);
-        session.commit(rt);
-    }
-    unreachable!()
-}
-
-/// Takes a strong mode over and over, for each of which it has the slots' locks of all sessions in hand in turn.
-fn take_until_seen<T: PartTable + Drop, B: Board<T> + Drop, R: Abort + Wait>(
-    rt: &R,
-    mut session: OwnSession<T, B>,
-    is_seen: &AtomicBool,
-) -> OwnSession<T, B>
-    ensures seat { B.seat result.board ≡ B.seat session.board }
-{
-    for _ in rt.forever() {
-        if is_seen.load(Ordering::SeqCst) {
-            return session;
-        }
-        let answer = session.try_lock(rt, TABLE, Mode::Share, OWNER);
-        assert!(rt; answer == Ok(Acquired::Granted), "no mode in the way");
-        session.commit(rt);
-    }
-    unreachable!()
-}
-
-/// One goes past the slots of the other, until that one finds them busy. At the end nothing stands.
-pub fn find_slots_busy<
-    T: PartTable + Drop + Send,
-    B: Board<T> + Drop + Send,
-    R: Abort + Threads + Wait + Sync,
->(rt: &R, pair: Pair<T, B>) -> Pair<T, B>
-    ensures first { B.seat result.first.board ≡ B.seat pair.first.board }
-    ensures second { B.seat result.second.board ≡ B.seat pair.second.board }
-{
-    let is_seen = AtomicBool::new(false);
-    let Pair { first, second } = pair;
-    let (mut first, second) = join(
-        rt,
-        || try_until_busy(rt, first, &is_seen),
-        || take_until_seen(rt, second, &is_seen),
-    );
-    see_nothing(rt, &mut first);
-    Pair { first, second }
 }

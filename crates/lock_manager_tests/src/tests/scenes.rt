@@ -5,7 +5,7 @@ ghost use Rattle.std.specs.Prelude.{◌≡◌};
 use super::pair::Pair;
 use super::races::Race;
 use super::turns::Turn;
-use super::{conflicts, listings, memory, races, turns, waits};
+use super::{busy, conflicts, listings, memory, races, turns, waits};
 use lock_table::PartTable;
 use shared_rule::board::Board;
 use std::process::Abort;
@@ -66,7 +66,7 @@ pub fn perform<
             pair
         }
         Scene::Races(race, rounds) => races::race_often(rt, pair, race, rounds),
-        Scene::FindsSlotsBusy => races::find_slots_busy(rt, pair),
+        Scene::FindsSlotsBusy => busy::find_slots_busy(rt, pair),
         Scene::MovesAtLast => {
             memory::move_often(rt, &mut pair);
             pair

@@ -5,9 +5,10 @@ ghost use Rattle.std.specs.Prelude.{◌≡◌, ◌<◌, ◌≤◌, vec_len};
 ghost use Rattle.lock_manager.specs.Managers.{ManagerView};
 ghost use Rattle.lock_manager_tests.specs.Crews.{AreOf, SeatsAre};
 
+use super::answers::{expect_granted, expect_released};
 use super::conflicts::conflicts;
 use super::desk::{Desk, close_many, open_many};
-use lock_manager::{Acquired, How, Mode, OwnSession, Owner, Refusal, SessionId, Tag, Unlocked};
+use lock_manager::{How, Mode, OwnSession, Owner, Refusal, SessionId, Tag};
 use lock_table::PartTable;
 use shared_rule::board::Board;
 use std::alloc::Global;
@@ -16,8 +17,11 @@ use std::sync::{Mutex, Wait};
 use std::thread;
 use std::thread::{Threads, map_vec};
 
-/// How many have each of four objects in each mode.
-type Holders = [[u32; 8]; 4];
+/// How many have an object in each mode.
+type Modes = [u32; 8];
+
+/// How many have each of four objects.
+type Holders = [Modes; 4];
 
 /// What each thread does.
 #[derive(Clone, Copy)]
@@ -43,32 +47,32 @@ impl Plan {
         }
     }
 
-    fn tag(self, object: u32) -> Tag
-        requires { object < 4 }
-    {
+    fn tag(self, object: u32) -> Tag {
         if self.relations {
-            Tag::relation(5, 16_384 + object)
+            Tag::relation(5, 16_384 | object)
         } else {
-            Tag::object(5, 1_259, 16_384 + object, 0)
+            Tag::object(5, 1_259, 16_384 | object, 0)
         }
     }
 }
 
-// Enters a grant once it is had: nobody has the object in a conflicting mode then.
+// Nobody has the object in a mode that conflicts with the one at this place.
+fn expect_free<R: Abort>(rt: &R, modes: &Modes, object: usize, place: usize)
+    requires place { place < 8 }
+{
+    for held in 0..8 {
+        let is_free = modes[held] == 0 || !conflicts(place, held);
+        assert!(rt; is_free, "two have object {object}, at {place} and {held}");
+    }
+}
+
+// Enters a grant once it is had.
 fn enter<R: Abort + Wait>(rt: &R, holders: &Mutex<Holders>, object: usize, place: usize)
     requires object { object < 4 }
     requires place { place < 8 }
 {
     let mut all = holders.lock(rt);
-    for held in 0..8 {
-        if conflicts(place, held) {
-            assert_eq!(rt;
-                all[object][held],
-                0,
-                "two have object {object}, at {place} and {held}"
-            );
-        }
-    }
+    expect_free(rt, &all[object], object, place);
     all[object][place] = all[object][place].saturating_add(1);
 }
 
@@ -82,6 +86,16 @@ fn take_out<R: Abort + Wait>(rt: &R, holders: &Mutex<Holders>, object: usize, pl
     all[object][place] = all[object][place].saturating_sub(1);
 }
 
+// The mode is one that conflicts with the one at this place.
+fn expect_in_the_way<R: Abort>(rt: &R, mode: Mode, place: usize)
+    requires place { place < 8 }
+{
+    for held in 0..8 {
+        let is_right = Mode::ALL[held] != mode || conflicts(place, held);
+        assert!(rt; is_right, "{mode} is not in the way");
+    }
+}
+
 // A refusal names another session, which holds a conflicting mode.
 fn expect_conflict<R: Abort>(rt: &R, refusal: Refusal, own: SessionId, place: usize)
     requires place { place < 8 }
@@ -91,12 +105,7 @@ fn expect_conflict<R: Abort>(rt: &R, refusal: Refusal, own: SessionId, place: us
     };
     assert!(rt; session != own);
     assert!(rt; how == How::Held);
-    for held in 0..8 {
-        assert!(rt;
-            Mode::ALL[held] != mode || conflicts(place, held),
-            "{mode} is not in the way"
-        );
-    }
+    expect_in_the_way(rt, mode, place);
 }
 
 /// Asks for a mode on an object, and gives it back where it is granted.
@@ -113,17 +122,17 @@ fn ask<T: PartTable, B: Board<T>, R: Abort + Wait>(
     let object = round % plan.objects;
     let tag = plan.tag(object);
     let mode = Mode::ALL[place];
-    match session.try_lock(rt, tag, mode, Owner::Transaction) {
-        Ok(answer) => {
-            assert!(rt; answer == Acquired::Granted);
-            enter(rt, holders, object as usize, place);
-            thread::yield_now();
-            take_out(rt, holders, object as usize, place);
-            let released = session.unlock(rt, tag, mode, Owner::Transaction);
-            assert!(rt; released == Ok(Unlocked::Released));
-        }
-        Err(refusal) => expect_conflict(rt, refusal, session.id(), place),
+    let answer = session.try_lock(rt, tag, mode, Owner::Transaction);
+    if let Err(refusal) = answer {
+        expect_conflict(rt, refusal, session.id(), place);
+        return;
     }
+    expect_granted(rt, answer, tag, mode);
+    enter(rt, holders, object as usize, place);
+    thread::yield_now();
+    take_out(rt, holders, object as usize, place);
+    let released = session.unlock(rt, tag, mode, Owner::Transaction);
+    expect_released(rt, released, tag, mode);
 }
 
 /// Asks for one mode after another, on one object after another.

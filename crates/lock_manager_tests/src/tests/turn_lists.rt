@@ -14,7 +14,7 @@ use lock_manager::Mode::{
     ShareUpdateExclusive,
 };
 use lock_manager::Owner::{Session, Transaction};
-use lock_manager::{Refusal, Tag};
+use lock_manager::Tag;
 
 const TABLE: Tag = Tag::Relation {
     database: 1,
@@ -28,7 +28,19 @@ const OBJECT: Tag = Tag::Object {
     sub_object: 0,
 };
 
-const NOT_HELD: Answer = Refused(Refusal::NotHeld);
+// Refusals, by their numbers.
+
+const LOCAL_FULL: Answer = Refused(3);
+
+const COUNT_FULL: Answer = Refused(4);
+
+const NOT_HELD: Answer = Refused(7);
+
+const SLOTS_FULL: Answer = Refused(9);
+
+const STRONG_COUNTED: Answer = Refused(10);
+
+const NOT_ELIGIBLE: Answer = Refused(11);
 
 const TAKE: Call = Try(TABLE, AccessExclusive, Transaction);
 
@@ -39,7 +51,7 @@ const KEEP_OBJECT: Call = Try(OBJECT, AccessExclusive, Session);
 const READ_OBJECT: Call = Try(OBJECT, AccessShare, Session);
 
 /// What a session has itself never stands in its way.
-pub const OWN_HOLDS: [Turn; 7] = [
+const OWN_HOLDS: [Turn; 7] = [
     (First, 1, Try(TABLE, AccessExclusive, Session), Granted),
     (First, 1, Try(TABLE, Exclusive, Session), Granted),
     (First, 1, Try(TABLE, Share, Session), Granted),
@@ -50,7 +62,7 @@ pub const OWN_HOLDS: [Turn; 7] = [
 ];
 
 /// A commit ends what is the transaction's, and an abort ends all.
-pub const ENDS: [Turn; 14] = [
+const ENDS: [Turn; 14] = [
     (First, 1, TAKE, Granted),
     (First, 1, TAKE_OBJECT, Granted),
     (First, 1, KEEP_OBJECT, AlreadyHeld),
@@ -81,7 +93,7 @@ const DROP: Call = Unlock(TABLE, ShareUpdateExclusive, Transaction);
 const DROP_FOR_SESSION: Call = Unlock(TABLE, ShareUpdateExclusive, Session);
 
 /// The last count of both owners releases.
-pub const LAST_COUNTS: [Turn; 15] = [
+const LAST_COUNTS: [Turn; 15] = [
     (First, 1, DROP_FOR_SESSION, NOT_HELD),
     (First, 1, ADD, Granted),
     (First, 1, ADD, AlreadyHeld),
@@ -105,23 +117,21 @@ pub const LAST_COUNTS: [Turn; 15] = [
 ];
 
 /// A session has no more entries than it was made for, two here; with one gone there is room for another.
-pub const ENTRIES: [Turn; 7] = [
+const ENTRIES: [Turn; 7] = [
     (First, 1, Try(TABLE, Share, Transaction), Granted),
     (First, 1, Try(TABLE, RowShare, Transaction), Granted),
-    (First, 2, TAKE, Refused(Refusal::LocalFull)),
+    (First, 2, TAKE, LOCAL_FULL),
     (First, 1, Try(TABLE, Share, Transaction), AlreadyHeld),
     (First, 1, Held(TABLE), Modes(0b10_0100)),
     (First, 1, Unlock(TABLE, RowShare, Transaction), Released),
     (First, 1, TAKE, Granted),
 ];
 
-const FULL: Answer = Refused(Refusal::CountFull);
-
 /// An owner counts to 65,535 and no further, each for itself.
-pub const COUNTS: [Turn; 11] = [
+const COUNTS: [Turn; 11] = [
     (First, 1, ADD, Granted),
     (First, 65_534, ADD, AlreadyHeld),
-    (First, 2, ADD, FULL),
+    (First, 2, ADD, COUNT_FULL),
     (
         First,
         1,
@@ -131,7 +141,7 @@ pub const COUNTS: [Turn; 11] = [
     (First, 1, ADD_FOR_SESSION, AlreadyHeld),
     (First, 1, DROP, StillHeld),
     (First, 1, ADD, AlreadyHeld),
-    (First, 1, ADD, FULL),
+    (First, 1, ADD, COUNT_FULL),
     (First, 1, Commit, Ended),
     (
         First,
@@ -150,7 +160,7 @@ pub const COUNTS: [Turn; 11] = [
 const WRITE: Call = Try(TABLE, RowExclusive, Transaction);
 
 /// Each strong mode comes and goes, and keeps weak and strong modes away meanwhile.
-pub const STRONG: [Turn; 28] = [
+const STRONG: [Turn; 28] = [
     (First, 1, Try(TABLE, Share, Transaction), Granted),
     (Second, 1, WRITE, Conflict(0, Share)),
     (Second, 1, TAKE, Conflict(0, Share)),
@@ -209,10 +219,8 @@ const OWN: Tag = Tag::Relation {
 
 const READ_BY_SLOT: Call = Fast(OWN, AccessShare, Transaction);
 
-const NOT_ELIGIBLE: Answer = Refused(Refusal::NotEligible);
-
 /// Which modes go by a slot, and where they are once a strong mode has been by.
-pub const BY_SLOT: [Turn; 27] = [
+const BY_SLOT: [Turn; 27] = [
     (First, 1, Database, Answer::Database(5)),
     (First, 1, Fast(OWN, RowExclusive, Transaction), Granted),
     (First, 1, Fast(OWN, RowExclusive, Session), AlreadyHeld),
@@ -248,7 +256,7 @@ pub const BY_SLOT: [Turn; 27] = [
     (First, 1, Abort, Ended),
     (Second, 1, Try(OWN, Share, Transaction), Granted),
     (First, 1, Strong(OWN), Counted(1)),
-    (First, 2, READ_BY_SLOT, Refused(Refusal::StrongCounted)),
+    (First, 2, READ_BY_SLOT, STRONG_COUNTED),
     (First, 1, Try(OWN, AccessShare, Transaction), Granted),
     (First, 1, Call::Rows, Rows { fast: 0, table: 2 }),
     (
@@ -275,10 +283,8 @@ const FOURTH: Tag = Tag::Relation {
     relation: 16_387,
 };
 
-const SLOTS_FULL: Answer = Refused(Refusal::SlotsFull);
-
 /// A session has sixteen slots, and once they are used no further mode goes by one.
-pub const SLOTS: [Turn; 12] = [
+const SLOTS: [Turn; 12] = [
     (First, 16, READ_EACH, Granted),
     (First, 1, READ_BY_SLOT, SLOTS_FULL),
     (First, 1, Fast(FOURTH, RowShare, Transaction), SLOTS_FULL),
@@ -299,16 +305,101 @@ pub const SLOTS: [Turn; 12] = [
 ];
 
 /// By a slot too a session has no more entries than it was made for, two here.
-pub const ENTRIES_BY_SLOT: [Turn; 3] = [
+const ENTRIES_BY_SLOT: [Turn; 3] = [
     (First, 2, READ_EACH, Granted),
-    (First, 2, READ_BY_SLOT, Refused(Refusal::LocalFull)),
+    (First, 2, READ_BY_SLOT, LOCAL_FULL),
     (First, 2, READ_EACH, AlreadyHeld),
 ];
 
 /// By a slot too an owner counts to 65,535.
-pub const COUNTS_BY_SLOT: [Turn; 4] = [
+const COUNTS_BY_SLOT: [Turn; 4] = [
     (First, 1, READ_BY_SLOT, Granted),
     (First, 65_534, READ_BY_SLOT, AlreadyHeld),
-    (First, 2, READ_BY_SLOT, FULL),
+    (First, 2, READ_BY_SLOT, COUNT_FULL),
     (First, 1, Fast(OWN, AccessShare, Session), AlreadyHeld),
+];
+
+/// A list of turns, and what manager they are played at.
+pub struct List {
+    pub name: &'static str,
+    pub sessions: u32,
+    /// How many entries each session may have.
+    pub max_local: u32,
+    /// How often they are played.
+    pub rounds: u32,
+    pub turns: &'static [Turn],
+}
+
+/// All lists.
+pub static LISTS: [List; 10] = [
+    List {
+        name: "own holds",
+        sessions: 2,
+        max_local: 8,
+        rounds: 1,
+        turns: &OWN_HOLDS,
+    },
+    List {
+        name: "ends",
+        sessions: 2,
+        max_local: 8,
+        rounds: 1,
+        turns: &ENDS,
+    },
+    List {
+        name: "last counts",
+        sessions: 2,
+        max_local: 8,
+        rounds: 1,
+        turns: &LAST_COUNTS,
+    },
+    List {
+        name: "entries",
+        sessions: 2,
+        max_local: 2,
+        rounds: 1,
+        turns: &ENTRIES,
+    },
+    List {
+        name: "counts",
+        sessions: 2,
+        max_local: 1,
+        rounds: 1,
+        turns: &COUNTS,
+    },
+    List {
+        name: "strong",
+        sessions: 64,
+        max_local: 8,
+        rounds: 2_000,
+        turns: &STRONG,
+    },
+    List {
+        name: "by slot",
+        sessions: 2,
+        max_local: 8,
+        rounds: 1,
+        turns: &BY_SLOT,
+    },
+    List {
+        name: "slots",
+        sessions: 2,
+        max_local: 20,
+        rounds: 1,
+        turns: &SLOTS,
+    },
+    List {
+        name: "entries by slot",
+        sessions: 2,
+        max_local: 2,
+        rounds: 1,
+        turns: &ENTRIES_BY_SLOT,
+    },
+    List {
+        name: "counts by slot",
+        sessions: 2,
+        max_local: 1,
+        rounds: 1,
+        turns: &COUNTS_BY_SLOT,
+    },
 ];

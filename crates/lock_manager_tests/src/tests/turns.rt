@@ -36,7 +36,8 @@ pub enum Answer {
     Conflict(u8, Mode),
     Released,
     StillHeld,
-    Refused(Refusal),
+    /// The refusal of this number.
+    Refused(u8),
     Ended,
     /// The mask of modes.
     Modes(u16),
@@ -58,12 +59,12 @@ pub enum Who {
 /// A refusal, which may name a hold in the way.
 fn refused(refusal: Refusal) -> Answer {
     let Refusal::Conflict { session, mode, how } = refusal else {
-        return Answer::Refused(refusal);
+        return Answer::Refused(refusal.number());
     };
     if how == How::Held {
         Answer::Conflict(session.number(), mode)
     } else {
-        Answer::Refused(refusal)
+        Answer::Refused(refusal.number())
     }
 }
 
@@ -81,7 +82,7 @@ fn given_back(answer: Result<Unlocked, Refusal>) -> Answer {
     match answer {
         Ok(Unlocked::Released) => Answer::Released,
         Ok(Unlocked::StillHeld) => Answer::StillHeld,
-        Err(refusal) => Answer::Refused(refusal),
+        Err(refusal) => Answer::Refused(refusal.number()),
     }
 }
 
@@ -92,7 +93,7 @@ fn listed(answer: Result<Listing, Refusal>) -> Answer {
             fast: listing.fast.len(),
             table: listing.table.len(),
         },
-        Err(refusal) => Answer::Refused(refusal),
+        Err(refusal) => Answer::Refused(refusal.number()),
     }
 }
 

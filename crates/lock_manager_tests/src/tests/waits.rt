@@ -2,17 +2,21 @@
 
 ghost use Rattle.std.specs.Prelude.{◌≡◌};
 
+use super::answers::{
+    Answer, expect_acted, expect_answer, expect_granted, expect_released, expect_seen,
+};
+use super::deeds::{Deed, act_side_by_side};
 use super::pair::Pair;
 use lock_manager::{
     Acquired, Asked, Cancelled, Locked, Mode, OwnSession, OwnWaiting, Owner, Polled, Refusal,
-    SessionId, Started, Tag, Unlocked, Waited,
+    SessionId, Started, TableRow, Tag, Waited,
 };
 use lock_table::PartTable;
 use shared_rule::board::Board;
 use std::process::Abort;
 use std::sync::Wait;
 use std::thread;
-use std::thread::{Threads, join};
+use std::thread::Threads;
 
 pub const TABLE: Tag = Tag::Relation {
     database: 5,
@@ -30,7 +34,7 @@ pub fn take<T: PartTable + Drop, B: Board<T> + Drop, R: Abort + Wait>(
     ensures seat { B.seat session.new.board ≡ B.seat session.old.board }
 {
     let answer = session.try_lock(rt, TABLE, mode, OWNER);
-    assert!(rt; answer == Ok(Acquired::Granted), "{mode} is taken");
+    expect_granted(rt, answer, TABLE, mode);
 }
 
 /// Gives it back.
@@ -42,7 +46,7 @@ pub fn give_back<T: PartTable + Drop, B: Board<T> + Drop, R: Abort + Wait>(
     ensures seat { B.seat session.new.board ≡ B.seat session.old.board }
 {
     let answer = session.unlock(rt, TABLE, mode, OWNER);
-    assert!(rt; answer == Ok(Unlocked::Released), "{mode} is given back");
+    expect_released(rt, answer, TABLE, mode);
 }
 
 /// Begins to wait for a mode on the table.
@@ -53,10 +57,87 @@ pub fn queue<T: PartTable + Drop, B: Board<T> + Drop, R: Abort + Wait>(
 ) -> OwnWaiting<T, B>
     ensures seat { B.seat result.board ≡ B.seat session.board }
 {
-    let Started::Queued(waiting) = session.start(rt, TABLE, mode, OWNER) else {
-        panic!(rt; "{mode} is not queued")
+    match session.start(rt, TABLE, mode, OWNER) {
+        Started::Queued(waiting) => waiting,
+        _ => panic!(rt; "{mode} is not queued"),
+    }
+}
+
+/// Takes a mode on the table, or is refused it, with no wait for it, and is answered this.
+fn start_as<T: PartTable + Drop, B: Board<T> + Drop, R: Abort + Wait>(
+    rt: &R,
+    session: OwnSession<T, B>,
+    mode: Mode,
+    expected: Answer,
+) -> OwnSession<T, B>
+    ensures seat { B.seat result.board ≡ B.seat session.board }
+{
+    let (session, answer) = match session.start(rt, TABLE, mode, OWNER) {
+        Started::Granted(session) => (session, Ok(Acquired::Granted)),
+        Started::AlreadyHeld(session) => (session, Ok(Acquired::AlreadyHeld)),
+        Started::Refused(session, refusal) => (session, Err(refusal)),
+        Started::Queued(_) => panic!(rt; "queued"),
     };
-    waiting
+    expect_answer(rt, answer, expected);
+    session
+}
+
+/// Takes a mode on the table, and waits for it where it must. What it is answered.
+pub fn lock<T: PartTable + Drop, B: Board<T> + Drop, R: Wait>(
+    rt: &R,
+    session: OwnSession<T, B>,
+    mode: Mode,
+) -> (OwnSession<T, B>, Answer)
+    ensures seat { B.seat result.0.board ≡ B.seat session.board }
+{
+    match session.lock(rt, TABLE, mode, OWNER) {
+        Locked::Granted(session) => (session, Ok(Acquired::Granted)),
+        Locked::AlreadyHeld(session) => (session, Ok(Acquired::AlreadyHeld)),
+        Locked::Refused(session, refusal) => (session, Err(refusal)),
+    }
+}
+
+/// Does so, and is answered this.
+fn lock_as<T: PartTable + Drop, B: Board<T> + Drop, R: Abort + Wait>(
+    rt: &R,
+    session: OwnSession<T, B>,
+    mode: Mode,
+    expected: Answer,
+) -> OwnSession<T, B>
+    ensures seat { B.seat result.board ≡ B.seat session.board }
+{
+    let (session, answer) = lock(rt, session, mode);
+    expect_answer(rt, answer, expected);
+    session
+}
+
+/// Waits until the wait is over, and is answered this.
+pub fn wait_as<T: PartTable + Drop, B: Board<T> + Drop, R: Abort + Wait>(
+    rt: &R,
+    waiting: OwnWaiting<T, B>,
+    expected: Answer,
+) -> OwnSession<T, B>
+    ensures seat { B.seat result.board ≡ B.seat waiting.board }
+{
+    let (session, answer) = match waiting.wait(rt) {
+        Waited::Granted(session) => (session, Ok(Acquired::Granted)),
+        Waited::Refused(session, refusal) => (session, Err(refusal)),
+    };
+    expect_answer(rt, answer, expected);
+    session
+}
+
+/// Takes the wait out of the queue, unless it was granted before. Whether it was.
+pub fn cancel<T: PartTable + Drop, B: Board<T> + Drop, R: Wait>(
+    rt: &R,
+    waiting: OwnWaiting<T, B>,
+) -> (OwnSession<T, B>, bool)
+    ensures seat { B.seat result.0.board ≡ B.seat waiting.board }
+{
+    match waiting.cancel(rt) {
+        Cancelled::Removed(session) => (session, false),
+        Cancelled::WasGranted(session) => (session, true),
+    }
 }
 
 /// Finds the wait granted.
@@ -66,10 +147,10 @@ fn find_granted<T: PartTable + Drop, B: Board<T> + Drop, R: Abort>(
 ) -> OwnSession<T, B>
     ensures seat { B.seat result.board ≡ B.seat waiting.board }
 {
-    let Polled::Granted(session) = waiting.poll() else {
-        panic!(rt; "not granted")
-    };
-    session
+    match waiting.poll() {
+        Polled::Granted(session) => session,
+        _ => panic!(rt; "not granted"),
+    }
 }
 
 /// Finds that the wait goes on, and whether another session asked to cancel it.
@@ -110,7 +191,7 @@ pub fn leave_as_asked<T: PartTable + Drop, B: Board<T> + Drop, R: Abort + Wait>(
 }
 
 /// Asks a session to cancel.
-fn ask<T: PartTable + Drop, B: Board<T> + Drop, R: Abort>(
+pub fn ask<T: PartTable + Drop, B: Board<T> + Drop, R: Abort>(
     rt: &R,
     session: &mut OwnSession<T, B>,
     number: SessionId,
@@ -121,6 +202,28 @@ fn ask<T: PartTable + Drop, B: Board<T> + Drop, R: Abort>(
     assert!(rt; session.ask_cancel(number) == asked);
 }
 
+/// Whether the session waits, which is asked to cancel then.
+fn is_heard<T: PartTable, B: Board<T>>(session: &mut OwnSession<T, B>, number: SessionId) -> bool
+    ensures seat { B.seat session.new.board ≡ B.seat session.old.board }
+{
+    session.ask_cancel(number) == Asked::Waiting
+}
+
+/// Asks it until it is heard.
+pub fn ask_until_heard<T: PartTable, B: Board<T>, R: Wait>(
+    rt: &R,
+    session: &mut OwnSession<T, B>,
+    number: SessionId,
+)
+    ensures seat { B.seat session.new.board ≡ B.seat session.old.board }
+{
+    for _ in rt.forever() {
+        if is_heard(session, number) {
+            return;
+        }
+    }
+}
+
 /// Sees that somebody waits for the table, in a mode that conflicts with the one that the session has.
 fn see_waiters<T: PartTable + Drop, B: Board<T> + Drop, R: Abort + Wait>(
     rt: &R,
@@ -129,9 +232,9 @@ fn see_waiters<T: PartTable + Drop, B: Board<T> + Drop, R: Abort + Wait>(
 )
     ensures seat { B.seat session.new.board ≡ B.seat session.old.board }
 {
-    assert!(rt; session.has_waiters(rt, TABLE, mode) == Ok(true));
+    expect_seen(rt, session.has_waiters(rt, TABLE, mode), Ok(true));
     let not_held = session.has_waiters(rt, TABLE, Mode::AccessShare);
-    assert!(rt; not_held == Err(Refusal::NotHeld));
+    expect_seen(rt, not_held, Err(Refusal::NotHeld));
 }
 
 /// Takes the wait out of the queue.
@@ -141,9 +244,8 @@ fn leave<T: PartTable + Drop, B: Board<T> + Drop, R: Abort + Wait>(
 ) -> OwnSession<T, B>
     ensures seat { B.seat result.board ≡ B.seat waiting.board }
 {
-    let Cancelled::Removed(session) = waiting.cancel(rt) else {
-        panic!(rt; "granted")
-    };
+    let (session, was_granted) = cancel(rt, waiting);
+    assert!(rt; !was_granted);
     session
 }
 
@@ -161,9 +263,8 @@ pub fn cancel_too_late<T: PartTable + Drop, B: Board<T> + Drop, R: Abort + Wait>
     let waiting = queue(rt, second, Mode::AccessExclusive);
     give_back(rt, &mut first, Mode::Share);
     ask(rt, &mut first, number, Asked::NotWaiting);
-    let Cancelled::WasGranted(mut second) = waiting.cancel(rt) else {
-        panic!(rt; "not granted")
-    };
+    let (mut second, was_granted) = cancel(rt, waiting);
+    assert!(rt; was_granted);
     give_back(rt, &mut second, Mode::AccessExclusive);
     Pair { first, second }
 }
@@ -198,9 +299,7 @@ pub fn wait_as_asked<T: PartTable + Drop, B: Board<T> + Drop, R: Abort + Wait>(
     take(rt, &mut first, Mode::Exclusive);
     let waiting = queue(rt, second, Mode::Share);
     ask(rt, &mut first, number, Asked::Waiting);
-    let Waited::Refused(second, Refusal::Cancelled) = waiting.wait(rt) else {
-        panic!(rt; "not cancelled")
-    };
+    let second = wait_as(rt, waiting, Err(Refusal::Cancelled));
     give_back(rt, &mut first, Mode::Exclusive);
     Pair { first, second }
 }
@@ -217,9 +316,7 @@ pub fn wait_for_nothing<T: PartTable + Drop, B: Board<T> + Drop, R: Abort + Wait
     take(rt, &mut first, Mode::Exclusive);
     let waiting = queue(rt, second, Mode::Share);
     give_back(rt, &mut first, Mode::Exclusive);
-    let Waited::Granted(mut second) = waiting.wait(rt) else {
-        panic!(rt; "not granted")
-    };
+    let mut second = wait_as(rt, waiting, Ok(Acquired::Granted));
     give_back(rt, &mut second, Mode::Share);
     Pair { first, second }
 }
@@ -233,18 +330,10 @@ pub fn answer_at_once<T: PartTable + Drop, B: Board<T> + Drop, R: Abort + Wait>(
     ensures second { B.seat result.second.board ≡ B.seat pair.second.board }
 {
     let Pair { first, second } = pair;
-    let Started::Granted(first) = first.start(rt, TABLE, Mode::Exclusive, OWNER) else {
-        panic!(rt; "not granted")
-    };
-    let Started::AlreadyHeld(first) = first.start(rt, TABLE, Mode::Exclusive, OWNER) else {
-        panic!(rt; "not held")
-    };
-    let Locked::AlreadyHeld(first) = first.lock(rt, TABLE, Mode::Exclusive, OWNER) else {
-        panic!(rt; "not held")
-    };
-    let Locked::Granted(mut first) = first.lock(rt, TABLE, Mode::Share, OWNER) else {
-        panic!(rt; "not granted")
-    };
+    let first = start_as(rt, first, Mode::Exclusive, Ok(Acquired::Granted));
+    let first = start_as(rt, first, Mode::Exclusive, Ok(Acquired::AlreadyHeld));
+    let first = lock_as(rt, first, Mode::Exclusive, Ok(Acquired::AlreadyHeld));
+    let mut first = lock_as(rt, first, Mode::Share, Ok(Acquired::Granted));
     first.commit(rt);
     Pair { first, second }
 }
@@ -265,29 +354,18 @@ pub fn refuse_a_simple_deadlock<T: PartTable + Drop, B: Board<T> + Drop, R: Abor
     take(rt, &mut second, Mode::Share);
     let waiting = queue(rt, first, Mode::Exclusive);
     let session = waiting.id();
-    let Locked::Refused(mut second, refusal) = second.lock(rt, TABLE, Mode::Exclusive, OWNER) else {
-        panic!(rt; "not refused")
-    };
-    assert!(rt; refusal == Refusal::SimpleDeadlock { session });
+    let deadlock = Refusal::SimpleDeadlock { session };
+    let mut second = lock_as(rt, second, Mode::Exclusive, Err(deadlock));
     second.abort(rt);
     let mut first = find_granted(rt, waiting);
     first.abort(rt);
     Pair { first, second }
 }
 
-/// Whether the session's wait for the table shows in a listing.
-fn shows_wait<T: PartTable + Drop, B: Board<T> + Drop, R: Wait>(
-    rt: &R,
-    session: &mut OwnSession<T, B>,
-    number: SessionId,
-) -> bool
-    ensures seat { B.seat session.new.board ≡ B.seat session.old.board }
-{
-    let Ok(listing) = session.list(rt) else {
-        return false;
-    };
+/// Whether the session's wait for the table is among the rows.
+fn is_awaited(rows: &[TableRow], number: SessionId) -> bool {
     let mut shown = false;
-    for row in &listing.table {
+    for row in rows {
         if row.session == number && row.tag == TABLE && !row.granted {
             shown = true;
         }
@@ -295,8 +373,22 @@ fn shows_wait<T: PartTable + Drop, B: Board<T> + Drop, R: Wait>(
     shown
 }
 
+/// Whether it shows in a listing.
+fn shows_wait<T: PartTable + Drop, B: Board<T> + Drop, R: Wait>(
+    rt: &R,
+    session: &mut OwnSession<T, B>,
+    number: SessionId,
+) -> bool
+    ensures seat { B.seat session.new.board ≡ B.seat session.old.board }
+{
+    match session.list(rt) {
+        Ok(listing) => is_awaited(listing.table.as_slice(), number),
+        Err(_) => false,
+    }
+}
+
 /// Lists until the session's wait shows.
-fn see_wait<T: PartTable + Drop, B: Board<T> + Drop, R: Wait>(
+pub fn see_wait<T: PartTable + Drop, B: Board<T> + Drop, R: Wait>(
     rt: &R,
     session: &mut OwnSession<T, B>,
     number: SessionId,
@@ -311,46 +403,6 @@ fn see_wait<T: PartTable + Drop, B: Board<T> + Drop, R: Wait>(
     }
 }
 
-/// What a session in a thread of its own does once another one waits: it asks that one to cancel, or gives back.
-fn act_once_awaited<T: PartTable + Drop, B: Board<T> + Drop, R: Abort + Wait>(
-    rt: &R,
-    mut session: OwnSession<T, B>,
-    number: SessionId,
-    asks: bool,
-) -> OwnSession<T, B>
-    ensures seat { B.seat result.board ≡ B.seat session.board }
-{
-    see_wait(rt, &mut session, number);
-    if asks {
-        ask(rt, &mut session, number, Asked::Waiting);
-    } else {
-        give_back(rt, &mut session, Mode::AccessExclusive);
-    }
-    session
-}
-
-/// The session sleeps until the wait is over, which is granted or not.
-pub fn sleep<T: PartTable + Drop, B: Board<T> + Drop, R: Abort + Wait>(
-    rt: &R,
-    session: OwnSession<T, B>,
-    is_granted: bool,
-) -> OwnSession<T, B>
-    ensures seat { B.seat result.board ≡ B.seat session.board }
-{
-    match session.lock(rt, TABLE, Mode::AccessShare, OWNER) {
-        Locked::Granted(session) => {
-            assert!(rt; is_granted);
-            session
-        }
-        Locked::Refused(session, refusal) => {
-            assert!(rt; !is_granted);
-            assert!(rt; refusal == Refusal::Cancelled);
-            session
-        }
-        Locked::AlreadyHeld(_) => panic!(rt; "held before"),
-    }
-}
-
 /// A session sleeps in its thread until the other one, in another thread, gives back or asks it to cancel.
 pub fn sleep_in_a_thread<
     T: PartTable + Drop + Send,
@@ -360,15 +412,18 @@ pub fn sleep_in_a_thread<
     ensures first { B.seat result.first.board ≡ B.seat pair.first.board }
     ensures second { B.seat result.second.board ≡ B.seat pair.second.board }
 {
-    let Pair { mut first, second } = pair;
-    let number = second.id();
-    take(rt, &mut first, Mode::AccessExclusive);
-    let (mut second, mut first) = join(
-        rt,
-        || sleep(rt, second, !asks),
-        || act_once_awaited(rt, first, number, asks),
-    );
-    second.commit(rt);
-    first.commit(rt);
-    Pair { first, second }
+    let mut pair = pair;
+    let number = pair.second.id();
+    let (deed, expected) = if asks {
+        (Deed::AskOnceAwaited(number), Err(Refusal::Cancelled))
+    } else {
+        let gives_back = Deed::GiveBackOnceAwaited(number, Mode::AccessExclusive);
+        (gives_back, Ok(Acquired::Granted))
+    };
+    take(rt, &mut pair.first, Mode::AccessExclusive);
+    let (mut pair, _, answer) = act_side_by_side(rt, pair, deed, Deed::Lock(Mode::AccessShare));
+    expect_acted(rt, answer, expected);
+    pair.second.commit(rt);
+    pair.first.commit(rt);
+    pair
 }

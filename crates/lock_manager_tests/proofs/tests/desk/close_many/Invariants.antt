@@ -1,4 +1,4 @@
-use Rattle.std.proofs.Common.{◌≡◌, ◌-◌, ◌≤◌}
+use Rattle.std.proofs.Common.{◌≡◌, ◌-◌}
 use Rattle.std.specs.Prelude.{vec_len}
 use Rattle.lock_manager_tests.specs.Crews.{AreOf}
 use Rattle.lock_manager_tests.proofs.tests.desk.close_many.Given as goal
@@ -7,8 +7,7 @@ abbrev pub invariant-sessions : goal.invariant-sessions
 invariant-sessions g l = record {
   manager : g.D.Desk.manager l.desk ≡ g.D.Desk.manager l.fn.desk;
   own : AreOf g.B.Board.seat (g.D.Desk.manager l.fn.desk) l.sessions.items;
-  fewer : vec_len l.sessions ≤ vec_len l.fn.sessions;
-  live : g.D.Desk.live l.desk ≡ g.D.Desk.live l.fn.desk - (vec_len l.fn.sessions - vec_len l.sessions);
+  live : g.D.Desk.live l.desk - vec_len l.sessions ≡ g.D.Desk.live l.fn.desk - vec_len l.fn.sessions;
 }
 
 abbrev pub decreases-sessions : goal.decreases-sessions

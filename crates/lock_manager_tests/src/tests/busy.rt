@@ -1,0 +1,97 @@
+//! Slots that are found busy.
+
+ghost use Rattle.std.specs.Prelude.{◌≡◌};
+
+use super::answers::Answer;
+use super::deeds::{Deed, act_side_by_side};
+use super::pair::Pair;
+use super::races::see_nothing;
+use super::waits::{OWNER, TABLE, take};
+use lock_manager::{Acquired, Mode, OwnSession, Refusal};
+use lock_table::PartTable;
+use shared_rule::board::Board;
+use std::process::Abort;
+use std::sync::Wait;
+use std::sync::atomic::{AtomicBool, Ordering};
+use std::thread::Threads;
+
+/// Whether the slots were found busy. Else the mode was granted, or a strong one counted.
+fn is_busy<R: Abort>(rt: &R, answer: Answer) -> bool {
+    match answer {
+        Err(Refusal::Busy) => true,
+        Ok(Acquired::Granted) | Err(Refusal::StrongCounted) => false,
+        _ => panic!(rt; "answered otherwise"),
+    }
+}
+
+/// Tries a weak mode by a slot, and gives it back. Whether the lock of the slots was found taken, which is not waited for.
+fn find_busy<T: PartTable, B: Board<T>, R: Abort + Wait>(
+    rt: &R,
+    session: &mut OwnSession<T, B>,
+) -> bool
+    ensures seat { B.seat session.new.board ≡ B.seat session.old.board }
+{
+    let answer = session.try_fast(TABLE, Mode::AccessShare, OWNER);
+    if is_busy(rt, answer) {
+        return true;
+    }
+    session.commit(rt);
+    false
+}
+
+/// Does so until it was, and says so.
+pub fn try_until_busy<T: PartTable, B: Board<T>, R: Abort + Wait>(
+    rt: &R,
+    session: &mut OwnSession<T, B>,
+    is_seen: &AtomicBool,
+)
+    ensures seat { B.seat session.new.board ≡ B.seat session.old.board }
+{
+    for _ in rt.forever() {
+        if find_busy(rt, session) {
+            is_seen.store(true, Ordering::SeqCst);
+            return;
+        }
+    }
+}
+
+/// Takes a strong mode, for which the session has the slots' locks of all sessions in hand in turn, and gives it back.
+fn go_past_slots<T: PartTable + Drop, B: Board<T> + Drop, R: Abort + Wait>(
+    rt: &R,
+    session: &mut OwnSession<T, B>,
+)
+    ensures seat { B.seat session.new.board ≡ B.seat session.old.board }
+{
+    take(rt, session, Mode::Share);
+    session.commit(rt);
+}
+
+/// Does so over and over, until the other one has seen it.
+pub fn take_until_seen<T: PartTable + Drop, B: Board<T> + Drop, R: Abort + Wait>(
+    rt: &R,
+    session: &mut OwnSession<T, B>,
+    is_seen: &AtomicBool,
+)
+    ensures seat { B.seat session.new.board ≡ B.seat session.old.board }
+{
+    for _ in rt.forever() {
+        if is_seen.load(Ordering::SeqCst) {
+            return;
+        }
+        go_past_slots(rt, session);
+    }
+}
+
+/// One goes past the slots of the other, until that one finds them busy. At the end nothing stands.
+pub fn find_slots_busy<
+    T: PartTable + Drop + Send,
+    B: Board<T> + Drop + Send,
+    R: Abort + Threads + Wait + Sync,
+>(rt: &R, pair: Pair<T, B>) -> Pair<T, B>
+    ensures first { B.seat result.first.board ≡ B.seat pair.first.board }
+    ensures second { B.seat result.second.board ≡ B.seat pair.second.board }
+{
+    let (mut pair, _, _) = act_side_by_side(rt, pair, Deed::TryUntilBusy, Deed::TakeUntilSeen);
+    see_nothing(rt, &mut pair.first);
+    pair
+}
