@@ -1,4 +1,5 @@
 pub mod CrewLemmas
+mod CommandLemmas
 mod Gathering
 mod Known
 mod NameOrder

@@ -1,9 +1,8 @@
 //! The commands of the script language, and the parse of their words.
-ghost use Rattle.std.specs.Prelude.{◌≡◌, ◌≢◌, ◌<◌, ◌↔◌, ◌⊎◌, length, map, take, None, Some, IfOk, IfErr, IfSome, IsErrOf, MatchOption};
+ghost use Rattle.std.specs.Prelude.{◌≡◌, ◌≢◌, ◌↔◌, ◌⊎◌, length, map, take, None, Some, IfOk, IfErr, IfSome, IsErrOf, MatchOption};
 ghost use Rattle.std.specs.List.{HoldsAt};
 ghost use Rattle.modes_core.specs.Mode.{name_of};
 ghost use Rattle.lock_script.specs.Command.{Addresses, IsBarred, IsNoTarget, IsUnnamed, NamesCounter, NamesOneThatMayAct, NamesOpen, NamesSpeaker};
-ghost use Rattle.lock_script.specs.Crew.{IsThere, IsUnknown, MayAct};
 ghost use Rattle.lock_script.specs.Meaning.{IsCommandOf, IsSilent, Means, NamesActor, NamesBoth, NamesCount, NamesLone, NamesNew, NamesOwned, NamesTag};
 ghost use Rattle.lock_script.specs.Words.{strong_index_in, tag_of, words_of};
 
@@ -71,24 +70,40 @@ pub fn parse<S: Drop, W: Drop>(line: &str, crew: &Crew<S, W>) -> Result<Option<C
     if verb.starts_with('#') {
         return Ok(None);
     }
-    parse_command(*verb, words, crew).map(Some)
+    let command = parse_command(*verb, words, crew)?;
+    Ok(Some(command))
 }
 
-/// The command of this first word and the words behind it.
+/// The command of this first word and the words behind it. Here are those that open or close a session or end a
+/// transaction.
 fn parse_command<S: Drop, W: Drop>(
     verb: &str,
     words: &[&str],
     crew: &Crew<S, W>,
 ) -> Result<Command, Defect>
-    ensures addressed { IfOk result (Addresses crew.now) }
-    ensures counter { IfOk result NamesCounter }
-    ensures meaning { IfOk result (IsCommandOf crew.now verb.now (map (λ word. word.now) words.now)) }
+    ensures { IfOk result (IsCommandOf crew.now verb.now (map (λ word. word.now) words.now)) }
 {
     match verb {
         "session" => {
             let (name, database) = parse_session(words, crew)?;
             Ok(Command::Session { name, database })
         }
+        "commit" => Ok(Command::Commit(parse_lone_speaker(words, crew)?)),
+        "abort" => Ok(Command::Abort(parse_lone_speaker(words, crew)?)),
+        "close" => Ok(Command::Close(parse_lone_speaker(words, crew)?)),
+        _ => parse_lock_command(verb, words, crew),
+    }
+}
+
+/// The same of the commands that ask for a lock, let one go or end a wait for one.
+fn parse_lock_command<S: Drop, W: Drop>(
+    verb: &str,
+    words: &[&str],
+    crew: &Crew<S, W>,
+) -> Result<Command, Defect>
+    ensures { IfOk result (IsCommandOf crew.now verb.now (map (λ word. word.now) words.now)) }
+{
+    match verb {
         "try" => {
             let (target, owner) = parse_owned_target(words, crew)?;
             Ok(Command::Try(target, owner))
@@ -109,24 +124,33 @@ fn parse_command<S: Drop, W: Drop>(
             let (by, other) = parse_cancel(words, crew)?;
             Ok(Command::Cancel(by, other))
         }
+        _ => parse_look_command(verb, words, crew),
+    }
+}
+
+/// The same of the commands that only look.
+fn parse_look_command<S: Drop, W: Drop>(
+    verb: &str,
+    words: &[&str],
+    crew: &Crew<S, W>,
+) -> Result<Command, Defect>
+    ensures { IfOk result (IsCommandOf crew.now verb.now (map (λ word. word.now) words.now)) }
+{
+    match verb {
+        "owned" => Ok(Command::Owned(parse_lone_target(words, crew)?)),
+        "waiters" => Ok(Command::Waiters(parse_lone_target(words, crew)?)),
+        "list" => Ok(Command::List(parse_lone_speaker(words, crew)?)),
         "count" => {
             let (speaker, index) = parse_count(words, crew)?;
             Ok(Command::Count(speaker, index))
         }
-        "commit" => Ok(Command::Commit(parse_lone_speaker(words, crew)?)),
-        "abort" => Ok(Command::Abort(parse_lone_speaker(words, crew)?)),
-        "owned" => Ok(Command::Owned(parse_lone_target(words, crew)?)),
-        "waiters" => Ok(Command::Waiters(parse_lone_target(words, crew)?)),
-        "list" => Ok(Command::List(parse_lone_speaker(words, crew)?)),
         "hash" => Ok(Command::Hash(parse_hash(words)?)),
-        "close" => Ok(Command::Close(parse_lone_speaker(words, crew)?)),
         _ => Err(Defect::UnknownCommand),
     }
 }
 
 /// The words behind `session`: a name that no open session has, and a number.
 fn parse_session<S: Drop, W: Drop>(words: &[&str], crew: &Crew<S, W>) -> Result<(Name, u32), Defect>
-    ensures free { IfOk result (λ parsed. IsUnknown crew.now parsed.0.bytes) }
     ensures named { IfOk result (λ parsed.
         NamesNew crew.now (map (λ word. word.now) words.now) parsed.0 parsed.1) }
 {
@@ -146,7 +170,6 @@ fn parse_owned_target<S: Drop, W: Drop>(
     words: &[&str],
     crew: &Crew<S, W>,
 ) -> Result<(Target, Owner), Defect>
-    ensures may_act { IfOk result (λ parsed. MayAct crew.now parsed.0.speaker.place) }
     ensures named { IfOk result (λ parsed.
         NamesOwned crew.now (map (λ word. word.now) words.now) parsed.0 parsed.1) }
 {
@@ -166,7 +189,6 @@ fn parse_owned_target<S: Drop, W: Drop>(
 
 /// The words behind `owned` and `waiters`.
 fn parse_lone_target<S: Drop, W: Drop>(words: &[&str], crew: &Crew<S, W>) -> Result<Target, Defect>
-    ensures may_act { IfOk result (λ target. MayAct crew.now target.speaker.place) }
     ensures named { IfOk result (NamesLone crew.now (map (λ word. word.now) words.now)) }
 {
     let [name, tag, mode] = words else {
@@ -182,7 +204,6 @@ fn parse_target<S: Drop, W: Drop>(
     mode: &str,
     crew: &Crew<S, W>,
 ) -> Result<Target, Defect>
-    ensures may_act { IfOk result (λ target. MayAct crew.now target.speaker.place) }
     ensures named { IfOk result (λ target. NamesSpeaker crew.now name.now target.speaker) }
     ensures tag { IfOk result (λ target. tag_of tag.now ≡ Some target.tag) }
     ensures mode { IfOk result (λ target. name_of target.mode ≡ mode.now) }
@@ -199,7 +220,6 @@ fn parse_lone_speaker<S: Drop, W: Drop>(
     words: &[&str],
     crew: &Crew<S, W>,
 ) -> Result<Speaker, Defect>
-    ensures may_act { IfOk result (λ speaker. MayAct crew.now speaker.place) }
     ensures named { IfOk result (NamesActor crew.now (map (λ word. word.now) words.now)) }
 {
     let [name] = words else {
@@ -223,8 +243,6 @@ fn parse_count<S: Drop, W: Drop>(
     words: &[&str],
     crew: &Crew<S, W>,
 ) -> Result<(Speaker, u16), Defect>
-    ensures may_act { IfOk result (λ parsed. MayAct crew.now parsed.0.place) }
-    ensures exists { IfOk result (λ parsed. parsed.1 < 1024) }
     ensures named { IfOk result (λ parsed.
         NamesCount crew.now (map (λ word. word.now) words.now) parsed.0 parsed.1) }
     ensures wrong_number { IsErrOf result Defect.WrongNumberOfWords ↔ (length words.now ≢ 2) }
@@ -247,8 +265,6 @@ fn parse_cancel<S: Drop, W: Drop>(
     words: &[&str],
     crew: &Crew<S, W>,
 ) -> Result<(Speaker, Opened), Defect>
-    ensures addressed { IfOk result (λ parsed.
-        MayAct crew.now parsed.0.place × IsThere crew.now parsed.1.place) }
     ensures named { IfOk result (λ parsed.
         NamesBoth crew.now (map (λ word. word.now) words.now) parsed.0 parsed.1) }
     ensures wrong_number { IsErrOf result Defect.WrongNumberOfWords ↔ (length words.now ≢ 2) }
@@ -267,7 +283,6 @@ fn parse_cancel<S: Drop, W: Drop>(
 
 /// The session that a word names. It may not wait.
 fn parse_speaker<S: Drop, W: Drop>(name: &str, crew: &Crew<S, W>) -> Result<Speaker, Defect>
-    ensures may_act { IfOk result (λ speaker. MayAct crew.now speaker.place) }
     ensures named { IfOk result (NamesSpeaker crew.now name.now) }
     ensures refused { IfErr result (IsBarred crew.now name.now) }
 {
@@ -281,7 +296,6 @@ fn parse_speaker<S: Drop, W: Drop>(name: &str, crew: &Crew<S, W>) -> Result<Spea
 /// The session that a word names, whether it waits or not.
 fn parse_opened<S: Drop, W: Drop>(name: &str, crew: &Crew<S, W>) -> Result<Opened, Defect>
     ensures named { IfOk result (NamesOpen crew.now name.now) }
-    ensures there { IfOk result (λ opened. IsThere crew.now opened.place) }
     ensures refused { IfErr result (IsUnnamed crew.now name.now) }
 {
     let name = parse_name(name).ok_or(Defect::BadName)?;
