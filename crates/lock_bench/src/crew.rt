@@ -1,16 +1,18 @@
 //! Sessions in threads of their own, and the same work on a map in a mutex.
 
-ghost use Rattle.std.specs.Prelude.{◌≡◌};
+ghost use Rattle.std.specs.Prelude.{◌≡◌, ◌+◌, ◌-◌, IfOk, OnOk, OnErr};
+ghost use Rattle.lock_manager.specs.Managers.{IsOpenerOf};
 
 use crate::keys::Key;
 use crate::pair::Pair;
 use crate::rounds::Spread;
 use crate::session_loops::lock_pairs;
 use crate::shared_map::{SharedMap, map_pairs};
-use lock_manager::{OwnSession, Refusal};
+use lock_manager::{Manager, Opener, OwnSession, Refusal};
 use lock_table::PlainPart;
 use modes_core::Owner;
 use shared_rule::board::Board;
+use shared_rule::seat_board::SeatBoard;
 use std::sync::Wait;
 use std::thread::{Threads, join, join_mut};
 
@@ -48,14 +50,51 @@ pub struct Crew<B: Board<PlainPart>> {
     pub right: Pair<PlainPart, B>,
 }
 
-impl<B: Board<PlainPart>> Crew<B> {
-    /// What the table has, by the first session.
-    pub fn holds<R: Wait>(&mut self, rt: &R) -> Result<usize, Refusal>
-        ensures first { B.seat self.new.left.first.board ≡ B.seat self.old.left.first.board }
-        ensures second { self.new.left.second ≡ self.old.left.second }
-        ensures right { self.new.right ≡ self.old.right }
+impl<'a> Crew<SeatBoard<'a, PlainPart>> {
+    /// Four sessions of a manager. Where one of them is refused none of them is open.
+    pub fn open<R: Wait>(
+        rt: &R,
+        manager: &'a Manager,
+        opener: &mut Opener,
+        database: u32,
+    ) -> Result<Self, Refusal>
+        requires own { IsOpenerOf opener.old manager.now }
+        ensures first { let B = ⟦<SeatBoard<'a, PlainPart> as Board<PlainPart>>⟧ in
+            IfOk result (λ crew. (B.seat crew.left.first.board).table ≡ opener.old.table) }
+        ensures second { let B = ⟦<SeatBoard<'a, PlainPart> as Board<PlainPart>>⟧ in
+            IfOk result (λ crew. (B.seat crew.left.second.board).table ≡ opener.old.table) }
+        ensures third { let B = ⟦<SeatBoard<'a, PlainPart> as Board<PlainPart>>⟧ in
+            IfOk result (λ crew. (B.seat crew.right.first.board).table ≡ opener.old.table) }
+        ensures fourth { let B = ⟦<SeatBoard<'a, PlainPart> as Board<PlainPart>>⟧ in
+            IfOk result (λ crew. (B.seat crew.right.second.board).table ≡ opener.old.table) }
+        ensures live { OnOk result (opener.new.live ≡ opener.old.live + 4) }
+        ensures refused { OnErr result (opener.new.live ≡ opener.old.live) }
+        ensures own { IsOpenerOf opener.new manager.now }
+        ensures table { opener.new.table ≡ opener.old.table }
     {
-        Ok(self.left.first.list(rt)?.table.len())
+        let left = Pair::open(rt, manager, opener, database)?;
+        match Pair::open(rt, manager, opener, database) {
+            Ok(right) => Ok(Crew { left, right }),
+            Err(refusal) => {
+                left.close(rt, opener);
+                Err(refusal)
+            }
+        }
+    }
+
+    /// Closes all four.
+    pub fn close<R: Wait>(self, rt: &R, opener: &mut Opener)
+        requires first { (⟦<SeatBoard<'a, PlainPart> as Board<PlainPart>>⟧.seat self.left.first.board).table ≡ opener.old.table }
+        requires second { (⟦<SeatBoard<'a, PlainPart> as Board<PlainPart>>⟧.seat self.left.second.board).table ≡ opener.old.table }
+        requires third { (⟦<SeatBoard<'a, PlainPart> as Board<PlainPart>>⟧.seat self.right.first.board).table ≡ opener.old.table }
+        requires fourth { (⟦<SeatBoard<'a, PlainPart> as Board<PlainPart>>⟧.seat self.right.second.board).table ≡ opener.old.table }
+        ensures live { opener.new.live ≡ opener.old.live - 4 }
+        ensures table { opener.new.table ≡ opener.old.table }
+        ensures limit { opener.new.limit ≡ opener.old.limit }
+    {
+        let Crew { left, right } = self;
+        left.close(rt, opener);
+        right.close(rt, opener);
     }
 }
 

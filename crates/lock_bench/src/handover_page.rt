@@ -1,11 +1,18 @@
 //! The page of handover.
 
+ghost use Rattle.std.specs.Prelude.{◌≡◌};
+
 use crate::pair::Pair;
-use crate::rounds::{ROUNDS, Times, WIDTH, print_header, print_ratio, print_time, wall_nanos};
+use crate::rounds::{
+    ROUNDS, Spread, Times, WIDTH, print_header, print_ratio, print_time, wall_nanos,
+};
 use crate::turns::{Plan, pass_lock, pass_turn};
 use anyhow::{Result, bail};
 use lock_manager::{Config, Manager};
+use lock_table::PlainPart;
 use modes_core::{Mode, Owner, Tag};
+use shared_rule::board::Board;
+use std::io;
 use std::sync::Wait;
 use std::thread::Threads;
 use std::time::Clock;
@@ -40,16 +47,29 @@ fn play<R: Threads + Wait + Clock + AllocGlobal + Sync>(
     };
     let (manager, mut opener) = Manager::new(rt.alloc(), config)?;
     let pair = Pair::open(rt, &manager, &mut opener, database)?;
-    let from = wall_nanos(rt).ok();
-    let (pair, granted) = pass_lock(rt, pair, plan);
-    let to = wall_nanos(rt).ok();
+    let (pair, granted, nanos) = time_lock(rt, pair, plan);
     pair.close(rt, &mut opener);
     let left = manager.finish(opener).table;
     Ok(Round {
-        nanos: nanos_between(from, to)?,
+        nanos: nanos?,
         granted,
         left,
     })
+}
+
+/// Both sessions' turns: how many of them were granted, and the nanoseconds that they took.
+fn time_lock<B: Board<PlainPart> + Drop + Send, R: Threads + Wait + Clock + Sync>(
+    rt: &R,
+    pair: Pair<PlainPart, B>,
+    plan: Plan,
+) -> (Pair<PlainPart, B>, u64, Result<u64>)
+    ensures first { B.seat result.0.first.board ≡ B.seat pair.first.board }
+    ensures second { B.seat result.0.second.board ≡ B.seat pair.second.board }
+{
+    let from = wall_nanos(rt).ok();
+    let (pair, granted) = pass_lock(rt, pair, plan);
+    let to = wall_nanos(rt).ok();
+    (pair, granted, nanos_between(from, to))
 }
 
 /// The nanoseconds between two readings of the clock.
@@ -72,15 +92,24 @@ fn time<R: Threads + Wait + Clock + AllocGlobal + Print + Sync>(
     for number in 0..ROUNDS {
         let round = play(rt, database, plan)?;
         of_lock.note(number, round.nanos, round.granted.saturating_sub(1));
-        let from = wall_nanos(rt)?;
-        pass_turn(rt, plan.turns);
-        let to = wall_nanos(rt)?;
-        of_turn.note(number, to.saturating_sub(from), turns);
+        of_turn.note(number, time_turns(rt, plan.turns)?, turns);
     }
-    print_time(rt, WIDTH, LOCK, of_lock.spread())?;
-    print_time(rt, WIDTH, TURN, of_turn.spread())?;
-    print_ratio(rt, "to that", of_lock.spread(), of_turn.spread())?;
+    print_times(rt, of_lock.spread(), of_turn.spread())?;
     Ok(())
+}
+
+/// The nanoseconds of so many turns of each.
+fn time_turns<R: Threads + Wait + Clock + Sync>(rt: &R, turns: u32) -> Result<u64> {
+    let from = wall_nanos(rt)?;
+    pass_turn(rt, turns);
+    let to = wall_nanos(rt)?;
+    Ok(to.saturating_sub(from))
+}
+
+fn print_times<R: Print>(rt: &R, of_lock: Spread, of_turn: Spread) -> io::Result<()> {
+    print_time(rt, WIDTH, LOCK, of_lock)?;
+    print_time(rt, WIDTH, TURN, of_turn)?;
+    print_ratio(rt, "to that", of_lock, of_turn)
 }
 
 /// Makes one round, and tells what it leaves.

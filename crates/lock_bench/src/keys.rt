@@ -10,7 +10,7 @@ const NEW_KEYS: u32 = 1_000;
 /// How many locks a commit ends.
 const COMMITTED: u32 = 10;
 
-const MODES: [Mode; 8] = [
+static MODES: [Mode; 8] = [
     Mode::AccessShare,
     Mode::RowShare,
     Mode::RowExclusive,

@@ -9,11 +9,11 @@ use crate::rows::Line;
 use anyhow::{Result, ensure};
 use local_locks::LocalTable;
 use modes_core::Owner;
-use std::alloc::Global;
+use std::alloc::{AllocError, Global};
 use std::collections::HashMap;
 
 /// What is told where a call is refused that should not be.
-pub const REFUSED: &str = "a call of the local table was refused";
+const REFUSED: &str = "a call of the local table was refused";
 
 /// What a row does with each key of its list.
 #[derive(Clone, Copy)]
@@ -45,21 +45,34 @@ pub struct Bed {
     owner: Owner,
 }
 
+/// A table that holds the keys.
+pub fn table_with(alloc: Global, keys: &[Key], owner: Owner) -> Result<LocalTable> {
+    let mut table = LocalTable::new(alloc, 65536)?;
+    let done = acquire_all(&mut table, keys, owner);
+    ensure!(done, "{REFUSED}");
+    Ok(table)
+}
+
+/// A map that holds the keys.
+fn map_with(alloc: Global, keys: &[Key]) -> Result<KeyMap, AllocError> {
+    let mut map = HashMap::new(alloc);
+    for (tag, mode) in keys {
+        insert(&mut map, tag, *mode, 0)?;
+    }
+    Ok(map)
+}
+
 impl Bed {
     /// With as many keys held as the size says.
     pub fn new(alloc: Global, database: u32, owner: Owner, size: Size) -> Result<Self> {
-        let mut bed = Bed {
-            held: KeyList::Held.keys(alloc, database, size)?,
-            table: LocalTable::new(alloc, 65536)?,
-            map: HashMap::new(alloc),
+        let held = KeyList::Held.keys(alloc, database, size)?;
+        let table = table_with(alloc, held.as_slice(), owner)?;
+        Ok(Bed {
+            map: map_with(alloc, held.as_slice())?,
+            held,
+            table,
             owner,
-        };
-        let done = acquire_all(&mut bed.table, bed.held.as_slice(), owner);
-        ensure!(done, "{REFUSED}");
-        for (tag, mode) in &bed.held {
-            insert(&mut bed.map, tag, *mode, 0)?;
-        }
-        Ok(bed)
+        })
     }
 
     /// A round of the row, and what it counts.

@@ -1,20 +1,21 @@
 //! The page of the local table.
 use crate::keys::{Key, KeyList, Size};
-use crate::local_bed::{Bed, REFUSED, Work};
-use crate::loops::{acquire_all, end_all};
+use crate::local_bed::{Bed, Work, table_with};
+use crate::loops::end_all;
 use crate::rounds::{ROUNDS, Spread, Times, cpu_nanos, print_header, print_ratio, print_time};
 use crate::rows::{Line, Row, STEPS, laps_of, lines, print_times, time_of};
-use anyhow::{Result, ensure};
+use anyhow::Result;
 use local_locks::{End, LocalTable};
 use modes_core::Owner;
 use std::alloc::Global;
+use std::io;
 use std::time::CpuClock;
 
 /// How many entries are held.
-const SIZES: [u32; 4] = [10, 100, 1_000, 10_000];
+static SIZES: [u32; 4] = [10, 100, 1_000, 10_000];
 
 /// The same where nothing is timed.
-const CHECKED_SIZES: [u32; 2] = [10, 100];
+static CHECKED_SIZES: [u32; 2] = [10, 100];
 
 /// How many entries a round of commits takes away, at least.
 const COMMITTED: u32 = 10_000;
@@ -133,8 +134,8 @@ pub fn print<R: CpuClock + AllocGlobal + Print>(
     check: bool,
 ) -> Result<()> {
     if check {
-        for held in CHECKED_SIZES {
-            print_size(rt, database, owner, held, check)?;
+        for held in &CHECKED_SIZES {
+            print_size(rt, database, owner, *held, check)?;
         }
         return Ok(());
     }
@@ -143,8 +144,8 @@ pub fn print<R: CpuClock + AllocGlobal + Print>(
         "local table",
         "of the thread's processor time with the empty loop taken off",
     )?;
-    for held in SIZES {
-        print_size(rt, database, owner, held, check)?;
+    for held in &SIZES {
+        print_size(rt, database, owner, *held, check)?;
     }
     Ok(())
 }
@@ -175,24 +176,38 @@ fn print_size<R: CpuClock + AllocGlobal + Print>(
 /// Times every row, each once in a round.
 fn time_rows<R: CpuClock>(rt: &R, bed: &mut Bed, lines: &mut [Line<Work>]) -> Result<()> {
     for round in 0..ROUNDS {
-        for line in lines.iter_mut() {
-            let from = cpu_nanos(rt)?;
-            bed.run(line)?;
-            let to = cpu_nanos(rt)?;
-            line.note(round, to.saturating_sub(from));
-        }
+        time_round(rt, bed, lines, round)?;
     }
     Ok(())
+}
+
+/// Times every row once, in the round with this number.
+fn time_round<R: CpuClock>(
+    rt: &R,
+    bed: &mut Bed,
+    lines: &mut [Line<Work>],
+    round: usize,
+) -> Result<()> {
+    for line in lines.iter_mut() {
+        let nanos = time_row(rt, bed, line)?;
+        line.note(round, nanos);
+    }
+    Ok(())
+}
+
+/// The nanoseconds of a round of the row.
+fn time_row<R: CpuClock>(rt: &R, bed: &mut Bed, line: &Line<Work>) -> Result<u64> {
+    let from = cpu_nanos(rt)?;
+    bed.run(line)?;
+    let to = cpu_nanos(rt)?;
+    Ok(to.saturating_sub(from))
 }
 
 /// Tables that hold the keys.
 fn filled(alloc: Global, keys: &[Key], count: u32) -> Result<Vec<LocalTable>> {
     let mut tables = Vec::new(alloc);
     for _ in 0..count {
-        let mut table = LocalTable::new(alloc, 65536)?;
-        let done = acquire_all(&mut table, keys, Owner::Transaction);
-        ensure!(done, "{REFUSED}");
-        tables.push(table)?;
+        tables.push(table_with(alloc, keys, Owner::Transaction)?)?;
     }
     Ok(tables)
 }
@@ -227,21 +242,16 @@ fn print_rows<R: Print>(rt: &R, lines: &[Line<Work>], commit: Spread, held: u32)
     print_time(rt, WIDTH, "commit, for each entry", commit)?;
     let look_up = time_of(lines, MAP_LOOK_UP);
     let map_pair = time_of(lines, MAP_PAIR);
-    for (what, part, whole) in [
-        (
-            "held pair to a look-up of the map",
-            time_of(lines, HELD_PAIR),
-            look_up,
-        ),
-        (
-            "new pair to an insert with its removal",
-            time_of(lines, NEW_PAIR),
-            map_pair,
-        ),
-        ("commit of an entry to that", commit, map_pair),
-    ] {
-        print_ratio(rt, what, part, whole)?;
-    }
+    let held_pair = time_of(lines, HELD_PAIR);
+    let new_pair = time_of(lines, NEW_PAIR);
+    print_ratio(rt, "held pair to a look-up of the map", held_pair, look_up)?;
+    print_ratio(
+        rt,
+        "new pair to an insert with its removal",
+        new_pair,
+        map_pair,
+    )?;
+    print_ratio(rt, "commit of an entry to that", commit, map_pair)?;
     Ok(())
 }
 
@@ -249,16 +259,31 @@ fn print_rows<R: Print>(rt: &R, lines: &[Line<Work>], commit: Spread, held: u32)
 fn check_rows<R: AllocGlobal + Print>(rt: &R, bed: &mut Bed, lines: &[Line<Work>]) -> Result<()> {
     let before = bed.entries();
     for line in lines {
-        let name = line.name;
-        let steps = line.steps();
         let counted = bed.run(line)?;
-        let after = bed.entries();
-        println!(rt;
-            "{before} held, {name}: {steps} steps, counted {counted}, entries {before} and {after}"
-        )?;
+        print_checked(rt, line, counted, before, bed.entries())?;
     }
-    let mut tables = filled(rt.alloc(), bed.held.as_slice(), 2)?;
-    let ended = commit_all(tables.as_mut_slice());
+    let ended = two_commits(rt.alloc(), bed.held.as_slice())?;
     println!(rt; "{before} held, two commits: {ended} ended")?;
     Ok(())
+}
+
+/// Tells what a row's steps counted, and how many entries there were before and after.
+fn print_checked<R: Print>(
+    rt: &R,
+    line: &Line<Work>,
+    counted: u64,
+    before: usize,
+    after: usize,
+) -> io::Result<()> {
+    let name = line.name;
+    let steps = line.steps();
+    println!(rt;
+        "{before} held, {name}: {steps} steps, counted {counted}, entries {before} and {after}"
+    )
+}
+
+/// Commits in two tables that hold the keys, and gives how many entries that took away.
+fn two_commits(alloc: Global, held: &[Key]) -> Result<u64> {
+    let mut tables = filled(alloc, held, 2)?;
+    Ok(commit_all(tables.as_mut_slice()))
 }

@@ -33,7 +33,7 @@ use std::sync::Wait;
 use std::thread::Threads;
 use std::time::{Clock, CpuClock};
 
-const PAGES: [&str; 5] = ["local", "manager", "fast", "threads", "handover"];
+static PAGES: [&str; 5] = ["local", "manager", "fast", "threads", "handover"];
 
 /// The status of pages that were printed, and of a text that was asked for.
 const SUCCESS: u8 = 0;
@@ -53,28 +53,42 @@ struct Wanted {
 
 /// What the words ask for. Refused words and a call for help are an error.
 fn parse<'a>(alloc: Global, words: &'a [String]) -> Result<Wanted, clap::Error> {
-    let matches = Command::new(alloc, "lock_bench")
-        .about("Times the parts of the lock manager")
-        .arg(
-            Arg::new(alloc, "page")
-                .value_name("PAGE")
-                .value_parser(PAGES.as_slice())
-                .help(
-                    "The local table, the lock manager on one thread, its fast path, it in threads, or a lock handed over; all if left out",
-                ),
-        )?
-        .arg(
-            Arg::new(alloc, "check")
-                .long("check")
-                .action(ArgAction::SetTrue)
-                .help("A small fixed run, with no times in its output"),
-        )?
-        .try_get_matches_from(words)?;
-    let page = matches.get_str("page");
+    let matches = command(alloc)?.try_get_matches_from(words)?;
     Ok(Wanted {
         check: matches.get_flag("check"),
-        pages: PAGES.map(|name| page.is_none() || page == Some(name)),
+        pages: pages_of(matches.get_str("page")),
     })
+}
+
+/// What words there can be.
+fn command<'a>(alloc: Global) -> Result<Command<'a>, clap::Error> {
+    let page = Arg::new(alloc, "page")
+        .value_name("PAGE")
+        .value_parser(PAGES.as_slice())
+        .help(
+            "The local table, the lock manager on one thread, its fast path, it in threads, or a lock handed over; all if left out",
+        );
+    let check = Arg::new(alloc, "check")
+        .long("check")
+        .action(ArgAction::SetTrue)
+        .help("A small fixed run, with no times in its output");
+    Ok(
+        Command::new(alloc, "lock_bench")
+            .about("Times the parts of the lock manager")
+            .arg(page)?
+            .arg(check)?,
+    )
+}
+
+/// The page of this name, or all where none is named.
+fn pages_of(name: Option<&str>) -> [bool; 5] {
+    let mut pages = [name.is_none(); 5];
+    for number in 0..5 {
+        if name == Some(PAGES[number]) {
+            pages[number] = true;
+        }
+    }
+    pages
 }
 
 /// Prints the pages. The status is 0, 2 for refused words, and 1 for any other fault.

@@ -15,6 +15,16 @@ pub struct Pair<T: PartTable, B: Board<T>> {
     pub second: OwnSession<T, B>,
 }
 
+impl<T: PartTable, B: Board<T>> Pair<T, B> {
+    /// How many holds the table has, by the first session.
+    pub fn holds<R: Wait>(&mut self, rt: &R) -> Result<usize, Refusal>
+        ensures first { B.seat self.new.first.board ≡ B.seat self.old.first.board }
+        ensures second { self.new.second ≡ self.old.second }
+    {
+        Ok(self.first.list(rt)?.table.len())
+    }
+}
+
 impl<'a> Pair<PlainPart, SeatBoard<'a, PlainPart>> {
     /// Two sessions of a manager. Where one of them is refused none of them is open.
     pub fn open<R: Wait>(

@@ -16,8 +16,9 @@ use crate::shared_map::{SharedMap, count_held, map_all, map_and_uncount, map_pai
 use anyhow::Result;
 use lock_manager::OwnSession;
 use lock_table::PartTable;
-use modes_core::Owner;
+use modes_core::{Owner, Refusal};
 use shared_rule::board::Board;
+use std::alloc::AllocError;
 use std::collections::HashMap;
 use std::sync::{Mutex, Wait};
 use std::time::CpuClock;
@@ -57,38 +58,55 @@ pub enum Work {
     StrongFloor,
 }
 
-/// A map in a mutex, the words of the floors, and the keys of the other session.
+/// A map in a mutex, the words of the floors, and what the other session has where a slot is to be refused.
 #[derive(Drop)]
 pub struct Bed {
     map: SharedMap,
     words: Words,
     owner: Owner,
-    /// What it has throughout.
-    pub of_other: Vec<Key>,
-    /// What it has where a slot is to be refused.
     few_strong: Vec<Key>,
 }
 
+/// A map that has the keys of the list.
+fn add_to_map<R: Wait + AllocGlobal>(
+    rt: &R,
+    map: &SharedMap,
+    list: KeyList,
+    database: u32,
+    size: Size,
+) -> Result<(), AllocError> {
+    let keys = list.keys(rt.alloc(), database, size)?;
+    map_all(rt, map, keys.as_slice())
+}
+
+/// A map that has what the other session has throughout, and the few relations.
+fn map_of<R: Wait + AllocGlobal>(
+    rt: &R,
+    database: u32,
+    size: Size,
+) -> Result<SharedMap, AllocError> {
+    let map: SharedMap = Mutex::new(HashMap::new(rt.alloc()));
+    add_to_map(rt, &map, KeyList::OfOther, database, size)?;
+    add_to_map(rt, &map, KeyList::Few, database, size)?;
+    Ok(map)
+}
+
 impl Bed {
-    /// The map has what the other session is to have, and the few relations.
+    /// What a manager of this size is timed with.
     pub fn new<R: Wait + AllocGlobal>(
         rt: &R,
         database: u32,
         owner: Owner,
         size: Size,
-    ) -> Result<Self> {
-        let alloc = rt.alloc();
-        let few = KeyList::Few.keys(alloc, database, size)?;
-        let bed = Bed {
-            map: Mutex::new(HashMap::new(alloc)),
-            words: Words::new(alloc, size.sessions)?,
+    ) -> Result<Self, AllocError> {
+        let few_strong = KeyList::FewStrong.keys(rt.alloc(), database, size)?;
+        let words = Words::new(rt.alloc(), size.sessions)?;
+        Ok(Bed {
+            map: map_of(rt, database, size)?,
+            words,
             owner,
-            of_other: KeyList::OfOther.keys(alloc, database, size)?,
-            few_strong: KeyList::FewStrong.keys(alloc, database, size)?,
-        };
-        map_all(rt, &bed.map, bed.of_other.as_slice())?;
-        map_all(rt, &bed.map, few.as_slice())?;
-        Ok(bed)
+            few_strong,
+        })
     }
 
     /// The steps of a row that is timed as a whole, and what they count.
@@ -129,24 +147,52 @@ impl Bed {
         ensures first { B.seat pair.new.first.board ≡ B.seat pair.old.first.board }
         ensures second { B.seat pair.new.second.board ≡ B.seat pair.old.second.board }
     {
-        let Pair { first, second } = pair;
         let keys = line.keys.as_slice();
-        match line.work {
-            Work::TwoReadings => return Ok((readings(rt, line.laps)?, 0)),
-            Work::Commit => return Ok((lock_and_commit(rt, first, keys, line.laps)?, 0)),
-            Work::MapCommit => return Ok((map_and_uncount(rt, &self.map, keys, line.laps)?, 0)),
-            Work::HeldPair => lock_all(rt, first, keys, Owner::Transaction)?,
-            Work::RefusedBySlot => {
-                lock_all(rt, second, self.few_strong.as_slice(), Owner::Transaction)?
-            }
-            _ => {}
-        }
+        let nanos = match line.work {
+            Work::TwoReadings => readings(rt, line.laps)?,
+            Work::Commit => lock_and_commit(rt, &mut pair.first, keys, line.laps)?,
+            Work::MapCommit => map_and_uncount(rt, &self.map, keys, line.laps)?,
+            _ => return self.time_whole(rt, pair, line),
+        };
+        Ok((nanos, 0))
+    }
+
+    /// The same of a row that is timed as a whole.
+    fn time_whole<T: PartTable, B: Board<T>, R: Wait + CpuClock>(
+        &self,
+        rt: &R,
+        pair: &mut Pair<T, B>,
+        line: &Line<Work>,
+    ) -> Result<(u64, u64)>
+        ensures first { B.seat pair.new.first.board ≡ B.seat pair.old.first.board }
+        ensures second { B.seat pair.new.second.board ≡ B.seat pair.old.second.board }
+    {
+        self.prepare(rt, pair, line)?;
         let from = cpu_nanos(rt)?;
-        let counted = self.run(rt, first, line)?;
+        let counted = self.run(rt, &mut pair.first, line)?;
         let to = cpu_nanos(rt)?;
-        commit(rt, first);
-        commit(rt, second);
+        commit(rt, &mut pair.first);
+        commit(rt, &mut pair.second);
         Ok((to.saturating_sub(from), counted))
+    }
+
+    /// Takes what one of the two has while the row is timed.
+    fn prepare<T: PartTable, B: Board<T>, R: Wait>(
+        &self,
+        rt: &R,
+        pair: &mut Pair<T, B>,
+        line: &Line<Work>,
+    ) -> Result<(), Refusal>
+        ensures first { B.seat pair.new.first.board ≡ B.seat pair.old.first.board }
+        ensures second { B.seat pair.new.second.board ≡ B.seat pair.old.second.board }
+    {
+        let few_strong = self.few_strong.as_slice();
+        let owner = Owner::Transaction;
+        match line.work {
+            Work::HeldPair => lock_all(rt, &mut pair.first, line.keys.as_slice(), owner),
+            Work::RefusedBySlot => lock_all(rt, &mut pair.second, few_strong, owner),
+            _ => Ok(()),
+        }
     }
 }
 

@@ -2,14 +2,14 @@
 
 ghost use Rattle.std.specs.Prelude.{◌≡◌};
 
-use crate::keys::Size;
+use crate::keys::{KeyList, Size};
 use crate::pair::Pair;
 use crate::rounds::{ROUNDS, WIDTH, print_header};
 use crate::rows::{Line, Row, lines, print_ratios, print_times};
 use crate::session_bed::{Bed, Work};
 use crate::session_loops::lock_all;
 use anyhow::Result;
-use lock_manager::{Config, Manager};
+use lock_manager::{Config, Manager, OwnSession};
 use lock_table::PartTable;
 use modes_core::Owner;
 use shared_rule::board::Board;
@@ -89,18 +89,41 @@ fn print_pair<T: PartTable, B: Board<T>, R: Wait + CpuClock + AllocGlobal + Prin
     ensures first { B.seat pair.new.first.board ≡ B.seat pair.old.first.board }
     ensures second { B.seat pair.new.second.board ≡ B.seat pair.old.second.board }
 {
+    hold_of_other(rt, &mut pair.second, page.database, size)?;
     let bed = Bed::new(rt, page.database, page.owner, size)?;
+    print_bed(rt, pair, &bed, page, size)
+}
+
+/// Takes what the other session has throughout.
+fn hold_of_other<T: PartTable, B: Board<T>, R: Wait + AllocGlobal>(
+    rt: &R,
+    session: &mut OwnSession<T, B>,
+    database: u32,
+    size: Size,
+) -> Result<()>
+    ensures seat { B.seat session.new.board ≡ B.seat session.old.board }
+{
+    let keys = KeyList::OfOther.keys(rt.alloc(), database, size)?;
+    lock_all(rt, session, keys.as_slice(), Owner::Session)?;
+    Ok(())
+}
+
+/// The same with what the rows run on.
+fn print_bed<T: PartTable, B: Board<T>, R: Wait + CpuClock + AllocGlobal + Print>(
+    rt: &R,
+    pair: &mut Pair<T, B>,
+    bed: &Bed,
+    page: &Page<'_>,
+    size: Size,
+) -> Result<()>
+    ensures first { B.seat pair.new.first.board ≡ B.seat pair.old.first.board }
+    ensures second { B.seat pair.new.second.board ≡ B.seat pair.old.second.board }
+{
     let mut lines = lines(rt.alloc(), page.rows, page.database, size, page.check)?;
-    lock_all(
-        rt,
-        &mut pair.second,
-        bed.of_other.as_slice(),
-        Owner::Session,
-    )?;
     if page.check {
-        return check_rows(rt, pair, &bed, lines.as_slice());
+        return check_rows(rt, pair, bed, lines.as_slice());
     }
-    time_rows(rt, pair, &bed, lines.as_mut_slice())?;
+    time_rows(rt, pair, bed, lines.as_mut_slice())?;
     print_rows(rt, lines.as_slice(), page.beside)
 }
 
@@ -158,10 +181,15 @@ fn check_rows<T: PartTable, B: Board<T>, R: Wait + CpuClock + Print>(
 {
     'rows: for line in lines {
         let (_, counted) = bed.time(rt, pair, line)?;
-        let name = line.name;
-        let steps = line.steps();
-        let left = pair.first.list(rt)?.table.len();
-        println!(rt; "        {name}: {steps} steps, counted {counted}, holds {left}")?;
+        let left = pair.holds(rt)?;
+        print_checked(rt, line, counted, left)?;
     }
     Ok(())
+}
+
+/// Tells what a row's steps counted and left.
+fn print_checked<R: Print>(rt: &R, line: &Line<Work>, counted: u64, left: usize) -> io::Result<()> {
+    let name = line.name;
+    let steps = line.steps();
+    println!(rt; "        {name}: {steps} steps, counted {counted}, holds {left}")
 }

@@ -4,7 +4,6 @@ ghost use Rattle.std.specs.Prelude.{◌≡◌};
 
 use crate::crew::{Crew, Job, on_map};
 use crate::keys::{Key, Kind, keys, keys_of_partition};
-use crate::pair::Pair;
 use crate::rounds::{
     ROUNDS, Spread, Times, WIDTH, print_header, print_ratio, print_time, wall_nanos,
 };
@@ -29,7 +28,7 @@ enum Case {
     OneRelation,
 }
 
-const CASES: [Case; 4] = [
+static CASES: [Case; 4] = [
     Case::OneObject,
     Case::OnePartition,
     Case::OwnPartitions,
@@ -37,7 +36,7 @@ const CASES: [Case; 4] = [
 ];
 
 /// How many threads there are.
-const THREADS: [u32; 3] = [1, 2, 4];
+static THREADS: [u32; 3] = [1, 2, 4];
 
 /// How many objects a thread has of its own.
 const OWN_KEYS: usize = 16;
@@ -99,7 +98,7 @@ impl Case {
 fn jobs(alloc: Global, database: u32, owner: Owner, check: bool) -> Result<Vec<Job>, AllocError> {
     let steps = if check { CHECKED_STEPS } else { STEPS };
     let mut jobs = Vec::new(alloc);
-    for case in CASES {
+    for case in &CASES {
         jobs.push(case.job(alloc, database, owner, steps)?)?;
     }
     Ok(jobs)
@@ -122,15 +121,32 @@ fn time_job<B: Board<PlainPart> + Send, R: Threads + Wait + Clock + AllocGlobal 
     let mut of_crew = Times::new();
     let mut of_map = Times::new();
     'rounds: for round in 0..ROUNDS {
-        let from = wall_nanos(rt)?;
-        crew.work(rt, job, threads);
-        let between = wall_nanos(rt)?;
-        on_map(rt, &map, job, threads);
-        let to = wall_nanos(rt)?;
-        of_crew.note(round, between.saturating_sub(from), acquires);
-        of_map.note(round, to.saturating_sub(between), acquires);
+        let (by_crew, by_map) = time_round(rt, crew, &map, job, threads)?;
+        of_crew.note(round, by_crew, acquires);
+        of_map.note(round, by_map, acquires);
     }
     Ok((of_crew.spread(), of_map.spread()))
+}
+
+/// The nanoseconds of the sessions' work, and of the same work on the map.
+fn time_round<B: Board<PlainPart> + Send, R: Threads + Wait + Clock + Sync>(
+    rt: &R,
+    crew: &mut Crew<B>,
+    map: &SharedMap,
+    job: &Job,
+    threads: u32,
+) -> Result<(u64, u64)>
+    ensures first { B.seat crew.new.left.first.board ≡ B.seat crew.old.left.first.board }
+    ensures second { B.seat crew.new.left.second.board ≡ B.seat crew.old.left.second.board }
+    ensures third { B.seat crew.new.right.first.board ≡ B.seat crew.old.right.first.board }
+    ensures fourth { B.seat crew.new.right.second.board ≡ B.seat crew.old.right.second.board }
+{
+    let from = wall_nanos(rt)?;
+    crew.work(rt, job, threads);
+    let between = wall_nanos(rt)?;
+    on_map(rt, map, job, threads);
+    let to = wall_nanos(rt)?;
+    Ok((between.saturating_sub(from), to.saturating_sub(between)))
 }
 
 /// Prints the times of the sessions and of the map, and how many times the throughput of one thread that is, if there are more.
@@ -161,18 +177,21 @@ fn check_job<B: Board<PlainPart> + Send, R: Threads + Wait + AllocGlobal + Print
     ensures third { B.seat crew.new.right.first.board ≡ B.seat crew.old.right.first.board }
     ensures fourth { B.seat crew.new.right.second.board ≡ B.seat crew.old.right.second.board }
 {
-    let acquires = job.acquires(threads);
     let granted = crew.work(rt, job, threads);
-    let counted = {
-        let map: SharedMap = Mutex::new(HashMap::new(rt.alloc()));
-        on_map(rt, &map, job, threads)
-    };
-    let left = crew.holds(rt)?;
+    let counted = is_counted(rt, job, threads);
+    let left = crew.left.holds(rt)?;
     let name = job.name;
+    let acquires = job.acquires(threads);
     println!(rt;
         "        {name}: {acquires} acquires, granted {granted}, counted {counted}, holds {left}"
     )?;
     Ok(())
+}
+
+/// The same work on a map of its own. Whether nothing was refused.
+fn is_counted<R: Threads + Wait + AllocGlobal + Sync>(rt: &R, job: &Job, threads: u32) -> bool {
+    let map: SharedMap = Mutex::new(HashMap::new(rt.alloc()));
+    on_map(rt, &map, job, threads)
 }
 
 /// All cases, in so many threads.
@@ -214,9 +233,9 @@ fn print_crew<B: Board<PlainPart> + Send, R: Threads + Wait + Clock + AllocGloba
     ensures third { B.seat crew.new.right.first.board ≡ B.seat crew.old.right.first.board }
     ensures fourth { B.seat crew.new.right.second.board ≡ B.seat crew.old.right.second.board }
 {
-    'threads: for threads in THREADS {
+    'threads: for threads in &THREADS {
         println!(rt; "threads: {threads}")?;
-        print_jobs(rt, crew, jobs, threads, check)?;
+        print_jobs(rt, crew, jobs, *threads, check)?;
     }
     Ok(())
 }
@@ -253,19 +272,9 @@ fn print_with_crew<R: Threads + Wait + Clock + AllocGlobal + Print + Sync>(
         max_local: 1_024,
     };
     let (manager, mut opener) = Manager::new(rt.alloc(), config)?;
-    let left = Pair::open(rt, &manager, &mut opener, database)?;
-    let right = match Pair::open(rt, &manager, &mut opener, database) {
-        Ok(right) => right,
-        Err(refusal) => {
-            left.close(rt, &mut opener);
-            return Err(refusal.into());
-        }
-    };
-    let mut crew = Crew { left, right };
+    let mut crew = Crew::open(rt, &manager, &mut opener, database)?;
     let printed = print_crew(rt, &mut crew, jobs, check);
-    let Crew { left, right } = crew;
-    left.close(rt, &mut opener);
-    right.close(rt, &mut opener);
+    crew.close(rt, &mut opener);
     manager.finish(opener);
     printed
 }
