@@ -1,4 +1,5 @@
-//! What a `PlainPart` has on the heap.
+//! What a `PlainPart` has on the heap. Whoever looks through a list copies the tag first, so that it is not read again at
+//! each place.
 
 ghost use Rattle.std.specs.Prelude.{◌≡◌, ◌<◌, true, length};
 ghost use Rattle.std.specs.List.{list_any, HoldsAt};
@@ -118,9 +119,10 @@ impl PartTable for PartLists {
     }
 
     fn held(&self, session: SessionId, tag: &Tag) -> ModeSet {
+        let tag = *tag;
         let mut modes = ModeSet::empty();
         for hold in &self.holds {
-            if hold.is_on(session, tag) {
+            if hold.is_on(session, &tag) {
                 modes = modes.with(hold.mode);
             }
         }
@@ -128,10 +130,11 @@ impl PartTable for PartLists {
     }
 
     fn conflict_of(&self, session: SessionId, tag: &Tag, mode: Mode) -> Option<(SessionId, Mode)> {
+        let tag = *tag;
         let conflicting = conflicts(mode);
         let mut lowest = None;
         for hold in &self.holds {
-            if hold.is_in_the_way(session, tag, conflicting) {
+            if hold.is_in_the_way(session, &tag, conflicting) {
                 lowest = Some(lower_holder(lowest, hold.session, hold.mode));
             }
         }
@@ -194,9 +197,10 @@ fn index_of_hold(holds: &[Request], session: SessionId, tag: &Tag, mode: Mode) -
     ensures within { result < length holds.now }
     ensures its { HoldsAt (λ hold. is_request_of hold session tag.now mode ≡ true) holds.now result }
 {
+    let tag = *tag;
     let mut left = holds.len();
     while left > 0 {
-        if holds[left - 1].is_of(session, tag, mode) {
+        if holds[left - 1].is_of(session, &tag, mode) {
             return left - 1;
         }
         left -= 1;

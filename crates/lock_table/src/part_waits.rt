@@ -1,4 +1,5 @@
-//! The waits of a partition, in one list. The queue of an object is the sub-list of its own.
+//! The waits of a partition, in one list. The queue of an object is the sub-list of its own. Whoever looks through a list
+//! copies the tag first, so that it is not read again at each place.
 
 ghost use Rattle.std.specs.Prelude.{◌≡◌, ◌≤◌, ◌<◌, ◌+◌, ℕ, List, not, length, take, map, filter, find, option_map, slice_get, vec_len, vec_capacity};
 ghost use Rattle.std.specs.List.{list_any};
@@ -84,6 +85,7 @@ impl PartWait {
 pub fn waiter_at(waits: &[PartWait], tag: &Tag, place: usize) -> Option<Waiter>
     ensures { option_map shown_wait result ≡ slice_get (queues_in waits.now tag.now) place }
 {
+    let tag = *tag;
     let mut before = place;
     for wait in waits {
         if tag.is_same(wait.tag) {
@@ -139,16 +141,18 @@ pub fn index_of_place(waits: &[PartWait], tag: &Tag, place: usize) -> usize
 fn is_held_by_another(holds: &[Request], session: SessionId, tag: &Tag, modes: ModeSet) -> bool
     ensures { result ≡ list_any (λ hold. is_in_the_way_of hold session tag.now (set_has modes)) holds.now }
 {
+    let tag = *tag;
     holds
         .iter()
-        .any(|hold| hold.is_in_the_way(session, tag, modes))
+        .any(|hold| hold.is_in_the_way(session, &tag, modes))
 }
 
 /// Whether the object is awaited in one of these modes.
 fn is_awaited(waits: &[PartWait], tag: &Tag, modes: ModeSet) -> bool
     ensures { result ≡ list_any (λ wait. awaits_one_of wait tag.now (set_has modes)) waits.now }
 {
-    waits.iter().any(|wait| wait.awaits_one(tag, modes))
+    let tag = *tag;
+    waits.iter().any(|wait| wait.awaits_one(&tag, modes))
 }
 
 /// Whether the wait is on the object and free to go, beside these holds and behind these waits.

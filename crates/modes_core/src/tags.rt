@@ -55,11 +55,40 @@ impl Tag {
         }
     }
 
-    /// Whether both tags are the same one: `==`, in the word that contracts use.
+    /// Whether both tags are the same one: `==`, in the word that contracts use. The numbers that differ most often are
+    /// compared first.
     pub fn is_same(self, other: Self) -> bool
         ensures { result ≡ tag_eq self other }
     {
-        self == other
+        match (self, other) {
+            (
+                Tag::Relation { database, relation },
+                Tag::Relation {
+                    database: its_database,
+                    relation: its_relation,
+                },
+            ) => relation == its_relation && database == its_database,
+            (
+                Tag::Object {
+                    sub_object,
+                    database,
+                    class,
+                    object,
+                },
+                Tag::Object {
+                    sub_object: its_sub_object,
+                    database: its_database,
+                    class: its_class,
+                    object: its_object,
+                },
+            ) => {
+                object == its_object
+                    && class == its_class
+                    && database == its_database
+                    && sub_object == its_sub_object
+            }
+            _ => false,
+        }
     }
 
     /// The six numbers of `LOCKTAG`: field1 to field4, the type and the lock method.
