@@ -1,4 +1,4 @@
-use Rattle.std.proofs.Common.{◌≡◌, ℕ, ◌<◌, ◌≤◌, true, false, not, ◌&&◌, nat_eq, nat_le, refl, sym, ap, ◌∙◌}
+use Rattle.std.proofs.Common.{◌≡◌, ℕ, ◌≤◌, true, false, not, ◌&&◌, nat_eq, nat_le, refl, sym, ap, ◌∙◌}
 use Rattle.std.proofs.Common.{inl, inr, subst}
 use Rattle.std.specs.Prelude.{◌==◌}
 use Rattle.std.proofs.lemmas.Bool.{cases_eq, both_ways, false_from_ne_true, and_parts, and_from}
@@ -12,7 +12,7 @@ use Rattle.lw_word.specs.SlotWord.{relation_in, in_use, shows, word_without}
 use Rattle.lw_word.proofs.SlotLemmas.{in_use-shows, not_in_use-shows, shows-word_without}
 use Rattle.lock_table.specs.Put.{set_at}
 use Rattle.lock_table.proofs.PutLemmas.{set_at-here, set_at-else, set_at-each}
-use Rattle.lock_world.specs.SlotHolds.{slot_count, relation_of, slot_holds, ShowsNoMore, NoSlotInUse, InUseHasDatabase}
+use Rattle.lock_world.specs.SlotHolds.{relation_of, slot_holds, ShowsNoMore, NoSlotInUse, InUseHasDatabase}
 use Rattle.lock_world.specs.Happens.Slots.{remembered_after_taking}
 use Rattle.lock_world.specs.SafeWorld.{SlotsAreRemembered}
 use Rattle.lock_world.proofs.Slots.Eligible.{held-is_in, is_in-held}

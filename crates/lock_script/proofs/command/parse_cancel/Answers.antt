@@ -1,4 +1,4 @@
-use Rattle.std.proofs.Common.{◌≡◌, ◌<◌, inl, inr, arith, length}
+use Rattle.std.proofs.Common.{inl, inr, arith, length}
 use Rattle.lock_script.specs.Command.{IsBarred, IsUnnamed, NamesOneThatMayAct}
 use Rattle.lock_script.proofs.CommandLemmas.{of_err, two_words, of_word, barred-other, unnamed-other}
 use Rattle.lock_script.proofs.command.parse_cancel.Goals as goal

@@ -1,4 +1,4 @@
-use Rattle.std.proofs.Common.{◌≡◌, ℕ, false, Some, sym, ap, ◌∙◌, subst}
+use Rattle.std.proofs.Common.{◌≡◌, ℕ, false, sym, ap, ◌∙◌, subst}
 use Rattle.modes_core.specs.declared.modes.Mode.TheVariants.{AccessShare, RowExclusive}
 use Rattle.lock_world.specs.declared.events.Word.TheVariants.{Slot}
 use Rattle.lock_world.specs.SlotHolds.{NoSlotInUse}
