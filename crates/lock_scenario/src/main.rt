@@ -1,10 +1,7 @@
 //! `lock_scenario`: runs scripts against the lock manager.
 #![tactic(auto)]
 
-pub mod arguments;
-pub mod program;
-
-use program::run_program;
+use lock_stage::run_program;
 use std::process::ExitCode;
 use std::{env, io};
 
@@ -20,6 +17,3 @@ fn main(rt: HostRuntime) -> ExitCode {
 fn read_words(rt: &HostRuntime) -> io::Result<Vec<String>> {
     Ok(env::args(rt)?.collect(rt.alloc())?)
 }
-
-#[cfg(test)]
-mod tests;

@@ -1,11 +1,12 @@
 //! Scripts with what they print, as the language says. They are rows; what plays them is proved once.
+use crate::pipes::Pipe;
 use crate::rows::{self, BadRow, Copies, Row};
 use crate::waiting;
 use lock_manager::{Config, MOST_LOCAL, MOST_SESSIONS};
 use lock_script::{Defect, Fault};
 use lock_stage::run_script;
 use std::alloc::Global;
-use std::io::{self, ErrorKind, Read, Write};
+use std::io::{self, ErrorKind, Read};
 use std::process::Abort;
 use std::sync::Wait;
 use std::test::Fail;
@@ -26,33 +27,6 @@ impl Read for Script<'_> {
         }
         let most = self.most.min(buf.len());
         self.text.read(&mut buf[..most])
-    }
-}
-
-/// A writer that takes so many lines, and a flush only if it is to.
-#[derive(Drop)]
-struct Pipe {
-    lines: u32,
-    flushes: bool,
-}
-
-impl Write for Pipe {
-    fn write(&mut self, buf: &[u8]) -> io::Result<usize> {
-        if self.lines == 0 {
-            return Err(io::Error::from(ErrorKind::BrokenPipe));
-        }
-        if buf.contains(&b'\n') {
-            self.lines -= 1;
-        }
-        Ok(buf.len())
-    }
-
-    fn flush(&mut self) -> io::Result<()> {
-        if self.flushes {
-            Ok(())
-        } else {
-            Err(io::Error::from(ErrorKind::BrokenPipe))
-        }
     }
 }
 

@@ -1,9 +1,8 @@
-//! The program's own words, its statuses, and what it writes to its output and its errors. What a script prints is tested in
-//! `lock_stage_tests`.
-use crate::arguments::parse_arguments;
-use crate::program::run_program;
+//! The program's own words, its statuses, and what it writes to its output and its errors.
+use crate::pipes::Pipe;
+use lock_stage::{parse_arguments, run_program};
 use std::alloc::Global;
-use std::io::{self, ErrorKind, Read, Write};
+use std::io::{self, ErrorKind, Read};
 use std::process::Abort;
 use std::sync::Wait;
 use std::test::Fail;
@@ -21,33 +20,6 @@ impl Read for Input<'_> {
             return Err(io::Error::from(ErrorKind::Other));
         }
         self.text.read(buf)
-    }
-}
-
-/// A writer that takes so many lines, and a flush only if it is to.
-#[derive(Drop)]
-struct Pipe {
-    lines: u32,
-    flushes: bool,
-}
-
-impl Write for Pipe {
-    fn write(&mut self, buf: &[u8]) -> io::Result<usize> {
-        if self.lines == 0 {
-            return Err(io::Error::from(ErrorKind::BrokenPipe));
-        }
-        if buf.contains(&b'\n') {
-            self.lines -= 1;
-        }
-        Ok(buf.len())
-    }
-
-    fn flush(&mut self) -> io::Result<()> {
-        if self.flushes {
-            Ok(())
-        } else {
-            Err(io::Error::from(ErrorKind::BrokenPipe))
-        }
     }
 }
 

@@ -2,9 +2,9 @@
 ghost use Rattle.std.specs.Prelude.{◌≤◌, IfOk};
 
 use crate::arguments::parse_arguments;
+use crate::script::run_script;
 use clap::error::ErrorKind;
 use lock_script::Fault;
-use lock_stage::run_script;
 use std::io::{self, BufWriter, Read, Write};
 use std::sync::Wait;
 
