@@ -1,5 +1,6 @@
 //! A run of more than 8,000 events, made by a loop.
 
+use crate::play::add;
 use anyhow::Result;
 use lock_model::{Plain, run_events};
 use lock_table::Move;
@@ -47,11 +48,6 @@ fn add_round(events: &mut Vec<Event>, round: u32) -> Result<bool> {
     add(events, session, put(partition, done_in(round % 3, tag)))?;
     add(events, session, put(partition, Move::Keep))?;
     Ok(true)
-}
-
-fn add(events: &mut Vec<Event>, session: SessionId, step: Step) -> Result<()> {
-    events.push(Event { session, step })?;
-    Ok(())
 }
 
 fn take(partition: u8) -> Step {

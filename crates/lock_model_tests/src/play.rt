@@ -10,7 +10,7 @@ use crate::words::{Words, mode, session, small_number, tag};
 use anyhow::Result;
 use lock_model::run_events;
 use lock_world::{Event, Step, Word};
-use modes_core::SessionId;
+use modes_core::{Mode, SessionId, Tag};
 use std::alloc::Global;
 
 /// The events of a test.
@@ -105,16 +105,19 @@ fn add_event(events: &mut Vec<Event>, words: &mut Words) -> Result<bool> {
     let Some(step) = parse_step(verb, words) else {
         return Ok(false);
     };
-    events.push(Event { session, step })?;
+    add(events, session, step)?;
     Ok(true)
+}
+
+/// Adds this event.
+pub fn add(events: &mut Vec<Event>, session: SessionId, step: Step) -> Result<()> {
+    events.push(Event { session, step })?;
+    Ok(())
 }
 
 /// Adds the events by which a session goes past others: it takes the lock of each one's slots, and puts it passing.
 fn add_walk(events: &mut Vec<Event>, whose: SessionId, words: &mut Words) -> Result<bool> {
-    let (Some(first), Some(last)) = (small_number(words), small_number(words)) else {
-        return Ok(false);
-    };
-    let (Some(tag), Some(mode)) = (tag(words), mode(words)) else {
+    let Some((first, last, tag, mode)) = parse_walk(words) else {
         return Ok(false);
     };
     for number in first..=last {
@@ -122,16 +125,19 @@ fn add_walk(events: &mut Vec<Event>, whose: SessionId, words: &mut Words) -> Res
             return Ok(false);
         };
         let word = Word::Fast(owner);
-        events.push(Event {
-            session: whose,
-            step: Step::TakeExclusive { word },
-        })?;
-        events.push(Event {
-            session: whose,
-            step: Step::PutPassing { owner, tag, mode },
-        })?;
+        add(events, whose, Step::TakeExclusive { word })?;
+        add(events, whose, Step::PutPassing { owner, tag, mode })?;
     }
     Ok(true)
+}
+
+/// The first and the last of those that a walk goes past, and the strong lock that it is for.
+fn parse_walk(words: &mut Words) -> Option<(u8, u8, Tag, Mode)> {
+    let first = small_number(words)?;
+    let last = small_number(words)?;
+    let tag = tag(words)?;
+    let mode = mode(words)?;
+    Some((first, last, tag, mode))
 }
 
 /// Runs the events, and looks at what the text names.

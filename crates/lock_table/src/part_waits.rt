@@ -1,5 +1,5 @@
-//! The waits of a partition, in one list. The queue of an object is the sub-list of its own. Whoever looks through a list
-//! copies the tag first, so that it is not read again at each place.
+//! The waits of a partition, in one list. The queue of an object is the sub-list of its own. Whoever compares the tag at each
+//! place of a list copies it first, so that it is not read again there.
 
 ghost use Rattle.std.specs.Prelude.{◌≡◌, ◌≤◌, ◌<◌, ◌+◌, ℕ, List, not, length, take, map, filter, find, option_map, slice_get, vec_len, vec_capacity};
 ghost use Rattle.std.specs.List.{list_any};
@@ -125,6 +125,7 @@ pub fn index_of_place(waits: &[PartWait], tag: &Tag, place: usize) -> usize
     ensures within { result ≤ length waits.now }
     ensures before { length (queues_in (take result waits.now) tag.now) ≡ place }
 {
+    let tag = *tag;
     let mut before = place;
     for (index, wait) in waits.iter().enumerate() {
         if before == 0 {
