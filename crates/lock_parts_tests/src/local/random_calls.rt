@@ -1,6 +1,6 @@
 //! Random calls, on a table and on a plain list of what a session holds.
 
-use crate::acquires::{acquire, acquire_in_one_look, new_table};
+use super::acquires::{acquire, acquire_in_one_look, new_table};
 use local_locks::{Acquired, End, Entry, LocalTable, Unlocked};
 use modes_core::{Mode, Owner, Refusal, Tag};
 use std::alloc::Global;

@@ -2,8 +2,8 @@
 
 ghost use Rattle.std.specs.Prelude.{◌≤◌};
 
-use crate::acquires::new_table;
-use crate::turns::{Answer, Call, Turn, play};
+use super::acquires::new_table;
+use super::turns::{Answer, Call, Turn, play};
 use local_locks::End;
 use modes_core::Mode::{AccessShare, Exclusive, RowExclusive, RowShare, Share};
 use modes_core::Owner::{Session, Transaction};

@@ -1,6 +1,6 @@
 //! A table of 10,000 entries, of which half are released in another order, and then a commit.
 
-use crate::acquires::{acquire, new_table};
+use super::acquires::{acquire, new_table};
 use local_locks::{End, Entry, LocalTable, Unlocked};
 use modes_core::Mode::AccessShare;
 use modes_core::{Owner, Tag};

@@ -1,6 +1,6 @@
 //! Each command with its line, and each defect of a line, once.
 
-use crate::crews::{name, three};
+use super::crews::{name, three};
 use lock_script::{Command, Crew, Defect, Opened, Place, Speaker, Target, parse};
 use modes_core::{Mode, Owner, Tag};
 use std::process::Abort;

@@ -1,6 +1,6 @@
 //! Calls of a local table, and what they are answered: a test is a list of turns.
 
-use crate::acquires::acquire;
+use super::acquires::acquire;
 use local_locks::{Acquired, AtOnce, End, LocalTable, Unlocked};
 use modes_core::{Mode, Owner, Refusal, Tag};
 use std::process::Abort;

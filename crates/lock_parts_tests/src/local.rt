@@ -1,0 +1,9 @@
+//! The local lock table and its index.
+
+mod acquires;
+mod long_table;
+mod places;
+mod random_calls;
+mod sizes;
+mod turn_lists;
+mod turns;
