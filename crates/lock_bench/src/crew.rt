@@ -3,11 +3,11 @@
 ghost use Rattle.std.specs.Prelude.{◌≡◌, ◌+◌, ◌-◌, IfOk, OnOk, OnErr};
 ghost use Rattle.lock_manager.specs.Managers.{IsOpenerOf};
 
-use crate::keys::Key;
 use crate::pair::Pair;
-use crate::rounds::Spread;
 use crate::session_loops::lock_pairs;
-use crate::shared_map::{SharedMap, map_pairs};
+use bench_rows::keys::Key;
+use bench_rows::rounds::Spread;
+use bench_rows::shared_map::{SharedMap, map_pairs};
 use lock_manager::{Manager, Opener, OwnSession, Refusal};
 use lock_table::PlainPart;
 use modes_core::Owner;

@@ -3,11 +3,11 @@
 ghost use Rattle.std.specs.Prelude.{◌≡◌};
 
 use crate::pair::Pair;
-use crate::rounds::{
-    ROUNDS, Spread, Times, WIDTH, print_header, print_ratio, print_time, wall_nanos,
-};
 use crate::turns::{Plan, pass_lock, pass_turn};
 use anyhow::{Result, bail};
+use bench_rows::rounds::{
+    ROUNDS, Spread, Times, WIDTH, print_header, print_ratio, print_time, wall_nanos,
+};
 use lock_manager::{Config, Manager};
 use lock_table::PlainPart;
 use modes_core::{Mode, Owner, Tag};

@@ -3,26 +3,18 @@
 #![tactic(auto)]
 
 mod crew;
-mod doors;
 mod fast_page;
-mod floors;
 mod handover_page;
-mod keys;
-mod local_bed;
-mod local_page;
-mod loops;
 mod manager_page;
 mod pair;
-mod rounds;
-mod rows;
 mod session_bed;
 mod session_doors;
 mod session_loops;
 mod session_page;
-mod shared_map;
 mod threads_page;
 mod turns;
 
+use bench_rows::local_page;
 use clap::{Arg, ArgAction, Command};
 use modes_core::Owner;
 use std::alloc::Global;

@@ -1,10 +1,10 @@
 //! The page of the lock manager on one thread.
 
-use crate::keys::{KeyList, Size};
-use crate::rows::{Row, STEPS};
 use crate::session_bed::Work;
 use crate::session_page::{Page, print_page};
 use anyhow::Result;
+use bench_rows::keys::{KeyList, Size};
+use bench_rows::rows::{Row, STEPS};
 use modes_core::Owner;
 use std::sync::Wait;
 use std::time::CpuClock;

@@ -2,18 +2,18 @@
 
 ghost use Rattle.std.specs.Prelude.{◌≡◌};
 
-use crate::floors::Words;
-use crate::keys::{Key, KeyList, Size};
-use crate::loops::{double_passes, passes};
 use crate::pair::Pair;
-use crate::rounds::cpu_nanos;
-use crate::rows::Line;
 use crate::session_doors::commit;
 use crate::session_loops::{
     count_refused, count_strong_counted, lock_all, lock_and_commit, lock_and_end, lock_pairs,
 };
-use crate::shared_map::{SharedMap, count_held, map_all, map_and_uncount, map_pairs};
 use anyhow::Result;
+use bench_rows::floors::Words;
+use bench_rows::keys::{Key, KeyList, Size};
+use bench_rows::loops::{double_passes, passes};
+use bench_rows::rounds::cpu_nanos;
+use bench_rows::rows::Line;
+use bench_rows::shared_map::{SharedMap, count_held, map_all, map_and_uncount, map_pairs};
 use lock_manager::OwnSession;
 use lock_table::PartTable;
 use modes_core::{Owner, Refusal};

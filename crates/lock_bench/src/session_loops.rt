@@ -2,10 +2,10 @@
 
 ghost use Rattle.std.specs.Prelude.{◌≡◌};
 
-use crate::keys::Key;
-use crate::rounds::cpu_nanos;
 use crate::session_doors::{commit, try_fast, try_lock, unlock};
 use anyhow::Result;
+use bench_rows::keys::Key;
+use bench_rows::rounds::cpu_nanos;
 use lock_manager::OwnSession;
 use lock_table::PartTable;
 use modes_core::{Owner, Refusal};

@@ -2,13 +2,13 @@
 
 ghost use Rattle.std.specs.Prelude.{◌≡◌};
 
-use crate::keys::{KeyList, Size};
 use crate::pair::Pair;
-use crate::rounds::{ROUNDS, WIDTH, print_header};
-use crate::rows::{Line, Row, lines, print_ratios, print_times};
 use crate::session_bed::{Bed, Work};
 use crate::session_loops::lock_all;
 use anyhow::Result;
+use bench_rows::keys::{KeyList, Size};
+use bench_rows::rounds::{ROUNDS, WIDTH, print_header};
+use bench_rows::rows::{Line, Row, lines, print_ratios, print_times};
 use lock_manager::{Config, Manager, OwnSession};
 use lock_table::PartTable;
 use modes_core::Owner;

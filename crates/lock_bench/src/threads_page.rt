@@ -3,12 +3,12 @@
 ghost use Rattle.std.specs.Prelude.{◌≡◌};
 
 use crate::crew::{Crew, Job, on_map};
-use crate::keys::{Key, Kind, keys, keys_of_partition};
-use crate::rounds::{
+use anyhow::Result;
+use bench_rows::keys::{Key, Kind, keys, keys_of_partition};
+use bench_rows::rounds::{
     ROUNDS, Spread, Times, WIDTH, print_header, print_ratio, print_time, wall_nanos,
 };
-use crate::shared_map::SharedMap;
-use anyhow::Result;
+use bench_rows::shared_map::SharedMap;
 use lock_manager::{Config, Manager};
 use lock_table::PlainPart;
 use modes_core::{Mode, Owner};

@@ -2,8 +2,8 @@
 
 ghost use Rattle.std.specs.Prelude.{◌≡◌};
 
-use crate::keys::Key;
 use crate::pair::Pair;
+use bench_rows::keys::Key;
 use crossbeam_utils::Backoff;
 use lock_manager::{Locked, OwnSession};
 use lock_table::PartTable;
