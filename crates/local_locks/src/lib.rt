@@ -15,4 +15,4 @@ pub use answers::{Acquired, AtOnce, Unlocked};
 pub use ends::End;
 pub use entries::Entries;
 pub use records::Entry;
-pub use tables::LocalTable;
+pub use tables::{LocalTable, MOST_LOCAL};

@@ -18,6 +18,9 @@ use std::marker::Model;
 /// sessions share a cache line, which each of them writes in every call.
 const FIRST_SLOTS: usize = 16;
 
+/// How many entries a local table may have at most.
+pub const MOST_LOCAL: u32 = 65_536;
+
 /// How many slots there may be, so that the place of each can be noted.
 const MAX_SLOTS: usize = u32::MAX as usize - 1;
 

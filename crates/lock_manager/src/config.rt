@@ -1,13 +1,11 @@
 ghost use Rattle.std.specs.Prelude.{◌≡◌};
 ghost use Rattle.lock_manager.specs.Managers.{is_in_range};
 
+use local_locks::MOST_LOCAL;
 use modes_core::sessions::SESSIONS;
 
 /// How many sessions a manager may open over its life at most.
 pub const MOST_SESSIONS: u32 = SESSIONS as u32;
-
-/// How many local entries a session may have at most.
-pub const MOST_LOCAL: u32 = 65_536;
 
 /// How large a manager is.
 #[derive(Clone, Copy, Debug, PartialEq, Eq)]

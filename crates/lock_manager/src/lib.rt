@@ -10,9 +10,9 @@ mod sessions;
 mod waiting;
 mod waits;
 
-pub use config::{Config, MOST_LOCAL, MOST_SESSIONS};
+pub use config::{Config, MOST_SESSIONS};
 pub use listing::Listing;
-pub use local_locks::{Acquired, Unlocked};
+pub use local_locks::{Acquired, MOST_LOCAL, Unlocked};
 pub use lock_table::{SlotRow, TableRow};
 pub use manager::{Final, Manager, Opener};
 pub use modes_core::{How, Mode, ModeSet, Owner, Refusal, SessionId, Tag};

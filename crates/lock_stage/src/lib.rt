@@ -1,14 +1,12 @@
 //! Scripts on the lock manager: what each command of a script does to its sessions, what it prints, and the program that runs one.
 #![tactic(auto)]
 
-pub mod arguments;
 pub mod desk;
 pub mod output;
 pub mod program;
 pub mod script;
 pub mod stage;
 
-pub use arguments::parse_arguments;
 pub use desk::{Desk, SharedDesk};
 pub use output::Output;
 pub use program::run_program;

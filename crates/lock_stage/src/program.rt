@@ -1,9 +1,9 @@
 //! The program as a function of its words and its streams.
 ghost use Rattle.std.specs.Prelude.{◌≤◌, IfOk};
 
-use crate::arguments::parse_arguments;
 use crate::script::run_script;
-use clap::error::ErrorKind;
+use lock_arguments::{NoRun, parse_arguments};
+use lock_manager::Config;
 use lock_script::Fault;
 use std::io::{self, BufWriter, Read, Write};
 use std::sync::Wait;
@@ -50,33 +50,31 @@ fn run_words<H: AllocGlobal + Wait, R: Read + Drop, W: Write + Drop, E: Write>(
 {
     let alloc = rt.alloc();
     match parse_arguments(alloc, words) {
-        Ok(config) => {
+        Ok(limits) => {
             let output = BufWriter::new(alloc, output).map_err(|_| Fault::NoMemory)?;
+            let config = Config {
+                sessions: limits.sessions,
+                max_local: limits.max_local,
+            };
             run_script(rt, input, output, config)?;
             Ok(SUCCESS)
         }
-        Err(error) => answer_words(&error, output, errors),
+        Err(NoRun::Text(text)) => {
+            print_text(output, text.as_str())?;
+            Ok(SUCCESS)
+        }
+        Err(NoRun::Refused(text)) => {
+            write!(errors, "{text}").map_err(|_| Fault::WriteFailed)?;
+            Ok(REFUSED_WORDS)
+        }
+        Err(NoRun::NoMemory) => Err(Fault::NoMemory),
     }
 }
 
-/// Answers words that ask for a text or are refused, by what `clap` has for them.
-fn answer_words<W: Write + Drop, E: Write>(
-    error: &clap::Error,
-    mut output: W,
-    errors: &mut E,
-) -> Result<u8, Fault>
-    ensures { IfOk result (λ status. status ≤ 2) }
-{
-    if error.kind() == ErrorKind::OutOfMemory {
-        return Err(Fault::NoMemory);
-    }
-    if error.use_stderr() {
-        write!(errors, "{error}").map_err(|_| Fault::WriteFailed)?;
-        return Ok(REFUSED_WORDS);
-    }
-    write!(output, "{error}").map_err(|_| Fault::WriteFailed)?;
-    output.flush().map_err(|_| Fault::WriteFailed)?;
-    Ok(SUCCESS)
+/// Prints a text that the words ask for.
+fn print_text<W: Write + Drop>(mut output: W, text: &str) -> Result<(), Fault> {
+    write!(output, "{text}").map_err(|_| Fault::WriteFailed)?;
+    output.flush().map_err(|_| Fault::WriteFailed)
 }
 
 /// Refuses words that are no text.

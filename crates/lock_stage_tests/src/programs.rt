@@ -1,6 +1,7 @@
 //! The program's own words, its statuses, and what it writes to its output and its errors.
 use crate::pipes::Pipe;
-use lock_stage::{parse_arguments, run_program};
+use lock_arguments::{NoRun, parse_arguments};
+use lock_stage::run_program;
 use std::alloc::Global;
 use std::io::{self, ErrorKind, Read};
 use std::process::Abort;
@@ -59,14 +60,13 @@ fn reads_its_own_words(rt: HostRuntime) -> Result<(), Fail> {
     for row in &WORDS {
         let (line, expected) = *row;
         let words = words_of(alloc, line)?;
-        let config = match parse_arguments(alloc, words.as_slice()) {
-            Ok(config) => Some((config.sessions, config.max_local)),
-            Err(error) => {
-                assert_eq!(rt; error.exit_code(), 2, "the status of {line:?}");
-                None
-            }
+        let limits = match parse_arguments(alloc, words.as_slice()) {
+            Ok(limits) => Some((limits.sessions, limits.max_local)),
+            Err(NoRun::Refused(_)) => None,
+            // A text, and want of memory: limits that no row has.
+            Err(_) => Some((0, 0)),
         };
-        assert!(rt; config == expected, "the configuration of {line:?}");
+        assert!(rt; limits == expected, "the limits of {line:?}");
     }
     Ok(())
 }

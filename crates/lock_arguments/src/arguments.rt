@@ -1,0 +1,122 @@
+//! The words of the command line.
+ghost use Rattle.std.specs.Prelude.{◌≤◌, IfOk};
+
+use clap::error::ErrorKind;
+use clap::{Arg, ArgMatches, Command, Error, value_parser};
+use local_locks::MOST_LOCAL;
+use modes_core::sessions::SESSIONS;
+use std::alloc::{AllocError, Global};
+
+/// How many sessions a script may open at most.
+const MOST_SESSIONS: u32 = SESSIONS as u32;
+
+/// How many sessions a script may open, where the command line doesn't say, and as `--help` shows it.
+const USUAL_SESSIONS: u32 = 8;
+
+const USUAL_SESSIONS_SHOWN: &str = "8";
+
+/// How many local entries a session may have, where the command line doesn't say, and as `--help` shows it.
+const USUAL_LOCAL: u32 = 1024;
+
+const USUAL_LOCAL_SHOWN: &str = "1024";
+
+/// The version that `--version` shows.
+const VERSION: &str = "0.1.0";
+
+/// What `--help` shows of the script language, and of a run.
+const LINES_AND_EXAMPLE: &str = "Lines of a script begin with:
+  session, try, fast, lock, unlock, commit, abort, owned, waiters, cancel, list, count, hash, close
+
+Example:
+  lock_scenario run --sessions 2 < scenarios/object_lock.scn";
+
+/// The command line: `run [--sessions N] [--max-local M]`.
+fn command<'a>(alloc: Global) -> Result<Command<'a>, AllocError> {
+    let sessions = Arg::new(alloc, "sessions")
+        .long("sessions")
+        .value_name("N")
+        .help("How many sessions the script may open")
+        .value_parser(value_parser!(u32).range(1..=i64::from(MOST_SESSIONS)))
+        .default_value(USUAL_SESSIONS_SHOWN);
+    let max_local = Arg::new(alloc, "max-local")
+        .long("max-local")
+        .value_name("M")
+        .help("How many different locks a session may have")
+        .value_parser(value_parser!(u32).range(1..=i64::from(MOST_LOCAL)))
+        .default_value(USUAL_LOCAL_SHOWN);
+    let run = Command::new(alloc, "run")
+        .about("Run the script on standard input")
+        .arg(sessions)?
+        .arg(max_local)?;
+    Command::new(alloc, "lock_scenario")
+        .version(VERSION)
+        .about("Run scripts against PostgreSQL's lock manager")
+        .after_help(LINES_AND_EXAMPLE)
+        .subcommand_required(true)
+        .subcommand(run)
+}
+
+/// How large a lock manager the words ask for.
+#[derive(Clone, Copy, Debug, PartialEq, Eq)]
+pub struct Limits {
+    /// How many sessions the script may open.
+    pub sessions: u32,
+    /// How many local entries each may have.
+    pub max_local: u32,
+}
+
+/// What words come to that ask for no run.
+#[derive(Debug, Drop)]
+pub enum NoRun {
+    /// They ask for this text, a help or the version.
+    Text(String),
+    /// They are refused, and this says why.
+    Refused(String),
+    /// There was no memory to read them, or for the text.
+    NoMemory,
+}
+
+impl NoRun {
+    /// What `clap` has for the words.
+    fn of(alloc: Global, error: &Error) -> Self {
+        if error.kind() == ErrorKind::OutOfMemory {
+            return NoRun::NoMemory;
+        }
+        match format!(in alloc; "{error}") {
+            Ok(text) if error.use_stderr() => NoRun::Refused(text),
+            Ok(text) => NoRun::Text(text),
+            Err(_) => NoRun::NoMemory,
+        }
+    }
+}
+
+/// The limits that the words ask for, each in its range: 1 to 64 sessions, 1 to 65,536 local entries. The first word is the program's
+/// name.
+pub fn parse_arguments(alloc: Global, words: &[String]) -> Result<Limits, NoRun>
+    ensures sessions { IfOk result (λ limits. (1 ≤ limits.sessions) × (limits.sessions ≤ 64)) }
+    ensures max_local { IfOk result (λ limits. (1 ≤ limits.max_local) × (limits.max_local ≤ 65536)) }
+{
+    match limits_of(alloc, words) {
+        Ok(limits) => Ok(limits),
+        Err(error) => Err(NoRun::of(alloc, &error)),
+    }
+}
+
+/// The same, with `clap`'s own error.
+fn limits_of<'a>(alloc: Global, words: &'a [String]) -> Result<Limits, Error>
+    ensures sessions { IfOk result (λ limits. (1 ≤ limits.sessions) × (limits.sessions ≤ 64)) }
+    ensures max_local { IfOk result (λ limits. (1 ≤ limits.max_local) × (limits.max_local ≤ 65536)) }
+{
+    let matches = command(alloc)?.try_get_matches_from(words)?;
+    let (sessions, max_local) = match matches.subcommand() {
+        Some((_, run)) => (
+            run.get_one::<u32>("sessions").unwrap_or(USUAL_SESSIONS),
+            run.get_one::<u32>("max-local").unwrap_or(USUAL_LOCAL),
+        ),
+        None => (USUAL_SESSIONS, USUAL_LOCAL),
+    };
+    Ok(Limits {
+        sessions: sessions.clamp(1, MOST_SESSIONS),
+        max_local: max_local.clamp(1, MOST_LOCAL),
+    })
+}
