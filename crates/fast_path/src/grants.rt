@@ -2,6 +2,7 @@
 
 ghost use Rattle.std.specs.Prelude.{◌≡◌, ◌<◌, Some};
 ghost use Rattle.lock_world.specs.SlotHolds.{slot_count};
+ghost use Rattle.shared_rule.specs.Boards.{nothing_due};
 ghost use Rattle.fast_path.specs.Slots.{IsReady, MayTry};
 ghost use Rattle.fast_path.specs.Grants.{Grants, TriesGrant, GrantsHeld, HasOwnSlots};
 
@@ -24,6 +25,7 @@ pub fn grant<T: PartTable, B: Board<T>, R: Wait>(
     mode: Mode,
 ) -> Result<(), Refusal>
     requires ready { IsReady (B.view board.old) uses.old }
+    requires nothing_due { B.stack board.old ≡ nothing_due }
     requires may_try { MayTry (B.view board.old) tag.now mode }
     ensures granted { Grants (B.seat board.old).number (B.view board.old) uses.old tag.now mode result
         (B.view board.new) uses.new }
@@ -48,6 +50,7 @@ pub fn try_grant<T: PartTable, B: Board<T>>(
     mode: Mode,
 ) -> Result<(), Refusal>
     requires ready { IsReady (B.view board.old) uses.old }
+    requires nothing_due { B.stack board.old ≡ nothing_due }
     requires may_try { MayTry (B.view board.old) tag.now mode }
     ensures granted { TriesGrant (B.seat board.old).number (B.view board.old) uses.old tag.now mode result
         (B.view board.new) uses.new }

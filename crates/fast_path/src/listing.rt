@@ -1,6 +1,7 @@
 //! What all sessions' slots show (the first part of `GetLockStatusData` in lock.c).
 
 ghost use Rattle.std.specs.Prelude.{◌≡◌, ◌<◌, ◌≤◌, ◌++◌, OnOk};
+ghost use Rattle.shared_rule.specs.Boards.{nothing_due};
 ghost use Rattle.fast_path.specs.Slots.{word_of};
 ghost use Rattle.fast_path.specs.Turns.{IsUnlocked};
 ghost use Rattle.fast_path.specs.Rows.{ListsSlots, ListsSession, BeginsWith};
@@ -23,6 +24,7 @@ pub fn slot_rows<T: PartTable, B: Board<T>, R: Wait>(
 ) -> Result<(), NoMemory>
     requires few { (B.seat board.old).limit ≤ 64 }
     requires unlocked { IsUnlocked (B.view board.old) }
+    requires nothing_due { B.stack board.old ≡ nothing_due }
     ensures listed { ListsSlots (B.seat board.old).limit (B.view board.old) rows.old.items result rows.new.items
         (B.view board.new) }
     ensures stack { B.stack board.new ≡ B.stack board.old }
@@ -51,6 +53,7 @@ fn session_rows<T: PartTable, B: Board<T>, R: Wait>(
 ) -> Result<(), NoMemory>
     requires exists { owner < (B.seat board.old).limit }
     requires unlocked { IsUnlocked (B.view board.old) }
+    requires nothing_due { B.stack board.old ≡ nothing_due }
     ensures listed { ListsSession (B.view board.old) owner rows.old.items result rows.new.items (B.view board.new) }
     ensures behind { BeginsWith rows.old.items rows.new.items }
     ensures stack { B.stack board.new ≡ B.stack board.old }

@@ -3,6 +3,7 @@
 ghost use Rattle.std.specs.Prelude.{◌≡◌, false, true};
 ghost use Rattle.modes_core.specs.Tag.{is_eligible_for};
 ghost use Rattle.lock_world.specs.SlotHolds.{slot_holds};
+ghost use Rattle.shared_rule.specs.Boards.{nothing_due};
 ghost use Rattle.fast_path.specs.Slots.{IsReady};
 ghost use Rattle.fast_path.specs.Releases.{Ungrants};
 
@@ -24,6 +25,7 @@ pub fn ungrant<T: PartTable, B: Board<T>, R: Wait>(
     mode: Mode,
 ) -> bool
     requires ready { IsReady (B.view board.old) uses.old }
+    requires nothing_due { B.stack board.old ≡ nothing_due }
     requires eligible { is_eligible_for (B.view board.old).fast.database tag.now mode ≡ true }
     ensures ungranted { Ungrants (B.seat board.old).number (B.view board.old) uses.old tag.now mode result
         (B.view board.new) uses.new }

@@ -5,6 +5,7 @@ ghost use Rattle.modes_core.specs.Tag.{is_strong_on};
 ghost use Rattle.lock_world.specs.Account.{Account};
 ghost use Rattle.lock_world.specs.Counted.{is_counted, is_at};
 ghost use Rattle.lock_world.specs.Happens.Counters.{most_counted};
+ghost use Rattle.shared_rule.specs.Boards.{nothing_due};
 ghost use Rattle.fast_path.specs.Turns.{IsUnlocked, BeginsTurn, HasSlots, HasSlotsAndPart, MovesOrNot, AdoptsOrNot};
 ghost use Rattle.fast_path.specs.Transfers.{database_of, TransfersOrNot, PassesOrNot};
 
@@ -47,6 +48,7 @@ pub fn transfer<T: PartTable, B: Board<T>, R: Wait>(
     requires few { (B.seat board.old).limit ≤ 64 }
     requires strong { is_strong_on tag.now mode ≡ true }
     requires unlocked { IsUnlocked (B.view board.old) }
+    requires nothing_due { B.stack board.old ≡ nothing_due }
     requires not_counted { is_counted (B.view board.old).fast.counted tag.now mode ≡ false }
     requires no_wait { (B.view board.old).awaited ≡ None }
     requires not_own { (B.view board.old).own tag.now mode ≡ false }
@@ -82,6 +84,7 @@ fn pass<T: PartTable, B: Board<T>, R: Wait>(
     requires exists { owner < (B.seat board.old).limit }
     requires strong { is_strong_on tag.now mode ≡ true }
     requires unlocked { IsUnlocked (B.view board.old) }
+    requires nothing_due { B.stack board.old ≡ nothing_due }
     requires next { is_at owner (B.view board.old).fast.counted tag.now mode ≡ true }
     ensures passed { PassesOrNot (B.view board.old) owner tag.now mode result (B.view board.new) }
     ensures stack { B.stack board.new ≡ B.stack board.old }
@@ -109,6 +112,7 @@ fn pass_in_database<T: PartTable, B: Board<T>, R: Wait>(
     requires strong { is_strong_on tag.now mode ≡ true }
     requires next { is_at owner (B.view board.old).fast.counted tag.now mode ≡ true }
     requires begun { (before : Account) × BeginsTurn before owner tag.now (B.view board.old) }
+    requires nothing_due { B.stack board.old ≡ nothing_due }
     ensures passed { (before : Account) → BeginsTurn before owner tag.now (B.view board.old)
         → PassesOrNot before owner tag.now mode result (B.view board.new) }
     ensures stack { B.stack board.new ≡ B.stack board.old }
@@ -146,6 +150,7 @@ fn adopt<T: PartTable, B: Board<T>, R: Wait>(
     requires strong { is_strong_on tag.now strong ≡ true }
     requires next { is_at owner (B.view board.old).fast.counted tag.now strong ≡ true }
     requires in_hand { HasSlots (B.view board.old) owner place word tag.now }
+    requires nothing_due { B.stack board.old ≡ nothing_due }
     ensures adopted { AdoptsOrNot (B.view board.old) owner word tag.now result (B.view board.new) }
     ensures stack { B.stack board.new ≡ B.stack board.old }
     ensures seat { B.seat board.new ≡ B.seat board.old }

@@ -9,6 +9,7 @@ use Rattle.lock_world.specs.Account.{Account}
 use Rattle.lock_world.specs.AccountSteps.{account_uncounting}
 use Rattle.lock_world.specs.Counted.{uncounting}
 use Rattle.lock_world.specs.World.{TraceEntry}
+use Rattle.shared_rule.specs.Boards.{Stack}
 use Rattle.lock_manager.specs.declared.waiting.Cancelled.{Cancelled}
 use Rattle.lock_manager.specs.declared.waiting.Cancelled.TheVariants.{Removed, WasGranted}
 use Rattle.lock_manager.specs.Rest.{counted_for, account_at_rest, IsUseCount, IsAtRest}
@@ -21,7 +22,7 @@ use Rattle.lock_manager.proofs.Requesting.{if-true, if-false}
 
 -- What a session has once its wait is cancelled.
 
-module _ (limit database uses : ℕ) (a : Account) (stack : List ℕ) (entries : List Entry) (tag : Tag) (mode : Mode)
+module _ (limit database uses : ℕ) (a : Account) (stack : Stack) (entries : List Entry) (tag : Tag) (mode : Mode)
     (waits : IsWaiting limit database uses a stack entries tag mode) where
   -- A session that waits may end its wait.
   pub waiting-in_wait : IsInWait a stack tag mode
@@ -30,7 +31,7 @@ module _ (limit database uses : ℕ) (a : Account) (stack : List ℕ) (entries :
     waits = ap (λ (x : Account). x.awaited) waits.account;
     unseen = ap (λ (x : Account). x.seen) waits.account;
     no_content = ap (λ (x : Account). x.hand) waits.account;
-    no_partition = waits.no_partition;
+    nothing_left = waits.nothing_left;
   }
 
   -- the account with the wait over
@@ -43,7 +44,7 @@ module _ (limit database uses : ℕ) (a : Account) (stack : List ℕ) (entries :
 
   -- Where it was granted the session has one entry more,
   pub rest-was_granted :
-      (b : Account) (its : List ℕ) (new : List Entry) (owner : Owner) → b ≡ account_cancelled a tag mode WasGranted b.trace → its ≡ stack
+      (b : Account) (its : Stack) (new : List Entry) (owner : Owner) → b ≡ account_cancelled a tag mode WasGranted b.trace → its ≡ stack
       → new ≡ with_one_more entries tag mode owner → IsAtRest limit database uses b its new
   rest-was_granted b its new owner over same more =
       let remembered : a.fast.remembered ≡ b.fast.remembered = sym (ap (λ (x : Account). x.fast.remembered) over) in
@@ -51,11 +52,11 @@ module _ (limit database uses : ℕ) (a : Account) (stack : List ℕ) (entries :
       (over
       ∙ ap (λ (x : Account). account_cancelled x tag mode WasGranted b.trace) waits.account
       ∙ (λ i. account_granted limit (rested a.trace) tag mode (remembered i) b.trace))
-      (over-use_count b WasGranted over) (use_count-same a (rested a.trace) uses refl waits.use_count) same waits.no_partition more
+      (over-use_count b WasGranted over) (use_count-same a (rested a.trace) uses refl waits.use_count) same waits.nothing_left more
 
   -- else it has what it had before, with a weak mode at once,
   pub rest-removed_weak :
-      (b : Account) (its : List ℕ) → is_strong_on tag mode ≡ false → b ≡ account_cancelled a tag mode Removed b.trace → its ≡ stack
+      (b : Account) (its : Stack) → is_strong_on tag mode ≡ false → b ≡ account_cancelled a tag mode Removed b.trace → its ≡ stack
       → IsAtRest limit database uses b its entries
   rest-removed_weak b its weak over same = record {
     account =
@@ -68,12 +69,12 @@ module _ (limit database uses : ℕ) (a : Account) (stack : List ℕ) (entries :
           };
         });
     use_count = over-use_count b Removed over;
-    no_partition = same ∙ waits.no_partition;
+    nothing_left = same ∙ waits.nothing_left;
   }
 
   -- and with a strong one once that is counted no more.
   pub rest-removed_strong :
-      (b c : Account) (its : List ℕ) → is_strong_on tag mode ≡ true → b ≡ account_cancelled a tag mode Removed b.trace → c ≡ account_uncounting b tag mode
+      (b c : Account) (its : Stack) → is_strong_on tag mode ≡ true → b ≡ account_cancelled a tag mode Removed b.trace → c ≡ account_uncounting b tag mode
       → its ≡ stack → IsAtRest limit database uses c its entries
   rest-removed_strong b c its strong over back same = record {
     account =
@@ -87,7 +88,7 @@ module _ (limit database uses : ℕ) (a : Account) (stack : List ℕ) (entries :
           trace = sym (ap (λ (x : Account). x.trace) back) i;
         });
     use_count = use_count-same b c uses remembered (over-use_count b Removed over);
-    no_partition = same ∙ waits.no_partition;
+    nothing_left = same ∙ waits.nothing_left;
   } where
     remembered : b.fast.remembered ≡ c.fast.remembered
     remembered = sym (ap (λ (x : Account). x.fast.remembered) back)

@@ -23,6 +23,7 @@ use Rattle.shared_rule.specs.History.{taken_of, in_hand}
 use Rattle.shared_rule.specs.Lawful.{MayPutPart}
 use Rattle.shared_rule.specs.Episodes.{account_episode}
 use Rattle.shared_rule.proofs.Episodes.{fresh_hand, taken-in_hand, taken-put, may_keep}
+use Rattle.shared_rule.specs.Boards.{Stack}
 use Rattle.lock_manager.specs.Rest.{IsIdle}
 use Rattle.lock_manager.specs.Requests.{DecidesInPart, account_awaiting}
 
@@ -51,7 +52,7 @@ decided-granted taken put number tag mode Queued decided = absurd decided.1
 
 -- ---- the partition may be put
 
-module _ (limit number : ℕ) (a : Account) (stack : List ℕ) (p : ℕ) (tag : Tag) (mode : Mode) (taken put : Content) (idle : IsIdle a stack) (home : p ≡ partition_of tag)
+module _ (limit number : ℕ) (a : Account) (stack : Stack) (p : ℕ) (tag : Tag) (mode : Mode) (taken put : Content) (idle : IsIdle a stack) (home : p ≡ partition_of tag)
     (new : a.own tag mode ≡ false) (counted : is_strong_on tag mode ≡ true → is_done limit a.fast.counted tag mode ≡ true) where
   -- with the hold where the request is granted,
   may_grant : Moves taken number (Grant tag mode) [] put → MayPutBy limit number (account_taking a p taken) p (fresh_hand taken) (Grant tag mode) put
@@ -103,7 +104,7 @@ may_put-kept limit number a b p taken put took same = (
 )
 
 -- or as it was after a refusal.
-module _ (limit number : ℕ) (a b : Account) (stack : List ℕ) (p : ℕ) (tag : Tag) (mode : Mode) (taken put : Content) (idle : IsIdle a stack) (home : p ≡ partition_of tag)
+module _ (limit number : ℕ) (a b : Account) (stack : Stack) (p : ℕ) (tag : Tag) (mode : Mode) (taken put : Content) (idle : IsIdle a stack) (home : p ≡ partition_of tag)
     (took : b ≡ account_taking a p taken) where
   -- The account in between, once the wait word says that the session waits.
   abbrev hand_waiting : InHand

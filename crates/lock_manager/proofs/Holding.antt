@@ -17,6 +17,7 @@ use Rattle.lock_world.specs.Counted.{Counted, is_counted}
 use Rattle.lock_world.specs.SlotHolds.{used}
 use Rattle.lock_world.proofs.Slots.Used.{used-nothing}
 use Rattle.shared_rule.specs.History.{blank_account}
+use Rattle.shared_rule.specs.Boards.{Stack, nothing_due}
 use Rattle.lock_manager.specs.Rest.{counted_for, account_at_rest, IsUseCount, IsAtRest, IsIdle}
 use Rattle.lock_manager.specs.Requests.{counted_granted, account_granted}
 use Rattle.lock_manager.proofs.Resting.{own_with-key, with_strong, counted_for-cons}
@@ -24,18 +25,18 @@ use Rattle.lock_manager.proofs.Resting.{own_with-key, with_strong, counted_for-c
 -- What a session at rest holds and has counted, after one acquire or one release.
 
 -- A session at rest may begin a request.
-pub rest-idle : (limit database uses : ℕ) (a : Account) (stack : List ℕ) (entries : List Entry) → IsAtRest limit database uses a stack entries → IsIdle a stack
+pub rest-idle : (limit database uses : ℕ) (a : Account) (stack : Stack) (entries : List Entry) → IsAtRest limit database uses a stack entries → IsIdle a stack
 rest-idle limit database uses a stack entries rest = record {
   no_wait = ap (λ (x : Account). x.awaited) rest.account;
   no_content = ap (λ (x : Account). x.hand) rest.account;
   no_slots = ap (λ (x : Account). x.fast.slots) rest.account;
   no_zero = ap (λ (x : Account). x.fast.zero) rest.account;
-  no_partition = rest.no_partition;
+  nothing_left = rest.nothing_left;
 }
 
 -- Its account has its database.
 pub rest-database :
-    (limit database uses : ℕ) (a : Account) (stack : List ℕ) (entries : List Entry) → IsAtRest limit database uses a stack entries → a.fast.database ≡ database
+    (limit database uses : ℕ) (a : Account) (stack : Stack) (entries : List Entry) → IsAtRest limit database uses a stack entries → a.fast.database ≡ database
 rest-database limit database uses a stack entries rest = ap (λ (x : Account). x.fast.database) rest.account
 
 -- A use count is of what is remembered alone.
@@ -47,7 +48,7 @@ use_count-same a b uses same its = record {
 
 -- A session whose database was just stored is at rest.
 pub rest-new :
-    (limit database uses : ℕ) (a : Account) (stack : List ℕ) (entries : List Entry) → a ≡ account_storing blank_account database → uses ≡ 0 → stack ≡ [] → entries ≡ []
+    (limit database uses : ℕ) (a : Account) (stack : Stack) (entries : List Entry) → a ≡ account_storing blank_account database → uses ≡ 0 → stack ≡ nothing_due → entries ≡ []
     → IsAtRest limit database uses a stack entries
 rest-new limit database uses a stack entries blank none empty nothing =
     let remembered : (λ _. 0) ≡ a.fast.remembered = sym (ap (λ (x : Account). x.fast.remembered) blank) in
@@ -56,7 +57,7 @@ rest-new limit database uses a stack entries blank none empty nothing =
     record {
       account = blank ∙ (λ i. account_at_rest limit database (remembered i) (sym nothing i) (trace i));
       use_count = record { enough = omega (arith, unused); within = omega (arith, none) };
-      no_partition = empty;
+      nothing_left = empty;
     }
 
 -- What it has an entry of is counted once more,
@@ -94,7 +95,7 @@ counted-none limit (entry ∷ entries) tag mode none =
     ]
 
 pub rest-not_counted :
-    (limit database uses : ℕ) (a : Account) (stack : List ℕ) (entries : List Entry) (tag : Tag) (mode : Mode) → IsAtRest limit database uses a stack entries
+    (limit database uses : ℕ) (a : Account) (stack : Stack) (entries : List Entry) (tag : Tag) (mode : Mode) → IsAtRest limit database uses a stack entries
     → has_entry entries tag mode ≡ false → is_counted a.fast.counted tag mode ≡ false
 rest-not_counted limit database uses a stack entries tag mode rest none =
     ap (λ (x : Account). is_counted x.fast.counted tag mode) rest.account ∙ counted-none limit entries tag mode none
@@ -111,7 +112,7 @@ counted-few limit (entry ∷ entries) =
       at false fewer = omega (arith, fewer)
 
 pub rest-few :
-    (limit database uses most : ℕ) (a : Account) (stack : List ℕ) (entries : List Entry) → IsAtRest limit database uses a stack entries → length entries < most → length a.fast.counted < most
+    (limit database uses most : ℕ) (a : Account) (stack : Stack) (entries : List Entry) → IsAtRest limit database uses a stack entries → length entries < most → length a.fast.counted < most
 rest-few limit database uses most a stack entries rest room =
     let few : length (counted_for limit entries) ≤ length entries = counted-few limit entries in
     subst (λ (x : Account). length x.fast.counted < most) (sym rest.account) (omega (arith, few, room))
@@ -156,7 +157,7 @@ counted-granted limit entries tag mode owner none =
       same Transaction = refl
 
 pub rest-granted :
-    (limit database uses left : ℕ) (a b : Account) (stack its : List ℕ) (old new : List Entry) (tag : Tag) (mode : Mode) (owner : Owner) → has_entry old tag mode ≡ false
+    (limit database uses left : ℕ) (a b : Account) (stack its : Stack) (old new : List Entry) (tag : Tag) (mode : Mode) (owner : Owner) → has_entry old tag mode ≡ false
     → b ≡ account_granted limit a tag mode b.fast.remembered b.trace → IsUseCount b left → its ≡ stack → new ≡ with_one_more old tag mode owner
     → IsAtRest limit database uses a stack old → IsAtRest limit database left b its new
 rest-granted limit database uses left a b stack its old new tag mode owner none granted use_count same more rest = record {
@@ -169,7 +170,7 @@ rest-granted limit database uses left a b stack its old new tag mode owner none 
       })
       ∙ ap (λ entries. account_at_rest limit database b.fast.remembered entries b.trace) (sym more);
   use_count = use_count;
-  no_partition = same ∙ rest.no_partition;
+  nothing_left = same ∙ rest.nothing_left;
 }
 
 -- A change of counts alone leaves both.
@@ -196,7 +197,7 @@ lowered-same Transaction e = (refl, refl)
 
 -- A session at rest with entries that hold and count the same is at rest with them.
 pub rest-same :
-    (limit database uses : ℕ) (a : Account) (stack : List ℕ) (old new : List Entry) → has_entry old ≡ has_entry new → counted_for limit old ≡ counted_for limit new
+    (limit database uses : ℕ) (a : Account) (stack : Stack) (old new : List Entry) → has_entry old ≡ has_entry new → counted_for limit old ≡ counted_for limit new
     → IsAtRest limit database uses a stack old → IsAtRest limit database uses a stack new
 rest-same limit database uses a stack old new own counted rest = record {
   account =
@@ -206,12 +207,12 @@ rest-same limit database uses a stack old new own counted rest = record {
         fast = record ((account_at_rest limit database a.fast.remembered old a.trace).fast) { counted = counted i };
       });
   use_count = rest.use_count;
-  no_partition = rest.no_partition;
+  nothing_left = rest.nothing_left;
 }
 
 -- What is held already may be acquired once more,
 pub rest-held_again :
-    (limit database uses : ℕ) (a : Account) (stack : List ℕ) (old new : List Entry) (tag : Tag) (mode : Mode) (owner : Owner) → has_entry old tag mode ≡ true
+    (limit database uses : ℕ) (a : Account) (stack : Stack) (old new : List Entry) (tag : Tag) (mode : Mode) (owner : Owner) → has_entry old tag mode ≡ true
     → new ≡ with_one_more old tag mode owner → IsAtRest limit database uses a stack old → IsAtRest limit database uses a stack new
 rest-held_again limit database uses a stack old new tag mode owner held more rest =
     rest-same limit database uses a stack old new (λ i t m. own t m i)

@@ -18,7 +18,7 @@ use Rattle.lock_world.specs.AccountFacts.{KnowsContent}
 use Rattle.lock_world.specs.AccountLaw.{MayLeaveBy}
 use Rattle.lock_world.specs.AccountSteps.{account_taking, account_putting, account_clearing, hand_recording, own_with}
 use Rattle.lock_world.specs.World.{Took, Episode}
-use Rattle.shared_rule.specs.Boards.{Seated}
+use Rattle.shared_rule.specs.Boards.{Seated, Stack}
 use Rattle.shared_rule.specs.History.{taken_of, in_hand, is_among, sessions_told, is_granted, account_cleared, account_left}
 use Rattle.shared_rule.specs.Lawful.{MayPutPart, MayClearBy}
 use Rattle.shared_rule.proofs.Episodes.{fresh_hand, taken-in_hand}
@@ -55,7 +55,7 @@ pub cleared-same :
     (seat its : Seated) (b c : Account) → its ≡ seat → c ≡ account_cleared its.number b b.awaited → c ≡ account_cleared seat.number b b.awaited
 cleared-same seat its b c same clears = subst (λ (s : Seated). c ≡ account_cleared s.number b b.awaited) {x = its} {y = seat} same clears
 
-module _ (number : ℕ) (a : Account) (stack : List ℕ) (p : ℕ) (tag : Tag) (mode : Mode) (taken : Content) (waits : IsInWait a stack tag mode) (home : p ≡ partition_of tag) where
+module _ (number : ℕ) (a : Account) (stack : Stack) (p : ℕ) (tag : Tag) (mode : Mode) (taken : Content) (waits : IsInWait a stack tag mode) (home : p ≡ partition_of tag) where
   -- the wait by the session's account
   abbrev wait : OwnWait
   wait = record { tag = tag; mode = mode; held = waits.held }

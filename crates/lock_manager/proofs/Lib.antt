@@ -13,3 +13,4 @@ pub mod Cancelling
 pub mod Watching
 mod Reading
 mod Slotting
+mod Owing

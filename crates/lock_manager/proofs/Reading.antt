@@ -4,11 +4,12 @@ use Rattle.lock_world.specs.Account.{Account}
 use Rattle.lock_world.specs.SlotHolds.{used, ShowsNoMore}
 use Rattle.lock_world.specs.World.{TraceEntry}
 use Rattle.lock_world.proofs.Slots.Used.{used-fewer}
+use Rattle.shared_rule.specs.Boards.{Stack}
 use Rattle.lock_manager.specs.Rest.{IsAtRest}
 
 -- A session at rest that reads is at rest after it.
 
-module _ (limit database uses : ℕ) (a b : Account) (stack left : List ℕ) (entries : List Entry) (same : left ≡ stack) (rest : IsAtRest limit database uses a stack entries) where
+module _ (limit database uses : ℕ) (a b : Account) (stack left : Stack) (entries : List Entry) (same : left ≡ stack) (rest : IsAtRest limit database uses a stack entries) where
   -- It may remember less of its own slots than before, once it has read these,
   pub rest-read_slots : (trace : List TraceEntry) → ShowsNoMore b.fast.remembered a.fast.remembered
       → b ≡ record a { fast = record (a.fast) { remembered = b.fast.remembered }; trace = trace }
@@ -25,7 +26,7 @@ module _ (limit database uses : ℕ) (a b : Account) (stack left : List ℕ) (en
           omega (arith, fewer, enough);
       within = rest.use_count.within;
     };
-    no_partition = same ∙ rest.no_partition;
+    nothing_left = same ∙ rest.nothing_left;
   } where
     shown : trace ≡ b.trace
     shown = sym (ap (λ (x : Account). x.trace) is)
@@ -44,7 +45,7 @@ module _ (limit database uses : ℕ) (a b : Account) (stack left : List ℕ) (en
           omega (arith, known, enough);
       within = rest.use_count.within;
     };
-    no_partition = same ∙ rest.no_partition;
+    nothing_left = same ∙ rest.nothing_left;
   } where
     remembered : a.fast.remembered ≡ b.fast.remembered
     remembered = sym (ap (λ (x : Account). x.fast.remembered) is)

@@ -17,7 +17,7 @@ use Rattle.lock_world.specs.SlotHolds.{slot_count, slot_holds}
 use Rattle.lock_world.specs.World.{TraceEntry, Took, Episode}
 use Rattle.fast_path.specs.Slots.{slot_loads, account_tried}
 use Rattle.fast_path.specs.Releases.{Ungrants}
-use Rattle.shared_rule.specs.Boards.{Seated}
+use Rattle.shared_rule.specs.Boards.{Seated, Stack}
 use Rattle.shared_rule.specs.Lawful.{MayPutPart}
 use Rattle.shared_rule.proofs.Episodes.{fresh_hand, taken-in_hand}
 use Rattle.lock_manager.specs.Rest.{IsUseCount, IsIdle}
@@ -209,13 +209,13 @@ module _ (number : ℕ) (a b c : Account) (uses left : ℕ) (tag : Tag) (mode : 
 
 -- Between looking and releasing the session is idle, and has what it had.
 module _ (number : ℕ) (a : Account) (uses : ℕ) (tag : Tag) (mode : Mode) (b : Account) (left : ℕ) (looked : HasLookedForHold number a uses tag mode b left) where
-  pub looked-idle : (stack its : List ℕ) → its ≡ stack → IsIdle a stack → IsIdle b its
+  pub looked-idle : (stack its : Stack) → its ≡ stack → IsIdle a stack → IsIdle b its
   looked-idle stack its same idle = record {
     no_wait = ap (λ (x : Account). x.awaited) looked.account ∙ idle.no_wait;
     no_content = ap (λ (x : Account). x.hand) looked.account ∙ idle.no_content;
     no_slots = ap (λ (x : Account). x.fast.slots) looked.account ∙ idle.no_slots;
     no_zero = ap (λ (x : Account). x.fast.zero) looked.account ∙ idle.no_zero;
-    no_partition = same ∙ idle.no_partition;
+    nothing_left = same ∙ idle.nothing_left;
   }
 
   pub looked-own : (its : Mode) (there : Bool) → a.own tag its ≡ there → b.own tag its ≡ there

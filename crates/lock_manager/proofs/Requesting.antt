@@ -24,7 +24,7 @@ use Rattle.lock_world.proofs.Slots.Eligible.{eligible-is}
 use Rattle.lock_world.proofs.Slots.Used.{used-fewer}
 use Rattle.fast_path.specs.Grants.{Grants}
 use Rattle.fast_path.specs.Transfers.{IsAfterScan, Transfers, IsCutShort, TransfersOrNot}
-use Rattle.shared_rule.specs.Boards.{Seated}
+use Rattle.shared_rule.specs.Boards.{Seated, Stack}
 use Rattle.lock_manager.specs.Rest.{IsUseCount, IsIdle}
 use Rattle.lock_manager.specs.Requests.{LeadsToTable, DecidesInPart, Decides, Requests, IsRequested, counted_granted, account_awaiting, account_decided}
 use Rattle.fast_path.proofs.Counting.{counted_at, uncounting-last}
@@ -127,13 +127,13 @@ led-transferred limit a b uses tag mode strong moved = record {
 -- Then the episode may begin.
 module _ (limit : ℕ) (a : Account) (uses : ℕ) (tag : Tag) (mode : Mode) (counted : List Counted) (b : Account) (left : ℕ)
     (led : IsLed limit a uses tag mode counted b left) where
-  pub led-idle : (stack its : List ℕ) → its ≡ stack → IsIdle a stack → IsIdle b its
+  pub led-idle : (stack its : Stack) → its ≡ stack → IsIdle a stack → IsIdle b its
   led-idle stack its same idle = record {
     no_wait = ap (λ (x : Account). x.awaited) led.account ∙ idle.no_wait;
     no_content = ap (λ (x : Account). x.hand) led.account ∙ idle.no_content;
     no_slots = ap (λ (x : Account). x.fast.slots) led.account ∙ idle.no_slots;
     no_zero = ap (λ (x : Account). x.fast.zero) led.account ∙ idle.no_zero;
-    no_partition = same ∙ idle.no_partition;
+    nothing_left = same ∙ idle.nothing_left;
   }
 
   pub led-new : (its : Mode) → a.own tag its ≡ false → b.own tag its ≡ false

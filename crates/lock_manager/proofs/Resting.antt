@@ -17,7 +17,7 @@ use Rattle.lock_table.specs.Put.{put}
 use Rattle.lock_world.specs.Account.{Account}
 use Rattle.lock_world.specs.AccountSteps.{own_with}
 use Rattle.lock_world.specs.Counted.{Counted, is_counted, uncounting}
-use Rattle.shared_rule.specs.Boards.{Seated}
+use Rattle.shared_rule.specs.Boards.{Seated, Stack}
 use Rattle.lock_manager.specs.Rest.{counted_for, account_at_rest, IsUseCount, IsAtRest}
 use Rattle.lock_manager.specs.Releases.{Releases, ReleasesAll, counted_released, account_released}
 
@@ -230,7 +230,7 @@ entry-counted limit (entry ∷ entries) tag mode has strong =
 
 -- With the hold released that the end takes away next it is at rest with the entries left,
 pub rest-next :
-    (limit database uses left : ℕ) (end : End) (a b : Account) (stack its : List ℕ) (old new : List Entry) (key : Tag × Mode)
+    (limit database uses left : ℕ) (end : End) (a b : Account) (stack its : Stack) (old new : List Entry) (key : Tag × Mode)
     → IsDistinct are_of_same old → ended_by end old ≡ key ∷ ended_by end new → new ≡ with_next_ended end old
     → b ≡ account_released a key.0 key.1 b.fast.remembered b.trace → IsUseCount b left → its ≡ stack
     → IsAtRest limit database uses a stack old → IsAtRest limit database left b its new
@@ -246,12 +246,12 @@ rest-next limit database uses left end a b stack its old new key once next gone 
       })
       ∙ ap (λ entries. account_at_rest limit database b.fast.remembered entries b.trace) (sym gone);
   use_count = use_count;
-  no_partition = same ∙ at.no_partition;
+  nothing_left = same ∙ at.nothing_left;
 }
 
 -- and so after a step that takes nothing away.
 pub rest-last :
-    (limit database uses : ℕ) (end : End) (a : Account) (stack : List ℕ) (old new : List Entry) → ended_by end old ≡ [] → new ≡ with_next_ended end old
+    (limit database uses : ℕ) (end : End) (a : Account) (stack : Stack) (old new : List Entry) → ended_by end old ≡ [] → new ≡ with_next_ended end old
     → IsAtRest limit database uses a stack old → IsAtRest limit database uses a stack new
 rest-last limit database uses end a stack old new none gone at = record {
   account =
@@ -262,18 +262,18 @@ rest-last limit database uses end a stack old new none gone at = record {
       })
       ∙ ap (λ entries. account_at_rest limit database a.fast.remembered entries a.trace) (sym gone);
   use_count = at.use_count;
-  no_partition = at.no_partition;
+  nothing_left = at.nothing_left;
 }
 
 -- It holds what the end takes away next, and has counted it where it is a strong lock.
 pub rest-held :
-    (limit database uses : ℕ) (end : End) (a : Account) (stack : List ℕ) (entries : List Entry) (key : Tag × Mode) (rest : List (Tag × Mode))
+    (limit database uses : ℕ) (end : End) (a : Account) (stack : Stack) (entries : List Entry) (key : Tag × Mode) (rest : List (Tag × Mode))
     → ended_by end entries ≡ key ∷ rest → IsAtRest limit database uses a stack entries → a.own key.0 key.1 ≡ true
 rest-held limit database uses end a stack entries key rest next at =
     ap (λ (v : Account). v.own key.0 key.1) at.account ∙ has_entry-ended end entries key rest next
 
 pub rest-counted :
-    (limit database uses : ℕ) (end : End) (a : Account) (stack : List ℕ) (entries : List Entry) (key : Tag × Mode) (rest : List (Tag × Mode))
+    (limit database uses : ℕ) (end : End) (a : Account) (stack : Stack) (entries : List Entry) (key : Tag × Mode) (rest : List (Tag × Mode))
     → ended_by end entries ≡ key ∷ rest → IsAtRest limit database uses a stack entries
     → is_strong_on key.0 key.1 ≡ true → is_counted a.fast.counted key.0 key.1 ≡ true
 rest-counted limit database uses end a stack entries key rest next at strong =

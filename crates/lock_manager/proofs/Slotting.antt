@@ -9,6 +9,7 @@ use Rattle.local_locks.specs.Owned.{Owned}
 use Rattle.lock_world.specs.Account.{Account}
 use Rattle.lock_world.specs.AccountSteps.{own_with}
 use Rattle.lock_world.specs.World.{TraceEntry}
+use Rattle.shared_rule.specs.Boards.{Stack}
 use Rattle.fast_path.specs.Slots.{account_tried}
 use Rattle.fast_path.specs.Grants.{GrantsInSlot, TriesGrant}
 use Rattle.lock_manager.specs.Rest.{account_at_rest, IsUseCount, IsAtRest}
@@ -59,7 +60,7 @@ by_slot-refused number a b uses left tag mode NoMoreSessions none = absurd none
 by_slot-refused number a b uses left tag mode BadConfig none = absurd none
 
 pub rest-tried :
-    (limit database uses left : ℕ) (a b : Account) (stack its : List ℕ) (old new : List Entry) → b ≡ account_tried a b.fast.remembered b.trace
+    (limit database uses left : ℕ) (a b : Account) (stack its : Stack) (old new : List Entry) → b ≡ account_tried a b.fast.remembered b.trace
     → IsUseCount b left → its ≡ stack → new ≡ old → IsAtRest limit database uses a stack old → IsAtRest limit database left b its new
 rest-tried limit database uses left a b stack its old new tried use_count same same_entries rest = record {
   account =
@@ -67,7 +68,7 @@ rest-tried limit database uses left a b stack its old new tried use_count same s
       ∙ ap (λ (x : Account). account_tried x b.fast.remembered b.trace) rest.account
       ∙ ap (λ entries. account_at_rest limit database b.fast.remembered entries b.trace) (sym same_entries);
   use_count = use_count;
-  no_partition = same ∙ rest.no_partition;
+  nothing_left = same ∙ rest.nothing_left;
 }
 
 -- Its refusals are others than those of its limits,

@@ -18,6 +18,7 @@ use Rattle.lock_world.specs.AccountSteps.{own_with}
 use Rattle.lock_world.specs.Counted.{Counted, is_counted, uncounting}
 use Rattle.lock_world.specs.World.{TraceEntry}
 use Rattle.shared_rule.specs.Seats.{DoNotConflict, MayCloseBy}
+use Rattle.shared_rule.specs.Boards.{Stack}
 use Rattle.lock_manager.specs.Rest.{counted_for, account_at_rest, IsUseCount, IsAtRest}
 use Rattle.lock_manager.specs.Releases.{counted_released, account_released}
 use Rattle.lock_manager.specs.Sessions.{DontConflict}
@@ -25,13 +26,13 @@ use Rattle.lock_manager.proofs.Holding.{rest-same}
 
 -- It holds what it has entries for.
 pub own-rest :
-    (limit database uses : ℕ) (a : Account) (stack : List ℕ) (entries : List Entry) → IsAtRest limit database uses a stack entries →
+    (limit database uses : ℕ) (a : Account) (stack : Stack) (entries : List Entry) → IsAtRest limit database uses a stack entries →
     (tag : Tag) (mode : Mode) → a.own tag mode ≡ has_entry entries tag mode
 own-rest limit database uses a stack entries rest tag mode = ap (λ (b : Account). b.own tag mode) rest.account
 
 -- Two sessions whose holds don't conflict have no entries that do.
 pub entries-apart :
-    (limit its_limit database its_database uses its_uses : ℕ) (a b : Account) (stack its_stack : List ℕ) (entries its_entries : List Entry) →
+    (limit its_limit database its_database uses its_uses : ℕ) (a b : Account) (stack its_stack : Stack) (entries its_entries : List Entry) →
     IsAtRest limit database uses a stack entries → IsAtRest its_limit its_database its_uses b its_stack its_entries → DoNotConflict a b → DontConflict entries its_entries
 entries-apart limit its_limit database its_database uses its_uses a b stack its_stack entries its_entries rest its_rest apart tag mode its has its_has =
     apart tag mode its (own-rest limit database uses a stack entries rest tag mode ∙ has) (own-rest its_limit its_database its_uses b its_stack its_entries its_rest tag its ∙ its_has)
@@ -42,7 +43,7 @@ left_by-close [] = refl
 left_by-close (entry ∷ entries) = left_by-close entries
 
 -- and with none it may be closed.
-pub MayCloseBy-rest : (limit database uses : ℕ) (a : Account) (stack : List ℕ) (entries : List Entry) → IsAtRest limit database uses a stack entries → entries ≡ [] → MayCloseBy a
+pub MayCloseBy-rest : (limit database uses : ℕ) (a : Account) (stack : Stack) (entries : List Entry) → IsAtRest limit database uses a stack entries → entries ≡ [] → MayCloseBy a
 MayCloseBy-rest limit database uses a stack entries rest none =
     subst MayCloseBy (sym (rest.account ∙ ap (λ (es : List Entry). account_at_rest limit database a.fast.remembered es a.trace) none)) (record {
       no_hold = λ tag mode. refl;
@@ -148,7 +149,7 @@ is_counted-entry limit (entry ∷ entries) tag mode strong has =
     ]
 
 pub is_counted-rest :
-    (limit database uses : ℕ) (a : Account) (stack : List ℕ) (entries : List Entry) (tag : Tag) (mode : Mode) → IsAtRest limit database uses a stack entries →
+    (limit database uses : ℕ) (a : Account) (stack : Stack) (entries : List Entry) (tag : Tag) (mode : Mode) → IsAtRest limit database uses a stack entries →
     is_strong_on tag mode ≡ true → has_entry entries tag mode ≡ true → is_counted a.fast.counted tag mode ≡ true
 is_counted-rest limit database uses a stack entries tag mode rest strong has =
     ap (λ (b : Account). is_counted b.fast.counted tag mode) rest.account ∙ is_counted-entry limit entries tag mode strong has
@@ -180,7 +181,7 @@ counted-still_held limit old new tag mode owner less some =
 
 -- and so the session rests.
 pub IsAtRest-still_held :
-    (limit database uses : ℕ) (a : Account) (stack : List ℕ) (old new : List Entry) (tag : Tag) (mode : Mode) (owner : Owner) →
+    (limit database uses : ℕ) (a : Account) (stack : Stack) (old new : List Entry) (tag : Tag) (mode : Mode) (owner : Owner) →
     IsAtRest limit database uses a stack old → new ≡ with_one_less old tag mode owner → 0 < total_of new tag mode → IsAtRest limit database uses a stack new
 IsAtRest-still_held limit database uses a stack old new tag mode owner rest less some =
     let own : has_entry old ≡ has_entry new = λ i t m. sym (keys-still_held old new tag mode owner less some t m) i in
@@ -219,7 +220,7 @@ counted-released limit old new tag mode owner less had gone =
     ]
 
 pub IsAtRest-released :
-    (limit database uses left : ℕ) (a b : Account) (stack its_stack : List ℕ) (old new : List Entry) (tag : Tag) (mode : Mode) (owner : Owner) →
+    (limit database uses left : ℕ) (a b : Account) (stack its_stack : Stack) (old new : List Entry) (tag : Tag) (mode : Mode) (owner : Owner) →
     IsAtRest limit database uses a stack old → new ≡ with_one_less old tag mode owner → has_entry old tag mode ≡ true → has_entry new tag mode ≡ false →
     b ≡ account_released a tag mode b.fast.remembered b.trace → IsUseCount b left → its_stack ≡ stack → IsAtRest limit database left b its_stack new
 IsAtRest-released limit database uses left a b stack its_stack old new tag mode owner rest less had gone released use_count same_stack =
@@ -232,5 +233,5 @@ IsAtRest-released limit database uses left a b stack its_stack old new tag mode 
           at_rest_with limit database b.fast.remembered new b.trace o (counted_released (counted_for limit old) tag mode)) own ∙
           ap (at_rest_with limit database b.fast.remembered new b.trace (has_entry new)) (counted-released limit old new tag mode owner less had gone);
       use_count = use_count;
-      no_partition = same_stack ∙ rest.no_partition;
+      nothing_left = same_stack ∙ rest.nothing_left;
     }

@@ -11,6 +11,7 @@ use Rattle.lock_world.specs.WaitWord.{wait_state, is_asked}
 use Rattle.lock_world.specs.World.{TraceEntry, Loaded}
 use Rattle.lock_world.specs.Account.{Account}
 use Rattle.shared_rule.specs.Lawful.{HasJustLooked}
+use Rattle.shared_rule.specs.Boards.{Stack}
 use Rattle.lock_manager.specs.declared.waiting.Polled.{Polled}
 use Rattle.lock_manager.specs.declared.waiting.Polled.TheVariants.{Granted, Still, CancelAsked}
 use Rattle.lock_manager.specs.declared.waiting.Cancelled.TheVariants.{Removed, WasGranted}
@@ -81,7 +82,7 @@ seen-neither false false still = (refl, refl)
 
 -- and may sleep on what it saw.
 pub just_looked :
-    (limit database uses number : ℕ) (a : Account) (stack : List ℕ) (entries : List Entry) (tag : Tag) (mode : Mode) (shown : ℕ) (before : List TraceEntry)
+    (limit database uses number : ℕ) (a : Account) (stack : Stack) (entries : List Entry) (tag : Tag) (mode : Mode) (shown : ℕ) (before : List TraceEntry)
     → IsWaiting limit database uses a stack entries tag mode → a.trace ≡ before ++ Loaded (Wait number) shown ∷ [] → polled_as shown ≡ Still → HasJustLooked number a shown
 just_looked limit database uses number a stack entries tag mode shown before waiting looked still =
     let neither = seen-neither (wait_state shown == 2) (is_asked shown) still in

@@ -1,7 +1,7 @@
 use Rattle.std.specs.Prelude.{◌≡◌, ℕ, ◌<◌, ◌≤◌, ◌&&◌, nat_le, Bool, List, []}
 use Rattle.atomic_table.specs.Seated.{TableId}
 use Rattle.lock_world.specs.Account.{Account}
-use Rattle.shared_rule.specs.Boards.{Seated}
+use Rattle.shared_rule.specs.Boards.{Seated, Stack}
 use Rattle.lock_manager.specs.declared.config.Config.{Config}
 use Rattle.lock_manager.specs.Sessions.{SessionView, IsResting}
 
@@ -48,7 +48,7 @@ pub record IsCounted (issued limit live : ℕ) : Type 0 where
   pub issued_within : issued ≤ limit
   pub few : limit ≤ 64
 
-module _ {B : Type 0} (seat : B → Seated) (view : B → Account) (stack : B → List ℕ) where
+module _ {B : Type 0} (seat : B → Seated) (view : B → Account) (stack : B → Stack) where
   -- A session that the opener has just given out, for this database: it has the next number, holds nothing, has no slot
   -- in use and has made no step, and one local entry needs no memory.
   pub record IsOpened (opener : OpenerView) (manager : ManagerView) (database : ℕ) (session : SessionView B) : Type 0 where

@@ -6,6 +6,7 @@ use Rattle.lock_world.specs.Account.{Account}
 use Rattle.lock_world.specs.Counted.{Counted}
 use Rattle.lock_world.specs.SlotHolds.{slot_count, used}
 use Rattle.lock_world.specs.World.{TraceEntry}
+use Rattle.shared_rule.specs.Boards.{Stack, nothing_due}
 
 -- What a session has between two of its calls.
 
@@ -43,16 +44,17 @@ pub record IsUseCount (a : Account) (uses : ℕ) : Type 0 where
   pub enough : used a.fast.remembered ≤ uses
   pub within : uses ≤ slot_count
 
-pub record IsAtRest (limit database uses : ℕ) (a : Account) (stack : List ℕ) (entries : List Entry) : Type 0 where
+-- Nor has it a partition to put, or anybody to wake.
+pub record IsAtRest (limit database uses : ℕ) (a : Account) (stack : Stack) (entries : List Entry) : Type 0 where
   pub account : a ≡ account_at_rest limit database a.fast.remembered entries a.trace
   pub use_count : IsUseCount a uses
-  pub no_partition : stack ≡ []
+  pub nothing_left : stack ≡ nothing_due
 
--- What of it a step in the middle of a call may count on: it has no word in hand, has read no counter as 0, and has
--- no wait.
-pub record IsIdle (a : Account) (stack : List ℕ) : Type 0 where
+-- What of it a step in the middle of a call may count on: it has no word in hand, owes nobody a wake, has read no
+-- counter as 0, and has no wait.
+pub record IsIdle (a : Account) (stack : Stack) : Type 0 where
   pub no_wait : a.awaited ≡ None
   pub no_content : a.hand ≡ (λ _. None)
   pub no_slots : a.fast.slots ≡ (λ _. None)
   pub no_zero : a.fast.zero ≡ None
-  pub no_partition : stack ≡ []
+  pub nothing_left : stack ≡ nothing_due

@@ -5,7 +5,7 @@ use Rattle.modes_core.specs.Conflict.{conflict}
 use Rattle.local_locks.specs.declared.records.Entry.{Entry}
 use Rattle.local_locks.specs.Owned.{Owned, has_entry}
 use Rattle.lock_world.specs.Account.{Account}
-use Rattle.shared_rule.specs.Boards.{Seated}
+use Rattle.shared_rule.specs.Boards.{Seated, Stack}
 use Rattle.lock_manager.specs.Rest.{IsAtRest}
 
 -- What contracts see of a session: its board, its database, its use count of its fast-path slots, and what it owns.
@@ -22,7 +22,7 @@ DontConflict entries its_entries =
     → conflict mode its ≡ false
 
 -- Sessions by what their boards show.
-module _ {B : Type 0} (seat : B → Seated) (view : B → Account) (stack : B → List ℕ) where
+module _ {B : Type 0} (seat : B → Seated) (view : B → Account) (stack : B → Stack) where
   -- The session is in no call.
   abbrev pub IsResting : SessionView B → Type 0
   IsResting session =

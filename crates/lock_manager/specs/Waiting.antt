@@ -20,7 +20,7 @@ use Rattle.lock_world.specs.WaitWord.{wait_state, is_asked}
 use Rattle.lock_world.specs.World.{TraceEntry, Took, Episode, AskedToCancel, Loaded}
 use Rattle.lock_world.specs.Account.{Account}
 use Rattle.lock_world.specs.AccountSteps.{account_tracing, own_with}
-use Rattle.shared_rule.specs.Boards.{Seated}
+use Rattle.shared_rule.specs.Boards.{Seated, Stack, nothing_due}
 use Rattle.lock_manager.specs.declared.waiting.Started.{Started}
 use Rattle.lock_manager.specs.declared.waiting.Started.TheVariants.{Granted, AlreadyHeld, Queued}
 use Rattle.lock_manager.specs.declared.waiting.Asked.{Asked}
@@ -47,16 +47,16 @@ account_in_wait limit database remembered entries tag mode held trace =
       };
     }
 
-pub record IsWaiting (limit database uses : ℕ) (a : Account) (stack : List ℕ) (entries : List Entry) (tag : Tag)
+pub record IsWaiting (limit database uses : ℕ) (a : Account) (stack : Stack) (entries : List Entry) (tag : Tag)
     (mode : Mode) : Type 0 where
   pub held : Mode → Bool
   pub account : a ≡ account_in_wait limit database a.fast.remembered entries tag mode held a.trace
   pub use_count : IsUseCount a uses
   pub no_entry : has_entry entries tag mode ≡ false
-  pub no_partition : stack ≡ []
+  pub nothing_left : stack ≡ nothing_due
 
 -- The same once it has loaded its wait word, which showed this: it has seen whether it was granted.
-pub record HasLooked (limit database uses : ℕ) (a : Account) (stack : List ℕ) (entries : List Entry) (tag : Tag)
+pub record HasLooked (limit database uses : ℕ) (a : Account) (stack : Stack) (entries : List Entry) (tag : Tag)
     (mode : Mode) (shown : ℕ) : Type 0 where
   pub held : Mode → Bool
   pub account : a ≡ record (account_in_wait limit database a.fast.remembered entries tag mode held a.trace) {
@@ -64,16 +64,16 @@ pub record HasLooked (limit database uses : ℕ) (a : Account) (stack : List ℕ
   }
   pub use_count : IsUseCount a uses
   pub no_entry : has_entry entries tag mode ≡ false
-  pub no_partition : stack ≡ []
+  pub nothing_left : stack ≡ nothing_due
 
 -- What of it a step in the middle of a call may count on: it has this wait, has not seen it granted, and has no word
 -- in hand.
-pub record IsInWait (a : Account) (stack : List ℕ) (tag : Tag) (mode : Mode) : Type 0 where
+pub record IsInWait (a : Account) (stack : Stack) (tag : Tag) (mode : Mode) : Type 0 where
   pub held : Mode → Bool
   pub waits : a.awaited ≡ Some (record { tag = tag; mode = mode; held = held })
   pub unseen : a.seen ≡ false
   pub no_content : a.hand ≡ (λ _. None)
-  pub no_partition : stack ≡ []
+  pub nothing_left : stack ≡ nothing_due
 
 -- ---- an acquire that may wait
 

@@ -7,7 +7,7 @@ use Rattle.local_locks.specs.declared.answers.Acquired.{Acquired}
 use Rattle.local_locks.specs.declared.answers.Acquired.TheVariants as acquired
 use Rattle.local_locks.specs.Owned.{Owned}
 use Rattle.lock_world.specs.Account.{Account}
-use Rattle.shared_rule.specs.Boards.{Seated}
+use Rattle.shared_rule.specs.Boards.{Seated, Stack}
 use Rattle.lock_manager.specs.declared.waiting.Started.{Started as Began}
 use Rattle.lock_manager.specs.declared.waiting.Started.TheVariants as began
 use Rattle.lock_manager.specs.declared.waiting.Polled.{Polled as Looked}
@@ -155,7 +155,7 @@ Locks seat owned a uses tag mode (Err refusal) b left =
 
 -- ---- sessions by what their boards show
 
-module _ {B : Type 0} (seat : B → Seated) (view : B → Account) (stack : B → List ℕ) where
+module _ {B : Type 0} (seat : B → Seated) (view : B → Account) (stack : B → Stack) where
   -- The session waits, and is in no call.
   abbrev pub IsInQueue : WaitingView B → Type 0
   IsInQueue waiting =

@@ -1,6 +1,7 @@
 //! Listings of all that is held and awaited, over any board.
 
 ghost use Rattle.std.specs.Prelude.{◌≡◌, ◌≤◌, ℕ, [], None, IsOkUnless};
+ghost use Rattle.shared_rule.specs.Lawful.{IsAboveHand};
 ghost use Rattle.lock_manager.specs.Rest.{IsAtRest};
 ghost use Rattle.lock_manager.specs.Listings.{Lists, ListsTable, ListsFrom};
 
@@ -55,6 +56,7 @@ fn list_table<T: PartTable, B: Board<T>, R: Wait>(
     rows: &mut Vec<TableRow>,
 ) -> Result<(), NoMemory>
     requires none_in_hand { (partition : ℕ) → (B.view board.old).hand partition ≡ None }
+    requires none_owed { (B.stack board.old).owed ≡ [] }
     requires empty { rows.old.items ≡ [] }
     ensures listed { ListsTable (B.view board.old).trace result rows.new.items (B.view board.new).trace }
     ensures account { B.view board.new ≡ record (B.view board.old) { trace = (B.view board.new).trace } }
@@ -76,7 +78,8 @@ fn list_from<T: PartTable, B: Board<T>, R: Wait>(
     rows: &mut Vec<TableRow>,
 ) -> Result<(), NoMemory>
     requires exists { part ≤ 16 }
-    requires none_in_hand { (partition : ℕ) → part ≤ partition → (B.view board.old).hand partition ≡ None }
+    requires none_in_hand { IsAboveHand (B.view board.old) part }
+    requires none_owed { (B.stack board.old).owed ≡ [] }
     ensures listed { ListsFrom part (B.view board.old) rows.old.items result (B.view board.new) rows.new.items }
     ensures stack { B.stack board.new ≡ B.stack board.old }
     ensures seat { B.seat board.new ≡ B.seat board.old }

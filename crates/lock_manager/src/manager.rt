@@ -2,6 +2,7 @@
 
 ghost use Rattle.std.specs.Prelude.{◌≡◌, ◌<◌, ◌+◌, ◌-◌, ◌↔◌, [], ◌∷◌, true, false, IfOk, IsErrOf, IsOkUnless, OnOk, OnErr};
 ghost use Rattle.shared_rule.specs.Seats.{MayCloseBy};
+ghost use Rattle.shared_rule.specs.Boards.{nothing_due};
 ghost use Rattle.lock_manager.specs.Managers.{IsNew, IsOpenerOf, IsOpened, is_in_range};
 
 use crate::config::Config;
@@ -178,7 +179,7 @@ impl Opener {
     // Takes the board of a session back that has nothing any more.
     pub(crate) fn take_back<'a>(&mut self, board: SeatBoard<'a, PlainPart>)
         requires table { (⟦<SeatBoard<'a, PlainPart> as Board<PlainPart>>⟧.seat board).table ≡ self.old.table }
-        requires stack { ⟦<SeatBoard<'a, PlainPart> as Board<PlainPart>>⟧.stack board ≡ [] }
+        requires stack { ⟦<SeatBoard<'a, PlainPart> as Board<PlainPart>>⟧.stack board ≡ nothing_due }
         requires lawful { MayCloseBy (⟦<SeatBoard<'a, PlainPart> as Board<PlainPart>>⟧.view board) }
         ensures closed { let B = ⟦<SeatBoard<'a, PlainPart> as Board<PlainPart>>⟧ in self.new ≡ record (self.old) {
           live = self.old.live - 1;

@@ -9,6 +9,7 @@ ghost use Rattle.lock_world.specs.Counted.{is_counted};
 ghost use Rattle.lock_world.specs.Happens.Partitions.{WaitIsOver};
 ghost use Rattle.shared_rule.specs.History.{taken_of};
 ghost use Rattle.shared_rule.specs.Lawful.{IsGrantingIn};
+ghost use Rattle.shared_rule.specs.Boards.{stack_putting};
 ghost use Rattle.lock_manager.specs.Rest.{IsIdle, IsUseCount, IsAtRest};
 ghost use Rattle.lock_manager.specs.Releases.{Tells, ReleasesInPart, ReleasesHold, Releases, ReleasesAll};
 ghost use Rattle.lock_manager.specs.Releases.{account_released};
@@ -131,19 +132,20 @@ pub fn put_with_woken<T: PartTable, B: Board<T>>(
     requires exists { part < 16 }
     requires grants { IsGrantingIn part done.now }
     requires none_begun { T.begun content ≡ None }
-    requires in_hand { (others : List ℕ) × (B.stack board.old ≡ part ∷ others) }
+    requires in_hand { (others : List ℕ) × ((B.stack board.old).parts ≡ part ∷ others) }
+    requires none_owed { (B.stack board.old).owed ≡ [] }
     requires wait_is_over { WaitIsOver (B.view board.old).awaited part done.now }
     requires lawful { Tells (B.seat board.old) (B.view board.old) part done.now woken.now.items (T.content content) }
     ensures account { B.view board.new ≡
         account_putting (B.view board.old) part (taken_of ((B.view board.old).hand part)) (T.content content) done.now }
-    ensures stack { B.stack board.old ≡ part ∷ B.stack board.new }
+    ensures stack { B.stack board.new ≡ stack_putting (B.stack board.old) }
     ensures seat { B.seat board.new ≡ B.seat board.old }
 {
     for (other, _mode) in woken.as_slice() {
         board.mark_granted(part, *other, done, woken, &content);
     }
     board.put_part(part, &Move::Keep, content);
-    for (other, _mode) in woken.as_slice() {
-        board.wake(*other);
+    for (session, _mode) in woken.as_slice() {
+        board.wake(*session);
     }
 }

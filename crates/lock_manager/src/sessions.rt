@@ -9,6 +9,7 @@ ghost use Rattle.lock_world.specs.declared.events.Word.TheVariants.{Strong};
 ghost use Rattle.lock_world.specs.AccountSteps.{account_storing};
 ghost use Rattle.lock_world.specs.World.{Loaded};
 ghost use Rattle.shared_rule.specs.History.{blank_account};
+ghost use Rattle.shared_rule.specs.Boards.{nothing_due};
 ghost use Rattle.lock_manager.specs.Sessions.{IsSame, IsUnchanged, DontConflict};
 ghost use Rattle.lock_manager.specs.Listings.{Lists};
 ghost use Rattle.lock_manager.specs.Requests.{Acquires, AcquiresBySlot};
@@ -83,7 +84,7 @@ impl<T: PartTable, B: Board<T>> OwnSession<T, B> {
     pub(crate) fn of(board: B, own: Box<Own>) -> Self
         requires limit { (B.seat board).limit ≤ 64 }
         requires blank { B.view board ≡ account_storing blank_account own.value.database }
-        requires stack { B.stack board ≡ [] }
+        requires stack { B.stack board ≡ nothing_due }
         requires no_slot { own.value.uses ≡ 0 }
         requires nothing { own.value.locals.entries ≡ [] }
         requires max_local { own.value.locals.max_local ≤ 65536 }

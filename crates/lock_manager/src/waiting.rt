@@ -1,6 +1,6 @@
 //! Acquires that may wait, and their waits, over any board.
 
-ghost use Rattle.std.specs.Prelude.{◌≡◌, ◌≢◌, ◌<◌, ◌≤◌, ◌↔◌, ◌==◌, false, true, length, IsErrOf, IsOkUnless, IfOk, OnOk, OnErr};
+ghost use Rattle.std.specs.Prelude.{◌≡◌, ◌≢◌, ◌<◌, ◌≤◌, ◌↔◌, ◌==◌, [], false, true, length, IsErrOf, IsOkUnless, IfOk, OnOk, OnErr};
 ghost use Rattle.local_locks.specs.Owned.{has_entry, owner_count_of, max_count, with_one_more, IsReserved, IsWellOwned};
 ghost use Rattle.lock_world.specs.WaitWord as words;
 ghost use Rattle.lock_manager.specs.Rest.{IsAtRest};
@@ -117,6 +117,7 @@ pub fn start<T: PartTable, B: Board<T>, R: Wait>(
 
 /// Asks a session to cancel its wait, and wakes it where it waits (`pg_cancel_backend` in signalfuncs.c).
 pub fn ask_cancel<T: PartTable, B: Board<T>>(board: &mut B, other: SessionId) -> Asked
+    requires none_owed { (B.stack board.old).owed ≡ [] }
     ensures asked { Asks (B.view board.old) other result (B.view board.new) }
     ensures stack { B.stack board.new ≡ B.stack board.old }
     ensures seat { B.seat board.new ≡ B.seat board.old }

@@ -9,3 +9,5 @@ pub mod Taken
 pub mod SlotWords
 pub mod FirstSlot
 pub mod Episodes
+pub mod Stacks
+mod Walks

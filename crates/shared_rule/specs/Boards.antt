@@ -5,6 +5,7 @@ use Rattle.shared_rule.specs.declared.history.Mark.{Mark}
 use Rattle.shared_rule.specs.declared.history.View.{View}
 use Rattle.shared_rule.specs.Layout.{content_slot_of}
 use Rattle.shared_rule.specs.History.{lone}
+use Rattle.shared_rule.specs.Owed.{owing, asking, waking}
 
 -- What a board is: shared state as one session sees it.
 
@@ -13,6 +14,36 @@ pub record Seated : Type 0 where
   pub number : ℕ
   pub limit : ℕ
   pub table : TableId
+
+-- What a session has to do yet: the partitions that it has to put, the last one taken first, and those whom it has to
+-- wake, once for each time that it came to owe it, the first one first.
+pub record Stack : Type 0 where
+  pub parts : List ℕ
+  pub owed : List ℕ
+
+abbrev pub nothing_due : Stack
+nothing_due = record { parts = []; owed = [] }
+
+-- a partition taken, and the last one put
+abbrev pub stack_taking : Stack → ℕ → Stack
+stack_taking stack part = record { parts = part ∷ stack.parts; owed = stack.owed }
+
+abbrev pub all_but_first : List ℕ → List ℕ
+all_but_first [] = []
+all_but_first (first ∷ others) = others
+
+abbrev pub stack_putting : Stack → Stack
+stack_putting stack = record { parts = all_but_first stack.parts; owed = stack.owed }
+
+-- a session let go, one asked to cancel whose wait word showed this, and one woken
+abbrev pub stack_owing : Stack → ℕ → Stack
+stack_owing stack other = record { parts = stack.parts; owed = owing stack.owed other }
+
+abbrev pub stack_asking : Stack → ℕ → ℕ → Stack
+stack_asking stack other shown = record { parts = stack.parts; owed = asking stack.owed other shown }
+
+abbrev pub stack_waking : Stack → ℕ → Stack
+stack_waking stack other = record { parts = stack.parts; owed = waking stack.owed other }
 
 -- the partitions in hand, the last one taken first, by the slots that are out
 abbrev pub parts_in_hand : {T : Type 0} → List (ℕ × Option T) → List ℕ

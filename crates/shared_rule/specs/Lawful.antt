@@ -1,4 +1,4 @@
-use Rattle.std.specs.Prelude.{◌≡◌, ◌≢◌, ◌⊎◌, ℕ, false, List, [], ◌∷◌, ◌++◌, Some, None}
+use Rattle.std.specs.Prelude.{◌≡◌, ◌≢◌, ◌⊎◌, ℕ, ◌≤◌, false, List, [], ◌∷◌, ◌++◌, Some, None}
 use Rattle.modes_core.specs.Tag.{partition_of}
 use Rattle.lock_table.specs.declared.moves.Move.{Move}
 use Rattle.lock_table.specs.declared.moves.Move.TheVariants.{Keep, Grant, Join, Release, Leave, Adopt}
@@ -57,3 +57,7 @@ pub record HasJustLooked (number : ℕ) (a : Account) (shown : ℕ) : Type 0 whe
   pub looked : a.trace ≡ before ++ Loaded (word.Wait number) shown ∷ []
   pub not_granted : wait_state shown ≢ 2
   pub not_asked : is_asked shown ≡ false
+
+-- Taking a partition: those in hand have lower numbers.
+abbrev pub IsAboveHand : Account → ℕ → Type 0
+IsAboveHand a partition = (other : ℕ) → partition ≤ other → a.hand other ≡ None

@@ -4,6 +4,7 @@ pub mod History
 pub mod Ruled
 pub mod Slots
 pub mod Plays
+pub mod Owed
 pub mod Boards
 pub mod Lawful
 pub mod Opening

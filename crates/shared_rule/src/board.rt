@@ -25,8 +25,10 @@ ghost use Rattle.lock_world.specs.AccountLaw.{MaySetSlotBy, MayClearSlotBy, MayT
 ghost use Rattle.shared_rule.specs.History.{taken_of, slots_here, in_hand, sessions_told};
 ghost use Rattle.shared_rule.specs.History.{account_granting, account_cleared, account_left};
 ghost use Rattle.shared_rule.specs.Slots.{TakesFast, TriesFast};
-ghost use Rattle.shared_rule.specs.Boards.{Seated};
+ghost use Rattle.shared_rule.specs.Boards.{Seated, Stack, nothing_due, stack_taking, stack_putting};
+ghost use Rattle.shared_rule.specs.Boards.{stack_owing, stack_asking, stack_waking};
 ghost use Rattle.shared_rule.specs.Lawful.{MayPutPart, IsGrantingIn, MayMarkBy, MayClearBy, HasJustLooked};
+ghost use Rattle.shared_rule.specs.Lawful.{IsAboveHand};
 
 use crate::busy::Busy;
 use lock_table::{Move, PartTable, Woken};
@@ -35,7 +37,10 @@ use modes_core::{Mode, SessionId, Tag};
 use std::sync::Wait;
 
 /// One session's board. Contracts see the session's account: its holds, what it has in hand and counted, its trace.
-/// Partitions go home in the opposite order of their taking.
+///
+/// All sessions take lightweight locks in one order: the lock of a session's slots only with no other one in hand, and
+/// then partitions in rising order. Partitions go home in the opposite order of their taking. Whoever lets another
+/// session go, or asks it to cancel its wait, owes it a wake, and takes no lock before.
 pub trait Board<T: PartTable> {
     // Whose board it is, how many sessions there can be, and at which table.
     ghost seat: { Self → Seated };
@@ -43,8 +48,8 @@ pub trait Board<T: PartTable> {
     // The session's account.
     ghost view: { Self → Account };
 
-    // The partitions in hand, the last one taken first.
-    ghost stack: { Self → List ℕ };
+    // What it has to do yet: the partitions to put, and the sessions to wake.
+    ghost stack: { Self → Stack };
 
     /// The session's number, one of those that there can be.
     fn number(&self) -> SessionId
@@ -59,28 +64,32 @@ pub trait Board<T: PartTable> {
     /// waits until the lock is free.
     fn take_part<R: Wait>(&mut self, rt: &R, part: u8) -> T
         requires exists { part < 16 }
+        requires rising { IsAboveHand (view self.old) part }
+        requires none_owed { (stack self.old).owed ≡ [] }
         ensures seat { seat self.new ≡ seat self.old }
         ensures view { view self.new ≡ account_taking (view self.old) part (T.content result) }
-        ensures stack { stack self.new ≡ part ∷ stack self.old }
+        ensures stack { stack self.new ≡ stack_taking (stack self.old) part }
         ensures none_begun { T.begun result ≡ None }
         ensures knows { KnowsContent (seat self.old).number (view self.old) part (T.content result) };
 
     /// Puts a partition's content home after this move, and its lightweight lock (`LWLockRelease` in lwlock.c).
     fn put_part(&mut self, part: u8, done: &Move, content: T)
         requires exists { part < 16 }
-        requires in_hand { (others : List ℕ) × (stack self.old ≡ part ∷ others) }
+        requires in_hand { (others : List ℕ) × ((stack self.old).parts ≡ part ∷ others) }
         requires none_begun { T.begun content ≡ None }
         requires lawful { (mine : InHand) × MayPutPart (seat self.old).limit (seat self.old).number (view self.old)
             part mine done.now (T.content content) }
         ensures seat { seat self.new ≡ seat self.old }
         ensures view { view self.new ≡
             account_putting (view self.old) part (taken_of ((view self.old).hand part)) (T.content content) done.now }
-        ensures stack { stack self.old ≡ part ∷ stack self.new };
+        ensures stack { stack self.new ≡ stack_putting (stack self.old) };
 
     /// Takes the lock of a session's fast-path slots exclusively, whether its number is issued or not (`fpInfoLock` in
     /// proc.h). It waits until the lock is free.
     fn take_fast<R: Wait>(&mut self, rt: &R, owner: SessionId)
         requires exists { owner < (seat self.old).limit }
+        requires nothing_due { stack self.old ≡ nothing_due }
+        requires no_slots { (view self.old).fast.slots ≡ (λ _. None) }
         ensures seat { seat self.new ≡ seat self.old }
         ensures taken { TakesFast (seat self.old).number (view self.old) owner (view self.new) }
         ensures stack { stack self.new ≡ stack self.old };
@@ -89,6 +98,8 @@ pub trait Board<T: PartTable> {
     /// exchange that expects the very number loaded (`LWLockConditionalAcquire` in lwlock.c). `Busy` where somebody
     /// holds it, or changed it meanwhile.
     fn try_take_fast(&mut self) -> Result<(), Busy>
+        requires nothing_due { stack self.old ≡ nothing_due }
+        requires no_slots { (view self.old).fast.slots ≡ (λ _. None) }
         ensures seat { seat self.new ≡ seat self.old }
         ensures tried { TriesFast (seat self.old).number (view self.old) result (view self.new) }
         ensures stack { stack self.new ≡ stack self.old };
@@ -214,7 +225,7 @@ pub trait Board<T: PartTable> {
 
     /// Marks the wait of a session granted, one of those whom the move in the content in hand grants. By the first mark
     /// the move stands recorded, and own holds follow it; the partition is put once all are marked, as after `Keep`
-    /// (`ProcWakeup` in proc.c sets `waitStatus`).
+    /// (`ProcWakeup` in proc.c sets `waitStatus`). The session is owed a wake from then on.
     fn mark_granted(&mut self, part: u8, other: SessionId, done: &Move, woken: &Woken, content: &T)
         requires grants { IsGrantingIn part done.now }
         requires lawful { (mine : InHand) × (granted : List contents.Wait)
@@ -225,7 +236,7 @@ pub trait Board<T: PartTable> {
         ensures view { view self.new ≡ account_granting (view self.old) part
             (in_hand ((view self.old).hand part)) other done.now
             (sessions_told woken.now.items) (T.content content.now) }
-        ensures stack { stack self.new ≡ stack self.old };
+        ensures stack { stack self.new ≡ stack_owing (stack self.old) other };
 
     /// Loads the own wait word: 2 in bits 0 to 1 where the wait was granted, bit 2 set where it was asked to cancel
     /// (`waitStatus` in proc.h, as `ProcSleep` in proc.c reads it).
@@ -237,11 +248,11 @@ pub trait Board<T: PartTable> {
         ensures stack { stack self.new ≡ stack self.old };
 
     /// Asks a session to cancel its wait, and tells what its wait word showed before (`pg_cancel_backend` in
-    /// signalfuncs.c).
+    /// signalfuncs.c). Where it showed that the session waits, this one is owed a wake from then on.
     fn ask_cancel(&mut self, other: SessionId) -> u64
         ensures seat { seat self.new ≡ seat self.old }
         ensures view { view self.new ≡ account_tracing (view self.old) (AskedToCancel other result) }
-        ensures stack { stack self.new ≡ stack self.old };
+        ensures stack { stack self.new ≡ stack_asking (stack self.old) other result };
 
     /// Clears the own wait word: the wait is over, since the grant was seen or the wait is gone from the content in
     /// hand.
@@ -267,8 +278,13 @@ pub trait Board<T: PartTable> {
     /// (`WaitLatch` in `ProcSleep` of proc.c). The session has loaded that number just before, so no grant and no
     /// request to cancel that came since is slept through.
     fn sleep<R: Wait>(&self, rt: &R, shown: u64)
-        requires looked { HasJustLooked (seat self.now).number (view self.now) shown };
+        requires looked { HasJustLooked (seat self.now).number (view self.now) shown }
+        requires none_owed { (stack self.now).owed ≡ [] };
 
-    /// Wakes a session that sleeps so (`SetLatch` in `ProcWakeup` of proc.c). It is no step.
-    fn wake(&self, other: SessionId);
+    /// Wakes a session that sleeps so (`SetLatch` in `ProcWakeup` of proc.c): one wake is owed to it no more. It is no
+    /// step.
+    fn wake(&mut self, other: SessionId)
+        ensures seat { seat self.new ≡ seat self.old }
+        ensures view { view self.new ≡ view self.old }
+        ensures stack { stack self.new ≡ stack_waking (stack self.old) other };
 }

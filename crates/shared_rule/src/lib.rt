@@ -9,6 +9,7 @@ pub mod laws;
 pub mod layout;
 pub mod one_thread;
 pub mod opener;
+mod owed;
 mod plays;
 pub mod rule;
 pub mod seat_board;

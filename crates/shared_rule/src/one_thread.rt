@@ -4,11 +4,12 @@ ghost use Rattle.std.specs.Prelude.{◌≡◌, ◌<◌, ◌≤◌, ℕ, List, []
 ghost use Rattle.shared_rule.specs.declared.layout.TheConstants.{TABLE_WORDS, CONTENT_SLOTS};
 ghost use Rattle.shared_rule.specs.History.{blank_account, first_account, lone};
 ghost use Rattle.shared_rule.specs.Opening.{AreNew};
-ghost use Rattle.shared_rule.specs.Boards.{Seated, parts_in_hand, slots_out, first_marks};
+ghost use Rattle.shared_rule.specs.Boards.{Seated, nothing_due, parts_in_hand, slots_out, first_marks};
 
 use crate::board::Board;
 use crate::busy::Busy;
 use crate::layout::wait_word;
+use crate::owed::{Change, Owed};
 use crate::rule::Place;
 use crate::table::{SharedTable, open};
 use crate::{slots, steps, waits};
@@ -27,6 +28,7 @@ pub struct OneThread<T: PartTable> {
     place: Place<T>,
     number: SessionId,
     sessions: u8,
+    owed: Owed,
     ghost at: { place.table_id ≡ table.shared.table_id },
     ghost words: { table.shared.table_id.words ≡ TABLE_WORDS },
     ghost slots: { table.shared.table_id.slots ≡ CONTENT_SLOTS },
@@ -47,7 +49,7 @@ impl<T: PartTable> OneThread<T> {
         requires few { sessions ≤ 64 }
         requires parts { AreNew T.content T.begun parts.items }
         ensures blank { IfOk result (λ board. ⟦<OneThread<T> as Board<T>>⟧.view board ≡ blank_account) }
-        ensures stack { IfOk result (λ board. ⟦<OneThread<T> as Board<T>>⟧.stack board ≡ []) }
+        ensures stack { IfOk result (λ board. ⟦<OneThread<T> as Board<T>>⟧.stack board ≡ nothing_due) }
         ensures number { IfOk result (λ board. (⟦<OneThread<T> as Board<T>>⟧.seat board).number ≡ 0) }
         ensures limit { IfOk result (λ board. (⟦<OneThread<T> as Board<T>>⟧.seat board).limit ≡ sessions) }
         ensures refused { IfErr result (λ refused. refused.slots.items ≡ parts.items) }
@@ -60,6 +62,7 @@ impl<T: PartTable> OneThread<T> {
             place,
             number,
             sessions,
+            owed: Owed::nobody(),
         })
     }
 }
@@ -70,7 +73,7 @@ impl<T: PartTable> Board<T> for OneThread<T> {
 
     ghost view = { λ board. first_account T.content board.place.me.0.sessions };
 
-    ghost stack = { λ board. parts_in_hand board.place.me.1 };
+    ghost stack = { λ board. record { parts = parts_in_hand board.place.me.1; owed = board.owed.sessions } };
 
     fn number(&self) -> SessionId {
         self.number
@@ -220,6 +223,7 @@ impl<T: PartTable> Board<T> for OneThread<T> {
             woken,
             content,
         );
+        self.owed = self.owed.after(&Change::LetGo(other));
     }
 
     fn load_wait(&mut self) -> u64 {
@@ -229,7 +233,9 @@ impl<T: PartTable> Board<T> for OneThread<T> {
 
     fn ask_cancel(&mut self, other: SessionId) -> u64 {
         let table = &self.table;
-        waits::ask_cancel::<T, Brand>(&table.shared, &mut self.place, other)
+        let shown = waits::ask_cancel::<T, Brand>(&table.shared, &mut self.place, other);
+        self.owed = self.owed.after(&Change::Asked(other, shown));
+        shown
     }
 
     fn clear_wait(&mut self) {
@@ -247,7 +253,8 @@ impl<T: PartTable> Board<T> for OneThread<T> {
         self.table.shared.park(rt, wait_word(self.number), low_bits);
     }
 
-    fn wake(&self, other: SessionId) {
+    fn wake(&mut self, other: SessionId) {
         self.table.shared.wake_one(wait_word(other));
+        self.owed = self.owed.after(&Change::Woken(other));
     }
 }

@@ -2,6 +2,7 @@
 
 ghost use Rattle.std.specs.Prelude.{◌≡◌, ◌<◌, ◌≤◌, ◌+◌, ◌↔◌, [], ◌∷◌, IfSome, IfNone, IsNone, OnSome};
 ghost use Rattle.shared_rule.specs.History.{blank_account, lone, opening_view};
+ghost use Rattle.shared_rule.specs.Boards.{nothing_due};
 ghost use Rattle.shared_rule.specs.Plays.{FitsTable, IsSized};
 ghost use Rattle.shared_rule.specs.Seats.{MayCloseBy};
 
@@ -80,7 +81,7 @@ impl<T: PartTable> Opener<T> {
             × (self.new.closed ≡ self.old.closed) }
         ensures issued { OnSome result (self.new.issued ≡ self.old.issued + 1) }
         ensures blank { IfSome result (λ board. ⟦<SeatBoard<'a, T> as Board<T>>⟧.view board ≡ blank_account) }
-        ensures stack { IfSome result (λ board. ⟦<SeatBoard<'a, T> as Board<T>>⟧.stack board ≡ []) }
+        ensures stack { IfSome result (λ board. ⟦<SeatBoard<'a, T> as Board<T>>⟧.stack board ≡ nothing_due) }
         ensures seat { IfSome result (λ board. ⟦<SeatBoard<'a, T> as Board<T>>⟧.seat board
             ≡ record { number = self.old.issued; limit = self.old.limit; table = self.old.table }) }
     {
@@ -97,7 +98,7 @@ impl<T: PartTable> Opener<T> {
     /// session from then on, and all else of the opener is as before.
     pub fn close<'a>(&mut self, board: SeatBoard<'a, T>)
         requires table { (⟦<SeatBoard<'a, T> as Board<T>>⟧.seat board).table ≡ self.old.table }
-        requires stack { ⟦<SeatBoard<'a, T> as Board<T>>⟧.stack board ≡ [] }
+        requires stack { ⟦<SeatBoard<'a, T> as Board<T>>⟧.stack board ≡ nothing_due }
         requires lawful { MayCloseBy (⟦<SeatBoard<'a, T> as Board<T>>⟧.view board) }
         ensures closed { let B = ⟦<SeatBoard<'a, T> as Board<T>>⟧ in
             self.new ≡ record (self.old) { closed = (B.seat board.entry).number ∷ self.old.closed } }

@@ -5,11 +5,12 @@ ghost use Rattle.shared_rule.specs.History.{first_account, lone};
 ghost use Rattle.shared_rule.specs.declared.layout.TheConstants.{TABLE_WORDS, CONTENT_SLOTS};
 ghost use Rattle.shared_rule.specs.Plays.{FitsTable};
 ghost use Rattle.shared_rule.specs.Seats.{DoNotConflict, MayBeKeptApartBy};
-ghost use Rattle.shared_rule.specs.Boards.{Seated, parts_in_hand, slots_out, first_marks};
+ghost use Rattle.shared_rule.specs.Boards.{Seated, nothing_due, parts_in_hand, slots_out, first_marks};
 
 use crate::board::Board;
 use crate::busy::Busy;
 use crate::layout::wait_word;
+use crate::owed::{Change, Owed};
 use crate::rule::{Place, Top};
 use crate::{seats, slots, steps, waits};
 use lock_table::{Move, PartTable, Woken};
@@ -25,6 +26,8 @@ pub struct SeatBoard<'a, T: PartTable> {
     place: Place<T>,
     number: SessionId,
     sessions: u8,
+    // Whom the session has to wake yet.
+    owed: Owed,
     ghost at: { place.table_id ≡ table.now.table_id },
     ghost words: { table.now.table_id.words ≡ TABLE_WORDS },
     ghost slots: { table.now.table_id.slots ≡ CONTENT_SLOTS },
@@ -48,13 +51,14 @@ impl<'a, T: PartTable> SeatBoard<'a, T> {
         requires lone { place.me.0 ≡ lone number (first_marks place.me.0.sessions) }
         requires out { place.me.1 ≡ [] }
         ensures { (result.table.now ≡ table.now) × (result.place ≡ place) × (result.number ≡ number)
-            × (result.sessions ≡ sessions) }
+            × (result.sessions ≡ sessions) × (result.owed.sessions ≡ []) }
     {
         SeatBoard {
             table,
             place,
             number,
             sessions,
+            owed: Owed::nobody(),
         }
     }
 
@@ -63,7 +67,7 @@ impl<'a, T: PartTable> SeatBoard<'a, T> {
     pub fn meet(&mut self, other: SeatBoard<'a, T>) -> SeatBoard<'a, T>
         requires table { (⟦<SeatBoard<'a, T> as Board<T>>⟧.seat other).table
             ≡ (⟦<SeatBoard<'a, T> as Board<T>>⟧.seat self.old).table }
-        requires stack { ⟦<SeatBoard<'a, T> as Board<T>>⟧.stack other ≡ [] }
+        requires stack { ⟦<SeatBoard<'a, T> as Board<T>>⟧.stack other ≡ nothing_due }
         requires no_word { MayBeKeptApartBy (⟦<SeatBoard<'a, T> as Board<T>>⟧.view other) }
         ensures told { DoNotConflict (⟦<SeatBoard<'a, T> as Board<T>>⟧.view self.old)
             (⟦<SeatBoard<'a, T> as Board<T>>⟧.view other.entry) }
@@ -75,7 +79,7 @@ impl<'a, T: PartTable> SeatBoard<'a, T> {
             ≡ ⟦<SeatBoard<'a, T> as Board<T>>⟧.seat self.old }
         ensures its_view { ⟦<SeatBoard<'a, T> as Board<T>>⟧.view result
             ≡ ⟦<SeatBoard<'a, T> as Board<T>>⟧.view other.entry }
-        ensures its_stack { ⟦<SeatBoard<'a, T> as Board<T>>⟧.stack result ≡ [] }
+        ensures its_stack { ⟦<SeatBoard<'a, T> as Board<T>>⟧.stack result ≡ nothing_due }
         ensures its_seat { ⟦<SeatBoard<'a, T> as Board<T>>⟧.seat result
             ≡ ⟦<SeatBoard<'a, T> as Board<T>>⟧.seat other.entry }
     {
@@ -84,6 +88,7 @@ impl<'a, T: PartTable> SeatBoard<'a, T> {
             place,
             number,
             sessions,
+            owed,
         } = other;
         seats::keep_apart(self.table, &mut self.place, place);
         seats::tell_apart(self.table, &mut self.place);
@@ -93,6 +98,7 @@ impl<'a, T: PartTable> SeatBoard<'a, T> {
             place,
             number,
             sessions,
+            owed,
         }
     }
 
@@ -105,6 +111,7 @@ impl<'a, T: PartTable> SeatBoard<'a, T> {
             place,
             number: _,
             sessions: _,
+            owed: _,
         } = self;
         (table, place)
     }
@@ -116,7 +123,7 @@ impl<'a, T: PartTable> Board<T> for SeatBoard<'a, T> {
 
     ghost view = { λ board. first_account T.content board.place.me.0.sessions };
 
-    ghost stack = { λ board. parts_in_hand board.place.me.1 };
+    ghost stack = { λ board. record { parts = parts_in_hand board.place.me.1; owed = board.owed.sessions } };
 
     fn number(&self) -> SessionId {
         self.number
@@ -249,6 +256,7 @@ impl<'a, T: PartTable> Board<T> for SeatBoard<'a, T> {
             woken,
             content,
         );
+        self.owed = self.owed.after(&Change::LetGo(other));
     }
 
     fn load_wait(&mut self) -> u64 {
@@ -256,7 +264,9 @@ impl<'a, T: PartTable> Board<T> for SeatBoard<'a, T> {
     }
 
     fn ask_cancel(&mut self, other: SessionId) -> u64 {
-        waits::ask_cancel::<T, Brand>(self.table, &mut self.place, other)
+        let shown = waits::ask_cancel::<T, Brand>(self.table, &mut self.place, other);
+        self.owed = self.owed.after(&Change::Asked(other, shown));
+        shown
     }
 
     fn clear_wait(&mut self) {
@@ -272,7 +282,8 @@ impl<'a, T: PartTable> Board<T> for SeatBoard<'a, T> {
         self.table.park(rt, wait_word(self.number), low_bits);
     }
 
-    fn wake(&self, other: SessionId) {
+    fn wake(&mut self, other: SessionId) {
         self.table.wake_one(wait_word(other));
+        self.owed = self.owed.after(&Change::Woken(other));
     }
 }

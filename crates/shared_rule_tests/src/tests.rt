@@ -1,6 +1,7 @@
 //! Where words and contents stand, and steps on boards.
 
-ghost use Rattle.std.specs.Prelude.{◌≡◌, [], IfOk};
+ghost use Rattle.std.specs.Prelude.{◌≡◌, IfOk};
+ghost use Rattle.shared_rule.specs.Boards.{nothing_due};
 ghost use Rattle.shared_rule.specs.History.{blank_account};
 ghost use Rattle.shared_rule.specs.Opening.{AreNew};
 
@@ -88,7 +89,7 @@ fn one_thread(alloc: Global) -> Result<OneThread<PlainPart>, Fail>
     ensures blank { let B = ⟦<OneThread<PlainPart> as Board<PlainPart>>⟧ in
         IfOk result (λ board. B.view board ≡ blank_account) }
     ensures stack { let B = ⟦<OneThread<PlainPart> as Board<PlainPart>>⟧ in
-        IfOk result (λ board. B.stack board ≡ []) }
+        IfOk result (λ board. B.stack board ≡ nothing_due) }
     ensures number { let B = ⟦<OneThread<PlainPart> as Board<PlainPart>>⟧ in
         IfOk result (λ board. (B.seat board).number ≡ 0) }
     ensures limit { let B = ⟦<OneThread<PlainPart> as Board<PlainPart>>⟧ in

@@ -1,6 +1,7 @@
 //! Steps on boards, by one thread and by two.
 
 ghost use Rattle.std.specs.Prelude.{◌≡◌, ◌<◌, []};
+ghost use Rattle.shared_rule.specs.Boards.{nothing_due};
 ghost use Rattle.shared_rule.specs.History.{blank_account};
 ghost use Rattle.shared_rule.specs.Seats.{MayCloseBy};
 
@@ -19,6 +20,7 @@ const ROUNDS: u32 = 10_000;
 fn keep_once<T: PartTable, B: Board<T>, R: Wait>(rt: &R, board: &mut B, part: u8)
     requires exists { part < 16 }
     requires idle { MayCloseBy (B.view board.old) }
+    requires none_owed { (B.stack board.old).owed ≡ [] }
     ensures idle { MayCloseBy (B.view board.new) }
     ensures seat { B.seat board.new ≡ B.seat board.old }
     ensures stack { B.stack board.new ≡ B.stack board.old }
@@ -30,9 +32,9 @@ fn keep_once<T: PartTable, B: Board<T>, R: Wait>(rt: &R, board: &mut B, part: u8
 // Does so over and over.
 fn keep_often<T: PartTable + Drop, B: Board<T> + Drop, R: Wait>(rt: &R, mut board: B) -> B
     requires idle { MayCloseBy (B.view board) }
-    requires stack { B.stack board ≡ [] }
+    requires stack { B.stack board ≡ nothing_due }
     ensures idle { MayCloseBy (B.view result) }
-    ensures stack { B.stack result ≡ [] }
+    ensures stack { B.stack result ≡ nothing_due }
     ensures seat { B.seat result ≡ B.seat board }
 {
     'rounds: for _ in 0..ROUNDS {
@@ -48,30 +50,30 @@ fn in_two_threads<T: PartTable + Drop + Send, B: Board<T> + Drop + Send, R: Thre
     second: B,
 ) -> (B, B)
     requires idle { MayCloseBy (B.view first) }
-    requires stack { B.stack first ≡ [] }
+    requires stack { B.stack first ≡ nothing_due }
     requires its_idle { MayCloseBy (B.view second) }
-    requires its_stack { B.stack second ≡ [] }
+    requires its_stack { B.stack second ≡ nothing_due }
     ensures idle { MayCloseBy (B.view result.0) }
-    ensures stack { B.stack result.0 ≡ [] }
+    ensures stack { B.stack result.0 ≡ nothing_due }
     ensures seat { B.seat result.0 ≡ B.seat first }
     ensures its_idle { MayCloseBy (B.view result.1) }
-    ensures its_stack { B.stack result.1 ≡ [] }
+    ensures its_stack { B.stack result.1 ≡ nothing_due }
     ensures its_seat { B.seat result.1 ≡ B.seat second }
 {
     join(
         rt,
         move || -> B
             requires idle { MayCloseBy (B.view first) }
-            requires stack { B.stack first ≡ [] }
+            requires stack { B.stack first ≡ nothing_due }
             ensures idle { MayCloseBy (B.view result) }
-            ensures stack { B.stack result ≡ [] }
+            ensures stack { B.stack result ≡ nothing_due }
             ensures seat { B.seat result ≡ B.seat first }
         { keep_often(rt, first) },
         move || -> B
             requires idle { MayCloseBy (B.view second) }
-            requires stack { B.stack second ≡ [] }
+            requires stack { B.stack second ≡ nothing_due }
             ensures idle { MayCloseBy (B.view result) }
-            ensures stack { B.stack result ≡ [] }
+            ensures stack { B.stack result ≡ nothing_due }
             ensures seat { B.seat result ≡ B.seat second }
         { keep_often(rt, second) },
     )
@@ -99,6 +101,7 @@ fn two_threads_take_one_partition(rt: HostRuntime) -> Result<(), Fail> {
 // Keeps it twice, on the board of a session that has nothing. What the wait word shows then.
 fn keep_twice<T: PartTable, B: Board<T>, R: Wait>(rt: &R, board: &mut B) -> u64
     requires blank { B.view board.old ≡ blank_account }
+    requires stack { B.stack board.old ≡ nothing_due }
     ensures idle { MayCloseBy (B.view board.new) }
 {
     keep_once(rt, board, 3);

@@ -1,6 +1,7 @@
 //! Slots, strong lock counters and the lock of the own slots, on a board for tests.
 
 ghost use Rattle.std.specs.Prelude.{◌≡◌, ◌<◌};
+ghost use Rattle.shared_rule.specs.Boards.{nothing_due};
 ghost use Rattle.shared_rule.specs.History.{blank_account};
 
 use super::one_thread;
@@ -15,6 +16,7 @@ use std::test::Fail;
 // `None` where somebody has counted a strong lock of the relation's index.
 fn set_twice<T: PartTable, B: Board<T>, R: Wait>(rt: &R, board: &mut B) -> Option<u64>
     requires blank { B.view board.old ≡ blank_account }
+    requires stack { B.stack board.old ≡ nothing_due }
     requires exists { (B.seat board.old).number < (B.seat board.old).limit }
 {
     let own = board.number();
@@ -64,10 +66,11 @@ fn a_counter_shows_what_is_counted(rt: HostRuntime) -> Result<(), Fail> {
     Ok(())
 }
 
+// A second try with the lock in hand is against the order of locks. That a try of a lock that another session holds is
+// busy is tested above, where two sessions meet at the slots of one.
 #[test]
-fn a_lock_that_is_held_is_busy(rt: HostRuntime) -> Result<(), Fail> {
+fn a_lock_that_nobody_holds_is_taken_at_the_first_try(rt: HostRuntime) -> Result<(), Fail> {
     let mut board = one_thread(rt.alloc())?;
     assert!(rt; board.try_take_fast().is_ok());
-    assert!(rt; board.try_take_fast().is_err());
     Ok(())
 }

@@ -1,4 +1,5 @@
-use Rattle.std.proofs.Common.{arith, ◌+◌, ◌∷◌, sym}
+use Rattle.std.proofs.Common.{arith, ◌+◌, ◌∷◌, ◌∙◌, ap, sym}
+use Rattle.shared_rule.specs.Boards.{Stack}
 use Rattle.lock_manager.proofs.Listed.{may_keep-since, kept-since, rows-then, rows-refused}
 use Rattle.lock_manager.specs.Listings.{listing_steps}
 use Rattle.lock_manager.proofs.listing.+list_from.Goals as goal
@@ -8,6 +9,12 @@ pub put_part-requires-clause-lawful : goal.put_part-requires-clause-lawful
 put_part-requires-clause-lawful g t c =
     may_keep-since _ _ (g.B.Board.view c.args.board.now) (g.B.Board.view c.take_part-content.new.self) _ c.args.part (g.T.PartTable.content c.take_part-content.result)
     (listing_steps (c.args.part + 1) c.list_from-listed.ensures.listed.contents) c.take_part-content.ensures.view c.list_from-listed.ensures.listed.account
+
+pub put_part-requires-clause-in_hand : goal.put_part-requires-clause-in_hand
+put_part-requires-clause-in_hand g t c = (
+  (g.B.Board.stack c.args.board.now).parts,
+  ap (λ (s : Stack). s.parts) (c.list_from-listed.ensures.stack ∙ c.take_part-content.ensures.stack),
+)
 
 pub returns-clause-listed : goal.returns-clause-listed
 returns-clause-listed g t c =

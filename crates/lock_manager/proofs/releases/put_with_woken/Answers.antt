@@ -1,5 +1,7 @@
-use Rattle.std.proofs.Common.{refl, ◌∙◌, subst, arith}
+use Rattle.std.proofs.Common.{refl, sym, ap, ◌∙◌, subst, arith}
 use Rattle.lock_world.specs.Happens.Partitions.{WaitIsOver}
+use Rattle.shared_rule.specs.Boards.{Stack, stack_putting}
+use Rattle.lock_manager.proofs.Owing.{owed-none, owed-next, owed-all, woken-next, woken-all}
 use Rattle.lock_manager.proofs.Waking.{telling-begins, may_mark-at, marking-next_at, all_marked, may_put_marked, told-put, wait-same}
 use Rattle.lock_manager.proofs.releases.put_with_woken.Goals as goal
 
@@ -8,7 +10,7 @@ loop-other-init g c = record {
   telling = telling-begins (g.B.Board.seat c.args.board.now) (g.B.Board.view c.args.board.now) c.args.part c.args.done.now c.args.woken.now.items
       c.as_slice-other-items.result.now (g.T.PartTable.content c.args.content) c.requires.lawful c.as_slice-other-items.ensures.value;
   seat = refl;
-  stack = refl;
+  stack = owed-none (g.B.Board.stack c.args.board.now) c.as_slice-other-items.result.now c.requires.none_owed;
 }
 
 -- At a turn the session is the first of those left.
@@ -35,8 +37,16 @@ loop-other-preserved g c =
             c.as_slice-other-items.ensures.value c.loop-other-test.true c.loop-other-item.is telling.left c.mark_granted.ensures.view;
       };
       seat = c.mark_granted.ensures.seat ∙ c.loop-other.invariant.seat;
-      stack = c.mark_granted.ensures.stack ∙ c.loop-other.invariant.stack;
+      stack = owed-next (g.B.Board.stack c.args.board.now) (g.B.Board.stack c.loop-other.board) (g.B.Board.stack c.mark_granted.new.self)
+          c.as_slice-other-items.result.now c.loop-other.other-index c.loop-other-item.result c.loop-other-test.true c.loop-other-item.is
+          c.loop-other.invariant.stack c.mark_granted.ensures.stack;
     }
+
+pub put_part-requires-clause-in_hand : goal.put_part-requires-clause-in_hand
+put_part-requires-clause-in_hand g c = (
+  c.requires.in_hand.0,
+  ap (λ (s : Stack). s.parts) c.loop-other.invariant.stack ∙ c.requires.in_hand.1,
+)
 
 -- After the loop nobody is left.
 pub put_part-requires-clause-lawful : goal.put_part-requires-clause-lawful
@@ -52,12 +62,39 @@ put_part-requires-clause-lawful g c =
     (g.T.PartTable.content c.args.content) telling.wakens (g.B.Board.seat c.loop-other.board) (g.B.Board.view c.loop-other.board)
     c.loop-other.invariant.seat marked over
 
+pub loop-session-init : goal.loop-session-init
+loop-session-init g c = record {
+  view = refl;
+  seat = refl;
+  stack = owed-all (g.B.Board.stack c.args.board.now) (g.B.Board.stack c.loop-other.board) (g.B.Board.stack c.put_part.new.self)
+      c.as_slice-other-items.result.now c.as_slice-session-items.result.now c.loop-other.other-index (omega arith)
+      (c.as_slice-other-items.ensures.value ∙ sym c.as_slice-session-items.ensures.value)
+      c.loop-other.invariant.stack c.put_part.ensures.stack;
+}
+
+pub loop-session-preserved : goal.loop-session-preserved
+loop-session-preserved g c = record {
+  view = c.wake.ensures.view ∙ c.loop-session.invariant.view;
+  seat = c.wake.ensures.seat ∙ c.loop-session.invariant.seat;
+  stack = woken-next (stack_putting (g.B.Board.stack c.args.board.now)) (g.B.Board.stack c.loop-session.board) (g.B.Board.stack c.wake.new.self)
+      c.as_slice-session-items.result.now c.loop-session.session-index c.loop-session-item.result c.loop-session-test.true c.loop-session-item.is
+      c.loop-session.invariant.stack c.wake.ensures.stack;
+}
+
 pub returns-clause-account : goal.returns-clause-account
 returns-clause-account g c =
     let telling = c.loop-other.invariant.telling in
     let marked = all_marked (g.B.Board.seat c.args.board.now) telling.from c.args.part c.args.done.now c.args.woken.now.items
     (g.T.PartTable.content c.args.content) telling.wakens (g.B.Board.view c.loop-other.board)
     c.as_slice-other-items.result.now c.loop-other.other-index (omega arith) telling.left in
-    told-put (g.B.Board.seat c.args.board.now) telling.from c.args.part c.args.done.now c.args.woken.now.items
+    c.loop-session.invariant.view ∙ told-put (g.B.Board.seat c.args.board.now) telling.from c.args.part c.args.done.now c.args.woken.now.items
     (g.T.PartTable.content c.args.content) telling.wakens (g.B.Board.view c.args.board.now) (g.B.Board.view c.loop-other.board) (g.B.Board.view c.put_part.new.self)
     telling.begun_so marked c.put_part.ensures.view
+
+pub returns-clause-stack : goal.returns-clause-stack
+returns-clause-stack g c =
+    woken-all (g.B.Board.stack c.args.board.now) (g.B.Board.stack c.loop-session.board) c.as_slice-session-items.result.now
+    c.loop-session.session-index (omega arith) c.requires.none_owed c.loop-session.invariant.stack
+
+pub returns-clause-seat : goal.returns-clause-seat
+returns-clause-seat g c = c.loop-session.invariant.seat ∙ c.put_part.ensures.seat ∙ c.loop-other.invariant.seat

@@ -1,6 +1,6 @@
 use Rattle.std.proofs.Common.{◌∙◌, ◌++◌, ◌∷◌, [], ap, subst, sym}
 use Rattle.lock_world.specs.Account.{Account}
-use Rattle.shared_rule.specs.Boards.{Seated}
+use Rattle.shared_rule.specs.Boards.{Seated, Stack}
 use Rattle.lock_world.specs.declared.events.Word.TheVariants.{Wait}
 use Rattle.lock_world.specs.World.{Loaded}
 use Rattle.lock_manager.specs.declared.sessions.Own.{Own}
@@ -37,4 +37,5 @@ sleep-requires g c =
           (c.in-Still.ensures.no_step ∙ ap (λ (a : Account). a.trace) c.load_wait-shown.ensures.view
           ∙ ap (λ (s : Seated). now.trace ++ Loaded (Wait s.number) c.load_wait-shown.result ∷ []) (sym seat))
           (sym c.in-Still.ensures.answer);
+      none_owed = ap (λ (s : Stack). s.owed) (c.in-Still.ensures.waiting still_not_granted).nothing_left;
     }

@@ -1,0 +1,56 @@
+use Rattle.std.proofs.Common.{◌≡◌, ℕ, ◌≤◌, ◌<◌, ◌+◌, List, [], ◌∷◌, ◌++◌, take, drop, length, get_or, sym, ap, ◌∙◌}
+use Rattle.std.proofs.lemmas.List.{take_more, take_all, drop_more, drop_all, map-append}
+use Rattle.modes_core.specs.declared.modes.Mode.{Mode}
+use Rattle.shared_rule.specs.Boards.{Stack, stack_owing, stack_putting, stack_waking}
+use Rattle.shared_rule.specs.History.{sessions_told}
+use Rattle.shared_rule.specs.Owed.{owing, waking}
+use Rattle.shared_rule.proofs.Stacks.{with_owed, waking-first}
+
+-- Whom a session owes a wake, while it marks those whom a move lets go and then wakes them, in the order of the list.
+
+-- At first it owes nobody one.
+pub owed-none : (s : Stack) (items : List (ℕ × Mode)) → s.owed ≡ [] → s ≡ with_owed s (sessions_told (take 0 items))
+owed-none s items none = ap (with_owed s) none
+
+told-next :
+    (items : List (ℕ × Mode)) (i : ℕ) (told : ℕ × Mode) → i < length items → told ≡ get_or items i told
+    → sessions_told (take (i + 1) items) ≡ owing (sessions_told (take i items)) told.0
+told-next items i told within is =
+    ap sessions_told (take_more items i told within)
+    ∙ map-append (λ (its : ℕ × Mode). its.0) (take i items) (get_or items i told ∷ [])
+    ∙ ap (λ (its : ℕ × Mode). sessions_told (take i items) ++ its.0 ∷ []) (sym is)
+
+-- With each mark it owes one more,
+pub owed-next :
+    (s t u : Stack) (items : List (ℕ × Mode)) (i : ℕ) (told : ℕ × Mode) → i < length items → told ≡ get_or items i told
+    → t ≡ with_owed s (sessions_told (take i items)) → u ≡ stack_owing t told.0 → u ≡ with_owed s (sessions_told (take (i + 1) items))
+owed-next s t u items i told within is so_far marked =
+    marked ∙ ap (λ (x : Stack). stack_owing x told.0) so_far ∙ ap (with_owed s) (sym (told-next items i told within is))
+
+-- until it owes all, and has put the partition;
+pub owed-all :
+    (s t u : Stack) (items its : List (ℕ × Mode)) (i : ℕ) → length items ≤ i → items ≡ its
+    → t ≡ with_owed s (sessions_told (take i items)) → u ≡ stack_putting t → u ≡ with_owed (stack_putting s) (sessions_told (drop 0 its))
+owed-all s t u items its i past same so_far put =
+    put ∙ ap stack_putting so_far ∙ ap (λ told. with_owed (stack_putting s) (sessions_told told)) (take_all i items past ∙ same)
+
+-- with each wake it owes one less,
+pub woken-next :
+    (s t u : Stack) (items : List (ℕ × Mode)) (i : ℕ) (told : ℕ × Mode) → i < length items → told ≡ get_or items i told
+    → t ≡ with_owed s (sessions_told (drop i items)) → u ≡ stack_waking t told.0 → u ≡ with_owed s (sessions_told (drop (i + 1) items))
+woken-next s t u items i told within is so_far woke =
+    let next : drop i items ≡ told ∷ drop (i + 1) items =
+    drop_more items i told within ∙ ap (λ (its : ℕ × Mode). its ∷ drop (i + 1) items) (sym is) in
+    woke
+    ∙ ap (λ (x : Stack). stack_waking x told.0) so_far
+    ∙ ap (λ (its : List (ℕ × Mode)). with_owed s (waking (sessions_told its) told.0)) next
+    ∙ ap (with_owed s) (waking-first told.0 (sessions_told (drop (i + 1) items)))
+
+-- until it owes nobody one.
+pub woken-all :
+    (s t : Stack) (items : List (ℕ × Mode)) (i : ℕ) → length items ≤ i → s.owed ≡ []
+    → t ≡ with_owed (stack_putting s) (sessions_told (drop i items)) → t ≡ stack_putting s
+woken-all s t items i past none so_far =
+    so_far
+    ∙ ap (λ (its : List (ℕ × Mode)). with_owed (stack_putting s) (sessions_told its)) (drop_all i items past)
+    ∙ ap (with_owed (stack_putting s)) (sym none)
