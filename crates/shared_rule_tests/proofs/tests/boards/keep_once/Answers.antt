@@ -6,7 +6,13 @@ use Rattle.shared_rule.specs.History.{taken_of}
 use Rattle.shared_rule.specs.Lawful.{MayPutPart}
 use Rattle.shared_rule.specs.Seats.{MayCloseBy}
 use Rattle.shared_rule.proofs.Episodes.{fresh_hand, taken-put, may_keep, kept-idle}
+use Rattle.shared_rule.proofs.Stacks.{taken-last}
 use Rattle.shared_rule_tests.proofs.tests.boards.keep_once.Goals as goal
+
+pub put_part-requires-clause-in_hand : goal.put_part-requires-clause-in_hand
+put_part-requires-clause-in_hand g c =
+    taken-last (g.B.Board.stack c.args.board.now) (g.B.Board.stack c.take_part-content.new.self) c.args.part
+    c.take_part-content.ensures.stack
 
 pub put_part-requires-clause-lawful : goal.put_part-requires-clause-lawful
 put_part-requires-clause-lawful g c =
