@@ -1,4 +1,4 @@
-use Rattle.std.specs.Prelude.{◌≡◌, ◌⊎◌, ℕ, ◌≤◌, ◌==◌, true, false, count_by, Some, None}
+use Rattle.std.specs.Prelude.{◌≡◌, ◌⊎◌, ℕ, ◌≤◌, ◌==◌, Bool, true, false, count_by, Some, None}
 use Rattle.modes_core.specs.declared.modes.Mode.{Mode}
 use Rattle.modes_core.specs.declared.tags.Tag.{Tag}
 use Rattle.modes_core.specs.Tag.{partition_of}
@@ -7,6 +7,19 @@ use Rattle.lock_table.specs.OwnWait.{OwnWait, is_for}
 use Rattle.lock_table.specs.Queue.{waits_there, awaits_mode}
 use Rattle.lock_world.specs.SlotHolds.{slot_holds, ShowsNoMore, OneSlotEach, InUseHasDatabase}
 use Rattle.lock_world.specs.Account.{Account, SlotsInHand}
+
+-- Where the own holds stand of the session of this number, which has this database and remembers its slots so, as a partition has this
+-- content: there are words of its slots, which show no more than it remembers, by which each own hold of the partition is in a slot
+-- or in the content, and not in both.
+pub record OwnHoldsStand (number : ℕ) (own : Tag → Mode → Bool) (database : ℕ) (remembered : ℕ → ℕ) (p : ℕ) (content : Content) : Type 0 where
+  pub slot : ℕ → ℕ
+  pub no_more : ShowsNoMore slot remembered
+  -- what the slots show is own, and not in the content
+  pub in_slot : (tag : Tag) (mode : Mode) → slot_holds database slot tag mode ≡ true → (own tag mode ≡ true) × (content.holds number tag mode ≡ false)
+  -- an own hold of the partition that they don't show is in the content
+  pub in_content :
+      (tag : Tag) (mode : Mode) → partition_of tag ≡ p → own tag mode ≡ true → slot_holds database slot tag mode ≡ false
+      → content.holds number tag mode ≡ true
 
 -- What the session of this number knows of the content of a partition, by its own account: whoever takes a partition is told so of the
 -- content that comes with it.
@@ -24,6 +37,8 @@ pub record KnowsContent (number : ℕ) (a : Account) (p : ℕ) (content : Conten
   pub tabled_holds :
       (tag : Tag) (mode : Mode) → slot_holds a.fast.database a.fast.remembered tag mode ≡ false → partition_of tag ≡ p
       → a.own tag mode ≡ true → content.holds number tag mode ≡ true
+  -- each is in a slot or there, and not in both
+  pub own_stand : OwnHoldsStand number a.own a.fast.database a.fast.remembered p content
   -- what shows in slots that it has in hand is not there, nor awaited there
   pub in_slots :
       (owner : ℕ) (slots : SlotsInHand) (tag : Tag) (mode : Mode) → a.fast.slots owner ≡ Some slots → slots.holds tag mode ≡ true

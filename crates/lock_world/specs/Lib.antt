@@ -4,6 +4,7 @@ pub mod World
 pub mod SlotHolds
 pub mod Counted
 pub mod WaitLists
+pub mod Telling
 pub mod Account
 pub mod AccountSteps
 pub mod Happens

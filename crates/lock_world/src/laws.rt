@@ -20,8 +20,9 @@ ghost use Rattle.lock_world.specs.SlotHolds.{IsHeldIn};
 ghost use Rattle.lock_world.specs.Counted.{AtMostOnce, counter, is_done, is_past};
 ghost use Rattle.lock_world.specs.WaitLists.{partition_lock, fast_lock};
 ghost use Rattle.lock_world.specs.WaitWord.{wait_state, is_asked, asked_word, granted_word};
-ghost use Rattle.lock_world.specs.World.{World, TraceEntry, Took, Episode, opening, is_unmarked};
-ghost use Rattle.lock_world.specs.Happens.{Happens, RunsThrough, Runs};
+ghost use Rattle.lock_world.specs.World.{World, TraceEntry, Took, Episode, AskedToCancel, Loaded, opening, is_unmarked, word_in};
+ghost use Rattle.lock_world.specs.Happens.{Happens, RunsThrough, Runs, last_of};
+ghost use Rattle.lock_world.specs.Telling.{TellsWhatIs};
 ghost use Rattle.lock_world.specs.Safe.{taken_by, taken_in, IsOneMove};
 ghost use Rattle.lock_world.specs.SafeWorld.{SafeWorld, slots_of};
 ghost use Rattle.lock_world.specs.Account.{IsLeftAlone};
@@ -291,6 +292,24 @@ pub fn a_listing_misses_no_hold_that_stands()
     ensures taken { (w v : World) (session p : ℕ) →
         Happens w (record { session = session; step = Step.TakeExclusive (Word.Partition p) }) v →
         v.sessions.trace session ≡ w.sessions.trace session ++ Took p (w.contents.now p) ∷ [] }
+{}
+
+/// What an event adds to the trace of its session is true: a load that the trace tells shows the word as it was, and
+/// one who asks a session to cancel tells the wait word before that. So of each entry of a trace at the end of a run: a
+/// World on the way had in the trace just what stands before the entry, and there the entry was true.
+pub fn a_trace_tells_what_was_there()
+    ensures loaded { (w v : World) (event : Event) (word : Word) (shown : ℕ) → Happens w event v →
+        v.sessions.trace event.session ≡ w.sessions.trace event.session ++ Loaded word shown ∷ [] →
+        shown ≡ word_in w.words word }
+    ensures asked { (w v : World) (event : Event) (other before : ℕ) → Happens w event v →
+        v.sessions.trace event.session ≡ w.sessions.trace event.session ++ AskedToCancel other before ∷ [] →
+        before ≡ w.words.wait other }
+    ensures on_the_way { (limit : ℕ) (events : List Event) (worlds : List World) (session : ℕ)
+        (before after : List TraceEntry) (entry : TraceEntry) →
+        limit < 2 ^ 24 → RunsThrough (opening limit) events worlds →
+        (last_of (opening limit) worlds).sessions.trace session ≡ before ++ entry ∷ after →
+        (place : ℕ) × (u : World) × (slice_get (opening limit ∷ worlds) place ≡ Some u)
+        × (u.sessions.trace session ≡ before) × TellsWhatIs u entry }
 {}
 
 /// Asking a session to cancel sets bit 2 of its wait word, whatever the word is: it is asked from then

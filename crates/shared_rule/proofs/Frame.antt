@@ -1,4 +1,4 @@
-use Rattle.std.proofs.Common.{◌≡◌, ◌≢◌, ◌⊎◌, ℕ, zero, suc, true, ◌<◌, ◌≤◌, List, [], ◌∷◌, length, Option, Some, refl, sym, ap, ◌∙◌, subst, inl, inr, arith}
+use Rattle.std.proofs.Common.{◌≡◌, ◌≢◌, ◌⊎◌, ℕ, zero, suc, true, ◌<◌, ◌≤◌, List, [], ◌∷◌, ◌++◌, length, Option, Some, refl, sym, ap, ◌∙◌, subst, inl, inr, arith}
 use Rattle.std.specs.Prelude.{slice_get, slice_set}
 use Rattle.std.proofs.lemmas.Bool.{cases_eq}
 use mathlib.Core.Option.{some, some-injective, some-ne-none}
@@ -10,12 +10,12 @@ use Rattle.lock_table.specs.declared.request.Request.{Request}
 use Rattle.lock_table.specs.Content.{Content}
 use Rattle.lock_world.specs.declared.events.Event.{Event}
 use Rattle.lock_world.specs.declared.events.Step.{Step}
-use Rattle.lock_world.specs.World.{World, Words, Numbers, MakesSteps}
+use Rattle.lock_world.specs.World.{World, Words, Numbers, MakesSteps, opening}
 use Rattle.lock_world.specs.SafeWorld.{SafeWorld}
 use Rattle.lock_world.specs.Account.{Account, account}
 use Rattle.lock_world.specs.Happens.{HappensStep}
 use Rattle.lock_world.specs.Happens.Counters.{most_counted}
-use Rattle.lock_world.proofs.SafeWorld.Runs.{event-safe}
+use Rattle.lock_world.proofs.SafeWorld.Runs.{event-safe, Runs-push}
 use Rattle.lock_world.proofs.Others.Events.{event-others}
 use Rattle.shared_rule.specs.declared.history.Mark.{Mark}
 use Rattle.shared_rule.specs.declared.history.History.{History}
@@ -224,6 +224,8 @@ module _ {T : Type 0} (content : T → Content) (begun : T → Option Request) (
       let left : (k : ℕ) → k ≢ x.number → account noted.after k ≡ account r.world k = λ k other. (event-others r.world noted.after event k r.safe noted.happens other).account in
       record {
         world = noted.after;
+        events = r.events ++ event ∷ [];
+        run = Runs-push (opening limit) r.events event r.world noted.after r.run (inl noted.happens);
         safe = event-safe r.world event noted.after r.safe noted.happens;
         is_limit = ap (λ (n : Numbers). n.limit) noted.numbers ∙ r.is_limit;
         few = r.few;

@@ -11,6 +11,7 @@ use Rattle.lock_table.specs.PartView.{PartView, content_of}
 use Rattle.lock_table.specs.Parts.{AreEmpty, part_at, no_part}
 use Rattle.lock_world.specs.World.{opening}
 use Rattle.lock_world.proofs.SafeWorld.Opening.{opening-safe}
+use Rattle.lock_world.proofs.SafeWorld.Runs.{Runs-none}
 use Rattle.shared_rule.specs.declared.history.History.{History}
 use Rattle.shared_rule.specs.declared.history.View.{View}
 use Rattle.shared_rule.specs.Layout.{content_slot_of}
@@ -67,6 +68,8 @@ module _ {T : Type 0} (content : T → Content) (begun : T → Option Request) (
       → Ruled content begun limit (table.opening words slots opening_view)
   opening-ruled few words shown slots new = record {
     world = opening limit;
+    events = [];
+    run = Runs-none (opening limit);
     safe = opening-safe limit (omega (arith, few));
     is_limit = refl;
     few = few;

@@ -10,11 +10,15 @@ use Rattle.lock_table.specs.Put.{set_at}
 use Rattle.lock_table.specs.declared.request.Request.{Request}
 use Rattle.lock_table.specs.Content.{Content}
 use Rattle.lock_table.proofs.PutLemmas.{set_at-here, set_at-else}
-use Rattle.lock_world.specs.World.{World, Numbers}
+use Rattle.lock_world.specs.declared.events.Event.{Event}
+use Rattle.lock_world.specs.declared.events.Step.TheVariants.{JoinSeat}
+use Rattle.lock_world.specs.World.{World, Numbers, opening}
 use Rattle.lock_world.specs.Safe.{NumbersAreInOrder}
 use Rattle.lock_world.specs.SafeWorld.{SafeWorld}
 use Rattle.lock_world.specs.Account.{Account, fast_account, account}
-use Rattle.lock_world.specs.Happens.Seats.{after_issuing, after_closing}
+use Rattle.lock_world.specs.Happens.{Happens}
+use Rattle.lock_world.specs.Happens.Seats.{MayClose, after_issuing, after_closing}
+use Rattle.lock_world.proofs.SafeWorld.Runs.{Runs-push}
 use Rattle.shared_rule.specs.declared.history.Mark.{Mark}
 use Rattle.shared_rule.specs.declared.history.History.{History}
 use Rattle.shared_rule.specs.declared.history.View.{View}
@@ -370,10 +374,14 @@ module _ {T : Type 0} (content : T → Content) (w : World) (views : List (View 
 
 module _ {T : Type 0} (content : T → Content) (begun : T → Option Request) (limit : ℕ) (s : State (Option T) (View T)) (r : Ruled content begun limit s) where
   -- The rule holds in the World with other numbers,
-  pub ruled-numbered : (numbers : Numbers) (views : List (View T)) → numbers.limit ≡ r.world.numbers.limit → SafeWorld (with_numbers r.world numbers) → SeatsAreShown content views (with_numbers r.world numbers)
+  pub ruled-numbered :
+      (event : Event) (numbers : Numbers) (views : List (View T)) → Happens r.world event (with_numbers r.world numbers) → numbers.limit ≡ r.world.numbers.limit
+      → SafeWorld (with_numbers r.world numbers) → SeatsAreShown content views (with_numbers r.world numbers)
       → Ruled content begun limit (record { words = s.words; homes = s.homes; views = views })
-  ruled-numbered numbers views same safe seats = record {
+  ruled-numbered event numbers views happens same safe seats = record {
     world = with_numbers r.world numbers;
+    events = r.events ++ event ∷ [];
+    run = Runs-push (opening limit) r.events event r.world (with_numbers r.world numbers) r.run (inl happens);
     safe = safe;
     is_limit = same ∙ r.is_limit;
     few = r.few;
@@ -386,10 +394,12 @@ module _ {T : Type 0} (content : T → Content) (begun : T → Option Request) (
 
   -- and in the World in which a session has closed.
   pub ruled-closed :
-      (k : ℕ) (views : List (View T)) → SafeWorld (after_closing r.world k) → SeatsAreShown content views (after_closing r.world k)
+      (k : ℕ) (views : List (View T)) → MayClose r.world k → SafeWorld (after_closing r.world k) → SeatsAreShown content views (after_closing r.world k)
       → Ruled content begun limit (record { words = s.words; homes = s.homes; views = views })
-  ruled-closed k views safe seats = record {
+  ruled-closed k views may safe seats = record {
     world = after_closing r.world k;
+    events = r.events ++ record { session = k; step = JoinSeat None } ∷ [];
+    run = Runs-push (opening limit) r.events (record { session = k; step = JoinSeat None }) r.world (after_closing r.world k) r.run (inl (may, refl));
     safe = safe;
     is_limit = r.is_limit;
     few = r.few;

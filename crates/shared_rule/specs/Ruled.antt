@@ -5,11 +5,13 @@ use lib.ListN.{get_elem?}
 use Rattle.atomic_table.specs.Table.{State}
 use Rattle.lock_table.specs.declared.request.Request.{Request}
 use Rattle.lock_table.specs.Content.{Content}
-use Rattle.lock_world.specs.World.{World, Words, Contents, Hand, Numbers}
+use Rattle.lock_world.specs.declared.events.Event.{Event}
+use Rattle.lock_world.specs.World.{World, Words, Contents, Hand, Numbers, opening}
 use Rattle.lock_world.specs.SafeWorld.{SafeWorld}
 use Rattle.lock_world.specs.SlotHolds.{slot_count}
 use Rattle.lock_world.specs.Account.{account}
 use Rattle.lock_world.specs.Happens.Counters.{most_counted}
+use Rattle.lock_world.specs.Happens.{Runs}
 use Rattle.shared_rule.specs.declared.history.History.{History}
 use Rattle.shared_rule.specs.declared.history.View.{View}
 use Rattle.shared_rule.specs.Layout.{content_slot_of}
@@ -17,7 +19,7 @@ use Rattle.shared_rule.specs.Shown.{WordsAreShown}
 use Rattle.shared_rule.specs.History.{blank_account, told, keeper}
 
 -- The rule of the table: there is a World which its words, its contents at home and the histories of all sessions show,
--- and which is safe.
+-- to which a list of events leads from the World before the first step, and which is safe.
 
 -- A session has sixteen slots: whatever stands beyond them shows 0.
 abbrev pub NoneBeyondSlots : Words → Type 0
@@ -93,6 +95,9 @@ module _ {T : Type 0} (content : T → Content) where
 module _ {T : Type 0} (content : T → Content) (begun : T → Option Request) where
   pub record Ruled (limit : ℕ) (state : State (Option T) (View T)) : Type 0 where
     pub world : World
+    -- each step is its event: these lead here from the World before the first step
+    pub events : List Event
+    pub run : Runs (opening limit) events world
     pub safe : SafeWorld world
     pub is_limit : world.numbers.limit ≡ limit
     pub few : limit ≤ 64

@@ -6,7 +6,7 @@ use Rattle.modes_core.specs.Tag.{partition_of}
 use Rattle.lock_table.specs.OwnWait.{OwnWait, is_for}
 use Rattle.lock_table.specs.Queue.{waits_there, awaits_mode}
 use Rattle.lock_world.specs.Account.{SlotsInHand, account}
-use Rattle.lock_world.specs.AccountFacts.{KnowsContent, KnowsSlots}
+use Rattle.lock_world.specs.AccountFacts.{OwnHoldsStand, KnowsContent, KnowsSlots}
 use Rattle.lw_word.specs.SlotWord.{shows}
 use Rattle.lock_world.specs.SlotHolds.{slot_holds}
 use Rattle.lock_world.specs.WaitWord.{wait_state}
@@ -41,6 +41,15 @@ module _ (w : World) (safe : SafeWorld w) (s p : ℕ) where
       slot_holds-fewer (w.words.database s) (w.words.slot s) (w.sessions.remembered s) t m (safe.remembered s)
       not_remembered in
       (held-in_table w safe p s t m).1 (home, inl (has, no_slot))
+
+  -- The words of its slots as they are say where each own hold stands.
+  stand : OwnHoldsStand s (w.sessions.own s) (w.words.database s) (w.sessions.remembered s) p (w.contents.now p)
+  stand = record {
+    slot = w.words.slot s;
+    no_more = safe.remembered s;
+    in_slot = λ t m shown. (safe.slots.are_own s t m shown, shown-in_no_content w safe p s t m shown);
+    in_content = λ t m home has not_shown. (held-in_table w safe p s t m).1 (home, inl (has, not_shown));
+  }
 
   -- What shows in a slot is an own hold of its session, so it is nowhere else.
   shown_elsewhere :
@@ -79,6 +88,7 @@ module _ (w : World) (safe : SafeWorld w) (s p : ℕ) where
     its_holds = its;
     own_holds = own;
     tabled_holds = tabled_own;
+    own_stand = stand;
     in_slots = shown_elsewhere;
     no_wait = λ t none. false_from_ne_true (waits_there ((w.contents.now p).waits t) s) (λ there.
         let stands = session-stands (tabled w) safe.but_slots p s t there in

@@ -1,4 +1,4 @@
-use Rattle.std.proofs.Common.{◌≡◌, ◌≢◌, ℕ, ◌<◌, Bool, true, false, List, [], ◌∷◌, ◌++◌, Option, Some, None, refl, sym, ap, ◌∙◌, subst}
+use Rattle.std.proofs.Common.{◌≡◌, ◌≢◌, ℕ, ◌<◌, Bool, true, false, List, [], ◌∷◌, ◌++◌, Option, Some, None, refl, sym, ap, ◌∙◌, subst, inl, inr}
 use Rattle.std.specs.Prelude.{if◌then◌else◌, ◌==◌, slice_set}
 use mathlib.Core.Option.{some}
 use lib.ListN.{get_elem?}
@@ -7,6 +7,7 @@ use Rattle.atomic_table.proofs.Lists.{set_else}
 use Rattle.lw_word.specs.declared.wait_lists.LwWaiter.{LwWaiter}
 use Rattle.lock_table.specs.declared.request.Request.{Request}
 use Rattle.lock_table.specs.Content.{Content}
+use Rattle.lock_world.specs.declared.events.Step.TheVariants.{SplitSeat, JoinSeat}
 use Rattle.lock_world.specs.World.{World, Hand, MakesSteps}
 use Rattle.lock_world.specs.Safe.{is_hand_of}
 use Rattle.lock_world.specs.SafeWorld.{SafeWorld}
@@ -65,7 +66,7 @@ module _ {T : Type 0} (content : T → Content) (begun : T → Option Request) (
       let seats = seats-opened content r.world s.views id view has.number at has.next r.safe.but_slots.table.carriers.numbers r.seats in
       let within : has.number < r.world.numbers.limit = subst (λ (n : ℕ). has.number < n) (sym r.is_limit) has.within in
       let may : MayBeIssued r.world has.number = record { next = (r.seats.next id view has.number at has.next).1; within = within } in
-      ruled-numbered content begun limit s r (after_issuing r.world has.number).numbers _ refl (issuing-safe_world r.world has.number r.safe may) seats)
+      ruled-numbered content begun limit s r (record { session = has.number; step = SplitSeat }) (after_issuing r.world has.number).numbers _ (inl (may, refl)) refl (issuing-safe_world r.world has.number r.safe may) seats)
 
   -- A session closes.
   pub closes : (id : ℕ) (opener : View T) (other : ℕ) (view : View T) → IsForOne view → MayCloseBy (first_account content view.sessions)
@@ -78,7 +79,7 @@ module _ {T : Type 0} (content : T → Content) (begun : T → Option Request) (
       let may_by : MayCloseBy (account r.world k) = subst MayCloseBy (ap (λ (z : View T). first_account content z.sessions) one.one ∙ shown.account) may in
       let may_close = closing-lawful r.world r.safe k (record { live = shown.live; by_itself = shown.kept_by }) (keeps-nobody content r.world s.views other k one.marks stands r.seats) may_by in
       subst (λ (v : View T). Ruled content begun limit (record { words = s.words; homes = s.homes; views = slice_set (slice_set s.views id v) other spent_view })) (sym same)
-      (ruled-closed content begun limit s r k _ (closing-safe_world r.world k r.safe may_close)
+      (ruled-closed content begun limit s r k _ may_close (closing-safe_world r.world k r.safe may_close)
       (seats-closed content r.world s.views other k one.marks stands r.seats id opener at apart r.safe.but_slots.table.carriers.numbers))
 
   -- A session is kept apart.
@@ -101,7 +102,7 @@ module _ {T : Type 0} (content : T → Content) (begun : T → Option Request) (
         no_fast_word = λ o. none-tested (r.world.sessions.holds_fast b o) _ (may_by.no_fast_word o);
       } in
       subst (λ (v : View T). Ruled content begun limit (record { words = s.words; homes = s.homes; views = slice_set (slice_set s.views id v) other spent_view })) (sym same)
-      (ruled-numbered content begun limit s r (after_keeping_apart r.world b a).numbers _ refl (keeping_apart-safe_world r.world b a r.safe may_be)
+      (ruled-numbered content begun limit s r (record { session = b; step = JoinSeat (Some a) }) (after_keeping_apart r.world b a).numbers _ (may_be, refl) refl (keeping_apart-safe_world r.world b a r.safe may_be)
       (seats-met content r.world s.views id other a b one.marks two.marks stands others apart r.seats))
 
   -- It goes on by itself.
@@ -111,7 +112,8 @@ module _ {T : Type 0} (content : T → Content) (begun : T → Option Request) (
       let shown = two-shown content r.world s.views id is.first is.second stands r.seats in
       let y = is.second.number in
       subst (λ (v : View T). Ruled content begun limit (record { words = s.words; homes = s.homes; views = slice_set s.views id (parted v) ++ handed_back v ∷ [] })) (sym is.two)
-      (ruled-numbered content begun limit s r (after_going_on r.world y).numbers _ refl (going_on-safe_world r.world y r.safe (is.first.number, shown.kept_by))
+      (ruled-numbered content begun limit s r (record { session = y; step = SplitSeat }) (after_going_on r.world y).numbers _ (inr ((is.first.number, shown.kept_by), refl)) refl
+      (going_on-safe_world r.world y r.safe (is.first.number, shown.kept_by))
       (seats-parted content r.world s.views id is.first is.second stands r.seats))
 
   -- Where two meet, no hold of the one conflicts with a hold of the other.

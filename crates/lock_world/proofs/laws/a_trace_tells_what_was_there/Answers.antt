@@ -1,0 +1,17 @@
+use Rattle.lock_world.specs.World.{Loaded, AskedToCancel}
+use Rattle.lock_world.proofs.Telling.{added-tells, each-told}
+use Rattle.lock_world.proofs.SafeWorld.Opening.{opening-safe}
+use Rattle.lock_world.proofs.laws.a_trace_tells_what_was_there.Goals as goal
+
+pub returns-clause-loaded : goal.returns-clause-loaded
+returns-clause-loaded c =
+    λ w v event word shown h grown. added-tells w v event (Loaded word shown) h grown
+
+pub returns-clause-asked : goal.returns-clause-asked
+returns-clause-asked c =
+    λ w v event other before h grown. added-tells w v event (AskedToCancel other before) h grown
+
+pub returns-clause-on_the_way : goal.returns-clause-on_the_way
+returns-clause-on_the_way c =
+    λ limit events worlds session before after entry below run stands.
+    each-told limit events worlds session before after entry (opening-safe limit below) run stands
