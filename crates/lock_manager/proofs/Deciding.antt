@@ -15,6 +15,7 @@ use Rattle.wait_queue.specs.declared.requests.Kind.{Kind}
 use Rattle.wait_queue.specs.declared.requests.Kind.TheVariants.{Conditional, Waiting}
 use Rattle.wait_queue.specs.Decide.{IsDecided, RefusedFor}
 use Rattle.lock_world.specs.Account.{Account, InHand}
+use Rattle.lock_world.specs.AccountFacts.{OwnHoldsStand}
 use Rattle.lock_world.specs.AccountSteps.{account_taking, account_putting, account_waiting, hand_recording}
 use Rattle.lock_world.specs.AccountLaw.{MayMoveBy, MayPutBy, MayPutRecordedBy}
 use Rattle.lock_world.specs.Counted.{is_done}
@@ -145,13 +146,17 @@ module _ (limit number : ℕ) (a b : Account) (stack : Stack) (p : ℕ) (tag : T
       was_put ∙ ap (λ (x : Account). account_putting x p (taken_of (x.hand p)) put done) took ∙ taken-put a p taken put done (λ i. idle.no_content i p)
       ∙ ap (λ (k : ℕ). account_episode a k taken put done) home
 
+  stand-home : OwnHoldsStand number a.own a.fast.database a.fast.remembered p taken → OwnHoldsStand number a.own a.fast.database a.fast.remembered (partition_of tag) taken
+  stand-home stand = subst (λ (q : ℕ). OwnHoldsStand number a.own a.fast.database a.fast.remembered q taken) home stand
+
   -- which grants the request,
   pub grants-in_part :
-      (kind : Kind) (c : Account) → c ≡ account_putting b p (taken_of (b.hand p)) put (Grant tag mode) → IsDecided kind taken number tag mode Granted put
+      (kind : Kind) (c : Account) → OwnHoldsStand number a.own a.fast.database a.fast.remembered p taken → c ≡ account_putting b p (taken_of (b.hand p)) put (Grant tag mode) → IsDecided kind taken number tag mode Granted put
       → DecidesInPart kind number a tag mode (Ok Granted) c
-  grants-in_part kind c was_put decided = record {
+  grants-in_part kind c stand was_put decided = record {
     taken = taken;
     put = put;
+    own_stand = stand-home stand;
     decided = decided;
     refused = tt;
     kept = tt;
@@ -160,11 +165,12 @@ module _ (limit number : ℕ) (a b : Account) (stack : Stack) (p : ℕ) (tag : T
 
   -- refuses it,
   pub refuses-in_part :
-      (kind : Kind) (c : Account) → c ≡ account_putting b p (taken_of (b.hand p)) put Keep
+      (kind : Kind) (c : Account) → OwnHoldsStand number a.own a.fast.database a.fast.remembered p taken → c ≡ account_putting b p (taken_of (b.hand p)) put Keep
       → (refusal : Refusal) → RefusedFor kind taken number tag mode refusal → put ≡ taken → DecidesInPart kind number a tag mode (Err refusal) c
-  refuses-in_part kind c was_put refusal why same = record {
+  refuses-in_part kind c stand was_put refusal why same = record {
     taken = taken;
     put = put;
+    own_stand = stand-home stand;
     decided = tt;
     refused = why;
     kept = same;
@@ -173,13 +179,14 @@ module _ (limit number : ℕ) (a b : Account) (stack : Stack) (p : ℕ) (tag : T
 
   -- or queues it.
   pub queues-in_part :
-      (kind : Kind) (c d : Account)
+      (kind : Kind) (c d : Account) → OwnHoldsStand number a.own a.fast.database a.fast.remembered p taken
       → c ≡ account_waiting b (in_hand (b.hand (partition_of tag))) tag mode put ((in_hand (b.hand (partition_of tag))).now.holds number tag)
       → d ≡ account_putting c p (taken_of (c.hand p)) put Keep → IsDecided kind taken number tag mode Queued put
       → DecidesInPart kind number a tag mode (Ok Queued) d
-  queues-in_part kind c d waits was_put decided = record {
+  queues-in_part kind c d stand waits was_put decided = record {
     taken = taken;
     put = put;
+    own_stand = stand-home stand;
     decided = decided;
     refused = tt;
     kept = tt;

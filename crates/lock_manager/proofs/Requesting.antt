@@ -16,6 +16,7 @@ use Rattle.wait_queue.specs.Decide.{RefusedFor}
 use Rattle.lock_table.specs.declared.no_memory.NoMemory.{NoMemory as NoMemory_}
 use Rattle.lock_world.specs.declared.events.Word.TheVariants.{Strong}
 use Rattle.lock_world.specs.Account.{Account, FastAccount}
+use Rattle.lock_world.specs.AccountFacts.{OwnHoldsStand}
 use Rattle.lock_world.specs.AccountSteps.{account_uncounting, own_with}
 use Rattle.lock_world.specs.Counted.{Counted, is_counted, uncounting}
 use Rattle.lock_world.specs.SlotHolds.{slot_count, used}
@@ -28,6 +29,7 @@ use Rattle.shared_rule.specs.Boards.{Seated, Stack}
 use Rattle.lock_manager.specs.Rest.{IsUseCount, IsIdle}
 use Rattle.lock_manager.specs.Requests.{LeadsToTable, DecidesInPart, Decides, Requests, IsRequested, counted_granted, account_awaiting, account_decided}
 use Rattle.fast_path.proofs.Counting.{counted_at, uncounting-last}
+use Rattle.lock_table.specs.Content.{Content}
 use Rattle.lock_manager.proofs.Deciding.{decided-granted}
 use Rattle.lock_manager.proofs.Holding.{use_count-same}
 
@@ -160,12 +162,21 @@ module _ (kind : Kind) (seat : Seated) (a b c : Account) (uses left : ℕ) (tag 
   led-trace : b.trace ≡ a.trace ++ led.steps
   led-trace = ap (λ (x : Account). x.trace) led.account
 
+  led-stand : (taken : Content) (remembered : ℕ → ℕ) → b.fast.remembered ≡ remembered
+      → OwnHoldsStand seat.number b.own b.fast.database b.fast.remembered (partition_of tag) taken
+      → OwnHoldsStand seat.number a.own a.fast.database remembered (partition_of tag) taken
+  led-stand taken remembered same stand =
+      subst (λ (words : ℕ → ℕ). OwnHoldsStand seat.number a.own a.fast.database words (partition_of tag) taken) same
+      (subst (λ (own : Tag → Mode → Bool). OwnHoldsStand seat.number own a.fast.database b.fast.remembered (partition_of tag) taken) (ap (λ (x : Account). x.own) led.account)
+      (subst (λ (database : ℕ). OwnHoldsStand seat.number b.own database b.fast.remembered (partition_of tag) taken) (ap (λ (x : Account). x.fast.database) led.account) stand))
+
   pub led-decides : (result : Result Decision Refusal) → DecidesInPart kind seat.number b tag mode result c → Decides kind seat a uses tag mode result c left
   led-decides result d = record {
     steps = led.steps;
     taken = d.taken;
     put = d.put;
     before = led.before;
+    own_stand = led-stand d.taken c.fast.remembered (sym (ap (λ (fast : FastAccount). fast.remembered) (decided-fast kind seat.number b c tag mode result d))) d.own_stand;
     decided = d.decided;
     refused = d.refused;
     kept = d.kept;
@@ -231,6 +242,7 @@ module _ (kind : Kind) (seat : Seated) (a b c : Account) (uses left : ℕ) (tag 
             taken = it.taken;
             put = it.put;
             before = it.before;
+            own_stand = subst (λ (words : ℕ → ℕ). OwnHoldsStand seat.number a.own a.fast.database words (partition_of tag) it.taken) back-remembered it.own_stand;
             decided = it.decided;
             refused = it.refused;
             kept = it.kept;

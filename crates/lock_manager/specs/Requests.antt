@@ -17,6 +17,7 @@ use Rattle.wait_queue.specs.declared.requests.Decision.TheVariants as decision
 use Rattle.wait_queue.specs.Decide.{IsDecided, RefusedFor}
 use Rattle.lock_world.specs.declared.events.Word.TheVariants.{Strong}
 use Rattle.lock_world.specs.Account.{Account}
+use Rattle.lock_world.specs.AccountFacts.{OwnHoldsStand}
 use Rattle.lock_world.specs.AccountSteps.{own_with}
 use Rattle.lock_world.specs.Counted.{Counted}
 use Rattle.lock_world.specs.SlotHolds.{slot_count}
@@ -85,11 +86,12 @@ account_decided number a tag mode taken put (Ok decision.Queued) =
 account_decided number a tag mode taken put (Err refusal) = account_episode a (partition_of tag) taken put move_.Keep
 
 -- The episode that decides: the content put is the one taken with a hold or a wait more, as was decided by it, and
--- after a refusal as it was.
+-- after a refusal as it was. The content taken has each own hold of its partition that is in no slot.
 pub record DecidesInPart (kind : Kind) (number : ℕ) (a : Account) (tag : Tag) (mode : Mode)
     (result : Result Decision Refusal) (b : Account) : Type 0 where
   pub taken : Content
   pub put : Content
+  pub own_stand : OwnHoldsStand number a.own a.fast.database a.fast.remembered (partition_of tag) taken
   pub decided : IfOk result (λ decision. IsDecided kind taken number tag mode decision put)
   pub refused : IfErr result (RefusedFor kind taken number tag mode)
   pub kept : OnErr result (put ≡ taken)
@@ -97,13 +99,15 @@ pub record DecidesInPart (kind : Kind) (number : ℕ) (a : Account) (tag : Tag) 
 
 -- The request has one episode, in the object's partition, and its answer is that of the content taken: where it is
 -- granted the content put has the hold, and where it is queued the wait; else that is put as it was, and the refusal
--- names what is in the way there, or memory. Before it stands what led to the table. No other step joins the trace.
+-- names what is in the way there, or memory. The content taken has each own hold of the partition that is in no slot of
+-- the session. Before it stands what led to the table. No other step joins the trace.
 pub record Decides (kind : Kind) (seat : Seated) (a : Account) (uses : ℕ) (tag : Tag) (mode : Mode)
     (result : Result Decision Refusal) (b : Account) (left : ℕ) : Type 0 where
   pub steps : List TraceEntry
   pub taken : Content
   pub put : Content
   pub before : LeadsToTable seat.limit a uses tag mode steps
+  pub own_stand : OwnHoldsStand seat.number a.own a.fast.database b.fast.remembered (partition_of tag) taken
   pub decided : IfOk result (λ decision. IsDecided kind taken seat.number tag mode decision put)
   pub refused : IfErr result (RefusedFor kind taken seat.number tag mode)
   pub kept : OnErr result (put ≡ taken)

@@ -4,6 +4,7 @@ use Rattle.lock_table.specs.Moves.{Moves}
 use Rattle.wait_queue.specs.declared.requests.Decision.TheVariants.{Queued}
 use Rattle.wait_queue.specs.Decide.{IsDecided}
 use Rattle.lock_world.specs.Account.{InHand}
+use Rattle.lock_world.specs.AccountFacts.{OwnHoldsStand}
 use Rattle.lock_world.specs.AccountLaw.{MayMoveBy}
 use Rattle.shared_rule.specs.Boards.{Seated}
 use Rattle.shared_rule.specs.Lawful.{MayPutPart}
@@ -57,10 +58,12 @@ returns-in-Ok-Queued-clause-decided g c =
     let before = g.B.Board.view c.args.board.now in
     let taken = g.T.PartTable.content c.take_part-content.result in
     let put = g.T.PartTable.content c.decide.new.part in
+    let stand = subst (λ (s : Seated). OwnHoldsStand s.number before.own before.fast.database before.fast.remembered c.partition-part.result taken) (sym c.take_part-content.ensures.seat) c.take_part-content.ensures.knows.own_stand in
     let number : c.number-number.result ≡ seat.number = c.number-number.ensures.value ∙ ap (λ (s : Seated). s.number) (sym c.take_part-content.ensures.seat) in
     subst (λ (s : Seated). Rattle.lock_manager.specs.Requests.DecidesInPart c.args.kind s.number before c.args.tag.now c.args.mode (Ok Queued) (g.B.Board.view c.put_part-in-Ok-Queued.new.self)) c.take_part-content.ensures.seat
     (queues-in_part seat.limit seat.number before (g.B.Board.view c.take_part-content.new.self) (g.B.Board.stack c.args.board.now) c.partition-part.result c.args.tag.now c.args.mode
     taken put c.requires.idle c.partition-part.ensures.value c.take_part-content.ensures.view c.args.kind (g.B.Board.view c.set_waiting.new.self) (g.B.Board.view c.put_part-in-Ok-Queued.new.self)
+    stand
     c.set_waiting.ensures.view c.put_part-in-Ok-Queued.ensures.view
     (subst (λ k. IsDecided c.args.kind taken k c.args.tag.now c.args.mode Queued put) number
     (subst (λ d. IsDecided c.args.kind taken c.number-number.result c.args.tag.now c.args.mode d put) c.in-Ok-Queued.field-0-is c.in-Ok-Queued.ensures.decided)))
