@@ -17,3 +17,4 @@ pub mod FromSafeWorld
 pub mod Listing
 pub mod WaitLists
 pub mod ListWords
+pub mod Headline

@@ -11,3 +11,4 @@ pub mod AccountLaw
 pub mod AccountFacts
 pub mod Safe
 pub mod SafeWorld
+pub mod Headline

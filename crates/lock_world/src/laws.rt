@@ -24,6 +24,7 @@ ghost use Rattle.lock_world.specs.World.{World, TraceEntry, Took, Episode, openi
 ghost use Rattle.lock_world.specs.Happens.{Happens, RunsThrough, Runs};
 ghost use Rattle.lock_world.specs.Safe.{taken_by, taken_in, IsOneMove};
 ghost use Rattle.lock_world.specs.SafeWorld.{SafeWorld, slots_of};
+ghost use Rattle.lock_world.specs.Headline.{NoTwoConflict, Headline};
 ghost use Rattle.lock_world.specs.Account.{IsLeftAlone};
 
 /// The World before the first event is safe, of any number of sessions that the count of a lightweight word can hold.
@@ -49,6 +50,15 @@ pub fn every_world_is_safe()
 pub fn one_world_comes()
     ensures { (limit : ℕ) (events : List Event) (w v : World) → limit < 2 ^ 24 →
         Runs (opening limit) events w → Runs (opening limit) events v → w ≡ v }
+{}
+
+/// Every safe World has the headline: no two sessions stand with conflicting modes on one object, wherever they
+/// stand; each hold is in one place, one slot or the content of one partition, so as many sessions have a mode on
+/// an object as slots show it and the content has it together; each strong lock counter is how much is counted; and
+/// what a conditional request is refused with is in the content that its session took.
+pub fn no_two_sessions_conflict()
+    ensures no_two_conflict { (w : World) → SafeWorld w → NoTwoConflict w }
+    ensures whole { (w : World) → SafeWorld w → Headline w }
 {}
 
 /// In a safe World no two sessions hold conflicting modes on one object, wherever the holds stand: both in

@@ -10,3 +10,4 @@ pub mod Opening
 pub mod Seats
 pub mod Openers
 pub mod Episodes
+pub mod Headline
