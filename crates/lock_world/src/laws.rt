@@ -5,6 +5,7 @@
 ghost use Rattle.std.specs.Prelude.{◌≡◌, ◌≢◌, ◌↔◌, ◌⊎◌, ◌<◌, ◌≤◌, ◌+◌, ◌^◌, ◌==◌, ℕ, List, [], ◌∷◌, ◌++◌, true, false, if◌then◌else◌, Some, None, slice_get, count_by};
 ghost use Rattle.modes_core.specs.declared.modes.Mode.{Mode};
 ghost use Rattle.modes_core.specs.declared.tags.Tag.{Tag};
+ghost use Rattle.modes_core.specs.declared.tags.Tag.TheVariants.{Relation};
 ghost use Rattle.modes_core.specs.Conflict.{conflict};
 ghost use Rattle.modes_core.specs.Tag.{index_of, partition_of, is_strong_on};
 ghost use Rattle.lock_world.specs.declared.events.Event.{Event};
@@ -14,9 +15,10 @@ ghost use Rattle.lock_table.specs.Content.{Wait, Content};
 ghost use Rattle.lw_word.specs.LightweightWord.{IsHeldExclusively, IsListLocked, shared_count};
 ghost use Rattle.lw_word.specs.WaitList.{stands_in, times_in};
 ghost use Rattle.lock_table.specs.OwnWait.{OwnWait, entry_of, is_for};
-ghost use Rattle.lock_table.specs.Queue.{NoneFree, waits_there};
+ghost use Rattle.lock_table.specs.Queue.{NoneFree, waits_there, awaits_mode};
 ghost use Rattle.lock_world.specs.Total.{how_many};
-ghost use Rattle.lock_world.specs.SlotHolds.{IsHeldIn};
+ghost use Rattle.lw_word.specs.SlotWord.{in_use, shows};
+ghost use Rattle.lock_world.specs.SlotHolds.{IsHeldIn, OneSlotEach, InUseHasDatabase, NoSlotInUse, slot_count};
 ghost use Rattle.lock_world.specs.Counted.{AtMostOnce, counter, is_done, is_past};
 ghost use Rattle.lock_world.specs.WaitLists.{partition_lock, fast_lock};
 ghost use Rattle.lock_world.specs.WaitWord.{wait_state, is_asked, asked_word, granted_word};
@@ -99,14 +101,22 @@ pub fn each_hold_in_one_place()
         (session place other : ℕ) (tag : Tag) (mode : Mode) →
         IsHeldIn (w.words.database session) (w.words.slot session) tag mode place →
         IsHeldIn (w.words.database session) (w.words.slot session) tag mode other → place ≡ other }
+    ensures one_slot_of_a_relation { (w : World) → SafeWorld w → (session : ℕ) → OneSlotEach (w.words.slot session) }
+    ensures in_use_has_database { (w : World) → SafeWorld w →
+        (session : ℕ) → InUseHasDatabase (w.words.database session) (w.words.slot session) }
+    ensures each_bit_is_a_hold { (w : World) → SafeWorld w →
+        (session place relation : ℕ) (mode : Mode) → place < slot_count →
+        shows (w.words.slot session place) relation mode ≡ true →
+        w.sessions.own session (Relation (w.words.database session) relation) mode ≡ true }
     ensures never_both { (w : World) → SafeWorld w →
         (session : ℕ) (tag : Tag) (mode : Mode) → is_for (w.sessions.awaited session) tag mode ≡ true →
         w.sessions.own session tag mode ≡ false }
 {}
 
 /// In a safe World each strong lock counter is how much is counted at its index: by each session, each mode on
-/// each object once at most. A strong mode that a session has, or awaits, is counted and past each session; and
-/// where something counted for an object is past a session, no slot of that session has the object.
+/// each object once at most. A strong mode that a session has, or awaits, is counted and past each session, and so
+/// is each strong hold and each strong wait in a content; and where something counted for an object is past a
+/// session, no slot of that session has the object.
 pub fn counters_show_what_is_counted()
     ensures shown { (w : World) → SafeWorld w → (index : ℕ) →
         w.words.strong index ≡ counter w.numbers.limit w.sessions.counted index }
@@ -117,17 +127,25 @@ pub fn counters_show_what_is_counted()
     ensures awaited { (w : World) → SafeWorld w → (session : ℕ) (tag : Tag) (mode : Mode) →
         is_strong_on tag mode ≡ true → is_for (w.sessions.awaited session) tag mode ≡ true →
         is_done w.numbers.limit (w.sessions.counted session) tag mode ≡ true }
+    ensures held_in_content { (w : World) → SafeWorld w → (p session : ℕ) (tag : Tag) (mode : Mode) →
+        is_strong_on tag mode ≡ true → (w.contents.now p).holds session tag mode ≡ true →
+        is_done w.numbers.limit (w.sessions.counted session) tag mode ≡ true }
+    ensures awaited_in_content { (w : World) → SafeWorld w → (p session : ℕ) (tag : Tag) (mode : Mode) →
+        is_strong_on tag mode ≡ true → awaits_mode ((w.contents.now p).waits tag) session mode ≡ true →
+        is_done w.numbers.limit (w.sessions.counted session) tag mode ≡ true }
     ensures past { (w : World) → SafeWorld w → (session other : ℕ) (tag : Tag) (mode : Mode) →
         is_past (w.sessions.counted session) tag other ≡ true →
         slots_of w.words.database w.words.slot other tag mode ≡ false }
 {}
 
 /// In a safe World a session that has read a strong lock counter as 0, and has not put the lock of its own slots
-/// since, holds that lock, and nobody has a strong mode on an object of that index, nor awaits one: so it may
-/// set a slot for such an object.
+/// since, holds that lock, and nothing that anybody has counted for an object of that index is past it, granted or
+/// not. So nobody has a strong mode on such an object, nor awaits one, and the session may set a slot for it.
 pub fn a_counter_read_as_zero_is_a_permission()
     ensures lock_is_held { (w : World) → SafeWorld w → (session index : ℕ) → w.sessions.zero session ≡ Some index →
         w.sessions.holds_fast session session ≡ true }
+    ensures nobody_is_past { (w : World) → SafeWorld w → (session other : ℕ) (tag : Tag) →
+        w.sessions.zero session ≡ Some (index_of tag) → is_past (w.sessions.counted other) tag session ≡ false }
     ensures nobody_strong { (w : World) → SafeWorld w → (session other : ℕ) (tag : Tag) (mode : Mode) →
         w.sessions.zero session ≡ Some (index_of tag) → session < w.numbers.limit → is_strong_on tag mode ≡ true →
         (w.sessions.own other tag mode ≡ false) × (is_for (w.sessions.awaited other) tag mode ≡ false) }
@@ -234,13 +252,15 @@ pub fn one_hand_at_a_time()
 {}
 
 /// In a safe World a session number that is not live has no hold, by its own account, in each content and in its
-/// slots, no wait, recorded or in a queue, no partition in hand, no lightweight lock, exclusively or shared,
+/// slots, of which none is in use, no wait, recorded or in a queue, no partition in hand, no lightweight lock, exclusively or shared,
 /// nothing counted, no wait list in hand, and stands in none.
 pub fn spent_sessions_have_nothing()
     ensures no_hold { (w : World) → SafeWorld w →
         (session p : ℕ) (tag : Tag) (mode : Mode) → w.numbers.live session ≡ false →
         (w.sessions.own session tag mode ≡ false) × ((w.contents.now p).holds session tag mode ≡ false)
         × (slots_of w.words.database w.words.slot session tag mode ≡ false) }
+    ensures no_slot { (w : World) → SafeWorld w → (session : ℕ) → w.numbers.live session ≡ false →
+        NoSlotInUse (w.words.slot session) }
     ensures no_count { (w : World) → SafeWorld w → (session : ℕ) → w.numbers.live session ≡ false →
         w.sessions.counted session ≡ [] }
     ensures no_wait { (w : World) → SafeWorld w →
