@@ -12,3 +12,4 @@ pub mod AccountFacts
 pub mod Safe
 pub mod SafeWorld
 pub mod Headline
+pub mod Listing

@@ -17,16 +17,17 @@ ghost use Rattle.lw_word.specs.WaitList.{stands_in, times_in};
 ghost use Rattle.lock_table.specs.OwnWait.{OwnWait, entry_of, is_for};
 ghost use Rattle.lock_table.specs.Queue.{NoneFree, waits_there, awaits_mode};
 ghost use Rattle.lock_world.specs.Total.{how_many};
-ghost use Rattle.lw_word.specs.SlotWord.{in_use, shows};
-ghost use Rattle.lock_world.specs.SlotHolds.{IsHeldIn, OneSlotEach, InUseHasDatabase, NoSlotInUse, slot_count};
+ghost use Rattle.lw_word.specs.SlotWord.{shows};
+ghost use Rattle.lock_world.specs.SlotHolds.{relation_of, IsHeldIn, OneSlotEach, InUseHasDatabase, NoSlotInUse, slot_count};
 ghost use Rattle.lock_world.specs.Counted.{AtMostOnce, counter, is_done, is_past};
 ghost use Rattle.lock_world.specs.WaitLists.{partition_lock, fast_lock};
 ghost use Rattle.lock_world.specs.WaitWord.{wait_state, is_asked, asked_word, granted_word};
 ghost use Rattle.lock_world.specs.World.{World, TraceEntry, Took, Episode, opening, is_unmarked};
-ghost use Rattle.lock_world.specs.Happens.{Happens, RunsThrough, Runs};
+ghost use Rattle.lock_world.specs.Happens.{Happens, RunsThrough, Runs, last_of};
 ghost use Rattle.lock_world.specs.Safe.{taken_by, taken_in, IsOneMove};
 ghost use Rattle.lock_world.specs.SafeWorld.{SafeWorld, slots_of};
-ghost use Rattle.lock_world.specs.Headline.{NoTwoConflict, Headline};
+ghost use Rattle.lock_world.specs.Headline.{stands_with, NoTwoConflict, Headline};
+ghost use Rattle.lock_world.specs.Listing.{StandsThereOrInContent, TellsHold};
 ghost use Rattle.lock_world.specs.Account.{IsLeftAlone};
 
 /// The World before the first event is safe, of any number of sessions that the count of a lightweight word can hold.
@@ -305,11 +306,20 @@ pub fn numbers_are_in_order()
         (w.numbers.live session ≡ true) × (w.numbers.live joiner ≡ true) }
 {}
 
-/// What a listing stands on that loads slots first and takes partitions later. Let a hold stand in a fast-path
-/// slot or in a content in each World of a run, and in the first one in a content, as where a load of its slot
-/// did not show it. Then it stands in the content of its object's partition in each of these Worlds; and whoever
-/// takes a partition takes just the content that is there.
+/// A listing that loads slots first and takes partitions later misses no hold that stands throughout. Let a load of a
+/// slot not show a hold which stands then in that slot or in a content, and let it stand in a slot or in a content in
+/// each World of a run from then on: whoever takes its object's partition next tells a content that has it. So the
+/// hold stands in that content all the way, and whoever takes a partition takes just the content that is there.
 pub fn a_listing_misses_no_hold_that_stands()
+    ensures misses_none { (w v u : World) (lister session place shown taker : ℕ) (tag : Tag) (mode : Mode)
+        (events : List Event) (worlds : List World) → SafeWorld w →
+        Happens w (record { session = lister; step = Step.LoadWord (Word.Slot session place) shown }) v →
+        shows shown (relation_of tag) mode ≡ false → StandsThereOrInContent v session tag mode place →
+        RunsThrough v events worlds →
+        ((later : ℕ) (z : World) → slice_get worlds later ≡ Some z → stands_with z session tag mode ≡ true) →
+        Happens (last_of v worlds)
+        (record { session = taker; step = Step.TakeExclusive (Word.Partition (partition_of tag)) }) u →
+        TellsHold (last_of v worlds) u taker session tag mode }
     ensures stays_in_content { (w : World) (events : List Event) (worlds : List World)
         (session : ℕ) (tag : Tag) (mode : Mode) → SafeWorld w → RunsThrough w events worlds →
         (w.contents.now (partition_of tag)).holds session tag mode ≡ true →
