@@ -284,7 +284,7 @@ pub fn each_episode_is_one_move()
     ensures moved { (w : World) → SafeWorld w →
         (session p : ℕ) (taken put_back : Content) (before after : List TraceEntry) →
         w.sessions.trace session ≡ before ++ Episode p taken put_back ∷ after →
-        (taken_by (λ _. None) before p ≡ Some taken) × IsOneMove taken session put_back }
+        (taken_by (λ _. None) before p ≡ Some taken) × IsOneMove p taken session put_back }
     ensures was_taken { (p : ℕ) (taken : Content) (before : List TraceEntry) →
         taken_by (λ _. None) before p ≡ Some taken →
         (first : List TraceEntry) × (since : List TraceEntry) × (before ≡ first ++ Took p taken ∷ since) }
