@@ -18,3 +18,4 @@ pub mod Listing
 pub mod WaitLists
 pub mod ListWords
 pub mod Headline
+pub mod Closed

@@ -1,4 +1,4 @@
-use Rattle.std.proofs.Common.{◌≡◌, ◌⊎◌, ℕ, Bool, true, false, List, [], ◌∷◌, ◌++◌, Option, Some, None, refl, sym, ap, ◌∙◌, subst, inl, inr, zero, suc}
+use Rattle.std.proofs.Common.{◌≡◌, ◌⊎◌, ℕ, Bool, true, false, List, [], ◌∷◌, Option, Some, None, refl, sym, ap, ◌∙◌, subst, inl, inr, zero, suc}
 use Rattle.std.specs.Prelude.{slice_get}
 use Rattle.std.proofs.lemmas.Bool.{both_ways, false≢true, or_cases}
 use Rattle.modes_core.specs.declared.modes.Mode.{Mode}
@@ -17,7 +17,7 @@ use Rattle.lock_world.specs.declared.events.Word.{Word}
 use Rattle.lock_world.specs.declared.events.Word.TheVariants.{Partition, Fast, Database, Slot, Wait, Strong, Sleep}
 use Rattle.lw_word.specs.SlotWord.{shows}
 use Rattle.lock_table.proofs.PutLemmas.{set_at-here}
-use Rattle.lock_world.specs.World.{World, Took}
+use Rattle.lock_world.specs.World.{World}
 use Rattle.lock_world.specs.SlotHolds.{relation_of}
 use Rattle.lock_world.specs.Headline.{stands_with}
 use Rattle.lock_world.specs.Listing.{StandsThereOrInContent, TellsHold}

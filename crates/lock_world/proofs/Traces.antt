@@ -6,7 +6,6 @@ use Rattle.modes_core.specs.declared.tags.Tag.{Tag}
 use Rattle.lock_table.specs.declared.moves.Move.{Move}
 use Rattle.lock_table.specs.declared.moves.Move.TheVariants.{Adopt}
 use Rattle.lock_table.specs.Content.{Wait, Content, add_hold}
-use Rattle.modes_core.specs.Tag.{partition_of, is_eligible_for}
 use Rattle.lock_table.specs.Moves.{Moves, Adopts, IsInPartition}
 use Rattle.lock_table.specs.Put.{set_at}
 use Rattle.lock_world.specs.World.{Hand, Contents, TraceEntry, Took, Episode, AskedToCancel, Loaded, recorded_in}
@@ -15,7 +14,8 @@ use Rattle.lock_world.specs.Happens.Waits.{recording}
 use Rattle.lock_world.specs.Happens.Transfers.{MayAdopt}
 use Rattle.lock_world.specs.Safe.{taken_after, taken_by, IsAdopted, AddsAdopted, IsOneMove, EntryIsSound, EpisodesAreMoves, taken_in, IsMadeBy, HandIsOneMove, TracesTell, is_hand_of}
 use Rattle.lock_table.proofs.PutLemmas.{set_at-here, set_at-else, set_at-each}
-use Rattle.lock_table.proofs.HoldLemmas.{SetHoldAt, here, elsewhere, set_hold-at, set_hold-still}
+use Rattle.lock_table.proofs.HoldLemmas.{set_hold-still}
+use Rattle.lock_world.proofs.Moves.Adopted.{adopted-more}
 
 -- A trace with one entry more.
 
@@ -34,7 +34,7 @@ pub taken_in-own : (hand : Option Hand) (s : ℕ) → is_hand_of hand s ≡ true
 taken_in-own None s holds = absurd (cc)
 taken_in-own (Some h) s holds = (h, refl, eqb-true h.holder s holds, cond-true (h.holder == s) (Some h.taken) None holds)
 
-taken_in-other : (hand : Option Hand) (s : ℕ) → is_hand_of hand s ≡ false → taken_in hand s ≡ None
+pub taken_in-other : (hand : Option Hand) (s : ℕ) → is_hand_of hand s ≡ false → taken_in hand s ≡ None
 taken_in-other None s other = refl
 taken_in-other (Some h) s other = cond-false (h.holder == s) (Some h.taken) None other
 
@@ -96,6 +96,16 @@ module _ (contents : Contents) (trace : ℕ → List TraceEntry) (issued : ℕ) 
     in_hand = in_hand-longer s given entry contents.hand (λ q. neutral q ∙ tell.in_hand s q) (λ k q other. refl);
     episodes = episodes-longer s given entry sound;
     new = new-longer s given entry;
+  }
+
+  -- A session that has nothing in hand has no step in its trace any more.
+  pub TracesTell-emptied : (s : ℕ) → ((q : ℕ) → taken_in (contents.hand q) s ≡ None) → TracesTell contents (set_at trace s []) issued
+  TracesTell-emptied s none = record {
+    one_move = tell.one_move;
+    in_hand = λ k q.
+        set_at-each (λ k list. taken_by (λ _. None) list q ≡ taken_in (contents.hand q) k) trace s [] (sym (none q)) (λ k _. tell.in_hand k q) k;
+    episodes = set_at-each (λ k list. EpisodesAreMoves k (λ _. None) list) trace s [] tt (λ k _. tell.episodes k);
+    new = set_at-each (λ k list. issued ≤ k → list ≡ []) trace s [] (λ _. refl) (λ k _. tell.new k);
   }
 
   -- A partition at home is taken.
@@ -263,16 +273,6 @@ module _ (contents : Contents) (trace : ℕ → List TraceEntry) (issued : ℕ) 
         let whose : made.0 ≡ owner = cc in
         (subst (λ k. Adopts taken k (contents.now p)) whose made.3, subst (λ k. AddsAdopted p taken k (contents.now p)) whose made.4)
 
-    added : (taken : Content) → AddsAdopted p taken owner (contents.now p) → AddsAdopted p taken owner (add_hold (contents.now p) owner t m)
-    added taken already o n has = one (set_hold-at (contents.now p).holds owner t m true owner o n) where
-      one : SetHoldAt (contents.now p).holds owner t m true owner o n → (taken.holds owner o n ≡ true) ⊎ IsAdopted p o n
-      one (here it e) = inr (record {
-        object = ap partition_of it.tag ∙ adopted.object;
-        database = adopted.database;
-        eligible = (λ x. is_eligible_for adopted.database (it.tag x) (it.mode x)) ∙ adopted.eligible;
-      })
-      one (elsewhere _ e) = already o n (sym e ∙ has)
-
     at : (hand : Option Hand) → MayAdopt (recorded_in hand) owner slot → HandIsOneMove p hand (contents.now p)
         → HandIsOneMove p (recording hand (Adopt owner slot) unmarked) (add_hold (contents.now p) owner t m)
     at None may is = tt
@@ -287,7 +287,7 @@ module _ (contents : Contents) (trace : ℕ → List TraceEntry) (issued : ℕ) 
             others = λ k other. set_at-else (contents.now p).holds owner _ k other ∙ already.0.others k other;
             waits = already.0.waits;
           },
-          added h.taken already.1,
+          adopted-more p owner h.taken (contents.now p) t m already.1 adopted,
         )
 
   -- A recorded move that is recorded again, with others unmarked, stands as before.

@@ -13,3 +13,4 @@ pub mod Safe
 pub mod SafeWorld
 pub mod Headline
 pub mod Listing
+pub mod Closed

@@ -28,7 +28,8 @@ ghost use Rattle.lock_world.specs.Safe.{taken_by, taken_in, IsOneMove};
 ghost use Rattle.lock_world.specs.SafeWorld.{SafeWorld, slots_of};
 ghost use Rattle.lock_world.specs.Headline.{stands_with, NoTwoConflict, Headline};
 ghost use Rattle.lock_world.specs.Listing.{StandsThereOrInContent, TellsHold};
-ghost use Rattle.lock_world.specs.Account.{IsLeftAlone};
+ghost use Rattle.lock_world.specs.Account.{IsLeftAlone, account};
+ghost use Rattle.lock_world.specs.Closed.{empty_account};
 
 /// The World before the first event is safe, of any number of sessions that the count of a lightweight word can hold.
 pub fn opening_is_safe()
@@ -278,8 +279,18 @@ pub fn spent_sessions_have_nothing()
         (w.sessions.has_list session ≡ None) × (stands_in session (w.words.list lock) ≡ false) }
 {}
 
-/// In a safe World each episode of a trace put what one move of its session makes of the content that it
-/// took: an earlier entry took just that content, and the session had it in hand until then.
+/// In each World of a run the account of a number that is not live, not given out yet or closed, has nothing in it: no
+/// hold, no wait, nothing in hand, counted, read or remembered, nobody to tell, and no step in its trace. Its database
+/// is the one that its word shows.
+pub fn closed_numbers_are_forgotten()
+    ensures { (limit : ℕ) (events : List Event) (w : World) (session : ℕ) → limit < 2 ^ 24 →
+        Runs (opening limit) events w → w.numbers.live session ≡ false →
+        account w session ≡ empty_account (w.words.database session) }
+{}
+
+/// In a safe World each episode of a trace put what one move of its session, on an object of that partition, makes of
+/// the content that it took: an earlier entry took just that content, and the session had it in hand until then. Of an
+/// adopt that is this content with holds of one session more, which slots can have, on objects of that partition.
 pub fn each_episode_is_one_move()
     ensures moved { (w : World) → SafeWorld w →
         (session p : ℕ) (taken put_back : Content) (before after : List TraceEntry) →
