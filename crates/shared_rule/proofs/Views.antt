@@ -13,7 +13,7 @@ use Rattle.lock_table.proofs.PutLemmas.{set_at-here, set_at-else}
 use Rattle.lock_world.specs.World.{World, Numbers}
 use Rattle.lock_world.specs.Safe.{NumbersAreInOrder}
 use Rattle.lock_world.specs.SafeWorld.{SafeWorld}
-use Rattle.lock_world.specs.Account.{Account, fast_account, account}
+use Rattle.lock_world.specs.Account.{Account, fast_account, list_account, account}
 use Rattle.lock_world.specs.Happens.Seats.{after_issuing, after_closing}
 use Rattle.shared_rule.specs.declared.history.Mark.{Mark}
 use Rattle.shared_rule.specs.declared.history.History.{History}
@@ -290,6 +290,8 @@ module _ {T : Type 0} (content : T → Content) (w : World) (views : List (View 
   closed-else : (j : ℕ) → j ≢ k → account (after_closing w k) j ≡ account w j
   closed-else j other = λ i. record (account w j) {
     fast = record (fast_account w j) { remembered = set_at-else w.sessions.remembered k (λ _. 0) j other i };
+    lists = record (list_account w j) { off = set_at-else w.sessions.off k (λ _. false) j other i };
+    trace = set_at-else w.sessions.trace k [] j other i;
   }
 
   closed-blank : (j : ℕ) → account w j ≡ blank_account → account (after_closing w k) j ≡ blank_account
@@ -298,8 +300,10 @@ module _ {T : Type 0} (content : T → Content) (w : World) (views : List (View 
         | inl same ↦
             (λ i. record (account w j) {
               fast = record (fast_account w j) { remembered = set_at-here w.sessions.remembered k (λ _. 0) j same i };
+              lists = record (list_account w j) { off = set_at-here w.sessions.off k (λ _. false) j same i };
+              trace = set_at-here w.sessions.trace k [] j same i;
             })
-            ∙ ap (λ (a : Account). record a { fast = record (a.fast) { remembered = λ _. 0 } }) blank
+            ∙ ap (λ (a : Account). record a { fast = record (a.fast) { remembered = λ _. 0 }; lists = record (a.lists) { off = λ _. false }; trace = [] }) blank
         | inr other ↦ closed-else j other ∙ blank
       ]
 
