@@ -17,4 +17,6 @@ pub mod FromSafeWorld
 pub mod Listing
 pub mod WaitLists
 pub mod ListWords
+pub mod Headline
+pub mod Closed
 pub mod Telling

@@ -1,6 +1,6 @@
 use Rattle.std.proofs.Common.{◌≡◌, ◌⊎◌, ℕ, Bool, true, false, List, [], ◌∷◌, Option, Some, None, refl, sym, ap, ◌∙◌, subst, inl, inr, zero, suc}
 use Rattle.std.specs.Prelude.{slice_get}
-use Rattle.std.proofs.lemmas.Bool.{both_ways, false≢true}
+use Rattle.std.proofs.lemmas.Bool.{both_ways, false≢true, or_cases}
 use Rattle.modes_core.specs.declared.modes.Mode.{Mode}
 use Rattle.modes_core.specs.declared.tags.Tag.{Tag}
 use Rattle.modes_core.specs.Tag.{partition_of}
@@ -15,8 +15,13 @@ use Rattle.lock_world.specs.declared.events.Step.{Step}
 use Rattle.lock_world.specs.declared.events.Step.TheVariants.{TakeExclusive, PutExclusive, TakeShared, PutShared, SplitSeat, JoinSeat, AskCancel, LoadWait, SetWaiting, MarkGranted, ClearWait, PutPassing, LoadStrong, LoadWord, SetSlot, ClearSlot, StoreDatabase, Count, Uncount, TransferSlot, LockList, UnlockList, JoinList, LeaveList, TakeOff, Tell, LoadSleep, SetReleaseOk, SetHasWaiters}
 use Rattle.lock_world.specs.declared.events.Word.{Word}
 use Rattle.lock_world.specs.declared.events.Word.TheVariants.{Partition, Fast, Database, Slot, Wait, Strong, Sleep}
+use Rattle.lw_word.specs.SlotWord.{shows}
+use Rattle.lock_table.proofs.PutLemmas.{set_at-here}
 use Rattle.lock_world.specs.World.{World}
-use Rattle.lock_world.specs.Happens.{HappensStep, HappensTaking, HappensPutting, HappensSharing, HappensUnsharing, HappensLoading, HappensLockingList, HappensUnlockingList, HappensSettingReleaseOk, HappensSettingHasWaiters, Next, RunsThrough}
+use Rattle.lock_world.specs.SlotHolds.{relation_of}
+use Rattle.lock_world.specs.Headline.{stands_with}
+use Rattle.lock_world.specs.Listing.{StandsThereOrInContent, TellsHold}
+use Rattle.lock_world.specs.Happens.{HappensStep, HappensTaking, HappensPutting, HappensSharing, HappensUnsharing, HappensLoading, HappensLockingList, HappensUnlockingList, HappensSettingReleaseOk, HappensSettingHasWaiters, Next, RunsThrough, last_of}
 use Rattle.lock_world.specs.Happens.Seats.{HappensJoining}
 use Rattle.lock_world.specs.Happens.Slots.{MaySetSlot, after_setting_slot, MayClearSlot, after_clearing_slot}
 use Rattle.lock_world.specs.Happens.Transfers.{MayTransfer, after_transferring}
@@ -26,7 +31,7 @@ use Rattle.lock_world.proofs.SafeWorld.Slots.Setting.{setting-slots}
 use Rattle.lock_world.proofs.SafeWorld.Slots.Clearing.{clearing-slots}
 use Rattle.lock_world.proofs.SafeWorld.Slots.Transferring.{transferring-slots}
 use Rattle.lock_world.proofs.SafeWorld.Slots.Databases.{storing-slots}
-use Rattle.lock_world.proofs.SafeWorld.Runs.{Next-safe}
+use Rattle.lock_world.proofs.SafeWorld.Runs.{event-safe, Next-safe}
 use Rattle.lock_world.proofs.FromSafeWorld.{held-in_table, shown-in_no_content}
 
 -- A hold that stands in a content does not go to a slot: so a listing that reads slots first misses nobody.
@@ -245,3 +250,47 @@ stays-in_content w (event ∷ events) (v ∷ worlds) k o m safe run there stands
     subst (λ (z : World). (z.contents.now (partition_of o)).holds k o m ≡ true) (let same : v ≡ u = cc in same) (first w event v k o m safe run.0 there (stands 0 v refl))
 stays-in_content w (event ∷ events) (v ∷ worlds) k o m safe run there stands (suc place) u at =
     stays-in_content v events worlds k o m (Next-safe w event v safe run.0) run.1 (first w event v k o m safe run.0 there (stands 0 v refl)) (λ i z. stands (suc i) z) place u at
+
+-- A hold that a load of its slot does not show, while it stands there or in a content, stands in the content of its object's partition.
+unshown-in_content : (w : World) (s i n : ℕ) (t : Tag) (m : Mode) → SafeWorld w → n ≡ w.words.slot s i → shows n (relation_of t) m ≡ false → StandsThereOrInContent w s t m i
+    → (w.contents.now (partition_of t)).holds s t m ≡ true
+unshown-in_content w s i n t m safe loaded unshown (inl there) =
+    absurd (both_ways (shows n (relation_of t) m) unshown (ap (λ word. shows word (relation_of t) m) loaded ∙ there.shown))
+unshown-in_content w s i n t m safe loaded unshown (inr found) =
+    subst (λ p. (w.contents.now p).holds s t m ≡ true) (sym (safe.but_slots.table.promise.one_place.no_hold_elsewhere found.0 s t m found.1)) found.1
+
+-- The last World of a run is one of them, or the first one.
+last-there : (w : World) (worlds : List World) → (last_of w worlds ≡ w) ⊎ ((i : ℕ) × (slice_get worlds i ≡ Some (last_of w worlds)))
+last-there w [] = inl refl
+last-there w (u ∷ worlds) =
+    elim (last-there u worlds) [
+      | inl is ↦ inr (0, ap Some (sym is))
+      | inr found ↦ inr (suc found.0, found.1)
+    ]
+
+-- So whoever takes the partition after a run in which it stands in a slot or in a content all the way takes a content that has it.
+pub taken-has :
+    (w v u : World) (lister s i n taker : ℕ) (t : Tag) (m : Mode) (events : List Event) (worlds : List World) → SafeWorld w
+    → HappensStep w lister (LoadWord (Slot s i) n) v → shows n (relation_of t) m ≡ false → StandsThereOrInContent v s t m i → RunsThrough v events worlds
+    → ((later : ℕ) (z : World) → slice_get worlds later ≡ Some z → stands_with z s t m ≡ true)
+    → HappensStep (last_of v worlds) taker (TakeExclusive (Partition (partition_of t))) u → TellsHold (last_of v worlds) u taker s t m
+taken-has w v u lister s i n taker t m events worlds safe loads unshown stands run throughout takes = record {
+  content = (last_of v worlds).contents.now (partition_of t);
+  told = (λ x. (takes.1 x).sessions.trace taker) ∙ set_at-here (last_of v worlds).sessions.trace taker _ taker refl;
+  has = has (last-there v worlds);
+} where
+  safe_then : SafeWorld v
+  safe_then = event-safe w (record { session = lister; step = LoadWord (Slot s i) n }) v safe loads
+
+  loaded : n ≡ v.words.slot s i
+  loaded = loads.0.is_shown ∙ sym (λ x. (loads.1 x).words.slot s i)
+
+  first_has : (v.contents.now (partition_of t)).holds s t m ≡ true
+  first_has = unshown-in_content v s i n t m safe_then loaded unshown stands
+
+  each : (later : ℕ) (z : World) → slice_get worlds later ≡ Some z → (shown_in z s t m ≡ true) ⊎ ((z.contents.now (partition_of t)).holds s t m ≡ true)
+  each later z at = or_cases (shown_in z s t m) ((z.contents.now (partition_of t)).holds s t m) (throughout later z at)
+
+  has : (last_of v worlds ≡ v) ⊎ ((later : ℕ) × (slice_get worlds later ≡ Some (last_of v worlds))) → ((last_of v worlds).contents.now (partition_of t)).holds s t m ≡ true
+  has (inl is) = (λ x. ((is x).contents.now (partition_of t)).holds s t m) ∙ first_has
+  has (inr found) = stays-in_content v events worlds s t m safe_then run first_has each found.0 (last_of v worlds) found.1

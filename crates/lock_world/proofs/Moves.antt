@@ -3,3 +3,4 @@ pub mod OnePlace
 pub mod Agreeing
 pub mod Each
 pub mod Moved
+pub mod Adopted

@@ -5,3 +5,4 @@ pub mod Clearing
 pub mod Databases
 pub mod Remembered
 pub mod Used
+pub mod Bits

@@ -21,18 +21,23 @@ use Rattle.lock_table.proofs.PutLemmas.{set_at-here}
 use Rattle.lock_world.proofs.Others.Events.{event-others}
 use Rattle.lock_world.proofs.SafeWorld.Runs.{Next-safe}
 
--- What a step adds to the trace of its session: nothing, or one entry, which tells what is.
+-- What a step makes of the trace of its session: it adds nothing, or one entry, which tells what is; or the session closes, and
+-- its trace is forgotten.
 abbrev pub AddsAtMostWhatIs : World → ℕ → World → Type 0
 AddsAtMostWhatIs w s v =
     (v.sessions.trace s ≡ w.sessions.trace s)
-    ⊎ ((entry : TraceEntry) × (v.sessions.trace s ≡ w.sessions.trace s ++ entry ∷ []) × TellsWhatIs w entry)
+    ⊎ (((entry : TraceEntry) × (v.sessions.trace s ≡ w.sessions.trace s ++ entry ∷ []) × TellsWhatIs w entry)
+      ⊎ (v.sessions.trace s ≡ []))
 
 keeps : (w : World) (s : ℕ) (u v : World) → v ≡ u → u.sessions.trace s ≡ w.sessions.trace s → AddsAtMostWhatIs w s v
 keeps w s u v e same = inl (ap (λ (z : World). z.sessions.trace s) e ∙ same)
 
 tells : (w : World) (s : ℕ) (u v : World) → v ≡ u → (entry : TraceEntry) → u.sessions.trace s ≡ w.sessions.trace s ++ entry ∷ [] → TellsWhatIs w entry
     → AddsAtMostWhatIs w s v
-tells w s u v e entry grown is = inr (entry, ap (λ (z : World). z.sessions.trace s) e ∙ grown, is)
+tells w s u v e entry grown is = inr (inl (entry, ap (λ (z : World). z.sessions.trace s) e ∙ grown, is))
+
+forgets : (w : World) (s : ℕ) (u v : World) → v ≡ u → u.sessions.trace s ≡ [] → AddsAtMostWhatIs w s v
+forgets w s u v e none = inr (inr (ap (λ (z : World). z.sessions.trace s) e ∙ none))
 
 adds-taking : (w : World) (s : ℕ) (taken : Word) (v : World) → HappensTaking w s taken v → AddsAtMostWhatIs w s v
 adds-taking w s (Partition p) v h = tells w s _ v h.1 (Took p (w.contents.now p)) (set_at-here w.sessions.trace s _ s refl) refl
@@ -73,7 +78,7 @@ adds-unsharing w s (Sleep o) v h = absurd h
 
 adds-joining : (w : World) (s : ℕ) (joiner : Option ℕ) (v : World) → HappensJoining w s joiner v → AddsAtMostWhatIs w s v
 adds-joining w s (Some j) v h = keeps w s _ v h.1 refl
-adds-joining w s None v h = keeps w s _ v h.1 refl
+adds-joining w s None v h = forgets w s _ v h.1 (set_at-here w.sessions.trace s _ s refl)
 
 adds-marking_in : (w : World) (s marked p : ℕ) (done : Move) (v : World) → HappensMarkingIn w s marked p done v → AddsAtMostWhatIs w s v
 adds-marking_in w s marked p done v (inl h) = keeps w s _ v h.3 refl
@@ -169,6 +174,10 @@ adds-step w s (LoadSleep n) v h = keeps w s _ v h.1 refl
 adds-step w s (SetReleaseOk lock n) v h = adds-setting_release_ok w s lock n v h
 adds-step w s (SetHasWaiters lock n) v h = adds-setting_has_waiters w s lock n v h
 
+not-none : {A : Type 0} (before : List A) (x : A) (after : List A) → [] ≡ before ++ x ∷ after → ⊥
+not-none [] x after none = absurd (cc (none))
+not-none (c ∷ before) x after none = absurd (cc (none))
+
 -- Where a step adds an entry, that tells what is.
 no-longer : {A : Type 0} (xs : List A) (x : A) → xs ≡ xs ++ x ∷ [] → ⊥
 no-longer [] x e = absurd (cc (e))
@@ -183,7 +192,8 @@ pub added-tells : (w v : World) (event : Event) (entry : TraceEntry) → Happens
 added-tells w v event entry h grown =
     elim (adds-step w event.session event.step v h) [
       | inl same ↦ absurd (no-longer (w.sessions.trace event.session) entry (sym same ∙ grown))
-      | inr added ↦ subst (TellsWhatIs w) (one-last (w.sessions.trace event.session) added.0 entry (sym added.1 ∙ grown)) added.2
+      | inr (inl added) ↦ subst (TellsWhatIs w) (one-last (w.sessions.trace event.session) added.0 entry (sym added.1 ∙ grown)) added.2
+      | inr (inr gone) ↦ absurd (not-none (w.sessions.trace event.session) entry [] (sym gone ∙ grown))
     ]
 
 -- What comes next adds as much to the trace of any session.
@@ -199,10 +209,7 @@ next-adds w event v s safe (inl h) =
 split-push : {A : Type 0} (xs : List A) (last : A) (before : List A) (x : A) (after : List A) → xs ++ last ∷ [] ≡ before ++ x ∷ after
     → ((xs ≡ before) × (last ≡ x)) ⊎ ((rest : List A) × (xs ≡ before ++ x ∷ rest))
 split-push [] last [] x after e = inl (refl, cc (e))
-split-push [] last (b ∷ before) x after e = absurd (never before x after (cc (e))) where
-  never : {A : Type 0} (before : List A) (x : A) (after : List A) → [] ≡ before ++ x ∷ after → ⊥
-  never [] x after none = absurd (cc (none))
-  never (c ∷ before) x after none = absurd (cc (none))
+split-push [] last (b ∷ before) x after e = absurd (not-none before x after (cc (e)))
 split-push (y ∷ xs) last [] x after e = let same : y ≡ x = cc (e) in inr (xs, ap (λ z. z ∷ xs) same)
 split-push (y ∷ xs) last (b ∷ before) x after e =
     let same : y ≡ b = cc (e) in
@@ -230,16 +237,13 @@ told-or-stood w (event ∷ events) (u ∷ worlds) s before after entry safe run 
       | inr later ↦ inr (suc later.0, later.1, later.2, later.3, later.4)
       | inl stood ↦ elim (next-adds w event u s safe run.0) [
         | inl same ↦ inl (stood.0, sym same ∙ stood.1)
-        | inr added ↦ elim (split-push (w.sessions.trace s) added.0 before entry stood.0 (sym added.1 ∙ stood.1)) [
+        | inr (inl added) ↦ elim (split-push (w.sessions.trace s) added.0 before entry stood.0 (sym added.1 ∙ stood.1)) [
           | inl here ↦ inr (zero, w, refl, here.0, subst (TellsWhatIs w) here.1 added.2)
           | inr old ↦ inl old
         ]
+        | inr (inr gone) ↦ absurd (not-none before entry stood.0 (sym gone ∙ stood.1))
       ]
     ]
-
-not-none : {A : Type 0} (before : List A) (x : A) (after : List A) → [] ≡ before ++ x ∷ after → ⊥
-not-none [] x after none = absurd (cc (none))
-not-none (c ∷ before) x after none = absurd (cc (none))
 
 pub each-told :
     (limit : ℕ) (events : List Event) (worlds : List World) (s : ℕ) (before after : List TraceEntry) (entry : TraceEntry) → SafeWorld (opening limit)

@@ -6,15 +6,16 @@ use Rattle.modes_core.specs.declared.tags.Tag.{Tag}
 use Rattle.lock_table.specs.declared.moves.Move.{Move}
 use Rattle.lock_table.specs.declared.moves.Move.TheVariants.{Adopt}
 use Rattle.lock_table.specs.Content.{Wait, Content, add_hold}
-use Rattle.lock_table.specs.Moves.{Moves, Adopts}
+use Rattle.lock_table.specs.Moves.{Moves, Adopts, IsInPartition}
 use Rattle.lock_table.specs.Put.{set_at}
 use Rattle.lock_world.specs.World.{Hand, Contents, TraceEntry, Took, Episode, AskedToCancel, Loaded, recorded_in}
 use Rattle.lock_world.specs.Happens.Partitions.{content_taken}
 use Rattle.lock_world.specs.Happens.Waits.{recording}
 use Rattle.lock_world.specs.Happens.Transfers.{MayAdopt}
-use Rattle.lock_world.specs.Safe.{taken_after, taken_by, IsOneMove, EntryIsSound, EpisodesAreMoves, taken_in, IsMadeBy, HandIsOneMove, TracesTell, is_hand_of}
+use Rattle.lock_world.specs.Safe.{taken_after, taken_by, IsAdopted, AddsAdopted, IsOneMove, EntryIsSound, EpisodesAreMoves, taken_in, IsMadeBy, HandIsOneMove, TracesTell, is_hand_of}
 use Rattle.lock_table.proofs.PutLemmas.{set_at-here, set_at-else, set_at-each}
 use Rattle.lock_table.proofs.HoldLemmas.{set_hold-still}
+use Rattle.lock_world.proofs.Moves.Adopted.{adopted-more}
 
 -- A trace with one entry more.
 
@@ -33,7 +34,7 @@ pub taken_in-own : (hand : Option Hand) (s : ℕ) → is_hand_of hand s ≡ true
 taken_in-own None s holds = absurd (cc)
 taken_in-own (Some h) s holds = (h, refl, eqb-true h.holder s holds, cond-true (h.holder == s) (Some h.taken) None holds)
 
-taken_in-other : (hand : Option Hand) (s : ℕ) → is_hand_of hand s ≡ false → taken_in hand s ≡ None
+pub taken_in-other : (hand : Option Hand) (s : ℕ) → is_hand_of hand s ≡ false → taken_in hand s ≡ None
 taken_in-other None s other = refl
 taken_in-other (Some h) s other = cond-false (h.holder == s) (Some h.taken) None other
 
@@ -97,12 +98,22 @@ module _ (contents : Contents) (trace : ℕ → List TraceEntry) (issued : ℕ) 
     new = new-longer s given entry;
   }
 
+  -- A session that has nothing in hand has no step in its trace any more.
+  pub TracesTell-emptied : (s : ℕ) → ((q : ℕ) → taken_in (contents.hand q) s ≡ None) → TracesTell contents (set_at trace s []) issued
+  TracesTell-emptied s none = record {
+    one_move = tell.one_move;
+    in_hand = λ k q.
+        set_at-each (λ k list. taken_by (λ _. None) list q ≡ taken_in (contents.hand q) k) trace s [] (sym (none q)) (λ k _. tell.in_hand k q) k;
+    episodes = set_at-each (λ k list. EpisodesAreMoves k (λ _. None) list) trace s [] tt (λ k _. tell.episodes k);
+    new = set_at-each (λ k list. issued ≤ k → list ≡ []) trace s [] (λ _. refl) (λ k _. tell.new k);
+  }
+
   -- A partition at home is taken.
   pub TracesTell-take : (s p : ℕ) → s < issued → contents.hand p ≡ None
       → TracesTell (record contents { hand = set_at contents.hand p (Some (record { holder = s; taken = contents.now p; recorded = None; unmarked = λ _. false })) })
       (set_at trace s (trace s ++ Took p (contents.now p) ∷ [])) issued
   TracesTell-take s p given home = record {
-    one_move = set_at-each (λ q hand. HandIsOneMove hand (contents.now q)) contents.hand p taken refl (λ q other. tell.one_move q);
+    one_move = set_at-each (λ q hand. HandIsOneMove q hand (contents.now q)) contents.hand p taken refl (λ q other. tell.one_move q);
     in_hand = in_hand-longer s given (Took p (contents.now p)) (set_at contents.hand p taken) own others;
     episodes = episodes-longer s given (Took p (contents.now p)) tt;
     new = new-longer s given (Took p (contents.now p));
@@ -131,7 +142,7 @@ module _ (contents : Contents) (trace : ℕ → List TraceEntry) (issued : ℕ) 
         ]
 
   -- A partition in hand is put, with what one move makes of the content taken.
-  pub TracesTell-put : (s p : ℕ) → s < issued → is_hand_of (contents.hand p) s ≡ true → (taken content : Content) → taken_in (contents.hand p) s ≡ Some taken → IsOneMove taken s content
+  pub TracesTell-put : (s p : ℕ) → s < issued → is_hand_of (contents.hand p) s ≡ true → (taken content : Content) → taken_in (contents.hand p) s ≡ Some taken → IsOneMove p taken s content
       → TracesTell (record { now = set_at contents.now p content; hand = set_at contents.hand p None }) (set_at trace s (trace s ++ Episode p taken content ∷ [])) issued
   TracesTell-put s p given holds taken content is_taken moved = record {
     one_move = one_move;
@@ -139,13 +150,13 @@ module _ (contents : Contents) (trace : ℕ → List TraceEntry) (issued : ℕ) 
     episodes = episodes-longer s given (Episode p taken content) (tell.in_hand s p ∙ is_taken, moved);
     new = new-longer s given (Episode p taken content);
   } where
-    one_move : (q : ℕ) → HandIsOneMove (set_at contents.hand p None q) (set_at contents.now p content q)
+    one_move : (q : ℕ) → HandIsOneMove q (set_at contents.hand p None q) (set_at contents.now p content q)
     one_move q =
         elim (cases_eq q p) [
-          | inl same ↦ subst (λ hand. HandIsOneMove hand (set_at contents.now p content q)) (sym (set_at-here contents.hand p None q same)) tt
+          | inl same ↦ subst (λ hand. HandIsOneMove q hand (set_at contents.now p content q)) (sym (set_at-here contents.hand p None q same)) tt
           | inr other ↦
-              subst (λ hand. HandIsOneMove hand (set_at contents.now p content q)) (sym (set_at-else contents.hand p None q other))
-              (subst (HandIsOneMove (contents.hand q)) (sym (set_at-else contents.now p content q other)) (tell.one_move q))
+              subst (λ hand. HandIsOneMove q hand (set_at contents.now p content q)) (sym (set_at-else contents.hand p None q other))
+              (subst (HandIsOneMove q (contents.hand q)) (sym (set_at-else contents.now p content q other)) (tell.one_move q))
         ]
 
     own : (q : ℕ) → set_at (taken_by (λ _. None) (trace s)) p None q ≡ taken_in (set_at contents.hand p None q) s
@@ -168,7 +179,7 @@ module _ (contents : Contents) (trace : ℕ → List TraceEntry) (issued : ℕ) 
         ]
 
   -- A move is recorded in the hand that has the partition, and the content is what it makes of the content taken.
-  pub TracesTell-record : (p : ℕ) (done : Move) (unmarked : ℕ → Bool) (content : Content) → HandIsOneMove (recording (contents.hand p) done unmarked) content
+  pub TracesTell-record : (p : ℕ) (done : Move) (unmarked : ℕ → Bool) (content : Content) → HandIsOneMove p (recording (contents.hand p) done unmarked) content
       → TracesTell (record { now = set_at contents.now p content; hand = set_at contents.hand p (recording (contents.hand p) done unmarked) }) trace issued
   TracesTell-record p done unmarked content made = record {
     one_move = one_move;
@@ -179,15 +190,15 @@ module _ (contents : Contents) (trace : ℕ → List TraceEntry) (issued : ℕ) 
     hand : Option Hand
     hand = recording (contents.hand p) done unmarked
 
-    one_move : (q : ℕ) → HandIsOneMove (set_at contents.hand p hand q) (set_at contents.now p content q)
+    one_move : (q : ℕ) → HandIsOneMove q (set_at contents.hand p hand q) (set_at contents.now p content q)
     one_move q =
         elim (cases_eq q p) [
           | inl same ↦
-              subst (λ h. HandIsOneMove h (set_at contents.now p content q)) (sym (set_at-here contents.hand p hand q same))
-              (subst (HandIsOneMove hand) (sym (set_at-here contents.now p content q same)) made)
+              subst (λ h. HandIsOneMove q h (set_at contents.now p content q)) (sym (set_at-here contents.hand p hand q same))
+              (subst (HandIsOneMove q hand) (sym (set_at-here contents.now p content q same)) (subst (λ j. HandIsOneMove j hand content) (sym same) made))
           | inr other ↦
-              subst (λ h. HandIsOneMove h (set_at contents.now p content q)) (sym (set_at-else contents.hand p hand q other))
-              (subst (HandIsOneMove (contents.hand q)) (sym (set_at-else contents.now p content q other)) (tell.one_move q))
+              subst (λ h. HandIsOneMove q h (set_at contents.now p content q)) (sym (set_at-else contents.hand p hand q other))
+              (subst (HandIsOneMove q (contents.hand q)) (sym (set_at-else contents.now p content q other)) (tell.one_move q))
         ]
 
     same : (k q : ℕ) → taken_in (set_at contents.hand p hand q) k ≡ taken_in (contents.hand q) k
@@ -202,63 +213,68 @@ module _ (contents : Contents) (trace : ℕ → List TraceEntry) (issued : ℕ) 
   -- without a move recorded it is the content taken
   pub unmoved-taken : (s p : ℕ) → is_hand_of (contents.hand p) s ≡ true → recorded_in (contents.hand p) ≡ None → taken_in (contents.hand p) s ≡ Some (contents.now p)
   unmoved-taken s p holds unrecorded = at (contents.hand p) holds unrecorded (tell.one_move p) where
-    made : (recorded : Option Move) (taken : Content) (holder : ℕ) → recorded ≡ None → IsMadeBy recorded taken holder (contents.now p) → contents.now p ≡ taken
+    made : (recorded : Option Move) (taken : Content) (holder : ℕ) → recorded ≡ None → IsMadeBy p recorded taken holder (contents.now p) → contents.now p ≡ taken
     made None taken holder none is = is
     made (Some done) taken holder none is = absurd (cc)
 
-    at : (hand : Option Hand) → is_hand_of hand s ≡ true → recorded_in hand ≡ None → HandIsOneMove hand (contents.now p) → taken_in hand s ≡ Some (contents.now p)
+    at : (hand : Option Hand) → is_hand_of hand s ≡ true → recorded_in hand ≡ None → HandIsOneMove p hand (contents.now p) → taken_in hand s ≡ Some (contents.now p)
     at None here none is = absurd (cc)
     at (Some h) here none is = cond-true (h.holder == s) (Some h.taken) None here ∙ ap Some (sym (made h.recorded h.taken h.holder none is))
 
   -- with one it is what that makes of it
   pub moved-taken : (s p : ℕ) (done : Move) → is_hand_of (contents.hand p) s ≡ true → recorded_in (contents.hand p) ≡ Some done
-      → (taken : Content) × (taken_in (contents.hand p) s ≡ Some taken) × IsOneMove taken s (contents.now p)
+      → (taken : Content) × (taken_in (contents.hand p) s ≡ Some taken) × IsOneMove p taken s (contents.now p)
   moved-taken s p done holds recorded = at (contents.hand p) holds recorded (tell.one_move p) where
-    made : (recorded : Option Move) (taken : Content) (holder : ℕ) → recorded ≡ Some done → IsMadeBy recorded taken holder (contents.now p) → IsOneMove taken holder (contents.now p)
+    made : (recorded : Option Move) (taken : Content) (holder : ℕ) → recorded ≡ Some done → IsMadeBy p recorded taken holder (contents.now p) → IsOneMove p taken holder (contents.now p)
     made None taken holder some is = absurd (cc)
     made (Some other) taken holder some is = (other, is)
 
-    at : (hand : Option Hand) → is_hand_of hand s ≡ true → recorded_in hand ≡ Some done → HandIsOneMove hand (contents.now p)
-        → (taken : Content) × (taken_in hand s ≡ Some taken) × IsOneMove taken s (contents.now p)
+    at : (hand : Option Hand) → is_hand_of hand s ≡ true → recorded_in hand ≡ Some done → HandIsOneMove p hand (contents.now p)
+        → (taken : Content) × (taken_in hand s ≡ Some taken) × IsOneMove p taken s (contents.now p)
     at None here some is = absurd (cc)
     at (Some h) here some is =
-        (h.taken, cond-true (h.holder == s) (Some h.taken) None here, subst (λ k. IsOneMove h.taken k (contents.now p)) (eqb-true h.holder s here) (made h.recorded h.taken h.holder some is))
+        (h.taken, cond-true (h.holder == s) (Some h.taken) None here, subst (λ k. IsOneMove p h.taken k (contents.now p)) (eqb-true h.holder s here) (made h.recorded h.taken h.holder some is))
 
   -- A move made on the content taken stands in the hand as the one that made the content.
   pub recorded-made : (s p : ℕ) (done : Move) (unmarked : ℕ → Bool) (granted : List Wait) (content : Content) → is_hand_of (contents.hand p) s ≡ true → recorded_in (contents.hand p) ≡ None
-      → Moves (contents.now p) s done granted content → HandIsOneMove (recording (contents.hand p) done unmarked) content
-  recorded-made s p done unmarked granted content holds unrecorded moves = at (contents.hand p) holds unrecorded (tell.one_move p) where
-    made : (recorded : Option Move) (taken : Content) (holder : ℕ) → recorded ≡ None → IsMadeBy recorded taken holder (contents.now p) → contents.now p ≡ taken
+      → IsInPartition p done → Moves (contents.now p) s done granted content → HandIsOneMove p (recording (contents.hand p) done unmarked) content
+  recorded-made s p done unmarked granted content holds unrecorded object moves = at (contents.hand p) holds unrecorded (tell.one_move p) where
+    made : (recorded : Option Move) (taken : Content) (holder : ℕ) → recorded ≡ None → IsMadeBy p recorded taken holder (contents.now p) → contents.now p ≡ taken
     made None taken holder none is = is
     made (Some other) taken holder none is = absurd (cc)
 
-    at : (hand : Option Hand) → is_hand_of hand s ≡ true → recorded_in hand ≡ None → HandIsOneMove hand (contents.now p) → HandIsOneMove (recording hand done unmarked) content
+    at : (hand : Option Hand) → is_hand_of hand s ≡ true → recorded_in hand ≡ None → HandIsOneMove p hand (contents.now p) → HandIsOneMove p (recording hand done unmarked) content
     at None here none is = tt
     at (Some h) here none is = inl (
       granted,
+      object,
       subst (λ taken. Moves taken h.holder done granted content) (made h.recorded h.taken h.holder none is)
           (subst (λ k. Moves (contents.now p) k done granted content) (sym (eqb-true h.holder s here)) moves),
     )
 
   -- A mode added by an adopt of one slot, the first one or one more, stands in the hand so.
   pub recorded-adopted :
-      (p owner slot : ℕ) (t : Tag) (m : Mode) (unmarked : ℕ → Bool) → MayAdopt (recorded_in (contents.hand p)) owner slot
-      → HandIsOneMove (recording (contents.hand p) (Adopt owner slot) unmarked) (add_hold (contents.now p) owner t m)
-  recorded-adopted p owner slot t m unmarked may = at (contents.hand p) may (tell.one_move p) where
-    before : (recorded : Option Move) (taken : Content) (holder : ℕ) → MayAdopt recorded owner slot → IsMadeBy recorded taken holder (contents.now p) → Adopts taken owner (contents.now p)
-    before None taken holder free is = record {
-      more = λ o n had. (λ i. (is i).holds owner o n) ∙ had;
-      others = λ k other. ap (λ c. c.holds k) is;
-      waits = ap (λ c. c.waits) is;
-    }
-    before (Some done) taken holder same (inl made) = absurd (subst (λ it. Moves taken holder it made.0 (contents.now p)) same made.1)
+      (p owner slot : ℕ) (t : Tag) (m : Mode) (unmarked : ℕ → Bool) → MayAdopt (recorded_in (contents.hand p)) owner slot → IsAdopted p t m
+      → HandIsOneMove p (recording (contents.hand p) (Adopt owner slot) unmarked) (add_hold (contents.now p) owner t m)
+  recorded-adopted p owner slot t m unmarked may adopted = at (contents.hand p) may (tell.one_move p) where
+    before : (recorded : Option Move) (taken : Content) (holder : ℕ) → MayAdopt recorded owner slot → IsMadeBy p recorded taken holder (contents.now p)
+        → Adopts taken owner (contents.now p) × AddsAdopted p taken owner (contents.now p)
+    before None taken holder free is = (
+      record {
+        more = λ o n had. (λ i. (is i).holds owner o n) ∙ had;
+        others = λ k other. ap (λ c. c.holds k) is;
+        waits = ap (λ c. c.waits) is;
+      },
+      λ o n has. inl (sym (λ i. (is i).holds owner o n) ∙ has),
+    )
+    before (Some done) taken holder same (inl made) = absurd (subst (λ it. Moves taken holder it made.0 (contents.now p)) same made.2)
     before (Some done) taken holder same (inr made) =
         let its : Adopt owner slot ≡ Adopt made.0 made.1 = sym same ∙ made.2 in
         let whose : made.0 ≡ owner = cc in
-        subst (λ k. Adopts taken k (contents.now p)) whose made.3
+        (subst (λ k. Adopts taken k (contents.now p)) whose made.3, subst (λ k. AddsAdopted p taken k (contents.now p)) whose made.4)
 
-    at : (hand : Option Hand) → MayAdopt (recorded_in hand) owner slot → HandIsOneMove hand (contents.now p)
-        → HandIsOneMove (recording hand (Adopt owner slot) unmarked) (add_hold (contents.now p) owner t m)
+    at : (hand : Option Hand) → MayAdopt (recorded_in hand) owner slot → HandIsOneMove p hand (contents.now p)
+        → HandIsOneMove p (recording hand (Adopt owner slot) unmarked) (add_hold (contents.now p) owner t m)
     at None may is = tt
     at (Some h) may is =
         let already = before h.recorded h.taken h.holder may is in
@@ -267,20 +283,21 @@ module _ (contents : Contents) (trace : ℕ → List TraceEntry) (issued : ℕ) 
           slot,
           refl,
           record {
-            more = λ o n had. set_hold-still (contents.now p).holds owner t m o n (already.more o n had);
-            others = λ k other. set_at-else (contents.now p).holds owner _ k other ∙ already.others k other;
-            waits = already.waits;
+            more = λ o n had. set_hold-still (contents.now p).holds owner t m o n (already.0.more o n had);
+            others = λ k other. set_at-else (contents.now p).holds owner _ k other ∙ already.0.others k other;
+            waits = already.0.waits;
           },
+          adopted-more p owner h.taken (contents.now p) t m already.1 adopted,
         )
 
   -- A recorded move that is recorded again, with others unmarked, stands as before.
-  pub recorded-again : (p : ℕ) (done : Move) (unmarked : ℕ → Bool) → recorded_in (contents.hand p) ≡ Some done → HandIsOneMove (recording (contents.hand p) done unmarked) (contents.now p)
+  pub recorded-again : (p : ℕ) (done : Move) (unmarked : ℕ → Bool) → recorded_in (contents.hand p) ≡ Some done → HandIsOneMove p (recording (contents.hand p) done unmarked) (contents.now p)
   recorded-again p done unmarked recorded = at (contents.hand p) recorded (tell.one_move p) where
-    made : (stands : Option Move) (taken : Content) (holder : ℕ) → stands ≡ Some done → IsMadeBy stands taken holder (contents.now p) → IsMadeBy (Some done) taken holder (contents.now p)
+    made : (stands : Option Move) (taken : Content) (holder : ℕ) → stands ≡ Some done → IsMadeBy p stands taken holder (contents.now p) → IsMadeBy p (Some done) taken holder (contents.now p)
     made None taken holder some is = absurd (cc)
-    made (Some other) taken holder some is = let same : other ≡ done = cc in subst (λ move. IsMadeBy (Some move) taken holder (contents.now p)) same is
+    made (Some other) taken holder some is = let same : other ≡ done = cc in subst (λ move. IsMadeBy p (Some move) taken holder (contents.now p)) same is
 
-    at : (hand : Option Hand) → recorded_in hand ≡ Some done → HandIsOneMove hand (contents.now p) → HandIsOneMove (recording hand done unmarked) (contents.now p)
+    at : (hand : Option Hand) → recorded_in hand ≡ Some done → HandIsOneMove p hand (contents.now p) → HandIsOneMove p (recording hand done unmarked) (contents.now p)
     at None some is = tt
     at (Some h) some is = made h.recorded h.taken h.holder some is
 

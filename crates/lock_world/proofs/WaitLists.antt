@@ -208,6 +208,19 @@ telling-safe s i k order mine = record {
       let by : h ≡ i = order.by_one h i k (ap (s.off h) (sym same) ∙ was h j off) mine in
       both_ways (offs h j) (ap (λ row. row j) (set_at-here s.off i (set_at (s.off i) k false) h by) ∙ set_at-here (s.off i) k false j same) off
 
+-- A session that closes tells nobody more: whom it took off is no more its to tell.
+pub forgetting-safe : (s : Sleepers) (k : ℕ) → SleepersAreInOrder s → SleepersAreInOrder (record s { off = set_at s.off k (λ _. false) })
+forgetting-safe s k safe = record {
+  named = safe.named;
+  waiting = safe.waiting;
+  once = safe.once;
+  idle = safe.idle;
+  taken_off = λ i o off. safe.taken_off i o (was i o off);
+  by_one = λ i j o off its. safe.by_one i j o (was i o off) (was j o its);
+} where
+  was : (i o : ℕ) → set_at s.off k (λ _. false) i o ≡ true → s.off i o ≡ true
+  was i o = set_at-each (λ i row. row o ≡ true → s.off i o ≡ true) s.off k (λ _. false) (λ e. absurd (false≢true e)) (λ _ _ e. e) i
+
 -- Seeing that one's sleep word shows 0.
 pub seeing_none-safe : (s : Sleepers) (k : ℕ) → SleepersAreInOrder s → s.sleep k ≡ 0 → SleepersAreInOrder (after_seeing_none s k)
 seeing_none-safe s k order zero = record {

@@ -1,4 +1,4 @@
-use Rattle.std.specs.Prelude.{◌≡◌, ℕ, ◌^◌, ◌<◌, true, false, List, [], length, Some, None}
+use Rattle.std.specs.Prelude.{◌≡◌, ◌≢◌, ℕ, ◌^◌, ◌<◌, true, false, List, [], length, Some, None}
 use Rattle.modes_core.specs.declared.modes.Mode.{Mode}
 use Rattle.modes_core.specs.declared.tags.Tag.{Tag}
 use Rattle.modes_core.specs.Tag.{index_of, partition_of, is_eligible_for, is_strong_on}
@@ -126,7 +126,8 @@ pub record MayLeaveListBy (number : ℕ) (a : Account) (mine : ListInHand) : Typ
   pub in_hand : a.lists.in_hand ≡ Some mine
   pub stands : stands_in number mine.waiters ≡ true
 
-pub record MayTakeOffBy (a : Account) (mine : ListInHand) (other : ℕ) : Type 0 where
+pub record MayTakeOffBy (number : ℕ) (a : Account) (mine : ListInHand) (other : ℕ) : Type 0 where
+  pub another : other ≢ number
   pub in_hand : a.lists.in_hand ≡ Some mine
   pub stands : stands_in other mine.waiters ≡ true
 

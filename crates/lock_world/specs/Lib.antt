@@ -12,3 +12,6 @@ pub mod AccountLaw
 pub mod AccountFacts
 pub mod Safe
 pub mod SafeWorld
+pub mod Headline
+pub mod Listing
+pub mod Closed

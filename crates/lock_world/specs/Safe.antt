@@ -2,7 +2,7 @@ use Rattle.std.specs.Prelude.{◌≡◌, ◌≢◌, ◌⊎◌, ℕ, ◌^◌, ◌
 use Rattle.modes_core.specs.declared.modes.Mode.{Mode}
 use Rattle.modes_core.specs.declared.tags.Tag.{Tag}
 use Rattle.modes_core.specs.Conflict.{conflict}
-use Rattle.modes_core.specs.Tag.{tag_eq, partition_of}
+use Rattle.modes_core.specs.Tag.{tag_eq, partition_of, is_eligible_for}
 use Rattle.lock_table.specs.declared.moves.Move.{Move}
 use Rattle.lock_table.specs.declared.moves.Move.TheVariants.{Keep, Grant, Join, Release, Leave, Adopt}
 use Rattle.lock_table.specs.Content.{Holds, Wait, Content}
@@ -11,7 +11,7 @@ use Rattle.lock_table.specs.OwnWait.{OwnWait, Stage, InQueue, WasGranted, HasLef
 use Rattle.lock_table.specs.Queue.{NoneFree}
 use Rattle.lock_world.specs.Total.{how_many}
 use Rattle.lock_world.specs.WaitWord.{wait_state}
-use Rattle.lock_table.specs.Moves.{Moves, Adopts}
+use Rattle.lock_table.specs.Moves.{Moves, Adopts, IsInPartition}
 use Rattle.lock_table.specs.Put.{set_at}
 use Rattle.lock_world.specs.World.{World, Hand, Contents, Numbers, TraceEntry, Took, Episode, AskedToCancel, Loaded, recorded_in, is_unmarked}
 
@@ -160,20 +160,32 @@ abbrev pub taken_by : (ℕ → Option Content) → List TraceEntry → ℕ → O
 taken_by taken [] = taken
 taken_by taken (entry ∷ trace) = taken_by (taken_after taken entry) trace
 
--- The move of the session, in all its steps, leads from the one content to the other.
-abbrev pub Makes : Content → ℕ → Move → Content → Type 0
-Makes taken session done now =
-    ((granted : List Wait) × Moves taken session done granted now)
-    ⊎ ((owner : ℕ) × (slot : ℕ) × (done ≡ Adopt owner slot) × Adopts taken owner now)
+-- A hold that a slot could have, on an object of the partition: in a mode and on a relation that are eligible for some database.
+pub record IsAdopted (partition : ℕ) (tag : Tag) (mode : Mode) : Type 0 where
+  pub object : partition_of tag ≡ partition
+  pub database : ℕ
+  pub eligible : is_eligible_for database tag mode ≡ true
 
--- One move of the session leads from the one content to the other.
-abbrev pub IsOneMove : Content → ℕ → Content → Type 0
-IsOneMove taken session now = (done : Move) × Makes taken session done now
+-- Of one session an adopt adds such holds, and no others.
+abbrev pub AddsAdopted : ℕ → Content → ℕ → Content → Type 0
+AddsAdopted partition before owner after =
+    (tag : Tag) (mode : Mode) → after.holds owner tag mode ≡ true
+    → (before.holds owner tag mode ≡ true) ⊎ IsAdopted partition tag mode
+
+-- The move of the session, in all its steps, is on an object of the partition, and leads from the one content to the other.
+abbrev pub Makes : ℕ → Content → ℕ → Move → Content → Type 0
+Makes partition taken session done now =
+    ((granted : List Wait) × IsInPartition partition done × Moves taken session done granted now)
+    ⊎ ((owner : ℕ) × (slot : ℕ) × (done ≡ Adopt owner slot) × Adopts taken owner now × AddsAdopted partition taken owner now)
+
+-- One move of the session on the partition leads from the one content to the other.
+abbrev pub IsOneMove : ℕ → Content → ℕ → Content → Type 0
+IsOneMove partition taken session now = (done : Move) × Makes partition taken session done now
 
 -- An episode is of a partition that the session had in hand, with the content that it took, and puts what one move makes of it.
 abbrev pub EntryIsSound : ℕ → (ℕ → Option Content) → TraceEntry → Type 0
 EntryIsSound session taken (Took partition content) = Unit {0}
-EntryIsSound session taken (Episode partition content put_back) = (taken partition ≡ Some content) × IsOneMove content session put_back
+EntryIsSound session taken (Episode partition content put_back) = (taken partition ≡ Some content) × IsOneMove partition content session put_back
 EntryIsSound session taken (AskedToCancel other before) = Unit {0}
 EntryIsSound session taken (Loaded word shown) = Unit {0}
 
@@ -187,18 +199,18 @@ taken_in None session = None
 taken_in (Some hand) session = if hand.holder == session then Some hand.taken else None
 
 -- The content in hand is the one taken, or what the recorded move has made of it.
-abbrev pub IsMadeBy : Option Move → Content → ℕ → Content → Type 0
-IsMadeBy None taken session now = now ≡ taken
-IsMadeBy (Some done) taken session now = Makes taken session done now
+abbrev pub IsMadeBy : ℕ → Option Move → Content → ℕ → Content → Type 0
+IsMadeBy partition None taken session now = now ≡ taken
+IsMadeBy partition (Some done) taken session now = Makes partition taken session done now
 
-abbrev pub HandIsOneMove : Option Hand → Content → Type 0
-HandIsOneMove None now = Unit {0}
-HandIsOneMove (Some hand) now = IsMadeBy hand.recorded hand.taken hand.holder now
+abbrev pub HandIsOneMove : ℕ → Option Hand → Content → Type 0
+HandIsOneMove partition None now = Unit {0}
+HandIsOneMove partition (Some hand) now = IsMadeBy partition hand.recorded hand.taken hand.holder now
 
 -- Each content in hand is the content taken after one move at most; each episode in a trace put such a content, of a partition
 -- that the session had in hand until then; and a number not yet given out has no trace.
 pub record TracesTell (contents : Contents) (trace : ℕ → List TraceEntry) (issued : ℕ) : Type 0 where
-  pub one_move : (p : ℕ) → HandIsOneMove (contents.hand p) (contents.now p)
+  pub one_move : (p : ℕ) → HandIsOneMove p (contents.hand p) (contents.now p)
   pub in_hand : (session p : ℕ) → taken_by (λ _. None) (trace session) p ≡ taken_in (contents.hand p) session
   pub episodes : (session : ℕ) → EpisodesAreMoves session (λ _. None) (trace session)
   pub new : (session : ℕ) → issued ≤ session → trace session ≡ []

@@ -164,7 +164,7 @@ pub enum Step {
     /// Store in the own sleep word that the session waits no more, and leave the wait list in hand, where it still
     /// stands in it (`LWLockDequeueSelf` in lwlock.c).
     LeaveList,
-    /// Store in a session's sleep word that it is taken off and to be told, and take it off the wait list in hand
+    /// Store in another session's sleep word that it is taken off and to be told, and take it off the wait list in hand
     /// (the first loop of `LWLockWakeup` in lwlock.c, which sets `LW_WS_PENDING_WAKEUP`).
     TakeOff {
         other: SessionId,

@@ -5,6 +5,7 @@
 ghost use Rattle.std.specs.Prelude.{◌≡◌, ◌≢◌, ◌↔◌, ◌⊎◌, ◌<◌, ◌≤◌, ◌+◌, ◌^◌, ◌==◌, ℕ, List, [], ◌∷◌, ◌++◌, true, false, if◌then◌else◌, Some, None, slice_get, count_by};
 ghost use Rattle.modes_core.specs.declared.modes.Mode.{Mode};
 ghost use Rattle.modes_core.specs.declared.tags.Tag.{Tag};
+ghost use Rattle.modes_core.specs.declared.tags.Tag.TheVariants.{Relation};
 ghost use Rattle.modes_core.specs.Conflict.{conflict};
 ghost use Rattle.modes_core.specs.Tag.{index_of, partition_of, is_strong_on};
 ghost use Rattle.lock_world.specs.declared.events.Event.{Event};
@@ -14,9 +15,10 @@ ghost use Rattle.lock_table.specs.Content.{Wait, Content};
 ghost use Rattle.lw_word.specs.LightweightWord.{IsHeldExclusively, IsListLocked, shared_count};
 ghost use Rattle.lw_word.specs.WaitList.{stands_in, times_in};
 ghost use Rattle.lock_table.specs.OwnWait.{OwnWait, entry_of, is_for};
-ghost use Rattle.lock_table.specs.Queue.{NoneFree, waits_there};
+ghost use Rattle.lock_table.specs.Queue.{NoneFree, waits_there, awaits_mode};
 ghost use Rattle.lock_world.specs.Total.{how_many};
-ghost use Rattle.lock_world.specs.SlotHolds.{IsHeldIn};
+ghost use Rattle.lw_word.specs.SlotWord.{shows};
+ghost use Rattle.lock_world.specs.SlotHolds.{relation_of, IsHeldIn, OneSlotEach, InUseHasDatabase, NoSlotInUse, slot_count};
 ghost use Rattle.lock_world.specs.Counted.{AtMostOnce, counter, is_done, is_past};
 ghost use Rattle.lock_world.specs.WaitLists.{partition_lock, fast_lock};
 ghost use Rattle.lock_world.specs.WaitWord.{wait_state, is_asked, asked_word, granted_word};
@@ -25,7 +27,10 @@ ghost use Rattle.lock_world.specs.Happens.{Happens, RunsThrough, Runs, last_of};
 ghost use Rattle.lock_world.specs.Telling.{TellsWhatIs};
 ghost use Rattle.lock_world.specs.Safe.{taken_by, taken_in, IsOneMove};
 ghost use Rattle.lock_world.specs.SafeWorld.{SafeWorld, slots_of};
-ghost use Rattle.lock_world.specs.Account.{IsLeftAlone};
+ghost use Rattle.lock_world.specs.Headline.{stands_with, NoTwoConflict, Headline};
+ghost use Rattle.lock_world.specs.Listing.{StandsThereOrInContent, TellsHold};
+ghost use Rattle.lock_world.specs.Account.{IsLeftAlone, account};
+ghost use Rattle.lock_world.specs.Closed.{empty_account};
 
 /// The World before the first event is safe, of any number of sessions that the count of a lightweight word can hold.
 pub fn opening_is_safe()
@@ -50,6 +55,15 @@ pub fn every_world_is_safe()
 pub fn one_world_comes()
     ensures { (limit : ℕ) (events : List Event) (w v : World) → limit < 2 ^ 24 →
         Runs (opening limit) events w → Runs (opening limit) events v → w ≡ v }
+{}
+
+/// Every safe World has the headline: no two sessions stand with conflicting modes on one object, wherever they
+/// stand; each hold is in one place, one slot or the content of one partition, so as many sessions have a mode on
+/// an object as slots show it and the content has it together; each strong lock counter is how much is counted; and
+/// what a conditional request is refused with is in the content that its session took.
+pub fn no_two_sessions_conflict()
+    ensures no_two_conflict { (w : World) → SafeWorld w → NoTwoConflict w }
+    ensures whole { (w : World) → SafeWorld w → Headline w }
 {}
 
 /// In a safe World no two sessions hold conflicting modes on one object, wherever the holds stand: both in
@@ -90,14 +104,22 @@ pub fn each_hold_in_one_place()
         (session place other : ℕ) (tag : Tag) (mode : Mode) →
         IsHeldIn (w.words.database session) (w.words.slot session) tag mode place →
         IsHeldIn (w.words.database session) (w.words.slot session) tag mode other → place ≡ other }
+    ensures one_slot_of_a_relation { (w : World) → SafeWorld w → (session : ℕ) → OneSlotEach (w.words.slot session) }
+    ensures in_use_has_database { (w : World) → SafeWorld w →
+        (session : ℕ) → InUseHasDatabase (w.words.database session) (w.words.slot session) }
+    ensures each_bit_is_a_hold { (w : World) → SafeWorld w →
+        (session place relation : ℕ) (mode : Mode) → place < slot_count →
+        shows (w.words.slot session place) relation mode ≡ true →
+        w.sessions.own session (Relation (w.words.database session) relation) mode ≡ true }
     ensures never_both { (w : World) → SafeWorld w →
         (session : ℕ) (tag : Tag) (mode : Mode) → is_for (w.sessions.awaited session) tag mode ≡ true →
         w.sessions.own session tag mode ≡ false }
 {}
 
 /// In a safe World each strong lock counter is how much is counted at its index: by each session, each mode on
-/// each object once at most. A strong mode that a session has, or awaits, is counted and past each session; and
-/// where something counted for an object is past a session, no slot of that session has the object.
+/// each object once at most. A strong mode that a session has, or awaits, is counted and past each session, and so
+/// is each strong hold and each strong wait in a content; and where something counted for an object is past a
+/// session, no slot of that session has the object.
 pub fn counters_show_what_is_counted()
     ensures shown { (w : World) → SafeWorld w → (index : ℕ) →
         w.words.strong index ≡ counter w.numbers.limit w.sessions.counted index }
@@ -108,17 +130,25 @@ pub fn counters_show_what_is_counted()
     ensures awaited { (w : World) → SafeWorld w → (session : ℕ) (tag : Tag) (mode : Mode) →
         is_strong_on tag mode ≡ true → is_for (w.sessions.awaited session) tag mode ≡ true →
         is_done w.numbers.limit (w.sessions.counted session) tag mode ≡ true }
+    ensures held_in_content { (w : World) → SafeWorld w → (p session : ℕ) (tag : Tag) (mode : Mode) →
+        is_strong_on tag mode ≡ true → (w.contents.now p).holds session tag mode ≡ true →
+        is_done w.numbers.limit (w.sessions.counted session) tag mode ≡ true }
+    ensures awaited_in_content { (w : World) → SafeWorld w → (p session : ℕ) (tag : Tag) (mode : Mode) →
+        is_strong_on tag mode ≡ true → awaits_mode ((w.contents.now p).waits tag) session mode ≡ true →
+        is_done w.numbers.limit (w.sessions.counted session) tag mode ≡ true }
     ensures past { (w : World) → SafeWorld w → (session other : ℕ) (tag : Tag) (mode : Mode) →
         is_past (w.sessions.counted session) tag other ≡ true →
         slots_of w.words.database w.words.slot other tag mode ≡ false }
 {}
 
 /// In a safe World a session that has read a strong lock counter as 0, and has not put the lock of its own slots
-/// since, holds that lock, and nobody has a strong mode on an object of that index, nor awaits one: so it may
-/// set a slot for such an object.
+/// since, holds that lock, and nothing that anybody has counted for an object of that index is past it, granted or
+/// not. So nobody has a strong mode on such an object, nor awaits one, and the session may set a slot for it.
 pub fn a_counter_read_as_zero_is_a_permission()
     ensures lock_is_held { (w : World) → SafeWorld w → (session index : ℕ) → w.sessions.zero session ≡ Some index →
         w.sessions.holds_fast session session ≡ true }
+    ensures nobody_is_past { (w : World) → SafeWorld w → (session other : ℕ) (tag : Tag) →
+        w.sessions.zero session ≡ Some (index_of tag) → is_past (w.sessions.counted other) tag session ≡ false }
     ensures nobody_strong { (w : World) → SafeWorld w → (session other : ℕ) (tag : Tag) (mode : Mode) →
         w.sessions.zero session ≡ Some (index_of tag) → session < w.numbers.limit → is_strong_on tag mode ≡ true →
         (w.sessions.own other tag mode ≡ false) × (is_for (w.sessions.awaited other) tag mode ≡ false) }
@@ -225,13 +255,15 @@ pub fn one_hand_at_a_time()
 {}
 
 /// In a safe World a session number that is not live has no hold, by its own account, in each content and in its
-/// slots, no wait, recorded or in a queue, no partition in hand, no lightweight lock, exclusively or shared,
+/// slots, of which none is in use, no wait, recorded or in a queue, no partition in hand, no lightweight lock, exclusively or shared,
 /// nothing counted, no wait list in hand, and stands in none.
 pub fn spent_sessions_have_nothing()
     ensures no_hold { (w : World) → SafeWorld w →
         (session p : ℕ) (tag : Tag) (mode : Mode) → w.numbers.live session ≡ false →
         (w.sessions.own session tag mode ≡ false) × ((w.contents.now p).holds session tag mode ≡ false)
         × (slots_of w.words.database w.words.slot session tag mode ≡ false) }
+    ensures no_slot { (w : World) → SafeWorld w → (session : ℕ) → w.numbers.live session ≡ false →
+        NoSlotInUse (w.words.slot session) }
     ensures no_count { (w : World) → SafeWorld w → (session : ℕ) → w.numbers.live session ≡ false →
         w.sessions.counted session ≡ [] }
     ensures no_wait { (w : World) → SafeWorld w →
@@ -248,13 +280,23 @@ pub fn spent_sessions_have_nothing()
         (w.sessions.has_list session ≡ None) × (stands_in session (w.words.list lock) ≡ false) }
 {}
 
-/// In a safe World each episode of a trace put what one move of its session makes of the content that it
-/// took: an earlier entry took just that content, and the session had it in hand until then.
+/// In each World of a run the account of a number that is not live, not given out yet or closed, has nothing in it: no
+/// hold, no wait, nothing in hand, counted, read or remembered, nobody to tell, and no step in its trace. Its database
+/// is the one that its word shows.
+pub fn closed_numbers_are_forgotten()
+    ensures { (limit : ℕ) (events : List Event) (w : World) (session : ℕ) → limit < 2 ^ 24 →
+        Runs (opening limit) events w → w.numbers.live session ≡ false →
+        account w session ≡ empty_account (w.words.database session) }
+{}
+
+/// In a safe World each episode of a trace put what one move of its session, on an object of that partition, makes of
+/// the content that it took: an earlier entry took just that content, and the session had it in hand until then. Of an
+/// adopt that is this content with holds of one session more, which slots can have, on objects of that partition.
 pub fn each_episode_is_one_move()
     ensures moved { (w : World) → SafeWorld w →
         (session p : ℕ) (taken put_back : Content) (before after : List TraceEntry) →
         w.sessions.trace session ≡ before ++ Episode p taken put_back ∷ after →
-        (taken_by (λ _. None) before p ≡ Some taken) × IsOneMove taken session put_back }
+        (taken_by (λ _. None) before p ≡ Some taken) × IsOneMove p taken session put_back }
     ensures was_taken { (p : ℕ) (taken : Content) (before : List TraceEntry) →
         taken_by (λ _. None) before p ≡ Some taken →
         (first : List TraceEntry) × (since : List TraceEntry) × (before ≡ first ++ Took p taken ∷ since) }
@@ -276,11 +318,20 @@ pub fn numbers_are_in_order()
         (w.numbers.live session ≡ true) × (w.numbers.live joiner ≡ true) }
 {}
 
-/// What a listing stands on that loads slots first and takes partitions later. Let a hold stand in a fast-path
-/// slot or in a content in each World of a run, and in the first one in a content, as where a load of its slot
-/// did not show it. Then it stands in the content of its object's partition in each of these Worlds; and whoever
-/// takes a partition takes just the content that is there.
+/// A listing that loads slots first and takes partitions later misses no hold that stands throughout. Let a load of a
+/// slot not show a hold which stands then in that slot or in a content, and let it stand in a slot or in a content in
+/// each World of a run from then on: whoever takes its object's partition next tells a content that has it. So the
+/// hold stands in that content all the way, and whoever takes a partition takes just the content that is there.
 pub fn a_listing_misses_no_hold_that_stands()
+    ensures misses_none { (w v u : World) (lister session place shown taker : ℕ) (tag : Tag) (mode : Mode)
+        (events : List Event) (worlds : List World) → SafeWorld w →
+        Happens w (record { session = lister; step = Step.LoadWord (Word.Slot session place) shown }) v →
+        shows shown (relation_of tag) mode ≡ false → StandsThereOrInContent v session tag mode place →
+        RunsThrough v events worlds →
+        ((later : ℕ) (z : World) → slice_get worlds later ≡ Some z → stands_with z session tag mode ≡ true) →
+        Happens (last_of v worlds)
+        (record { session = taker; step = Step.TakeExclusive (Word.Partition (partition_of tag)) }) u →
+        TellsHold (last_of v worlds) u taker session tag mode }
     ensures stays_in_content { (w : World) (events : List Event) (worlds : List World)
         (session : ℕ) (tag : Tag) (mode : Mode) → SafeWorld w → RunsThrough w events worlds →
         (w.contents.now (partition_of tag)).holds session tag mode ≡ true →

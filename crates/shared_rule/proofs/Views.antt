@@ -15,7 +15,7 @@ use Rattle.lock_world.specs.declared.events.Step.TheVariants.{JoinSeat}
 use Rattle.lock_world.specs.World.{World, Numbers, opening}
 use Rattle.lock_world.specs.Safe.{NumbersAreInOrder}
 use Rattle.lock_world.specs.SafeWorld.{SafeWorld}
-use Rattle.lock_world.specs.Account.{Account, fast_account, account}
+use Rattle.lock_world.specs.Account.{Account, fast_account, list_account, account}
 use Rattle.lock_world.specs.Happens.{Happens}
 use Rattle.lock_world.specs.Happens.Seats.{MayClose, after_issuing, after_closing}
 use Rattle.lock_world.proofs.SafeWorld.Runs.{Runs-push}
@@ -294,6 +294,8 @@ module _ {T : Type 0} (content : T → Content) (w : World) (views : List (View 
   closed-else : (j : ℕ) → j ≢ k → account (after_closing w k) j ≡ account w j
   closed-else j other = λ i. record (account w j) {
     fast = record (fast_account w j) { remembered = set_at-else w.sessions.remembered k (λ _. 0) j other i };
+    lists = record (list_account w j) { off = set_at-else w.sessions.off k (λ _. false) j other i };
+    trace = set_at-else w.sessions.trace k [] j other i;
   }
 
   closed-blank : (j : ℕ) → account w j ≡ blank_account → account (after_closing w k) j ≡ blank_account
@@ -302,8 +304,10 @@ module _ {T : Type 0} (content : T → Content) (w : World) (views : List (View 
         | inl same ↦
             (λ i. record (account w j) {
               fast = record (fast_account w j) { remembered = set_at-here w.sessions.remembered k (λ _. 0) j same i };
+              lists = record (list_account w j) { off = set_at-here w.sessions.off k (λ _. false) j same i };
+              trace = set_at-here w.sessions.trace k [] j same i;
             })
-            ∙ ap (λ (a : Account). record a { fast = record (a.fast) { remembered = λ _. 0 } }) blank
+            ∙ ap (λ (a : Account). record a { fast = record (a.fast) { remembered = λ _. 0 }; lists = record (a.lists) { off = λ _. false }; trace = [] }) blank
         | inr other ↦ closed-else j other ∙ blank
       ]
 

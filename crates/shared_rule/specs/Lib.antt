@@ -11,3 +11,4 @@ pub mod Opening
 pub mod Seats
 pub mod Openers
 pub mod Episodes
+pub mod Headline

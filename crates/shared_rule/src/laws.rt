@@ -1,11 +1,24 @@
-//! Laws of the layout, each a clause over all words. The bodies are empty.
+//! Laws of the layout, each a clause over all words, and what the rule of the table keeps. The bodies are empty.
 
-ghost use Rattle.std.specs.Prelude.{◌≡◌, ◌≢◌, ◌<◌, ℕ, List, slice_set};
+ghost use Rattle.std.specs.Prelude.{◌≡◌, ◌≢◌, ◌<◌, ℕ, List, Option, slice_set};
+ghost use Rattle.atomic_table.specs.Table.{State};
 ghost use Rattle.lock_world.specs.declared.events.Word.{Word};
 ghost use Rattle.shared_rule.specs.Layout.{index_of_word, IsInTable, IsApart, group_of};
 ghost use Rattle.lock_world.specs.World.{Words};
 ghost use Rattle.shared_rule.specs.Shown.{WordsAreShown, set_word};
+ghost use Rattle.shared_rule.specs.declared.history.View.{View};
 ghost use Rattle.shared_rule.specs.declared.layout.TheConstants.{TABLE_WORDS};
+ghost use Rattle.shared_rule.specs.Headline.{ShowsHeadline};
+ghost use Rattle.shared_rule.specs.Ruled.{Ruled};
+
+use lock_table::PartTable;
+
+/// Whatever the rule of the table holds of, and so the table between any two steps of all threads, shows a World with
+/// the headline: no two sessions stand with conflicting modes on one object, and what goes with that.
+pub fn the_table_shows_no_two_sessions_in_conflict<T: PartTable>()
+    ensures { (limit : ℕ) (state : State (Option T) (View T)) → Ruled T.content T.begun limit state
+        → ShowsHeadline T.content T.begun state }
+{}
 
 /// Each word of the table stands below the table's length.
 pub fn each_word_is_within_the_table()

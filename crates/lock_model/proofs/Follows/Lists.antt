@@ -130,7 +130,7 @@ module _ (m : Machine) (w : World) (safe : SafeWorld w) (shows : Shows m w) wher
       both_ways (waits_at m l s) none (ap (λ k. waits_at m k s) (sym same) ∙ waits_needs lawful.1.0 s lawful.1.1.stands lawful.1.1.waits))
 
   -- Taking another one off it.
-  pub was_taken_off : (s o l : ℕ) (after : Lists) → list_to_change m s ≡ Some l → waits_at m l o ≡ true → s < 64 → o < 64
+  pub was_taken_off : (s o l : ℕ) (after : Lists) → o ≢ s → list_to_change m s ≡ Some l → waits_at m l o ≡ true → s < 64 → o < 64
       → after.sleepers.items ≡ filter (λ e. not (is_at l o e)) m.lists.sleepers.items
       → (v : World) × Next w (record { session = s; step = TakeOff o }) v
       × Shows (record m {
@@ -140,9 +140,9 @@ module _ (m : Machine) (w : World) (safe : SafeWorld w) (shows : Shows m w) wher
           off = set m.lists.off s (set (get_or m.lists.off s []) o true);
         };
       }) v
-  was_taken_off s o l after its waits below exists is = (
+  was_taken_off s o l after apart its waits below exists is = (
     after_taking_off_the_list w s o l,
-    inl (l, record { has = list_from s l its; stands = (waits_from l o waits).0; waits = (waits_from l o waits).1 }, refl),
+    inl (l, record { another = apart; has = list_from s l its; stands = (waits_from l o waits).0; waits = (waits_from l o waits).1 }, refl),
     with_others (record (m.lists) { sleep = set m.lists.sleep o 2; sleepers = after.sleepers; off = set m.lists.off s (set (get_or m.lists.off s []) o true) })
         (after_taking_off (sleepers w) l s o)
         (sleep-off-set (record (m.lists) { sleepers = after.sleepers }) w.words.sleep (after_taking_off (sleepers w) l s o).list
@@ -150,6 +150,9 @@ module _ (m : Machine) (w : World) (safe : SafeWorld w) (shows : Shows m w) wher
         (list-left m.lists w.words.sleep w.words.list w.sessions.has_list w.sessions.stands w.sessions.off shows.lists after l o is)
         s o 2 true below exists),
   )
+
+  pub not_another : (s o : ℕ) → o ≡ s → (v : World) × Next w (record { session = s; step = TakeOff o }) v × Shows m v
+  not_another s o same = skipped m w safe shows s (TakeOff o) (λ lawful. lawful.1.1.another same)
 
   pub not_taken_off : (s o : ℕ) → list_to_change m s ≡ None → (v : World) × Next w (record { session = s; step = TakeOff o }) v × Shows m v
   not_taken_off s o none = skipped m w safe shows s (TakeOff o) (λ lawful. no_list s lawful.1.0 none lawful.1.1.has)

@@ -1,5 +1,5 @@
 use Rattle.std.proofs.Common.{◌≡◌, ◌≢◌, ℕ, ◌+◌, ◌<◌, Bool, true, false, ◌||◌, List, length, get_or, Option, Some, None, is_none, refl, sym, ap, ◌∙◌, subst, inl, inr}
-use Rattle.std.specs.Prelude.{◌==◌, count_by}
+use Rattle.std.specs.Prelude.{◌==◌, count_by, replicate}
 use Rattle.std.specs.List.{list_any}
 use Rattle.std.proofs.Math.ListN.{set}
 use Rattle.std.proofs.lemmas.Bool.{cases_Bool, both_ways, false≢true, or_parts, and_parts, and_from, eq-eqb, eqb-true, false_from_ne_true}
@@ -23,6 +23,7 @@ use Rattle.lock_model.specs.SlotLooks.{slots_at}
 use Rattle.lock_model.proofs.Shows.SlotLooks.{no_slot_hold}
 use Rattle.lock_model.specs.Shows.{Shows, is_number, is_holder, has_a_mark, has_no_list, makes_steps, awaits}
 use Rattle.lock_model.proofs.Shows.Locks.{no_mark, some_mark}
+use Rattle.lock_model.proofs.Shows.Lists.{off-emptied}
 use Rattle.lock_table.proofs.PutLemmas.{written-at}
 use Rattle.lock_table.proofs.ListLemmas.{any_found, any_weaker, found_within}
 use Rattle.lock_table.proofs.Same.{same_triple-refl}
@@ -202,9 +203,12 @@ module _ (m : Machine) (w : World) (safe : SafeWorld w) (shows : Shows m w) wher
       (ap is_none (shows.lists.has_list s ∙ no_list)) (ap is_none (shows.lists.stands s ∙ no_stand))
 
   pub was_closed : (s : ℕ) → makes_steps m s ≡ true → list_any (is_holder s) m.contents.hands ≡ false → has_a_mark s m.locks.fast_holders ≡ false → (has_a_mark s m.locks.fast_sharers || has_a_mark s m.locks.partition_sharers) ≡ false
-      → list_any (has_hold_of s) m.contents.parts.items ≡ false → list_any in_use (slots_at m s) ≡ false → is_none (get_or m.waits.awaited s None) ≡ true → list_any (is_number s) m.numbers.kept_by ≡ false → (count_by (λ c. c.session == s) m.counted.items == 0) ≡ true → has_no_list m s ≡ true → s < length m.numbers.live
-      → (v : World) × Next w (record { session = s; step = JoinSeat None }) v × Shows (record m { numbers = record (m.numbers) { live = set m.numbers.live s false } }) v
-  was_closed s steps no_hand no_fast no_shared none_held none_used no_wait keeps_none none_counted no_list in_live =
+      → list_any (has_hold_of s) m.contents.parts.items ≡ false → list_any in_use (slots_at m s) ≡ false → is_none (get_or m.waits.awaited s None) ≡ true → list_any (is_number s) m.numbers.kept_by ≡ false → (count_by (λ c. c.session == s) m.counted.items == 0) ≡ true → has_no_list m s ≡ true → s < length m.numbers.live → s < 64
+      → (v : World) × Next w (record { session = s; step = JoinSeat None }) v × Shows (record m {
+        numbers = record (m.numbers) { live = set m.numbers.live s false };
+        lists = record (m.lists) { off = set m.lists.off s (replicate 64 false) };
+      }) v
+  was_closed s steps no_hand no_fast no_shared none_held none_used no_wait keeps_none none_counted no_list in_live below =
       let shares_none = or_parts (has_a_mark s m.locks.fast_sharers) (has_a_mark s m.locks.partition_sharers) no_shared in
       let may : MayClose w s = record {
         steps = steps_from m w safe shows s steps;
@@ -231,7 +235,7 @@ module _ (m : Machine) (w : World) (safe : SafeWorld w) (shows : Shows m w) wher
           words = shows.words;
           fast_path = shows.fast_path;
           counted = shows.counted;
-          lists = shows.lists;
+          lists = off-emptied m.lists w.words.sleep w.words.list w.sessions.has_list w.sessions.stands w.sessions.off shows.lists s below;
           locks = shows.locks;
           contents = shows.contents;
           waits = shows.waits;

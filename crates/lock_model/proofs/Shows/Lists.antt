@@ -1,8 +1,9 @@
 use Rattle.std.proofs.Common.{◌≡◌, ◌≢◌, ℕ, ◌<◌, Bool, false, not, List, [], ◌∷◌, ◌++◌, length, get_or, Option, None, refl, sym, ap, ◌∙◌, subst, inl, inr}
-use Rattle.std.specs.Prelude.{filter}
+use Rattle.std.specs.Prelude.{filter, replicate}
 use Rattle.std.proofs.Math.ListN.{set, length-set}
 use Rattle.std.proofs.lemmas.Bool.{cases_eq}
-use Rattle.std.proofs.lemmas.List.{get_or-set_same, get_or-set_other}
+use Rattle.std.proofs.lemmas.List.{get_or-set_same, get_or-set_other, length-replicate}
+use Rattle.lock_model.proofs.Shows.Places.{get_or-one_value}
 use Rattle.lw_word.specs.declared.wait_lists.LwWaiter.{LwWaiter}
 use Rattle.lw_word.specs.WaitList.{without}
 use Rattle.lock_table.specs.Put.{set_at}
@@ -46,35 +47,37 @@ module _ (shown : Lists) (words : ℕ → ℕ) (lists : ℕ → List LwWaiter) (
     off = shows.off;
   }
 
-  -- Whether a session has another one to tell.
-  pub off-set : (s o : ℕ) (b : Bool) → s < 64 → o < 64
-      → ShowsLists (record shown { off = set shown.off s (set (get_or shown.off s []) o b) }) words lists have stand (set_at taken s (set_at (taken s) o b))
-  off-set s o b below exists = record {
+  -- Whom a session has to tell.
+  off-row : (s : ℕ) (row : List Bool) (its : ℕ → Bool) → s < 64 → length row ≡ 64 → ((j : ℕ) → get_or row j false ≡ its j)
+      → ShowsLists (record shown { off = set shown.off s row }) words lists have stand (set_at taken s its)
+  off-row s row its below sixty_four_in written = record {
     sixty_four = shows.sixty_four;
     sixty_four_have = shows.sixty_four_have;
     sixty_four_stand = shows.sixty_four_stand;
     sixty_four_off = length-set shown.off s row ∙ shows.sixty_four_off;
     each_off = λ k within. elim (cases_eq k s) [
-      | inl is ↦ ap (λ i. length (get_or (set shown.off s row) i [])) is ∙ ap length (get_or-set_same shown.off s row [] in_off) ∙ length-set (get_or shown.off s []) o b ∙ shows.each_off s below
+      | inl is ↦ ap (λ i. length (get_or (set shown.off s row) i [])) is ∙ ap length (get_or-set_same shown.off s row [] in_off) ∙ sixty_four_in
       | inr other ↦ ap length (get_or-set_other shown.off s k row [] other) ∙ shows.each_off k within
     ];
     sleep = shows.sleep;
     list = shows.list;
     has_list = shows.has_list;
     stands = shows.stands;
-    off = λ k. written-at (λ own its. (j : ℕ) → get_or own j false ≡ its j) shown.off s row [] taken (set_at (taken s) o b) in_off written k (shows.off k);
+    off = λ k. written-at (λ own its. (j : ℕ) → get_or own j false ≡ its j) shown.off s row [] taken its in_off written k (shows.off k);
   } where
-    row : List Bool
-    row = set (get_or shown.off s []) o b
-
     in_off : s < length shown.off
     in_off = subst (λ n. s < n) (sym shows.sixty_four_off) below
 
-    in_row : o < length (get_or shown.off s [])
-    in_row = subst (λ n. o < n) (sym (shows.each_off s below)) exists
+  -- Whether it has another one to tell.
+  pub off-set : (s o : ℕ) (b : Bool) → s < 64 → o < 64
+      → ShowsLists (record shown { off = set shown.off s (set (get_or shown.off s []) o b) }) words lists have stand (set_at taken s (set_at (taken s) o b))
+  off-set s o b below exists =
+      off-row s (set (get_or shown.off s []) o b) (set_at (taken s) o b) below (length-set (get_or shown.off s []) o b ∙ shows.each_off s below)
+      (get_or-set_at (get_or shown.off s []) o b false (taken s) (subst (λ n. o < n) (sym (shows.each_off s below)) exists) (shows.off s))
 
-    written : (j : ℕ) → get_or row j false ≡ set_at (taken s) o b j
-    written j = get_or-set_at (get_or shown.off s []) o b false (taken s) in_row (shows.off s) j
+  -- It has nobody to tell any more.
+  pub off-emptied : (s : ℕ) → s < 64 → ShowsLists (record shown { off = set shown.off s (replicate 64 false) }) words lists have stand (set_at taken s (λ _. false))
+  off-emptied s below = off-row s (replicate 64 false) (λ _. false) below (length-replicate {A = Bool} 64 false) (get_or-one_value 64 false)
 
   -- The wait list of one lock.
   list-changed : (after : Lists) (l : ℕ) (its : List LwWaiter) → waiters_of l after.sleepers.items ≡ its

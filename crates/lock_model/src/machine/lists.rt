@@ -78,6 +78,9 @@ impl Machine {
         requires shown { ShowsSafe self.old }
         ensures { Follows self.old session (Step.TakeOff other) self.new }
     {
+        if other == session {
+            return;
+        }
         let Some(lock) = self.list_to_change(session) else {
             return;
         };

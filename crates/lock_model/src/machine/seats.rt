@@ -61,7 +61,7 @@ impl Machine {
         }
     }
 
-    /// Closes the session.
+    /// Closes the session. Whom it took off a list and has not told is no more its to tell.
     fn close(&mut self, session: SessionId)
         ensures { Follows self.old session (Step.JoinSeat None) self.new }
     {
@@ -78,6 +78,7 @@ impl Machine {
             && self.has_no_list(session)
         {
             self.numbers.live[index] = false;
+            self.lists.off[index] = [false; 64];
         }
     }
 

@@ -131,10 +131,10 @@ module _ (w : World) (safe : SafeWorld w) (s : ℕ) (steps : MakesSteps w.number
       let stood = there s mine may.in_hand may.stands in
       record { has = has_list-lawful mine may.in_hand; stands = stood; waits = safe.lists.sleepers.waiting mine.lock s stood }
 
-  pub take_off-lawful : (mine : ListInHand) (k : ℕ) → MayTakeOffBy (account w s) mine k → MayTakeOff w s k mine.lock
+  pub take_off-lawful : (mine : ListInHand) (k : ℕ) → MayTakeOffBy s (account w s) mine k → MayTakeOff w s k mine.lock
   take_off-lawful mine k may =
       let stood = there k mine may.in_hand may.stands in
-      record { has = has_list-lawful mine may.in_hand; stands = stood; waits = safe.lists.sleepers.waiting mine.lock k stood }
+      record { another = may.another; has = has_list-lawful mine may.in_hand; stands = stood; waits = safe.lists.sleepers.waiting mine.lock k stood }
 
   pub tell-lawful : (k : ℕ) → MayTellBy (account w s) k → MayTell w s k
   tell-lawful k may = record { steps = steps; taken_off = may.taken_off; untold = safe.lists.sleepers.taken_off s k may.taken_off }

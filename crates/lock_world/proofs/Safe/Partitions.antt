@@ -29,7 +29,7 @@ putting_partition-safe w s p done content safe may = record {
   table = putting_partition-table w s p done content safe.table may;
   locks = safe.locks;
   traces = TracesTell-put w.contents w.sessions.trace w.numbers.issued safe.traces s p (live-given w s safe may.may_move.steps.live) holds
-      (content_taken (w.contents.now p) (w.contents.hand p)) content (taken_in-content (w.contents.hand p) (w.contents.now p) s holds) (done, inl ([], moved));
+      (content_taken (w.contents.now p) (w.contents.hand p)) content (taken_in-content (w.contents.hand p) (w.contents.now p) s holds) (done, inl ([], may.may_move.object, moved));
 } where
   holds : is_hand_of (w.contents.hand p) s ≡ true
   holds = holding-hand w s p safe may.may_move.holding
@@ -47,10 +47,10 @@ putting_recorded-safe w s p done safe may = record {
   locks = safe.locks;
   traces = TracesTell-put w.contents w.sessions.trace w.numbers.issued safe.traces s p (live-given w s safe may.steps.live) holds
       (content_taken (w.contents.now p) (w.contents.hand p)) (w.contents.now p) (taken_in-content (w.contents.hand p) (w.contents.now p) s holds)
-      (subst (λ content. IsOneMove content s (w.contents.now p)) (taken-one (w.contents.hand p) (w.contents.now p) s taken.0 holds taken.1) taken.2);
+      (subst (λ content. IsOneMove p content s (w.contents.now p)) (taken-one (w.contents.hand p) (w.contents.now p) s taken.0 holds taken.1) taken.2);
 } where
   holds : is_hand_of (w.contents.hand p) s ≡ true
   holds = holding-hand w s p safe may.holding
 
-  taken : (content : Content) × (taken_in (w.contents.hand p) s ≡ Some content) × IsOneMove content s (w.contents.now p)
+  taken : (content : Content) × (taken_in (w.contents.hand p) s ≡ Some content) × IsOneMove p content s (w.contents.now p)
   taken = moved-taken w.contents w.sessions.trace w.numbers.issued safe.traces s p done holds may.recorded

@@ -1,4 +1,4 @@
-use Rattle.std.proofs.Common.{◌≡◌, ℕ, true, false, sym, arith}
+use Rattle.std.proofs.Common.{◌≡◌, ℕ, true, false, sym, ◌∙◌, arith}
 use Rattle.std.proofs.lemmas.Bool.{false≢true}
 use Rattle.lock_table.specs.Put.{set_at}
 use Rattle.lock_table.proofs.PutLemmas.{set_at-each}
@@ -6,7 +6,7 @@ use Rattle.lock_world.specs.World.{World}
 use Rattle.lock_world.specs.Happens.Seats.{MayBeIssued, after_issuing, MayGoOn, after_going_on, MayBeKeptApart, after_keeping_apart, MayClose, after_closing}
 use Rattle.lock_world.specs.Safe.{SafeButSlots}
 use Rattle.lock_world.proofs.Table.Seats.{issuing-table, going_on-table, keeping_apart-table, closing-table}
-use Rattle.lock_world.proofs.Traces.{TracesTell-issued}
+use Rattle.lock_world.proofs.Traces.{TracesTell-issued, TracesTell-emptied, taken_in-other}
 
 -- Issuing a number is safe.
 pub issuing-safe : (w : World) (s : ℕ) → SafeButSlots w → MayBeIssued w s → SafeButSlots (after_issuing w s)
@@ -43,5 +43,6 @@ closing-safe w s safe may = record {
     no_shared_partition =
         λ k p. set_at-each (λ k b. b ≡ false → w.sessions.shares_partition k p ≡ false) w.numbers.live s false (λ _. may.no_shared_word p) (λ k _ dead. safe.locks.no_shared_partition k p dead) k;
   };
-  traces = safe.traces;
+  traces = TracesTell-emptied w.contents w.sessions.trace w.numbers.issued safe.traces s
+      (λ p. taken_in-other (w.contents.hand p) s (sym (safe.table.carriers.hands p s) ∙ may.no_word p));
 }

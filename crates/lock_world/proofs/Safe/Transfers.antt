@@ -1,7 +1,7 @@
 use Rattle.std.proofs.Common.{◌≡◌, ℕ, true, false, Option, Some, None, refl, sym, ap, ◌∙◌}
 use Rattle.modes_core.specs.declared.modes.Mode.{Mode}
 use Rattle.modes_core.specs.declared.tags.Tag.{Tag}
-use Rattle.modes_core.specs.Tag.{partition_of}
+use Rattle.modes_core.specs.Tag.{partition_of, is_eligible_for}
 use Rattle.lock_table.specs.declared.moves.Move.{Move}
 use Rattle.lock_table.specs.declared.moves.Move.TheVariants.{Adopt}
 use Rattle.lock_table.specs.Content.{Holds, Content, set_hold, add_hold}
@@ -45,7 +45,7 @@ with_adopted w owner place t m = record {
 
 module _ (w : World) (s owner place : ℕ) (t : Tag) (m : Mode) (safe : SafeButSlots w) (holding : w.sessions.holds_partition s (partition_of t) ≡ true) (live : w.numbers.live owner ≡ true)
     (may : MayAdopt (recorded_in (w.contents.hand (partition_of t))) owner place) (free : NoConflictingHolder (w.contents.now (partition_of t)).holds owner t m)
-    (not_awaited : is_for (w.sessions.awaited owner) t m ≡ false) where
+    (not_awaited : is_for (w.sessions.awaited owner) t m ≡ false) (database : ℕ) (eligible : is_eligible_for database t m ≡ true) where
   abbrev p : ℕ
   p = partition_of t
 
@@ -112,5 +112,6 @@ module _ (w : World) (s owner place : ℕ) (t : Tag) (m : Mode) (safe : SafeButS
         (recording-holders w.contents.hand p (Adopt owner place) (is_unmarked hand));
     locks = safe.locks;
     traces = TracesTell-record w.contents w.sessions.trace w.numbers.issued safe.traces p (Adopt owner place) (is_unmarked hand) (add_hold (w.contents.now p) owner t m)
-        (recorded-adopted w.contents w.sessions.trace w.numbers.issued safe.traces p owner place t m (is_unmarked hand) may);
+        (recorded-adopted w.contents w.sessions.trace w.numbers.issued safe.traces p owner place t m (is_unmarked hand) may
+        (record { object = refl; database = database; eligible = eligible }));
   }

@@ -25,7 +25,7 @@ recording-traces :
     → TracesTell (record { now = set_at w.contents.now p content; hand = set_at w.contents.hand p (recording (w.contents.hand p) done unmarked) }) w.sessions.trace w.numbers.issued
 recording-traces w s p done granted content unmarked safe may =
     TracesTell-record w.contents w.sessions.trace w.numbers.issued safe.traces p done unmarked content
-    (recorded-made w.contents w.sessions.trace w.numbers.issued safe.traces s p done unmarked granted content (holding-hand w s p safe may.holding) may.unrecorded may.moved)
+    (recorded-made w.contents w.sessions.trace w.numbers.issued safe.traces s p done unmarked granted content (holding-hand w s p safe may.holding) may.unrecorded may.object may.moved)
 
 -- Asking a session to cancel is safe.
 pub asking-safe : (w : World) (s k : ℕ) → SafeButSlots w → MakesSteps w.numbers s → SafeButSlots (after_asking w s k)

@@ -6,6 +6,8 @@ use Rattle.lock_world.specs.World.{World}
 use Rattle.lock_world.specs.SlotHolds.{NoSlotInUse}
 use Rattle.lock_world.specs.Happens.Seats.{MayBeIssued, after_issuing, MayGoOn, after_going_on, MayBeKeptApart, after_keeping_apart, MayClose, after_closing}
 use Rattle.lock_world.specs.SafeWorld.{SafeWorld, tabled, slots_of}
+use Rattle.lock_world.specs.Happens.Lists.{sleepers}
+use Rattle.lock_world.proofs.WaitLists.{forgetting-safe}
 use Rattle.lock_world.proofs.Safe.Seats.{issuing-safe, going_on-safe, keeping_apart-safe, closing-safe}
 use Rattle.lock_world.proofs.Slots.Remembered.{no_hold-no_slot, remembered-closed}
 use Rattle.lock_world.proofs.SafeWorld.Tabled.{own_but-false}
@@ -87,7 +89,7 @@ closing-safe_world w s safe may = record {
   });
   lists = record {
     shown = safe.lists.shown;
-    sleepers = safe.lists.sleepers;
+    sleepers = forgetting-safe (sleepers w) s safe.lists.sleepers;
     no_list = set_at-each (λ k b. b ≡ false → w.sessions.has_list k ≡ None) w.numbers.live s false (λ _. may.no_list) (λ k _ dead. safe.lists.no_list k dead);
     no_stand = set_at-each (λ k b. b ≡ false → w.sessions.stands k ≡ None) w.numbers.live s false (λ _. may.no_stand) (λ k _ dead. safe.lists.no_stand k dead);
   };

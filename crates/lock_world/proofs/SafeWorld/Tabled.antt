@@ -51,7 +51,7 @@ with_own w own = record { words = w.words; contents = w.contents; sessions = rec
 pub with_own-safe : (w : World) (a b : Holds) → a ≡ b → SafeButSlots (with_own w a) → SafeButSlots (with_own w b)
 with_own-safe w a b same safe = subst (λ own. SafeButSlots (with_own w own)) same safe
 
-pending-for : (awaited : Option OwnWait) (stage : Stage) (t : Tag) (m : Mode) → is_pending awaited stage t m ≡ true → is_for awaited t m ≡ true
+pub pending-for : (awaited : Option OwnWait) (stage : Stage) (t : Tag) (m : Mode) → is_pending awaited stage t m ≡ true → is_for awaited t m ≡ true
 pending-for awaited InQueue t m e = absurd (both_ways false refl e)
 pending-for awaited WasGranted t m e = e
 pending-for awaited HasLeft t m e = absurd (both_ways false refl e)

@@ -34,7 +34,7 @@ slot_holds-fewer database slot before tag mode fewer none =
     })))
 
 -- Whatever weak mode is eligible for a database that there is.
-eligible-of :
+pub eligible-of :
     (database relation : ℕ) (mode : Mode) → nat_eq database 0 ≡ false → number_of mode ≤ 3
     → is_eligible_for database (Relation database relation) mode ≡ true
 eligible-of database relation mode some weak =

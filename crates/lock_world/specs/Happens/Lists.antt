@@ -1,4 +1,4 @@
-use Rattle.std.specs.Prelude.{◌≡◌, ℕ, ◌/◌, ◌%◌, ◌^◌, ◌==◌, Bool, true, Option, Some, None, if◌then◌else◌}
+use Rattle.std.specs.Prelude.{◌≡◌, ◌≢◌, ℕ, ◌/◌, ◌%◌, ◌^◌, ◌==◌, Bool, true, Option, Some, None, if◌then◌else◌}
 use Rattle.lw_word.specs.declared.words.LwMode.{LwMode}
 use Rattle.lw_word.specs.LightweightWord.{list_locked_word, list_unlocked_word}
 use Rattle.lw_word.specs.WaitList.{stands_in}
@@ -75,8 +75,9 @@ pub record MayLeaveList (w : World) (session lock : ℕ) : Type 0 where
 abbrev pub after_leaving_the_list : World → ℕ → ℕ → World
 after_leaving_the_list w session lock = with_sleepers w (after_leaving_list (sleepers w) lock session)
 
--- Taking a session off it, which is to be told later (the first loop of LWLockWakeup).
+-- Taking another session off it, which is to be told later (the first loop of LWLockWakeup).
 pub record MayTakeOff (w : World) (session other lock : ℕ) : Type 0 where
+  pub another : other ≢ session
   pub has : HasList w session lock
   pub stands : stands_in other (w.words.list lock) ≡ true
   pub waits : w.words.sleep other ≡ 1

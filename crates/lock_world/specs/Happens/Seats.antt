@@ -66,12 +66,17 @@ pub record MayClose (w : World) (session : ℕ) : Type 0 where
   pub no_stand : w.sessions.stands session ≡ None
   pub keeps_nobody : (other : ℕ) → w.numbers.kept_by other ≢ Some session
 
--- A closed session remembers nothing of its slots, of which none is in use.
+-- A closed session has an account with nothing in it: it remembers nothing of its slots, of which none is in use, nobody whom it
+-- took off a list, and no step.
 abbrev pub after_closing : World → ℕ → World
 after_closing w session = record {
   words = w.words;
   contents = w.contents;
-  sessions = record (w.sessions) { remembered = set_at w.sessions.remembered session (λ _. 0) };
+  sessions = record (w.sessions) {
+    remembered = set_at w.sessions.remembered session (λ _. 0);
+    off = set_at w.sessions.off session (λ _. false);
+    trace = set_at w.sessions.trace session [];
+  };
   numbers = record (w.numbers) { live = set_at w.numbers.live session false };
 }
 

@@ -104,4 +104,4 @@ module _ (w : World) (s owner i : ℕ) (t : Tag) (m strong : Mode) (safe : SafeW
   } where
     adopted : SafeButSlots (with_adopted (tabled w) owner i t m)
     adopted = adopting-safe (tabled w) s owner i t m safe.but_slots may.holding alive may.may_adopt
-        (λ other its apart has. no_conflict-slot_content w safe (partition_of t) owner other t m its shown has) not_awaited
+        (λ other its apart has. no_conflict-slot_content w safe (partition_of t) owner other t m its shown has) not_awaited (w.words.database owner) may.held_in.eligible

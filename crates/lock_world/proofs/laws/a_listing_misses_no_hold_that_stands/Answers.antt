@@ -1,8 +1,13 @@
 use Rattle.std.proofs.Common.{◌≡◌, [], ◌∷◌, ◌++◌, refl, subst, sym}
 use Rattle.lock_table.proofs.PutLemmas.{set_at-here}
 use Rattle.lock_world.specs.World.{World, Took}
-use Rattle.lock_world.proofs.Listing.{stays-in_content}
+use Rattle.lock_world.proofs.Listing.{stays-in_content, taken-has}
 use Rattle.lock_world.proofs.laws.a_listing_misses_no_hold_that_stands.Goals as goal
+
+pub returns-clause-misses_none : goal.returns-clause-misses_none
+returns-clause-misses_none c =
+    λ w v u lister s i n taker t m events worlds safe loads unshown stands run throughout takes.
+    taken-has w v u lister s i n taker t m events worlds safe loads unshown stands run throughout takes
 
 pub returns-clause-stays_in_content : goal.returns-clause-stays_in_content
 returns-clause-stays_in_content c =

@@ -1,3 +1,7 @@
+use Rattle.lock_world.specs.SafeWorld.{tabled}
+use Rattle.lock_world.proofs.FromSafe.{awaits-for}
+use Rattle.lock_world.proofs.Headline.{headline}
+use Rattle.lock_world.specs.Headline.{InPartition}
 use Rattle.lock_world.proofs.laws.counters_show_what_is_counted.Goals as goal
 
 pub returns-clause-shown : goal.returns-clause-shown
@@ -15,6 +19,16 @@ returns-clause-held c =
 pub returns-clause-awaited : goal.returns-clause-awaited
 returns-clause-awaited c =
     λ w safe s t m strong awaits. safe.done.awaits s t m strong awaits
+
+pub returns-clause-held_in_content : goal.returns-clause-held_in_content
+returns-clause-held_in_content c =
+    λ w safe p s t m strong has.
+    (headline w safe).strong_is_counted s t m strong ((headline w safe).nowhere_else s t m (InPartition p) has)
+
+pub returns-clause-awaited_in_content : goal.returns-clause-awaited_in_content
+returns-clause-awaited_in_content c =
+    λ w safe p s t m strong awaits.
+    safe.done.awaits s t m strong (awaits-for (tabled w) safe.but_slots p s t m awaits)
 
 pub returns-clause-past : goal.returns-clause-past
 returns-clause-past c =

@@ -1,3 +1,5 @@
+use Rattle.lock_world.proofs.Slots.Bits.{shown-held}
+use Rattle.modes_core.specs.declared.tags.Tag.TheVariants.{Relation}
 use Rattle.lock_world.proofs.FromSafeWorld.{held-in_table, shown-in_no_content, shown-in_one_slot}
 use Rattle.lock_world.proofs.laws.each_hold_in_one_place.Goals as goal
 
@@ -15,6 +17,20 @@ pub returns-clause-one_slot : goal.returns-clause-one_slot
 returns-clause-one_slot c =
     λ w safe s place other t m one two.
     shown-in_one_slot w safe s place other t m one two
+
+pub returns-clause-one_slot_of_a_relation : goal.returns-clause-one_slot_of_a_relation
+returns-clause-one_slot_of_a_relation c =
+    λ w safe s. safe.slots.one_each s
+
+pub returns-clause-in_use_has_database : goal.returns-clause-in_use_has_database
+returns-clause-in_use_has_database c =
+    λ w safe s. safe.slots.has_database s
+
+pub returns-clause-each_bit_is_a_hold : goal.returns-clause-each_bit_is_a_hold
+returns-clause-each_bit_is_a_hold c =
+    λ w safe s i relation m within shown.
+    safe.slots.are_own s (Relation (w.words.database s) relation) m
+    (shown-held (w.words.database s) (w.words.slot s) i relation m (safe.slots.has_database s) within shown)
 
 pub returns-clause-never_both : goal.returns-clause-never_both
 returns-clause-never_both c =

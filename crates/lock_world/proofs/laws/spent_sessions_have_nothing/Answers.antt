@@ -4,12 +4,19 @@ use Rattle.lw_word.specs.WaitList.{stands_in}
 use Rattle.lock_world.specs.SafeWorld.{tabled}
 use Rattle.lock_world.proofs.FromSafe.{spent-not_held, spent-not_queued}
 use Rattle.lock_world.proofs.SafeWorld.Tabled.{not_own-no_slot}
+use Rattle.lock_world.proofs.Slots.Remembered.{no_hold-no_slot}
 use Rattle.lock_world.proofs.laws.spent_sessions_have_nothing.Goals as goal
 
 pub returns-clause-no_hold : goal.returns-clause-no_hold
 returns-clause-no_hold c =
     λ w safe s p t m dead.
     (safe.order.no_hold s t m dead, spent-not_held (tabled w) safe.but_slots p s t m dead, not_own-no_slot w safe s t m (safe.order.no_hold s t m dead))
+
+pub returns-clause-no_slot : goal.returns-clause-no_slot
+returns-clause-no_slot c =
+    λ w safe s dead.
+    no_hold-no_slot (w.words.database s) (w.words.slot s) (safe.slots.has_database s)
+    (λ t m. not_own-no_slot w safe s t m (safe.order.no_hold s t m dead))
 
 pub returns-clause-no_count : goal.returns-clause-no_count
 returns-clause-no_count c =

@@ -15,9 +15,10 @@ returns-then-has_no_list c = λ w safe shows.
     let now = c.args.self.now in
     let place : c.from-index.result ≡ c.args.session = c.from-index.ensures ∙ c.number.ensures.value in
     let in_live : c.args.session < length now.numbers.live = omega arith in
+    let below : c.args.session < 64 = omega arith in
     let no_wait : is_none (get_or now.waits.awaited c.args.session None) ≡ true = not_there_none _ (ap (λ i. is_some (get_or now.waits.awaited i None)) (sym place) ∙ c.if-is_none.ensures) in
     rw place (was_closed now w safe shows c.args.session
-    (sym c.if-makes_steps.ensures) (sym c.if-not-has_a_word.ensures) (sym c.if-not-has_a_fast_word.ensures) (sym c.if-not-shares_a_word.ensures) (sym c.if-not-has_a_hold.ensures) (sym c.if-not-has_a_slot.ensures) no_wait (sym c.if-not-keeps_someone.ensures) (sym c.if-counts_nothing.ensures) (sym c.if-has_no_list.ensures) in_live)
+    (sym c.if-makes_steps.ensures) (sym c.if-not-has_a_word.ensures) (sym c.if-not-has_a_fast_word.ensures) (sym c.if-not-shares_a_word.ensures) (sym c.if-not-has_a_hold.ensures) (sym c.if-not-has_a_slot.ensures) no_wait (sym c.if-not-keeps_someone.ensures) (sym c.if-counts_nothing.ensures) (sym c.if-has_no_list.ensures) in_live below)
 
 pub returns-else-makes_steps : goal.returns-else-makes_steps
 returns-else-makes_steps c = λ w safe shows.

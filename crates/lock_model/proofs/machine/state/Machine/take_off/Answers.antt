@@ -1,6 +1,7 @@
-use Rattle.std.proofs.Common.{◌≡◌, ◌<◌, sym, ◌∙◌, arith}
+use Rattle.std.proofs.Common.{◌≡◌, ◌≢◌, ◌<◌, sym, ◌∙◌, arith}
+use Rattle.std.proofs.lemmas.Bool.{eqb-true, eqb-false}
 use Rattle.lock_model.specs.declared.machine.state.Lists.{Lists}
-use Rattle.lock_model.proofs.Follows.Lists.{was_taken_off, not_taken_off, taken_off_not_waiting}
+use Rattle.lock_model.proofs.Follows.Lists.{was_taken_off, not_another, not_taken_off, taken_off_not_waiting}
 use Rattle.lock_model.proofs.machine.state.Machine.take_off.Goals as goal
 
 pub returns-then-waits_at : goal.returns-then-waits_at
@@ -9,11 +10,15 @@ returns-then-waits_at c = λ w safe shows.
     let after : Lists = record (now.lists) { sleepers = c.take_out.new.sleepers } in
     let whose : c.from-index.result ≡ c.args.session = c.from-index.ensures ∙ c.number.ensures.value in
     let place : c.from-whose.result ≡ c.args.other = c.from-whose.ensures ∙ c.number-2.ensures.value in
+    let apart : c.args.other ≢ c.args.session = eqb-false c.args.other c.args.session (sym c.if-eq.ensures) in
     let below : c.args.session < 64 = omega arith in
     let exists : c.args.other < 64 = omega arith in
     rw (place, whose)
-    (was_taken_off now w safe shows c.args.session c.args.other c.in-Some.lock after (sym c.list_to_change.ensures ∙ c.in-Some.is) (sym c.if-waits_at.ensures)
+    (was_taken_off now w safe shows c.args.session c.args.other c.in-Some.lock after apart (sym c.list_to_change.ensures ∙ c.in-Some.is) (sym c.if-waits_at.ensures)
     below exists c.take_out.ensures)
+
+pub returns-then-eq : goal.returns-then-eq
+returns-then-eq c = λ w safe shows. not_another c.args.self.now w safe shows c.args.session c.args.other (eqb-true c.args.other c.args.session (sym c.if-eq.ensures))
 
 pub returns-in_default : goal.returns-in_default
 returns-in_default c = λ w safe shows. not_taken_off c.args.self.now w safe shows c.args.session c.args.other (sym c.list_to_change.ensures ∙ c.in_default.is)

@@ -1,0 +1,6 @@
+use Rattle.lock_world.proofs.Closed.{closed-empty}
+use Rattle.lock_world.proofs.laws.closed_numbers_are_forgotten.Goals as goal
+
+pub returns : goal.returns
+returns c =
+    λ limit events w session few run dead. closed-empty limit events w session few run dead

@@ -1,0 +1,7 @@
+use Rattle.lock_world.proofs.Headline.{headline}
+use Rattle.shared_rule.proofs.laws.the_table_shows_no_two_sessions_in_conflict.Goals as goal
+
+pub returns : goal.returns
+returns g c =
+    λ limit state rule.
+    record { world = rule.world; words = rule.words; contents = rule.contents; seats = rule.seats; headline = headline rule.world rule.safe }
