@@ -1,20 +1,22 @@
 use Rattle.std.proofs.Common.{◌≡◌, ℕ, zero, suc, ◌+◌, ◌<◌, List, [], ◌∷◌, ◌++◌, length, take}
 use Rattle.std.proofs.Common.{Result, Ok, Err, OnOk, refl, sym, ap, ◌∙◌, subst, arith, append_assoc}
-use Rattle.std.proofs.Common.{append-nil}
+use Rattle.std.proofs.Common.{append-nil, inl, inr, ◌≢◌}
+use Rattle.std.proofs.lemmas.Bool.{cases_eq}
 use Rattle.std.proofs.lemmas.List.{take_at}
 use Rattle.lock_table.specs.declared.no_memory.NoMemory.{NoMemory}
 use Rattle.lock_table.specs.declared.rows.SlotRow.{SlotRow}
 use Rattle.lock_table.specs.Put.{set_at}
 use Rattle.lock_table.proofs.PutLemmas.{set_at-here, set_at-else}
 use Rattle.lock_world.specs.declared.events.Word.TheVariants.{Database}
-use Rattle.lock_world.specs.SlotHolds.{slot_count}
+use Rattle.lock_world.specs.SlotHolds.{slot_count, ShowsNoMore}
 use Rattle.lock_world.specs.World.{TraceEntry, Loaded}
-use Rattle.lock_world.specs.Account.{Account}
+use Rattle.lock_world.specs.Account.{Account, SlotsInHand}
+use Rattle.lock_world.specs.AccountFacts.{KnowsSlots}
 use Rattle.lock_world.specs.AccountSteps.{account_putting_fast}
 use Rattle.shared_rule.specs.History.{slots_here}
 use Rattle.fast_path.specs.Slots.{word_of, AreWords, slot_loads, account_loading}
 use Rattle.fast_path.specs.Rows.{database_in, rows_of_slot, rows_below, rows_of_session, rows_of_all, loads_of_all}
-use Rattle.fast_path.specs.Rows.{ListsSlots, ListsSession, BeginsWith}
+use Rattle.fast_path.specs.Rows.{HasInHand, ListsSlots, ListsSession, BeginsWith}
 use Rattle.fast_path.specs.Turns.{IsUnlocked, Looks}
 use Rattle.fast_path.specs.Transfers.{IsAfterScan}
 use Rattle.fast_path.proofs.Passing.{slots-looked, looked-loads, after-put}
@@ -107,17 +109,18 @@ behind-cut xs ys zs n behind is cut = cut ∙ ap (take n) behind.1 ∙ take_at x
 -- ---- one session
 
 pub lists-session :
-    (number : ℕ) (a b v c : Account) (owner shown database : ℕ) (words : List ℕ) (old new : List SlotRow)
+    (own number : ℕ) (a b v c : Account) (owner shown database : ℕ) (words : List ℕ) (old new : List SlotRow)
     (result : Result (Unit {0}) NoMemory)
-    → IsUnlocked a → Looks a owner shown b → v ≡ account_loading b owner
+    → IsUnlocked a → (looked : Looks a owner shown b) → HasInHand own a owner shown looked.slots.word → v ≡ account_loading b owner
     (slots_here (b.fast.slots owner)).word slot_count
     → AreWords words (slots_here (b.fast.slots owner)).word → c ≡ account_putting_fast number v owner
     → database ≡ database_in shown
-    → OnOk result (new ≡ old ++ rows_of_session owner database (word_of words)) → ListsSession a owner old result new c
-lists-session number a b v c owner shown database words old new result unlocked looked loaded are put same listed =
+    → OnOk result (new ≡ old ++ rows_of_session owner database (word_of words)) → ListsSession own a owner old result new c
+lists-session own number a b v c owner shown database words old new result unlocked looked has loaded are put same listed =
     record {
       shown = shown;
       word = looked.slots.word;
+      in_hand = has;
       listed = at result listed;
       no_more = after.no_more;
       account = after.account;
@@ -140,9 +143,50 @@ lists-session number a b v c owner shown database words old new result unlocked 
 
 -- ---- one session after another
 
-pub listing-begun : (a : Account) (old : List SlotRow) → ListsSlots 0 a old (Ok tt) old a
+-- What it has in hand by an account with more steps, it has by the earlier one.
+has-before :
+    (own : ℕ) (a b : Account) (session database : ℕ) (word : ℕ → ℕ) → b.own ≡ a.own → b.fast.database ≡ a.fast.database
+    → ShowsNoMore b.fast.remembered a.fast.remembered → HasInHand own b session database word
+    → HasInHand own a session database word
+has-before own a b session database word same_own same_database no_more has = record {
+  slots = has.slots;
+  knows = record {
+    database = has.knows.database;
+    holds = has.knows.holds;
+    one_each = has.knows.one_each;
+    in_use = has.knows.in_use;
+    own_database = λ its. has.knows.own_database its ∙ same_database;
+    own = λ its tag mode shown. ap (λ holds. holds tag mode) (sym same_own) ∙ has.knows.own its tag mode shown;
+    as_remembered = λ its place relation mode within shown.
+        no_more place relation mode within (has.knows.as_remembered its place relation mode within shown);
+  };
+  words = has.words;
+  holds = has.holds;
+}
+
+-- With one session more.
+has-next :
+    (own : ℕ) (a : Account) (limit : ℕ) (database : ℕ → ℕ) (word : ℕ → ℕ → ℕ) (shown : ℕ) (its : ℕ → ℕ)
+    → ((session : ℕ) → session < limit → HasInHand own a session (database session) (word session))
+    → HasInHand own a limit shown its
+    → (session : ℕ) → session < limit + 1
+    → HasInHand own a session (set_at database limit shown session) (set_at word limit its session)
+has-next own a limit database word shown its so_far has session below = elim (cases_eq session limit) [
+  | inl same ↦
+      subst (λ (d : ℕ). HasInHand own a session d (set_at word limit its session))
+      (sym (set_at-here database limit shown session same))
+      (subst (λ (w : ℕ → ℕ). HasInHand own a session shown w) (sym (set_at-here word limit its session same))
+      (subst (λ (k : ℕ). HasInHand own a k shown its) (sym same) has))
+  | inr other ↦
+      subst (λ (d : ℕ). HasInHand own a session d (set_at word limit its session))
+      (sym (set_at-else database limit shown session other))
+      (subst (λ (w : ℕ → ℕ). HasInHand own a session (database session) w) (sym (set_at-else word limit its session other))
+      (so_far session (omega (arith, below, other))))
+]
+
+pub listing-begun : (own : ℕ) (a : Account) (old : List SlotRow) → ListsSlots own 0 a old (Ok tt) old a
 unfolding loads_of_all
-listing-begun a old = record {
+listing-begun own a old = record {
   database = λ _. 0;
   word = λ _ _. 0;
   listed = rows_below-start old (λ session. rows_of_session session 0 (λ _. 0));
@@ -150,11 +194,21 @@ listing-begun a old = record {
   loaded = 0;
   within = omega arith;
   all_loaded = refl;
+  in_hand = λ session below. absurd (omega (arith, below));
   no_more = λ place relation mode within shown. shown;
   account = (λ i. record a { trace = sym (append-nil a.trace) i });
 }
 
-module _ (k : ℕ) (a b c : Account) (old mid new : List SlotRow) (so_far : ListsSlots k a old (Ok tt) mid b) where
+module _ (own k : ℕ) (a b c : Account) (old mid new : List SlotRow) (so_far : ListsSlots own k a old (Ok tt) mid b) where
+  has-so_far :
+      (shown : ℕ) (its : ℕ → ℕ) → HasInHand own b k shown its → (session : ℕ) → session < k + 1
+      → HasInHand own a session (set_at so_far.database k shown session) (set_at so_far.word k its session)
+  has-so_far shown its has =
+      has-next own a k so_far.database so_far.word shown its
+      (λ session below. so_far.in_hand session (omega (arith, below, so_far.all_loaded)))
+      (has-before own a b k shown its (ap (λ (x : Account). x.own) so_far.account)
+      (ap (λ (x : Account). x.fast.database) so_far.account) so_far.no_more has)
+
   -- the account with one session more
   account-next :
       (shown : ℕ) (its : ℕ → ℕ)
@@ -191,7 +245,7 @@ module _ (k : ℕ) (a b c : Account) (old mid new : List SlotRow) (so_far : List
         trace = a.trace ++ loads_of_all (one i) (set_at so_far.database k shown) (set_at so_far.word k its);
       })
 
-  pub listing-next : (done : Unit {0}) → ListsSession b k mid (Ok done) new c → ListsSlots (k + 1) a old (Ok tt) new c
+  pub listing-next : (done : Unit {0}) → ListsSession own b k mid (Ok done) new c → ListsSlots own (k + 1) a old (Ok tt) new c
   listing-next done session =
       let one : suc k ≡ k + 1 = omega arith in
       record {
@@ -208,15 +262,16 @@ module _ (k : ℕ) (a b c : Account) (old mid new : List SlotRow) (so_far : List
         loaded = k + 1;
         within = omega arith;
         all_loaded = refl;
+        in_hand = has-so_far session.shown session.word session.in_hand;
         no_more = λ place relation mode within shown.
             so_far.no_more place relation mode within (session.no_more place relation mode within shown);
         account = account-next session.shown session.word session.account;
       }
 
   pub listing-stops :
-      (limit : ℕ) (refusal : NoMemory) (cut : List SlotRow) → k < limit → ListsSession b k mid (Err refusal) new c
+      (limit : ℕ) (refusal : NoMemory) (cut : List SlotRow) → k < limit → ListsSession own b k mid (Err refusal) new c
       → cut ≡ old
-      → ListsSlots limit a old (Err refusal) cut c
+      → ListsSlots own limit a old (Err refusal) cut c
   listing-stops limit refusal cut exists session same = record {
     database = set_at so_far.database k session.shown;
     word = set_at so_far.word k session.word;
@@ -225,6 +280,7 @@ module _ (k : ℕ) (a b c : Account) (old mid new : List SlotRow) (so_far : List
     loaded = k + 1;
     within = omega (arith, exists);
     all_loaded = tt;
+    in_hand = has-so_far session.shown session.word session.in_hand;
     no_more = λ place relation mode within shown.
         so_far.no_more place relation mode within (session.no_more place relation mode within shown);
     account = account-next session.shown session.word session.account;

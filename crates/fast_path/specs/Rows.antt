@@ -1,4 +1,4 @@
-use Rattle.std.specs.Prelude.{◌≡◌, ℕ, ◌≤◌, ◌%◌, ◌^◌, zero, suc, List, [], ◌∷◌, ◌++◌, Result, OnOk, OnErr, if◌then◌else◌}
+use Rattle.std.specs.Prelude.{◌≡◌, ℕ, ◌<◌, ◌≤◌, ◌%◌, ◌^◌, zero, suc, List, [], ◌∷◌, ◌++◌, Result, OnOk, OnErr, if◌then◌else◌}
 use Rattle.modes_core.specs.declared.modes.Mode.{Mode}
 use Rattle.modes_core.specs.declared.modes.Mode.TheVariants.{AccessShare, RowShare, RowExclusive}
 use Rattle.modes_core.specs.declared.tags.Tag.TheVariants.{Relation}
@@ -6,9 +6,10 @@ use Rattle.lw_word.specs.SlotWord.{relation_in, has_mode}
 use Rattle.lock_table.specs.declared.no_memory.NoMemory.{NoMemory}
 use Rattle.lock_table.specs.declared.rows.SlotRow.{SlotRow}
 use Rattle.lock_world.specs.declared.events.Word.TheVariants.{Database}
-use Rattle.lock_world.specs.SlotHolds.{slot_count, ShowsNoMore}
+use Rattle.lock_world.specs.SlotHolds.{slot_count, slot_holds, ShowsNoMore}
 use Rattle.lock_world.specs.World.{TraceEntry, Loaded}
-use Rattle.lock_world.specs.Account.{Account}
+use Rattle.lock_world.specs.Account.{Account, SlotsInHand}
+use Rattle.lock_world.specs.AccountFacts.{KnowsSlots}
 use Rattle.fast_path.specs.Slots.{slot_loads}
 
 -- What sessions' slots show, as rows of a listing: by session, by slot, by mode.
@@ -52,10 +53,19 @@ loads_of_all (suc session) database word =
     loads_of_all session database word
     ++ Loaded (Database session) (database session) ∷ slot_loads session (word session) slot_count
 
+-- A session's slots as the session of this number has them in hand, by their lock: these are their words, and with this
+-- database they show what is held by them.
+pub record HasInHand (number : ℕ) (a : Account) (session database : ℕ) (word : ℕ → ℕ) : Type 0 where
+  pub slots : SlotsInHand
+  pub knows : KnowsSlots number a session slots
+  pub words : slots.word ≡ word
+  pub holds : slots.holds ≡ slot_holds database word
+
 -- The rows of all sessions stand behind what the list had, and nothing else has changed but the trace, which has the loads
--- that they tell of, and what the session remembers of its own slots, which is no more than before. Where memory was
--- wanting the list is as before, and sessions were loaded up to some number.
-pub record ListsSlots (limit : ℕ) (a : Account) (before : List SlotRow) (result : Result (Unit {0}) NoMemory)
+-- that they tell of, and what the session remembers of its own slots, which is no more than before. Each session's slots
+-- are loaded with their lock in hand. Where memory was wanting the list is as before, and sessions were loaded up to some
+-- number.
+pub record ListsSlots (number limit : ℕ) (a : Account) (before : List SlotRow) (result : Result (Unit {0}) NoMemory)
     (after : List SlotRow) (b : Account) : Type 0 where
   pub database : ℕ → ℕ
   pub word : ℕ → ℕ → ℕ
@@ -64,6 +74,7 @@ pub record ListsSlots (limit : ℕ) (a : Account) (before : List SlotRow) (resul
   pub loaded : ℕ
   pub within : loaded ≤ limit
   pub all_loaded : OnOk result (loaded ≡ limit)
+  pub in_hand : (session : ℕ) → session < loaded → HasInHand number a session (database session) (word session)
   pub no_more : ShowsNoMore b.fast.remembered a.fast.remembered
   pub account : b ≡ record a {
     fast = record (a.fast) { remembered = b.fast.remembered };
@@ -71,10 +82,11 @@ pub record ListsSlots (limit : ℕ) (a : Account) (before : List SlotRow) (resul
   }
 
 -- The same of one session: what was loaded joins the list as far as memory goes.
-pub record ListsSession (a : Account) (owner : ℕ) (before : List SlotRow) (result : Result (Unit {0}) NoMemory)
+pub record ListsSession (number : ℕ) (a : Account) (owner : ℕ) (before : List SlotRow) (result : Result (Unit {0}) NoMemory)
     (after : List SlotRow) (b : Account) : Type 0 where
   pub shown : ℕ
   pub word : ℕ → ℕ
+  pub in_hand : HasInHand number a owner shown word
   pub listed : OnOk result (after ≡ before ++ rows_of_session owner (database_in shown) word)
   pub no_more : ShowsNoMore b.fast.remembered a.fast.remembered
   pub account : b ≡ record a {

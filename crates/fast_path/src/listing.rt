@@ -25,8 +25,8 @@ pub fn slot_rows<T: PartTable, B: Board<T>, R: Wait>(
     requires few { (B.seat board.old).limit ≤ 64 }
     requires unlocked { IsUnlocked (B.view board.old) }
     requires nothing_due { B.stack board.old ≡ nothing_due }
-    ensures listed { ListsSlots (B.seat board.old).limit (B.view board.old) rows.old.items result rows.new.items
-        (B.view board.new) }
+    ensures listed { ListsSlots (B.seat board.old).number (B.seat board.old).limit (B.view board.old)
+        rows.old.items result rows.new.items (B.view board.new) }
     ensures stack { B.stack board.new ≡ B.stack board.old }
     ensures seat { B.seat board.new ≡ B.seat board.old }
 {
@@ -54,7 +54,8 @@ fn session_rows<T: PartTable, B: Board<T>, R: Wait>(
     requires exists { owner < (B.seat board.old).limit }
     requires unlocked { IsUnlocked (B.view board.old) }
     requires nothing_due { B.stack board.old ≡ nothing_due }
-    ensures listed { ListsSession (B.view board.old) owner rows.old.items result rows.new.items (B.view board.new) }
+    ensures listed { ListsSession (B.seat board.old).number (B.view board.old) owner
+        rows.old.items result rows.new.items (B.view board.new) }
     ensures behind { BeginsWith rows.old.items rows.new.items }
     ensures stack { B.stack board.new ≡ B.stack board.old }
     ensures seat { B.seat board.new ≡ B.seat board.old }

@@ -1,4 +1,4 @@
-use Rattle.std.specs.Prelude.{◌≡◌, ◌⊎◌, ℕ, ◌≤◌, ◌+◌, true, List, [], ◌∷◌, ◌++◌, length, count_by, slice_index_or}
+use Rattle.std.specs.Prelude.{◌≡◌, ◌⊎◌, ℕ, ◌<◌, ◌≤◌, ◌+◌, true, List, [], ◌∷◌, ◌++◌, length, count_by, slice_index_or}
 use Rattle.std.specs.Prelude.{if◌then◌else◌, Result, Err, IfOk, OnOk}
 use Rattle.modes_core.specs.declared.modes.Mode.{Mode}
 use Rattle.modes_core.specs.declared.tags.Tag.{Tag}
@@ -12,6 +12,7 @@ use Rattle.lock_table.specs.Listing.{row_eq, has_row, IsListing}
 use Rattle.lock_table.specs.Queue.{waits_there}
 use Rattle.lock_table.specs.WholeContent.{whole_of}
 use Rattle.lock_world.specs.Account.{Account}
+use Rattle.lock_world.specs.SlotHolds.{OneSlotEach}
 use Rattle.lock_world.specs.World.{TraceEntry, Took, Episode}
 use Rattle.fast_path.specs.Rows.{rows_of_all, loads_of_all}
 use Rattle.lock_manager.specs.declared.listing.Listing.{Listing}
@@ -39,11 +40,13 @@ pub record ListsTable (before : List TraceEntry) (result : Result (Unit {0}) no_
   pub table : OnOk result (IsListing (whole_of (content_at contents)) rows)
 
 -- A whole listing. The database and the slots of each session that there can be are loaded, in rising order, and the slot
--- rows are those of what these loads showed. After that the partitions are taken, and the table's rows list their contents.
+-- rows are those of what these loads showed. A session's slots are loaded with their lock in hand, so that they stand so
+-- at one moment, and no relation has two of them. After that the partitions are taken, and the table's rows list their contents.
 pub record ListsAll (limit : ℕ) (before : List TraceEntry) (result : Result Listing Refusal) (after : List TraceEntry) :
     Type 0 where
   pub database : ℕ → ℕ
   pub word : ℕ → ℕ → ℕ
+  pub one_each : (session : ℕ) → session < limit → OneSlotEach (word session)
   pub fast : IfOk result (λ listing. listing.fast.items ≡ rows_of_all limit database word)
   pub contents : List Content
   pub sixteen : length contents ≡ 16
