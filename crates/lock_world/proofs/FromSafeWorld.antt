@@ -33,15 +33,27 @@ module _ (w : World) (safe : SafeWorld w) where
         | inr not_shown ↦ inr (and_from (w.sessions.own s t m) (not (slots s t m)) own (ap not not_shown))
       ]
 
-  -- Whoever has a hold is below the limit.
+  -- Whoever is live is below the limit,
+  pub live-within : (s : ℕ) → w.numbers.live s ≡ true → s < w.numbers.limit
+  live-within s alive =
+      let given : s < w.numbers.issued = safe.but_slots.table.carriers.numbers.live_is_issued s alive in
+      let all : w.numbers.issued ≤ w.numbers.limit = safe.but_slots.table.carriers.numbers.within in
+      omega (arith, given, all)
+
+  -- and so is whoever has a hold,
   pub holder-within : (s : ℕ) (t : Tag) (m : Mode) → w.sessions.own s t m ≡ true → s < w.numbers.limit
   holder-within s t m own =
       elim (cases_Bool (w.numbers.live s)) [
-        | inl alive ↦
-            let given : s < w.numbers.issued = safe.but_slots.table.carriers.numbers.live_is_issued s alive in
-            let all : w.numbers.issued ≤ w.numbers.limit = safe.but_slots.table.carriers.numbers.within in
-            omega (arith, given, all)
+        | inl alive ↦ live-within s alive
         | inr dead ↦ absurd (both_ways (w.sessions.own s t m) (safe.order.no_hold s t m dead) own)
+      ]
+
+  -- and whoever has read a counter as 0.
+  reader-within : (s index : ℕ) → w.sessions.zero s ≡ Some index → s < w.numbers.limit
+  reader-within s index read =
+      elim (cases_Bool (w.numbers.live s)) [
+        | inl alive ↦ live-within s alive
+        | inr dead ↦ absurd (both_ways (w.sessions.holds_fast s s) (safe.but_slots.locks.no_fast s s dead) (safe.zero.holds s index read))
       ]
 
   slot_against_own : (s o : ℕ) (t : Tag) (m n : Mode) → slots s t m ≡ true → w.sessions.own o t n ≡ true → conflict m n ≡ false
@@ -114,12 +126,12 @@ module _ (w : World) (safe : SafeWorld w) where
       (found.0, found.1, found.2, safe.order.awaited_is_not_own s found.0.tag found.0.mode awaits)
 
   -- Where a session has read a counter as 0, nobody has a strong mode on an object of its index, nor awaits one.
-  pub permitted-none : (s o : ℕ) (t : Tag) (m : Mode) → w.sessions.zero s ≡ Some (index_of t) → s < w.numbers.limit → is_strong_on t m ≡ true
+  pub permitted-none : (s o : ℕ) (t : Tag) (m : Mode) → w.sessions.zero s ≡ Some (index_of t) → is_strong_on t m ≡ true
       → (w.sessions.own o t m ≡ false) × (is_for (w.sessions.awaited o) t m ≡ false)
-  permitted-none s o t m read below strong = (
+  permitted-none s o t m read strong = (
     false_from_ne_true (w.sessions.own o t m) (λ own. not_done (safe.done.held o t m strong own)),
     false_from_ne_true (is_for (w.sessions.awaited o) t m) (λ awaits. not_done (safe.done.awaits o t m strong awaits)),
   ) where
     not_done : is_done w.numbers.limit (w.sessions.counted o) t m ≡ true → ⊥
     not_done done =
-        both_ways _ (safe.zero.nobody_is_past s o t read) (is_at-past (w.sessions.counted o) t m w.numbers.limit s below done)
+        both_ways _ (safe.zero.nobody_is_past s o t read) (is_at-past (w.sessions.counted o) t m w.numbers.limit s (reader-within s (index_of t) read) done)

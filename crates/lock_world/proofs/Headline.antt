@@ -1,4 +1,4 @@
-use Rattle.std.proofs.Common.{◌≡◌, ◌≢◌, ◌⊎◌, ℕ, ◌+◌, ◌<◌, ◌≤◌, Bool, true, false, not, ◌||◌, ◌&&◌, List, [], ◌∷◌, Option, Some, None, refl, sym, ap, ◌∙◌, subst, inl, inr, arith, zero, suc}
+use Rattle.std.proofs.Common.{◌≡◌, ◌≢◌, ◌⊎◌, ℕ, ◌+◌, ◌<◌, Bool, true, false, not, ◌||◌, ◌&&◌, List, [], ◌∷◌, Option, Some, None, refl, sym, ap, ◌∙◌, subst, inl, inr, arith, zero, suc}
 use Rattle.std.specs.Prelude.{◌==◌, find, if◌then◌else◌}
 use Rattle.std.specs.List.{list_any}
 use Rattle.std.proofs.lemmas.Bool.{cases_Bool, both_ways, false≢true, and_from, or_cases, or_left, or_right, cond-true, cond-false, eq-eqb}
@@ -23,7 +23,7 @@ use Rattle.lock_world.specs.SafeWorld.{SafeWorld, slots_of}
 use Rattle.lock_world.specs.Headline.{stands_with, Place, InSlot, InPartition, StandsAt, IsInOnePlace, IsInTheWay, IsThereAs, Headline}
 use Rattle.lock_world.proofs.Slots.Eligible.{held-is_in, is_in-held}
 use Rattle.lock_world.proofs.SafeWorld.Tabled.{pending-for}
-use Rattle.lock_world.proofs.FromSafeWorld.{no_conflict-own_world, no_conflict-slot_content, shown-in_no_content, shown-in_one_slot}
+use Rattle.lock_world.proofs.FromSafeWorld.{live-within, no_conflict-own_world, no_conflict-slot_content, shown-in_no_content, shown-in_one_slot}
 
 -- A safe World has the headline.
 
@@ -159,16 +159,10 @@ module _ (w : World) (safe : SafeWorld w) where
       (subst (λ q. (w.contents.now q).holds s t m ≡ true) (sym (safe.but_slots.table.promise.one_place.no_hold_elsewhere p s t m its)) its)
 
   -- Whoever stands with a mode is below the limit.
-  live-within : (s : ℕ) → w.numbers.live s ≡ true → s < w.numbers.limit
-  live-within s alive =
-      let given : s < w.numbers.issued = safe.but_slots.table.carriers.numbers.live_is_issued s alive in
-      let all : w.numbers.issued ≤ w.numbers.limit = safe.but_slots.table.carriers.numbers.within in
-      omega (arith, given, all)
-
   stands-within : (s : ℕ) (t : Tag) (m : Mode) → stands_with w s t m ≡ true → s < w.numbers.limit
   stands-within s t m stands =
       elim (cases_Bool (w.numbers.live s)) [
-        | inl alive ↦ live-within s alive
+        | inl alive ↦ live-within w safe s alive
         | inr dead ↦ absurd (none dead (stands-own_or_awaited s t m stands))
       ] where
         none : w.numbers.live s ≡ false → (w.sessions.own s t m ≡ true) ⊎ (is_for (w.sessions.awaited s) t m ≡ true) → ⊥

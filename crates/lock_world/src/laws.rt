@@ -25,7 +25,7 @@ ghost use Rattle.lock_world.specs.WaitWord.{wait_state, is_asked, asked_word, gr
 ghost use Rattle.lock_world.specs.World.{World, TraceEntry, Took, Episode, AskedToCancel, Loaded, opening, is_unmarked, word_in};
 ghost use Rattle.lock_world.specs.Happens.{Happens, RunsThrough, Runs, last_of};
 ghost use Rattle.lock_world.specs.Telling.{TellsWhatIs};
-ghost use Rattle.lock_world.specs.Safe.{taken_by, taken_in, IsOneMove};
+ghost use Rattle.lock_world.specs.Safe.{taken_by, taken_in, is_hand_of, IsOneMove};
 ghost use Rattle.lock_world.specs.SafeWorld.{SafeWorld, slots_of};
 ghost use Rattle.lock_world.specs.Headline.{stands_with, NoTwoConflict, Headline};
 ghost use Rattle.lock_world.specs.Listing.{StandsThereOrInContent, TellsHold};
@@ -150,7 +150,7 @@ pub fn a_counter_read_as_zero_is_a_permission()
     ensures nobody_is_past { (w : World) → SafeWorld w → (session other : ℕ) (tag : Tag) →
         w.sessions.zero session ≡ Some (index_of tag) → is_past (w.sessions.counted other) tag session ≡ false }
     ensures nobody_strong { (w : World) → SafeWorld w → (session other : ℕ) (tag : Tag) (mode : Mode) →
-        w.sessions.zero session ≡ Some (index_of tag) → session < w.numbers.limit → is_strong_on tag mode ≡ true →
+        w.sessions.zero session ≡ Some (index_of tag) → is_strong_on tag mode ≡ true →
         (w.sessions.own other tag mode ≡ false) × (is_for (w.sessions.awaited other) tag mode ≡ false) }
 {}
 
@@ -201,11 +201,13 @@ pub fn wait_words_tell()
 {}
 
 /// In a safe World a partition's word shows an exclusive holder exactly where a session has the partition
-/// in hand.
+/// in hand, and the content is in that session's hand.
 pub fn partition_words_show_the_hand()
-    ensures { (w : World) → SafeWorld w →
+    ensures shown { (w : World) → SafeWorld w →
         (p : ℕ) → IsHeldExclusively (w.words.partition p)
         ↔ ((session : ℕ) × (w.sessions.holds_partition session p ≡ true)) }
+    ensures in_hand { (w : World) → SafeWorld w → (p session : ℕ) →
+        w.sessions.holds_partition session p ≡ is_hand_of (w.contents.hand p) session }
 {}
 
 /// In a safe World the word of a lightweight lock, a partition's or that of a session's fast-path slots,

@@ -11,5 +11,5 @@ returns-clause-nobody_is_past c =
 
 pub returns-clause-nobody_strong : goal.returns-clause-nobody_strong
 returns-clause-nobody_strong c =
-    λ w safe s k t m read below strong.
-    permitted-none w safe s k t m read below strong
+    λ w safe s k t m read strong.
+    permitted-none w safe s k t m read strong
