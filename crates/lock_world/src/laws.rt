@@ -1,6 +1,6 @@
 //! What holds in every World that a list of events leads to. Each function here is a law: its clause is
 //! proved, and its body is empty. Every World of a run is safe (`every_world_is_safe`), so what the laws say
-//! of a safe World they say of each of these.
+//! of a safe World they say of each of these. The laws that speak of runs, or of one event, say so.
 
 ghost use Rattle.std.specs.Prelude.{◌≡◌, ◌≢◌, ◌↔◌, ◌⊎◌, ◌<◌, ◌≤◌, ◌+◌, ◌^◌, ◌==◌, ℕ, List, [], ◌∷◌, ◌++◌, true, false, if◌then◌else◌, Some, None, slice_get, count_by};
 ghost use Rattle.modes_core.specs.declared.modes.Mode.{Mode};
@@ -86,8 +86,9 @@ pub fn no_two_conflicting_holds()
 /// In a safe World a hold stands in a content exactly where the object is of that partition and the hold is
 /// the session's own and in none of its slots, or its pending grant: what it awaits, where its wait word shows
 /// that this was granted, or that grant stands unmarked in the hand that has the partition. What a slot shows
-/// is own, and stands in no content and in no other slot. What a session awaits is no own hold of it, so no
-/// hold is both.
+/// is own, and stands in no content and in no other slot; a relation has one slot of a session at most, whatever
+/// its modes. Each mode bit of a slot is such a hold, on the relation of that number in the session's database:
+/// whoever has a slot in use has a database. What a session awaits is no own hold of it, so no hold is both.
 pub fn each_hold_in_one_place()
     ensures in_content { (w : World) → SafeWorld w →
         (p session : ℕ) (tag : Tag) (mode : Mode) →
@@ -257,8 +258,8 @@ pub fn one_hand_at_a_time()
 {}
 
 /// In a safe World a session number that is not live has no hold, by its own account, in each content and in its
-/// slots, of which none is in use, no wait, recorded or in a queue, no partition in hand, no lightweight lock, exclusively or shared,
-/// nothing counted, no wait list in hand, and stands in none.
+/// slots, of which none is in use, no wait, recorded or in a queue, no partition in hand, no lightweight lock,
+/// exclusively or shared, nothing counted, no wait list in hand, and stands in none.
 pub fn spent_sessions_have_nothing()
     ensures no_hold { (w : World) → SafeWorld w →
         (session p : ℕ) (tag : Tag) (mode : Mode) → w.numbers.live session ≡ false →
