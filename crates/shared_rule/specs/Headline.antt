@@ -1,16 +1,21 @@
-use Rattle.std.specs.Prelude.{Option}
+use Rattle.std.specs.Prelude.{ℕ, List, Option}
 use Rattle.atomic_table.specs.Table.{State}
 use Rattle.lock_table.specs.declared.request.Request.{Request}
 use Rattle.lock_table.specs.Content.{Content}
-use Rattle.lock_world.specs.World.{World}
+use Rattle.lock_world.specs.declared.events.Event.{Event}
+use Rattle.lock_world.specs.World.{World, opening}
+use Rattle.lock_world.specs.Happens.{Runs}
 use Rattle.lock_world.specs.Headline.{Headline}
 use Rattle.shared_rule.specs.declared.history.View.{View}
 use Rattle.shared_rule.specs.Shown.{WordsAreShown}
 use Rattle.shared_rule.specs.Ruled.{ContentsAreHome, SeatsAreShown}
 
--- The headline of the table: its words, its contents at home and the histories of all sessions show a World that has it.
-pub record ShowsHeadline {T : Type 0} (content : T → Content) (begun : T → Option Request) (state : State (Option T) (View T)) : Type 0 where
+-- The headline of the table: its words, its contents at home and the histories of all sessions show a World to which events have led
+-- from the opening one, and which has it.
+pub record ShowsHeadline {T : Type 0} (content : T → Content) (begun : T → Option Request) (limit : ℕ) (state : State (Option T) (View T)) : Type 0 where
   pub world : World
+  pub events : List Event
+  pub run : Runs (opening limit) events world
   pub words : WordsAreShown state.words world.words
   pub contents : ContentsAreHome content begun state.homes world.contents
   pub seats : SeatsAreShown content state.views world
