@@ -27,7 +27,7 @@ abbrev pub AddsAtMostWhatIs : World → ℕ → World → Type 0
 AddsAtMostWhatIs w s v =
     (v.sessions.trace s ≡ w.sessions.trace s)
     ⊎ (((entry : TraceEntry) × (v.sessions.trace s ≡ w.sessions.trace s ++ entry ∷ []) × TellsWhatIs w entry)
-      ⊎ (v.sessions.trace s ≡ []))
+    ⊎ (v.sessions.trace s ≡ []))
 
 keeps : (w : World) (s : ℕ) (u v : World) → v ≡ u → u.sessions.trace s ≡ w.sessions.trace s → AddsAtMostWhatIs w s v
 keeps w s u v e same = inl (ap (λ (z : World). z.sessions.trace s) e ∙ same)

@@ -93,31 +93,31 @@ keeping_apart-table w s joiner safe may = with_numbers-table w _ safe safe.promi
 -- Closing is safe.
 pub closing-table : (w : World) (s : ℕ) → TableIsSafe w → MayClose w s → TableIsSafe (after_closing w s)
 closing-table w s safe may = with_notes-table (with_numbers w (after_closing w s).numbers) _ _ _ closed where
-      still_joiner : (k j : ℕ) → w.numbers.kept_by k ≡ Some j → set_at w.numbers.live s false j ≡ true
-      still_joiner k j kept =
-          elim (cases_eq j s) [
-            | inl same ↦ absurd (may.keeps_nobody k (kept ∙ ap Some same))
-            | inr other ↦ set_at-else w.numbers.live s false j other ∙ safe.carriers.numbers.joiner_is_live k j kept
-          ]
+  still_joiner : (k j : ℕ) → w.numbers.kept_by k ≡ Some j → set_at w.numbers.live s false j ≡ true
+  still_joiner k j kept =
+      elim (cases_eq j s) [
+        | inl same ↦ absurd (may.keeps_nobody k (kept ∙ ap Some same))
+        | inr other ↦ set_at-else w.numbers.live s false j other ∙ safe.carriers.numbers.joiner_is_live k j kept
+      ]
 
-      still_live : (k j : ℕ) → w.numbers.kept_by k ≡ Some j → set_at w.numbers.live s false k ≡ true
-      still_live k j kept =
-          elim (cases_eq k s) [
-            | inl same ↦ let by_itself : w.numbers.kept_by s ≡ None = may.steps.by_itself in let kept_s : w.numbers.kept_by s ≡ Some j = ap w.numbers.kept_by (sym same) ∙ kept in absurd (cc)
-            | inr other ↦ set_at-else w.numbers.live s false k other ∙ safe.carriers.numbers.kept_is_live k j kept
-          ]
+  still_live : (k j : ℕ) → w.numbers.kept_by k ≡ Some j → set_at w.numbers.live s false k ≡ true
+  still_live k j kept =
+      elim (cases_eq k s) [
+        | inl same ↦ let by_itself : w.numbers.kept_by s ≡ None = may.steps.by_itself in let kept_s : w.numbers.kept_by s ≡ Some j = ap w.numbers.kept_by (sym same) ∙ kept in absurd (cc)
+        | inr other ↦ set_at-else w.numbers.live s false k other ∙ safe.carriers.numbers.kept_is_live k j kept
+      ]
 
-      closed : TableIsSafe (with_numbers w (after_closing w s).numbers)
-      closed = with_numbers-table w _ safe safe.promise.words
-          (record {
-            no_hold = λ k o n. set_at-each (λ k b. b ≡ false → w.sessions.own k o n ≡ false) w.numbers.live s false (λ _. may.no_hold o n) (λ k _ dead. safe.promise.spent.no_hold k o n dead) k;
-            no_wait = set_at-each (λ k b. b ≡ false → w.sessions.awaited k ≡ None) w.numbers.live s false (λ _. may.no_wait) (λ k _ dead. safe.promise.spent.no_wait k dead);
-            no_word = λ k p. set_at-each (λ k b. b ≡ false → w.sessions.holds_partition k p ≡ false) w.numbers.live s false (λ _. may.no_word p) (λ k _ dead. safe.promise.spent.no_word k p dead) k;
-          })
-          (record {
-            live_is_issued = set_at-each (λ k b. b ≡ true → k < w.numbers.issued) w.numbers.live s false (λ e. absurd (cc)) (λ k _. safe.carriers.numbers.live_is_issued k);
-            within = safe.carriers.numbers.within;
-            few = safe.carriers.numbers.few;
-            kept_is_live = λ k j kept. still_live k j kept;
-            joiner_is_live = λ k j kept. still_joiner k j kept;
-          })
+  closed : TableIsSafe (with_numbers w (after_closing w s).numbers)
+  closed = with_numbers-table w _ safe safe.promise.words
+      (record {
+        no_hold = λ k o n. set_at-each (λ k b. b ≡ false → w.sessions.own k o n ≡ false) w.numbers.live s false (λ _. may.no_hold o n) (λ k _ dead. safe.promise.spent.no_hold k o n dead) k;
+        no_wait = set_at-each (λ k b. b ≡ false → w.sessions.awaited k ≡ None) w.numbers.live s false (λ _. may.no_wait) (λ k _ dead. safe.promise.spent.no_wait k dead);
+        no_word = λ k p. set_at-each (λ k b. b ≡ false → w.sessions.holds_partition k p ≡ false) w.numbers.live s false (λ _. may.no_word p) (λ k _ dead. safe.promise.spent.no_word k p dead) k;
+      })
+      (record {
+        live_is_issued = set_at-each (λ k b. b ≡ true → k < w.numbers.issued) w.numbers.live s false (λ e. absurd (cc)) (λ k _. safe.carriers.numbers.live_is_issued k);
+        within = safe.carriers.numbers.within;
+        few = safe.carriers.numbers.few;
+        kept_is_live = λ k j kept. still_live k j kept;
+        joiner_is_live = λ k j kept. still_joiner k j kept;
+      })
