@@ -14,3 +14,4 @@ pub mod Watching
 mod Reading
 mod Slotting
 mod Owing
+mod Closing

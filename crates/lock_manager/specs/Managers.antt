@@ -1,8 +1,15 @@
-use Rattle.std.specs.Prelude.{◌≡◌, ℕ, ◌<◌, ◌≤◌, ◌&&◌, nat_le, Bool, List, []}
+use Rattle.std.specs.Prelude.{◌≡◌, ℕ, ◌+◌, ◌-◌, ◌<◌, ◌≤◌, ◌&&◌, nat_le, Bool, List, [], ◌∷◌, length}
 use Rattle.atomic_table.specs.Seated.{TableId}
 use Rattle.lock_world.specs.Account.{Account}
+use Rattle.lock_world.specs.World.{TraceEntry}
 use Rattle.shared_rule.specs.Boards.{Seated, Stack}
+use Rattle.shared_rule.specs.declared.history.History.{History}
+use Rattle.shared_rule.specs.Openers.{HaveClosed, trace_told}
+use Rattle.lock_table.specs.PartView.{PartView, content_of}
+use Rattle.local_locks.specs.declared.ends.End.TheVariants as end_
+use Rattle.local_locks.specs.Owned.{ended_by}
 use Rattle.lock_manager.specs.declared.config.Config.{Config}
+use Rattle.lock_manager.specs.Releases.{ReleasesAll}
 use Rattle.lock_manager.specs.Sessions.{SessionView, IsResting}
 
 -- What contracts see of a manager and of its opener.
@@ -16,11 +23,11 @@ pub record ManagerView : Type 0 where
 pub record OpenerView : Type 0 where
   pub table : TableId
   pub limit : ℕ
-  -- how many sessions it has given out, how many of these are not closed, and the numbers of those that are, the last
-  -- one first
+  -- how many sessions it has given out, how many of these are open, and the histories of those that have closed, the
+  -- last one first
   pub issued : ℕ
   pub live : ℕ
-  pub closed : List ℕ
+  pub closed : List (History PartView)
 
 -- whether a manager can have this many sessions and local entries
 abbrev pub is_in_range : Config → Bool
@@ -42,11 +49,20 @@ pub record IsNew (manager : ManagerView) (opener : OpenerView) (config : Config)
   pub live : opener.live ≡ 0
   pub none_closed : opener.closed ≡ []
 
--- What is always so of an opener: it has given out no more than it may, and what isn't closed was given out.
-pub record IsCounted (issued limit live : ℕ) : Type 0 where
-  pub live_within : live ≤ issued
+-- What is always so of an opener: it has given out no more than it may, and each that it has given out is open, or has
+-- closed, once.
+pub record IsCounted (issued limit live : ℕ) (closed : List (History PartView)) : Type 0 where
+  pub have_closed : HaveClosed issued closed
+  pub all : live + length closed ≡ issued
   pub issued_within : issued ≤ limit
   pub few : limit ≤ 64
+
+-- The opener has taken a session of this number back, with this trace.
+pub record TakesBack (number : ℕ) (trace : List TraceEntry) (old new : OpenerView) : Type 0 where
+  pub history : History PartView
+  pub number_ : history.number ≡ number
+  pub trace_ : trace_told content_of history ≡ trace
+  pub opener : new ≡ record old { live = old.live - 1; closed = history ∷ old.closed }
 
 module _ {B : Type 0} (seat : B → Seated) (view : B → Account) (stack : B → Stack) where
   -- A session that the opener has just given out, for this database: it has the next number, holds nothing, has no slot
@@ -62,3 +78,12 @@ module _ {B : Type 0} (seat : B → Seated) (view : B → Account) (stack : B �
     pub max_local : session.owned.max_local ≡ manager.max_local
     pub no_step : (view session.board).trace ≡ []
     pub rest : IsResting seat view stack session
+
+  -- A session has closed: all that it held was released, in the order of making, and it made no other step. The opener
+  -- has its history, with its number and its trace.
+  pub record HasClosed (session : SessionView B) (old new : OpenerView) : Type 0 where
+    pub last : Account
+    pub left : ℕ
+    pub released : ReleasesAll (seat session.board).number (view session.board) session.uses
+        (ended_by end_.Close session.owned.entries) last left
+    pub opener : TakesBack (seat session.board).number last.trace old new

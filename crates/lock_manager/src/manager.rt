@@ -1,9 +1,9 @@
 //! The manager, which has the shared table, and the opener, who gives sessions out and takes them back.
 
-ghost use Rattle.std.specs.Prelude.{◌≡◌, ◌<◌, ◌+◌, ◌-◌, ◌↔◌, [], ◌∷◌, true, false, IfOk, IsErrOf, IsOkUnless, OnOk, OnErr};
+ghost use Rattle.std.specs.Prelude.{◌≡◌, ◌<◌, ◌+◌, ◌-◌, ◌↔◌, [], ◌∷◌, length, true, false, IfOk, IsErrOf, IsOkUnless, OnOk, OnErr};
 ghost use Rattle.shared_rule.specs.Seats.{MayCloseBy};
 ghost use Rattle.shared_rule.specs.Boards.{nothing_due};
-ghost use Rattle.lock_manager.specs.Managers.{IsNew, IsOpenerOf, IsOpened, is_in_range};
+ghost use Rattle.lock_manager.specs.Managers.{IsNew, IsOpenerOf, IsOpened, TakesBack, is_in_range};
 
 use crate::config::Config;
 use crate::sessions::{Own, OwnSession, Session};
@@ -52,7 +52,7 @@ impl Model for Manager {
 }
 
 /// Gives the sessions of a manager out and takes them back. Contracts see at which table, how many sessions it has given
-/// out and may give out, how many of them are not closed, and the numbers of those that are.
+/// out and may give out, how many of them are open, and the histories of those that have closed.
 #[derive(Drop)]
 pub struct Opener {
     numbers: NumberOpener<PlainPart>,
@@ -76,7 +76,7 @@ impl Model for Opener {
     } };
 
     ghost invariant = { λ opener. (opener.numbers.issued ≡ opener.issued) × (opener.numbers.limit ≡ opener.sessions)
-        × IsCounted opener.issued opener.sessions opener.live };
+        × IsCounted opener.issued opener.sessions opener.live opener.numbers.closed };
 }
 
 impl Manager {
@@ -130,9 +130,10 @@ impl Manager {
 }
 
 impl Opener {
-    /// How many sessions are given out and not closed.
+    /// How many sessions are open: given out and not closed.
     pub fn live(&self) -> u32
-        ensures { result ≡ self.now.live }
+        ensures live { result ≡ self.now.live }
+        ensures open { result + length self.now.closed ≡ self.now.issued }
     {
         u32::from(self.live)
     }
@@ -176,15 +177,13 @@ impl Opener {
         Ok(OwnSession::of(board, own))
     }
 
-    // Takes the board of a session back that has nothing any more.
+    // Takes the board of a session back that has nothing any more, with all that it did.
     pub(crate) fn take_back<'a>(&mut self, board: SeatBoard<'a, PlainPart>)
         requires table { (⟦<SeatBoard<'a, PlainPart> as Board<PlainPart>>⟧.seat board).table ≡ self.old.table }
         requires stack { ⟦<SeatBoard<'a, PlainPart> as Board<PlainPart>>⟧.stack board ≡ nothing_due }
         requires lawful { MayCloseBy (⟦<SeatBoard<'a, PlainPart> as Board<PlainPart>>⟧.view board) }
-        ensures closed { let B = ⟦<SeatBoard<'a, PlainPart> as Board<PlainPart>>⟧ in self.new ≡ record (self.old) {
-          live = self.old.live - 1;
-          closed = (B.seat board.entry).number ∷ self.old.closed;
-        } }
+        ensures closed { let B = ⟦<SeatBoard<'a, PlainPart> as Board<PlainPart>>⟧ in
+            TakesBack (B.seat board.entry).number (B.view board.entry).trace self.old self.new }
     {
         self.numbers.close(board);
         self.live = self.live.saturating_sub(1);

@@ -12,6 +12,7 @@ ghost use Rattle.shared_rule.specs.History.{blank_account};
 ghost use Rattle.shared_rule.specs.Boards.{nothing_due};
 ghost use Rattle.lock_manager.specs.Sessions.{IsSame, IsUnchanged, DontConflict};
 ghost use Rattle.lock_manager.specs.Listings.{Lists};
+ghost use Rattle.lock_manager.specs.Managers.{HasClosed};
 ghost use Rattle.lock_manager.specs.Requests.{Acquires, AcquiresBySlot};
 ghost use Rattle.lock_manager.specs.Releases.{Releases, ReleasesAll};
 
@@ -304,13 +305,11 @@ impl<'a> OwnSession<PlainPart, SeatBoard<'a, PlainPart>> {
     }
 
     /// Ends the session: all that it holds is released, in the order of making, and its number is that of a closed
-    /// session from then on, which is not given out again (`ProcKill` in proc.c).
+    /// session from then on, which is not given out again (`ProcKill` in proc.c). Its trace goes to the opener.
     pub fn close<R: Wait>(self, rt: &R, opener: &mut Opener)
         requires own_opener { (⟦<SeatBoard<'a, PlainPart> as Board<PlainPart>>⟧.seat self.board).table ≡ opener.old.table }
-        ensures closed { let B = ⟦<SeatBoard<'a, PlainPart> as Board<PlainPart>>⟧ in opener.new ≡ record (opener.old) {
-          live = opener.old.live - 1;
-          closed = (B.seat self.entry.board).number ∷ opener.old.closed;
-        } }
+        ensures closed { let B = ⟦<SeatBoard<'a, PlainPart> as Board<PlainPart>>⟧ in
+            HasClosed B.seat B.view B.stack self.entry opener.old opener.new }
     {
         let OwnSession {
             mut board,

@@ -1,6 +1,8 @@
 //! Desks, at which the sessions of a manager are opened and closed.
 
 ghost use Rattle.std.specs.Prelude.{◌≡◌, ◌<◌, ◌+◌, ◌-◌, ◌∷◌, IfOk, OnOk, OnErr};
+ghost use Rattle.lock_table.specs.PartView.{PartView};
+ghost use Rattle.shared_rule.specs.declared.history.History.{History};
 ghost use Rattle.lock_manager.specs.Managers.{IsOpenerOf};
 
 use lock_manager::{Manager, Opener, Refusal, Session};
@@ -29,10 +31,8 @@ pub trait Desk<'a, S> {
     /// Closes a session of the opener's manager.
     fn close<R: Wait>(&self, rt: &R, opener: &mut Opener, session: S)
         requires own { (seat session).table ≡ opener.old.table }
-        ensures closed { opener.new ≡ record (opener.old) {
-          live = opener.old.live - 1;
-          closed = (seat session).number ∷ opener.old.closed;
-        } };
+        ensures closed { (last : History PartView) × (last.number ≡ (seat session).number)
+            × (opener.new ≡ record (opener.old) { live = opener.old.live - 1; closed = last ∷ opener.old.closed }) };
 }
 
 /// The desk of the shared table, which each manager has.
@@ -56,10 +56,9 @@ impl<'a> Desk<'a, Session<'a>> for SharedDesk {
 
     fn close<R: Wait>(&self, rt: &R, opener: &mut Opener, session: Session<'a>)
         requires own { (⟦<SeatBoard<'a, PlainPart> as Board<PlainPart>>⟧.seat session.board).table ≡ opener.old.table }
-        ensures closed { opener.new ≡ record (opener.old) {
-          live = opener.old.live - 1;
-          closed = (⟦<SeatBoard<'a, PlainPart> as Board<PlainPart>>⟧.seat session.entry.board).number ∷ opener.old.closed;
-        } }
+        ensures closed { let B = ⟦<SeatBoard<'a, PlainPart> as Board<PlainPart>>⟧ in
+            (last : History PartView) × (last.number ≡ (B.seat session.entry.board).number)
+            × (opener.new ≡ record (opener.old) { live = opener.old.live - 1; closed = last ∷ opener.old.closed }) }
     {
         session.close(rt, opener);
     }

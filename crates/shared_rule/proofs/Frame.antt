@@ -22,19 +22,11 @@ use Rattle.shared_rule.specs.declared.history.History.{History}
 use Rattle.shared_rule.specs.declared.history.View.{View}
 use Rattle.shared_rule.specs.Shown.{WordsAreShown}
 use Rattle.shared_rule.specs.History.{noted, told, noting_first, noting, keeper}
-use Rattle.shared_rule.specs.Ruled.{NoneBeyondSlots, ContentsAreHome, IsClosed, HistoryIsShown, IsBehind, SeatsAreShown, Ruled}
+use Rattle.shared_rule.proofs.Standing.{there-within, there-one}
+use Rattle.shared_rule.proofs.ClosedCounts.{opener-set}
+use Rattle.shared_rule.specs.Ruled.{OpenerHasClosed, NoneBeyondSlots, ContentsAreHome, IsClosed, HistoryIsShown, IsBehind, SeatsAreShown, Ruled}
 
 -- A step of the session that goes on by itself at a seat, noted there, keeps the rule.
-
--- a place where something stands is within the list
-pub there-within : {A : Type 0} (xs : List A) (i : ℕ) (a : A) → get_elem? xs i ≡ some a → i < length xs
-there-within [] i a at = absurd (some-ne-none a (sym at))
-there-within (x ∷ xs) zero a at = omega arith
-there-within (x ∷ xs) (suc i) a at = let less = there-within xs i a at in omega (arith, less)
-
--- one thing stands at a place
-pub there-one : {A : Type 0} (xs : List A) (i : ℕ) (a b : A) → get_elem? xs i ≡ some a → get_elem? xs i ≡ some b → a ≡ b
-there-one xs i a b at its = some-injective a b (sym at ∙ its)
 
 -- what is above a number is above 0
 pub after-none : (i j : ℕ) → i < j → 0 < j
@@ -155,12 +147,12 @@ module _ {T : Type 0} (content : T → Content) (w v : World) (views : List (Vie
         | inr other ↦ let old = seats.next i u n other.1 says in (old.0, old.1 ∙ sym (ap (λ (z : Numbers). z.issued) numbers))
       ]
 
-  closed : (i j : ℕ) (u : View T) (n : ℕ) → get_elem? (slice_set views id (noting view mark)) i ≡ some u → slice_get u.closed j ≡ Some n → IsClosed v.numbers n
-  closed i j u n there says =
-      subst (λ (z : Numbers). IsClosed z n) (sym numbers)
+  closed : (i j : ℕ) (u : View T) (y : History T) → get_elem? (slice_set views id (noting view mark)) i ≡ some u → slice_get u.closed j ≡ Some y → IsClosed v.numbers y.number
+  closed i j u y there says =
+      subst (λ (z : Numbers). IsClosed z y.number) (sym numbers)
       (elim (at_set views id i (noting view mark) u there) [
-        | inl one ↦ seats.closed id j view n at (ap (λ (z : View T). slice_get z.closed j) one.1 ∙ says)
-        | inr other ↦ seats.closed i j u n other.1 says
+        | inl one ↦ seats.closed id j view y at (ap (λ (z : View T). slice_get z.closed j) one.1 ∙ says)
+        | inr other ↦ seats.closed i j u y other.1 says
       ])
 
   pub seats-noted : SeatsAreShown content (slice_set views id (noting view mark)) v
@@ -238,4 +230,6 @@ module _ {T : Type 0} (content : T → Content) (begun : T → Option Request) (
         contents = home;
         seats = seats-noted content r.world noted.after s.views id view x others mark at is noted.numbers left noted.account
             r.safe.but_slots.table.carriers.numbers.live_is_issued r.seats;
+        closed = subst (λ (n : Numbers). OpenerHasClosed (slice_set s.views id (noting view mark)) n) (sym noted.numbers)
+            (opener-set r.world.numbers s.views id view (noting view mark) at refl (λ n says. says) r.closed);
       }

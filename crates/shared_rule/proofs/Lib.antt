@@ -1,4 +1,6 @@
 mod Shown
+pub mod Standing
+pub mod ClosedCounts
 pub mod Frame
 pub mod Views
 pub mod Meetings

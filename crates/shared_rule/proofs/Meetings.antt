@@ -14,7 +14,7 @@ use Rattle.shared_rule.specs.declared.history.History.{History}
 use Rattle.shared_rule.specs.declared.history.View.{View}
 use Rattle.shared_rule.specs.History.{keeper, lone, spent_view}
 use Rattle.shared_rule.specs.Ruled.{IsClosed, HistoryIsShown, IsBehind, SeatsAreShown}
-use Rattle.shared_rule.proofs.Frame.{there-within, there-one}
+use Rattle.shared_rule.proofs.Standing.{there-within, there-one}
 use Rattle.shared_rule.proofs.Views.{there-snoc, one-get, still-shown, history-alone, nobody-behind}
 
 -- Two sessions that meet at one seat, and part again: the views show what the World after it has.
@@ -145,13 +145,13 @@ module _ {T : Type 0} (content : T → Content) (w : World) (views : List (View 
         ]
       ]
 
-  met-closed : (i j : ℕ) (u : View T) (m : ℕ) → get_elem? joined i ≡ some u → slice_get u.closed j ≡ Some m → IsClosed w.numbers m
-  met-closed i j u m stands says =
+  met-closed : (i j : ℕ) (u : View T) (y : History T) → get_elem? joined i ≡ some u → slice_get u.closed j ≡ Some y → IsClosed w.numbers y.number
+  met-closed i j u y stands says =
       elim (at_set (slice_set views id both) other i spent_view u stands) [
-        | inl here ↦ let never : ◌≡◌ {A = Option ℕ} None (Some m) = ap (λ (z : View T). slice_get z.closed j) here.1 ∙ says in absurd (cc (never))
+        | inl here ↦ let never : ◌≡◌ {A = Option (History T)} None (Some y) = ap (λ (z : View T). slice_get z.closed j) here.1 ∙ says in absurd (cc (never))
         | inr else ↦ elim (at_set views id i both u else.1) [
-          | inl here ↦ let never : ◌≡◌ {A = Option ℕ} None (Some m) = ap (λ (z : View T). slice_get z.closed j) here.1 ∙ says in absurd (cc (never))
-          | inr elsewhere ↦ seats.closed i j u m elsewhere.1 says
+          | inl here ↦ let never : ◌≡◌ {A = Option (History T)} None (Some y) = ap (λ (z : View T). slice_get z.closed j) here.1 ∙ says in absurd (cc (never))
+          | inr elsewhere ↦ seats.closed i j u y elsewhere.1 says
         ]
       ]
 
@@ -290,14 +290,14 @@ module _ {T : Type 0} (content : T → Content) (w : World) (views : List (View 
         | inr last ↦ let never : ◌≡◌ {A = Option ℕ} None (Some m) = ap (λ (z : View T). z.next) last.1 ∙ says in absurd (cc (never))
       ]
 
-  parted-closed : (i j : ℕ) (u : View T) (m : ℕ) → get_elem? parted_views i ≡ some u → slice_get u.closed j ≡ Some m → IsClosed w.numbers m
-  parted-closed i j u m stands says =
+  parted-closed : (i j : ℕ) (u : View T) (y : History T) → get_elem? parted_views i ≡ some u → slice_get u.closed j ≡ Some y → IsClosed w.numbers y.number
+  parted-closed i j u y stands says =
       elim (there-snoc (slice_set views id kept_view) given_view u i stands) [
         | inl there ↦ elim (at_set views id i kept_view u there) [
-          | inl here ↦ let never : ◌≡◌ {A = Option ℕ} None (Some m) = ap (λ (z : View T). slice_get z.closed j) here.1 ∙ says in absurd (cc (never))
-          | inr else ↦ seats.closed i j u m else.1 says
+          | inl here ↦ let never : ◌≡◌ {A = Option (History T)} None (Some y) = ap (λ (z : View T). slice_get z.closed j) here.1 ∙ says in absurd (cc (never))
+          | inr else ↦ seats.closed i j u y else.1 says
         ]
-        | inr last ↦ let never : ◌≡◌ {A = Option ℕ} None (Some m) = ap (λ (z : View T). slice_get z.closed j) last.1 ∙ says in absurd (cc (never))
+        | inr last ↦ let never : ◌≡◌ {A = Option (History T)} None (Some y) = ap (λ (z : View T). slice_get z.closed j) last.1 ∙ says in absurd (cc (never))
       ]
 
   pub seats-parted :

@@ -1,4 +1,4 @@
-use Rattle.std.proofs.Common.{◌≡◌, ℕ, zero, suc, ◌≤◌, List, [], ◌∷◌, ◌++◌, length, Option, Some, None, IsSome, refl, sym, ap, ◌∙◌, arith}
+use Rattle.std.proofs.Common.{◌≡◌, ℕ, zero, suc, ◌≤◌, List, [], ◌∷◌, ◌++◌, length, Option, Some, None, IsSome, refl, sym, ap, ◌∙◌, subst, arith}
 use Rattle.std.specs.Prelude.{slice_get, slice_index_or, option_to_list}
 use Rattle.std.proofs.lemmas.Bool.{false≢true}
 use mathlib.Core.Option.{some, some-injective, some-ne-none}
@@ -10,6 +10,7 @@ use Rattle.lock_table.specs.Content.{Content}
 use Rattle.lock_table.specs.PartView.{PartView, content_of}
 use Rattle.lock_table.specs.Parts.{AreEmpty, part_at, no_part}
 use Rattle.lock_world.specs.World.{opening}
+use Rattle.lock_world.specs.Total.{total}
 use Rattle.lock_world.proofs.SafeWorld.Opening.{opening-safe}
 use Rattle.lock_world.proofs.SafeWorld.Runs.{Runs-none}
 use Rattle.shared_rule.specs.declared.history.History.{History}
@@ -18,7 +19,7 @@ use Rattle.shared_rule.specs.Layout.{content_slot_of}
 use Rattle.shared_rule.specs.Shown.{WordsAreShown}
 use Rattle.shared_rule.specs.History.{opening_view}
 use Rattle.shared_rule.specs.Opening.{IsNew, AreNew, AreEmptyParts}
-use Rattle.shared_rule.specs.Ruled.{SeatsAreShown, Ruled}
+use Rattle.shared_rule.specs.Ruled.{ClosedAreCounted, SeatsAreShown, Ruled}
 
 -- The table before the first step meets the rule.
 
@@ -59,10 +60,15 @@ module _ {T : Type 0} (content : T → Content) (begun : T → Option Request) (
         let both : Some 0 ≡ Some number = ap (λ (z : View T). z.next) only.1 ∙ says in
         let same : ◌≡◌ {A = ℕ} 0 number = cc (both) in
         (only.0, sym same);
-    closed = λ seat place view number there says.
-        let never : ◌≡◌ {A = Option ℕ} None (Some number) = ap (λ (z : View T). slice_get z.closed place) (only-one seat view there).1 ∙ says in absurd (cc (never));
+    closed = λ seat place view history there says.
+        let never : ◌≡◌ {A = Option (History T)} None (Some history) = ap (λ (z : View T). slice_get z.closed place) (only-one seat view there).1 ∙ says in absurd (cc (never));
     not_issued = λ number later. refl;
   }
+
+  -- nobody was given out, and nobody has closed
+  none-closed : ClosedAreCounted {T = T} (opening limit).numbers []
+  unfolding total
+  none-closed = record { once = λ number. omega arith; all = refl }
 
   pub opening-ruled : limit ≤ 64 → (words : List ℕ) → WordsAreShown words (opening 0).words → (slots : List (Option T)) → AreNew content begun slots
       → Ruled content begun limit (table.opening words slots opening_view)
@@ -85,6 +91,7 @@ module _ {T : Type 0} (content : T → Content) (begun : T → Option Request) (
           none_begun = part.blank.none_begun;
         };
     seats = opening-seats;
+    closed = λ seat view number there says. subst (λ (z : View T). ClosedAreCounted (opening limit).numbers z.closed) (only-one seat view there).1 none-closed;
   }
 
 -- The last of parts with nothing in them, and the others.

@@ -23,8 +23,8 @@ use Rattle.shared_rule.specs.declared.history.Mark.{Mark}
 use Rattle.shared_rule.specs.declared.history.History.{History}
 use Rattle.shared_rule.specs.declared.history.View.{View}
 use Rattle.shared_rule.specs.History.{blank_account, keeper, lone, spent_view}
-use Rattle.shared_rule.specs.Ruled.{IsClosed, HistoryIsShown, IsBehind, SeatsAreShown, Ruled}
-use Rattle.shared_rule.proofs.Frame.{there-within, there-one}
+use Rattle.shared_rule.specs.Ruled.{IsClosed, OpenerHasClosed, HistoryIsShown, IsBehind, SeatsAreShown, Ruled}
+use Rattle.shared_rule.proofs.Standing.{there-within, there-one}
 
 -- Views that are cut in two and joined show what the World after it has.
 
@@ -178,14 +178,14 @@ module _ {T : Type 0} (content : T → Content) (w : World) (views : List (View 
       let within : m < n + 1 = omega (arith, young, next) in
       (within, set_at-else w.numbers.live n true m (λ e. let same : ◌≡◌ {A = ℕ} m n = e in omega (arith, young, same, next)) ∙ old.1)
 
-  closed : (i j : ℕ) (u : View T) (m : ℕ) → get_elem? (slice_set views id left ++ lone n [] ∷ []) i ≡ some u → slice_get u.closed j ≡ Some m → IsClosed (after_issuing w n).numbers m
-  closed i j u m there says =
+  closed : (i j : ℕ) (u : View T) (y : History T) → get_elem? (slice_set views id left ++ lone n [] ∷ []) i ≡ some u → slice_get u.closed j ≡ Some y → IsClosed (after_issuing w n).numbers y.number
+  closed i j u y there says =
       elim (there-snoc (slice_set views id left) (lone n []) u i there) [
         | inl old ↦ elim (at_set views id i left u old) [
-          | inl here ↦ still-closed m (seats.closed id j view m at (ap (λ (z : View T). slice_get z.closed j) here.1 ∙ says))
-          | inr else ↦ still-closed m (seats.closed i j u m else.1 says)
+          | inl here ↦ still-closed y.number (seats.closed id j view y at (ap (λ (z : View T). slice_get z.closed j) here.1 ∙ says))
+          | inr else ↦ still-closed y.number (seats.closed i j u y else.1 says)
         ]
-        | inr last ↦ let never : ◌≡◌ {A = Option ℕ} None (Some m) = ap (λ (z : View T). slice_get z.closed j) last.1 ∙ says in absurd (cc (never))
+        | inr last ↦ let never : ◌≡◌ {A = Option (History T)} None (Some y) = ap (λ (z : View T). slice_get z.closed j) last.1 ∙ says in absurd (cc (never))
       ]
 
   pub seats-opened : SeatsAreShown content (slice_set views id (record { next = Some (n + 1); closed = view.closed; sessions = view.sessions }) ++ lone n [] ∷ []) (after_issuing w n)
@@ -200,11 +200,11 @@ module _ {T : Type 0} (content : T → Content) (w : World) (views : List (View 
     not_issued = λ m not_yet. let next : n ≡ w.numbers.issued = is_next in let later : n + 1 ≤ m = not_yet in seats.not_issued m (omega (arith, next, later));
   }
 
--- A view has the number of one more closed session.
-module _ {T : Type 0} (content : T → Content) (w : World) (views : List (View T)) (id : ℕ) (view : View T) (k : ℕ) (at : get_elem? views id ≡ some view)
-    (is_closed : IsClosed w.numbers k) (seats : SeatsAreShown content views w) where
+-- A view has one more closed session.
+module _ {T : Type 0} (content : T → Content) (w : World) (views : List (View T)) (id : ℕ) (view : View T) (h : History T) (at : get_elem? views id ≡ some view)
+    (is_closed : IsClosed w.numbers h.number) (seats : SeatsAreShown content views w) where
   abbrev more : View T
-  more = record { next = view.next; closed = k ∷ view.closed; sessions = view.sessions }
+  more = record { next = view.next; closed = h ∷ view.closed; sessions = view.sessions }
 
   more-shown : (i j : ℕ) (u : View T) (y : History T) → get_elem? (slice_set views id more) i ≡ some u → slice_get u.sessions j ≡ Some y → HistoryIsShown content w seats.seat_of seats.place_in i j u.sessions y
   more-shown i j u y there get =
@@ -238,15 +238,15 @@ module _ {T : Type 0} (content : T → Content) (w : World) (views : List (View 
         behind = old.behind;
       }
 
-  one-more : (j m : ℕ) → slice_get (k ∷ view.closed) j ≡ Some m → IsClosed w.numbers m
-  one-more zero m says = let same : ◌≡◌ {A = ℕ} k m = cc (says) in subst (IsClosed w.numbers) same is_closed
-  one-more (suc j) m says = seats.closed id j view m at says
+  one-more : (j : ℕ) (y : History T) → slice_get (h ∷ view.closed) j ≡ Some y → IsClosed w.numbers y.number
+  one-more zero y says = let same : h ≡ y = cc (says) in subst (λ (z : History T). IsClosed w.numbers z.number) same is_closed
+  one-more (suc j) y says = seats.closed id j view y at says
 
-  more-closed : (i j : ℕ) (u : View T) (m : ℕ) → get_elem? (slice_set views id more) i ≡ some u → slice_get u.closed j ≡ Some m → IsClosed w.numbers m
-  more-closed i j u m there says =
+  more-closed : (i j : ℕ) (u : View T) (y : History T) → get_elem? (slice_set views id more) i ≡ some u → slice_get u.closed j ≡ Some y → IsClosed w.numbers y.number
+  more-closed i j u y there says =
       elim (at_set views id i more u there) [
-        | inl here ↦ one-more j m (ap (λ (z : View T). slice_get z.closed j) here.1 ∙ says)
-        | inr else ↦ seats.closed i j u m else.1 says
+        | inl here ↦ one-more j y (ap (λ (z : View T). slice_get z.closed j) here.1 ∙ says)
+        | inr else ↦ seats.closed i j u y else.1 says
       ]
 
   more-next : (i : ℕ) (u : View T) (m : ℕ) → get_elem? (slice_set views id more) i ≡ some u → u.next ≡ Some m → (i ≡ seats.opener) × (m ≡ w.numbers.issued)
@@ -256,7 +256,7 @@ module _ {T : Type 0} (content : T → Content) (w : World) (views : List (View 
         | inr else ↦ seats.next i u m else.1 says
       ]
 
-  pub seats-with_closed : SeatsAreShown content (slice_set views id (record { next = view.next; closed = k ∷ view.closed; sessions = view.sessions })) w
+  pub seats-with_closed : SeatsAreShown content (slice_set views id (record { next = view.next; closed = h ∷ view.closed; sessions = view.sessions })) w
   seats-with_closed = record {
     seat_of = seats.seat_of;
     place_in = seats.place_in;
@@ -358,10 +358,10 @@ module _ {T : Type 0} (content : T → Content) (w : World) (views : List (View 
           | inl here ↦ let never : ◌≡◌ {A = Option ℕ} None (Some m) = ap (λ (z : View T). z.next) here.1 ∙ says in absurd (cc (never))
           | inr else ↦ seats.next i u m else.1 says
         ];
-    closed = λ i j u m there says.
+    closed = λ i j u y there says.
         elim (at_set views other i spent_view u there) [
-          | inl here ↦ let never : ◌≡◌ {A = Option ℕ} None (Some m) = ap (λ (z : View T). slice_get z.closed j) here.1 ∙ says in absurd (cc (never))
-          | inr else ↦ closed-still m (seats.closed i j u m else.1 says)
+          | inl here ↦ let never : ◌≡◌ {A = Option (History T)} None (Some y) = ap (λ (z : View T). slice_get z.closed j) here.1 ∙ says in absurd (cc (never))
+          | inr else ↦ closed-still y.number (seats.closed i j u y else.1 says)
         ];
     not_issued = λ m not_yet. closed-blank m (seats.not_issued m not_yet);
   }
@@ -369,20 +369,20 @@ module _ {T : Type 0} (content : T → Content) (w : World) (views : List (View 
   -- The opener's view has it as closed.
   pub seats-closed :
       (id : ℕ) (opener : View T) → get_elem? views id ≡ some opener → other ≢ id → NumbersAreInOrder w.numbers
-      → SeatsAreShown content (slice_set (slice_set views id (record { next = opener.next; closed = k ∷ opener.closed; sessions = opener.sessions })) other spent_view) (after_closing w k)
+      → SeatsAreShown content (slice_set (slice_set views id (record { next = opener.next; closed = closing ∷ opener.closed; sessions = opener.sessions })) other spent_view) (after_closing w k)
   seats-closed id opener stands apart order =
       subst (λ (all : List (View T)). SeatsAreShown content all (after_closing w k))
-      (sym (set_comm views id other (record { next = opener.next; closed = k ∷ opener.closed; sessions = opener.sessions }) spent_view (λ e. apart (sym e))))
-      (seats-with_closed content (after_closing w k) (slice_set views other spent_view) id opener k
+      (sym (set_comm views id other (record { next = opener.next; closed = closing ∷ opener.closed; sessions = opener.sessions }) spent_view (λ e. apart (sym e))))
+      (seats-with_closed content (after_closing w k) (slice_set views other spent_view) id opener closing
       (set_else views other id spent_view (λ e. apart (sym e)) ∙ stands) (order.live_is_issued k history-alone.live, set_at-here w.numbers.live k false k refl) left-closed)
 
 module _ {T : Type 0} (content : T → Content) (begun : T → Option Request) (limit : ℕ) (s : State (Option T) (View T)) (r : Ruled content begun limit s) where
   -- The rule holds in the World with other numbers,
   pub ruled-numbered :
       (event : Event) (numbers : Numbers) (views : List (View T)) → Happens r.world event (with_numbers r.world numbers) → numbers.limit ≡ r.world.numbers.limit
-      → SafeWorld (with_numbers r.world numbers) → SeatsAreShown content views (with_numbers r.world numbers)
+      → SafeWorld (with_numbers r.world numbers) → SeatsAreShown content views (with_numbers r.world numbers) → OpenerHasClosed views numbers
       → Ruled content begun limit (record { words = s.words; homes = s.homes; views = views })
-  ruled-numbered event numbers views happens same safe seats = record {
+  ruled-numbered event numbers views happens same safe seats closed = record {
     world = with_numbers r.world numbers;
     events = r.events ++ event ∷ [];
     run = Runs-push (opening limit) r.events event r.world (with_numbers r.world numbers) r.run (inl happens);
@@ -394,13 +394,14 @@ module _ {T : Type 0} (content : T → Content) (begun : T → Option Request) (
     few_counted = r.few_counted;
     contents = r.contents;
     seats = seats;
+    closed = closed;
   }
 
   -- and in the World in which a session has closed.
   pub ruled-closed :
       (k : ℕ) (views : List (View T)) → MayClose r.world k → SafeWorld (after_closing r.world k) → SeatsAreShown content views (after_closing r.world k)
-      → Ruled content begun limit (record { words = s.words; homes = s.homes; views = views })
-  ruled-closed k views may safe seats = record {
+      → OpenerHasClosed views (after_closing r.world k).numbers → Ruled content begun limit (record { words = s.words; homes = s.homes; views = views })
+  ruled-closed k views may safe seats closed = record {
     world = after_closing r.world k;
     events = r.events ++ record { session = k; step = JoinSeat None } ∷ [];
     run = Runs-push (opening limit) r.events (record { session = k; step = JoinSeat None }) r.world (after_closing r.world k) r.run (inl (may, refl));
@@ -412,4 +413,5 @@ module _ {T : Type 0} (content : T → Content) (begun : T → Option Request) (
     few_counted = r.few_counted;
     contents = r.contents;
     seats = seats;
+    closed = closed;
   }

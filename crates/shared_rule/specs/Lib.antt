@@ -2,6 +2,7 @@ pub mod Layout
 pub mod Shown
 pub mod History
 pub mod Ruled
+pub mod WasSo
 pub mod Slots
 pub mod Plays
 pub mod Owed

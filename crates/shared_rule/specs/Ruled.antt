@@ -1,4 +1,4 @@
-use Rattle.std.specs.Prelude.{◌≡◌, ℕ, ◌<◌, ◌≤◌, true, false, List, length, slice_get, Option, Some, None}
+use Rattle.std.specs.Prelude.{◌≡◌, ℕ, ◌+◌, ◌<◌, ◌≤◌, ◌==◌, true, false, List, length, slice_get, count_by, Option, Some, None}
 use mathlib.Core.Option.{some}
 use mathlib.Core.Option as maybe
 use lib.ListN.{get_elem?}
@@ -8,6 +8,7 @@ use Rattle.lock_table.specs.Content.{Content}
 use Rattle.lock_world.specs.declared.events.Event.{Event}
 use Rattle.lock_world.specs.World.{World, Words, Contents, Hand, Numbers, opening}
 use Rattle.lock_world.specs.SafeWorld.{SafeWorld}
+use Rattle.lock_world.specs.Total.{how_many}
 use Rattle.lock_world.specs.SlotHolds.{slot_count}
 use Rattle.lock_world.specs.Account.{account}
 use Rattle.lock_world.specs.Happens.Counters.{most_counted}
@@ -45,6 +46,18 @@ module _ {T : Type 0} (content : T → Content) (begun : T → Option Request) w
 -- The session of this number was opened, and has closed: the number was given out and is live no more.
 abbrev pub IsClosed : Numbers → ℕ → Type 0
 IsClosed numbers number = (number < numbers.issued) × (numbers.live number ≡ false)
+
+module _ {T : Type 0} where
+  -- Each closed session has one history among these, and with those that are live they are all that were given out.
+  pub record ClosedAreCounted (numbers : Numbers) (closed : List (History T)) : Type 0 where
+    pub once : (number : ℕ) → count_by (λ history. history.number == number) closed ≤ 1
+    pub all : how_many numbers.issued numbers.live + length closed ≡ numbers.issued
+
+  -- It is so of those that the opener's view has as closed, the one view that knows the next number.
+  abbrev pub OpenerHasClosed : List (View T) → Numbers → Type 0
+  OpenerHasClosed views numbers =
+      (seat : ℕ) (view : View T) (number : ℕ) → get_elem? views seat ≡ some view → view.next ≡ Some number
+      → ClosedAreCounted numbers view.closed
 
 -- What the views of the seats show.
 module _ {T : Type 0} (content : T → Content) where
@@ -86,8 +99,8 @@ module _ {T : Type 0} (content : T → Content) where
         → (seat ≡ opener) × (number ≡ w.numbers.issued)
     -- whom a view has as closed is
     pub closed :
-        (seat place : ℕ) (view : View T) (number : ℕ) → get_elem? views seat ≡ some view
-        → slice_get view.closed place ≡ Some number → IsClosed w.numbers number
+        (seat place : ℕ) (view : View T) (history : History T) → get_elem? views seat ≡ some view
+        → slice_get view.closed place ≡ Some history → IsClosed w.numbers history.number
     -- a number not yet given out has an account with nothing in it
     pub not_issued : (number : ℕ) → w.numbers.issued ≤ number → account w number ≡ blank_account
 
@@ -106,3 +119,4 @@ module _ {T : Type 0} (content : T → Content) (begun : T → Option Request) w
     pub few_counted : (session : ℕ) → length (world.sessions.counted session) ≤ most_counted
     pub contents : ContentsAreHome content begun state.homes world.contents
     pub seats : SeatsAreShown content state.views world
+    pub closed : OpenerHasClosed state.views world.numbers

@@ -8,8 +8,9 @@ use Rattle.lock_world.specs.Account.{Account}
 use Rattle.shared_rule.specs.declared.history.History.{History}
 use Rattle.shared_rule.specs.declared.history.Mark.{Mark}
 use Rattle.shared_rule.specs.declared.history.View.{View}
-use Rattle.shared_rule.specs.History.{lone, first_account, first_number}
+use Rattle.shared_rule.specs.History.{lone, first_account}
 use Rattle.shared_rule.specs.Plays.{Side}
+use Rattle.shared_rule.specs.Openers.{HaveClosed}
 
 -- Seats that are cut in two and joined: sessions open and close, and two of them meet.
 
@@ -61,11 +62,11 @@ module _ {T : Type 0} where
   abbrev pub newcomer : View T → View T
   newcomer view = lone (number_in view.next) []
 
-  -- the view of the opener's seat once it has taken a session's back, whose number is closed then
+  -- the view of the opener's seat once it has taken a session's back, whose number is closed then, with its history
   abbrev pub with_closed : View T → View T → View T
   with_closed view session = record {
     next = view.next;
-    closed = first_number session.sessions ∷ view.closed;
+    closed = first_of session.sessions ++ view.closed;
     sessions = view.sessions;
   }
 
@@ -86,6 +87,11 @@ module _ {T : Type 0} where
     pub next : view.next ≡ Some number
     pub within : number < limit
 
+  -- The seat is the opener's, which knows the next number.
+  pub record HasNext (view : View T) : Type 0 where
+    pub number : ℕ
+    pub next : view.next ≡ Some number
+
   -- The seat is for one session,
   pub record IsForOne (view : View T) : Type 0 where
     pub number : ℕ
@@ -97,6 +103,11 @@ module _ {T : Type 0} where
     pub first : History T
     pub second : History T
     pub two : view ≡ record { next = None; closed = []; sessions = first ∷ second ∷ [] }
+
+  -- Nothing changed, and those that the opener has as closed were given out, each once.
+  abbrev pub ToldClosed : Step (Option T) → Side T → ℕ → Side T → Type 0
+  ToldClosed step before found after =
+      (after ≡ before) × HaveClosed (number_in before.0.next) before.0.closed
 
 module _ {T : Type 0} (content : T → Content) where
   -- Nothing changed, and no hold of the first session conflicts with a hold of the one behind it.

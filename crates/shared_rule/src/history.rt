@@ -129,10 +129,10 @@ pub struct History<T> {
 }
 
 /// What a seat knows: the histories of the sessions that it is for, and, if it is the opener's, the number that the
-/// next session gets, and the numbers of those that closed, the last one first. A seat is one session's, which makes its
+/// next session gets, and the histories of those that closed, the last one first. A seat is one session's, which makes its
 /// steps with it. Where two sessions meet, the first one's seat has the other's history behind its own for that time.
 pub struct View<T> {
     pub next: Option<u8>,
-    pub closed: [u8; 0],
+    pub closed: LinkedList<History<T>>,
     pub sessions: LinkedList<History<T>>,
 }

@@ -1,7 +1,13 @@
 //! Laws of the layout, each a clause over all words, and what the rule of the table keeps. The bodies are empty.
 
-ghost use Rattle.std.specs.Prelude.{◌≡◌, ◌≢◌, ◌<◌, ℕ, List, Option, slice_set};
+ghost use Rattle.std.specs.Prelude.{◌≡◌, ◌≢◌, ◌<◌, ℕ, List, ◌∷◌, ◌++◌, Option, Some, slice_get, slice_set};
+ghost use mathlib.Core.Option.{some};
+ghost use lib.ListN.{get_elem?};
 ghost use Rattle.atomic_table.specs.Table.{State};
+ghost use Rattle.lock_world.specs.World.{World, TraceEntry};
+ghost use Rattle.shared_rule.specs.declared.history.History.{History};
+ghost use Rattle.shared_rule.specs.History.{told};
+ghost use Rattle.shared_rule.specs.WasSo.{WasSo};
 ghost use Rattle.lock_world.specs.declared.events.Word.{Word};
 ghost use Rattle.shared_rule.specs.Layout.{index_of_word, IsInTable, IsApart, group_of};
 ghost use Rattle.lock_world.specs.World.{Words};
@@ -43,4 +49,14 @@ pub fn words_of_two_groups_stand_apart()
 pub fn a_word_is_set_alone()
     ensures { (table : List ℕ) (words : Words) (word : Word) (n : ℕ) → WordsAreShown table words → IsInTable word →
         WordsAreShown (slice_set table (index_of_word word) n) (set_word words word n) }
+{}
+
+/// Where the rule holds, whatever a session's account tells of what it has seen was so: each entry of its trace tells of a
+/// World on the way of events that lead from the World before the first step to the one that the table shows now.
+pub fn what_an_account_tells_was_so<T: PartTable>()
+    ensures { (limit : ℕ) (state : State (Option T) (View T)) (rule : Ruled T.content T.begun limit state)
+        (seat place : ℕ) (view : View T) (history : History T) → get_elem? state.views seat ≡ some view →
+        slice_get view.sessions place ≡ Some history → (before after : List TraceEntry) (entry : TraceEntry) →
+        (told T.content history.number history.marks).trace ≡ before ++ entry ∷ after →
+        WasSo limit rule.world history.number before entry }
 {}

@@ -4,6 +4,7 @@ ghost use Rattle.std.specs.Prelude.{◌≡◌, ◌<◌, ◌≤◌, ◌+◌, ◌�
 ghost use Rattle.shared_rule.specs.History.{blank_account, lone, opening_view};
 ghost use Rattle.shared_rule.specs.Boards.{nothing_due};
 ghost use Rattle.shared_rule.specs.Plays.{FitsTable, IsSized};
+ghost use Rattle.shared_rule.specs.Openers.{HaveClosed, HasTakenBack};
 ghost use Rattle.shared_rule.specs.Seats.{MayCloseBy};
 
 use crate::board::Board;
@@ -15,7 +16,7 @@ use modes_core::SessionId;
 use std::marker::Model;
 
 /// Gives out session numbers, each once, in rising order (`InitProcess` in proc.c). Contracts see at which table it is,
-/// how many numbers it has given out, how many there can be, and which ones are of sessions that have closed.
+/// how many numbers it has given out, how many there can be, and the histories of the sessions that have closed.
 #[derive(Drop)]
 pub struct Opener<T: PartTable> {
     place: Place<T>,
@@ -28,7 +29,7 @@ impl<T: PartTable> Model for Opener<T> {
     ghost use Rattle.shared_rule.specs.Openers.{OpenerState};
     ghost use Rattle.shared_rule.specs.Plays.{IsSized};
 
-    ghost Value = { OpenerState };
+    ghost Value = { OpenerState T };
 
     ghost view = { λ opener. record {
       table = opener.place.table_id;
@@ -95,15 +96,18 @@ impl<T: PartTable> Opener<T> {
     }
 
     /// Takes a session's board back, which has nothing any more (`ProcKill` in proc.c). Its number is that of a closed
-    /// session from then on, and all else of the opener is as before.
+    /// session from then on, with all that it did, and all else of the opener is as before. Of those that have closed it
+    /// tells that each was given out, and none closed twice.
     pub fn close<'a>(&mut self, board: SeatBoard<'a, T>)
         requires table { (⟦<SeatBoard<'a, T> as Board<T>>⟧.seat board).table ≡ self.old.table }
         requires stack { ⟦<SeatBoard<'a, T> as Board<T>>⟧.stack board ≡ nothing_due }
         requires lawful { MayCloseBy (⟦<SeatBoard<'a, T> as Board<T>>⟧.view board) }
         ensures closed { let B = ⟦<SeatBoard<'a, T> as Board<T>>⟧ in
-            self.new ≡ record (self.old) { closed = (B.seat board.entry).number ∷ self.old.closed } }
+            HasTakenBack T.content (B.seat board.entry).number (B.view board.entry).trace self.old self.new }
+        ensures have_closed { HaveClosed self.new.issued self.new.closed }
     {
         let (table, place) = board.into_place();
         seats::close(table, &mut self.place, place);
+        seats::tell_closed(table, &mut self.place);
     }
 }

@@ -80,6 +80,15 @@ impl<T: PartTable> Play<Option<T>, View<T>> for TriesSlots {
     ghost then = { TookSlotsOr T.content noted_load };
 }
 
+/// A load that changes nothing, and tells the opener that those that have closed were given out, each once.
+pub struct TellsClosed;
+
+impl<T> Play<Option<T>, View<T>> for TellsClosed {
+    ghost use Rattle.shared_rule.specs.Seats.{ToldClosed};
+
+    ghost then = { ToldClosed };
+}
+
 /// A load that changes nothing, and tells that no hold of the first session conflicts with one of the next.
 pub struct TellsApart;
 

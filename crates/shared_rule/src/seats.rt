@@ -4,11 +4,12 @@
 ghost use Rattle.std.specs.Prelude.{◌≡◌, []};
 ghost use Rattle.shared_rule.specs.History.{first_account};
 ghost use Rattle.shared_rule.specs.Plays.{FitsTable, IsSameSeat};
-ghost use Rattle.shared_rule.specs.Seats.{MayCloseBy, MayBeKeptApartBy, DoNotConflict, HasNumber, IsForOne, IsForTwo};
-ghost use Rattle.shared_rule.specs.Seats.{behind_of, opened, newcomer, with_closed, met, parted, handed_back};
+ghost use Rattle.shared_rule.specs.Seats.{MayCloseBy, MayBeKeptApartBy, DoNotConflict, HasNumber, HasNext, IsForOne, IsForTwo};
+ghost use Rattle.shared_rule.specs.Seats.{behind_of, opened, newcomer, with_closed, met, parted, handed_back, number_in};
+ghost use Rattle.shared_rule.specs.Openers.{HaveClosed};
 
 use crate::history::View;
-use crate::plays::TellsApart;
+use crate::plays::{TellsApart, TellsClosed};
 use crate::rule::{Place, Top};
 use atomic_table::{Join, Split};
 use lock_table::PartTable;
@@ -24,7 +25,7 @@ impl<T> Split<View<T>> for Opens {
     ghost right = { newcomer };
 }
 
-/// A session closes: its seat goes to the opener's, which has its number as closed, and nothing stays of its history.
+/// A session closes: its seat goes to the opener's, which has its number as closed, with its history.
 struct Closes;
 
 impl<T> Join<View<T>> for Closes {
@@ -75,6 +76,7 @@ pub(crate) fn open<T: PartTable>(top: &Top<T>, opener: &mut Place<T>) -> Place<T
 pub(crate) fn close<T: PartTable>(top: &Top<T>, opener: &mut Place<T>, session: Place<T>)
     requires table { FitsTable opener.old top.now.table_id }
     requires session_table { FitsTable session top.now.table_id }
+    requires opener { HasNext opener.old.me.0 }
     requires one { IsForOne session.me.0 }
     requires nothing_in_hand { session.me.1 ≡ [] }
     requires lawful { MayCloseBy (first_account T.content session.me.0.sessions) }
@@ -82,6 +84,17 @@ pub(crate) fn close<T: PartTable>(top: &Top<T>, opener: &mut Place<T>, session: 
     ensures side { opener.new.me ≡ (with_closed opener.old.me.0 session.me.0, opener.old.me.1) }
 {
     top.join_seat::<Closes>(opener, session);
+}
+
+/// Tells the opener that those that have closed were given out, each once. It loads a word, and ignores what it finds.
+pub(crate) fn tell_closed<T: PartTable>(top: &Top<T>, opener: &mut Place<T>)
+    requires table { FitsTable opener.old top.now.table_id }
+    requires opener { HasNext opener.old.me.0 }
+    ensures seat { IsSameSeat opener.old opener.new }
+    ensures side { opener.new.me ≡ opener.old.me }
+    ensures closed { HaveClosed (number_in opener.old.me.0.next) opener.old.me.0.closed }
+{
+    top.load::<TellsClosed>(opener, 0);
 }
 
 /// Keeps a session apart that holds no word: its history goes behind that of the other, for as long as the two meet.

@@ -1,26 +1,30 @@
-use Rattle.std.proofs.Common.{◌≡◌, ◌≢◌, ℕ, ◌<◌, Bool, true, false, List, [], ◌∷◌, ◌++◌, Option, Some, None, refl, sym, ap, ◌∙◌, subst, inl, inr}
+use Rattle.std.proofs.Common.{◌≡◌, ◌≢◌, ℕ, ◌+◌, ◌<◌, arith, Bool, true, false, List, [], ◌∷◌, ◌++◌, Option, Some, None, refl, sym, ap, ◌∙◌, subst, inl, inr}
 use Rattle.std.specs.Prelude.{if◌then◌else◌, ◌==◌, slice_set}
 use mathlib.Core.Option.{some}
 use lib.ListN.{get_elem?}
-use Rattle.atomic_table.specs.Table.{Step, keeps, Allows, Splits, Joins}
-use Rattle.atomic_table.proofs.Lists.{set_else}
+use Rattle.atomic_table.specs.Table.{State, Step, keeps, Allows, Splits, Joins}
+use Rattle.atomic_table.proofs.Lists.{at_set, set_else}
 use Rattle.lw_word.specs.declared.wait_lists.LwWaiter.{LwWaiter}
 use Rattle.lock_table.specs.declared.request.Request.{Request}
 use Rattle.lock_table.specs.Content.{Content}
 use Rattle.lock_world.specs.declared.events.Step.TheVariants.{SplitSeat, JoinSeat}
-use Rattle.lock_world.specs.World.{World, Hand, MakesSteps}
+use Rattle.lock_world.specs.World.{World, Hand, Numbers, MakesSteps}
 use Rattle.lock_world.specs.Safe.{is_hand_of}
 use Rattle.lock_world.specs.SafeWorld.{SafeWorld}
 use Rattle.lock_world.specs.Account.{Account, account, own_hand, list_in_hand}
-use Rattle.lock_world.specs.Happens.Seats.{MayBeIssued, after_issuing, MayBeKeptApart, after_keeping_apart, after_going_on, MayClose}
+use Rattle.lock_world.specs.Happens.Seats.{MayBeIssued, after_issuing, MayBeKeptApart, after_keeping_apart, after_going_on, MayClose, after_closing}
 use Rattle.lock_world.proofs.SafeWorld.Seats.{issuing-safe_world, going_on-safe_world, keeping_apart-safe_world, closing-safe_world}
 use Rattle.lock_world.proofs.FromSafeWorld.{no_conflict-own_world}
+use Rattle.shared_rule.specs.declared.history.Mark.{Mark}
 use Rattle.shared_rule.specs.declared.history.View.{View}
+use Rattle.std.proofs.lemmas.Bool.{false_from_ne_true}
 use Rattle.shared_rule.specs.History.{lone, spent_view, first_account}
-use Rattle.shared_rule.specs.Ruled.{Ruled}
 use Rattle.shared_rule.specs.Plays.{Side}
-use Rattle.shared_rule.specs.Seats.{MayCloseBy, MayBeKeptApartBy, DoNotConflict, HasNumber, IsForOne, IsForTwo, number_in, number_after, behind_of, opened, newcomer, with_closed, met, parted, handed_back, ToldApart}
-use Rattle.shared_rule.proofs.Views.{ruled-numbered, ruled-closed, seats-opened, seats-closed, history-alone, keeps-nobody}
+use Rattle.shared_rule.specs.Openers.{HaveClosed}
+use Rattle.shared_rule.specs.Ruled.{ClosedAreCounted, OpenerHasClosed, Ruled}
+use Rattle.shared_rule.proofs.ClosedCounts.{opener-set, counted-opened, counted-closed, counted-told}
+use Rattle.shared_rule.specs.Seats.{MayCloseBy, MayBeKeptApartBy, DoNotConflict, HasNumber, HasNext, ToldClosed, IsForOne, IsForTwo, number_in, number_after, behind_of, opened, newcomer, with_closed, met, parted, handed_back, ToldApart}
+use Rattle.shared_rule.proofs.Views.{there-snoc, ruled-numbered, ruled-closed, seats-opened, seats-closed, history-alone, keeps-nobody}
 use Rattle.shared_rule.proofs.Meetings.{first-shown, second-shown, are-two, seats-met, one-shown, two-shown, are-two_behind, seats-parted}
 use Rattle.shared_rule.proofs.Events.Marks.{nothing-changes}
 
@@ -58,6 +62,59 @@ closing-lawful w safe k steps nobody may = record {
 }
 
 module _ {T : Type 0} (content : T → Content) (begun : T → Option Request) (limit : ℕ) where
+  -- Who closed stands with the opener still, where a view joins the others that doesn't know the next number,
+  opener-longer : (numbers : Numbers) (views : List (View T)) (more : View T) → more.next ≡ None → OpenerHasClosed views numbers → OpenerHasClosed (views ++ more ∷ []) numbers
+  opener-longer numbers views more none has seat view number there says =
+      elim (there-snoc views more view seat there) [
+        | inl old ↦ has seat view number old says
+        | inr last ↦ let never : ◌≡◌ {A = Option ℕ} None (Some number) = sym none ∙ ap (λ (z : View T). z.next) last.1 ∙ says in absurd (cc (never))
+      ]
+
+  -- whoever keeps whom apart,
+  kept-counted : (numbers : Numbers) (kept_by : ℕ → Option ℕ) (views : List (View T)) → OpenerHasClosed views numbers → OpenerHasClosed views (record numbers { kept_by = kept_by })
+  kept-counted numbers kept_by views has seat view number there says = let counted = has seat view number there says in record { once = counted.once; all = counted.all }
+
+  -- where one more is given out, and is live,
+  opened-counted :
+      (s : State (Option T) (View T)) (r : Ruled content begun limit s) (id : ℕ) (view : View T) (n : ℕ) → get_elem? s.views id ≡ some view → view.next ≡ Some n
+      → OpenerHasClosed (slice_set s.views id (record { next = Some (n + 1); closed = view.closed; sessions = view.sessions }) ++ lone n [] ∷ []) (after_issuing r.world n).numbers
+  opened-counted s r id view n at gives =
+      opener-longer (after_issuing r.world n).numbers (slice_set s.views id left) (lone n []) refl (λ seat u m there says.
+      elim (at_set s.views id seat left u there) [
+        | inl here ↦ subst (λ (z : View T). ClosedAreCounted (after_issuing r.world n).numbers z.closed) here.1 now
+        | inr elsewhere ↦ absurd (elsewhere.0 ((r.seats.next seat u m elsewhere.1 says).0 ∙ sym opens_at.0))
+      ]) where
+        left : View T
+        left = record { next = Some (n + 1); closed = view.closed; sessions = view.sessions }
+
+        opens_at : (id ≡ r.seats.opener) × (n ≡ r.world.numbers.issued)
+        opens_at = r.seats.next id view n at gives
+
+        none : r.world.numbers.live n ≡ false
+        none = false_from_ne_true (r.world.numbers.live n) (λ alive.
+            let young : n < r.world.numbers.issued = r.safe.but_slots.table.carriers.numbers.live_is_issued n alive in
+            let same : n ≡ r.world.numbers.issued = opens_at.1 in
+            omega (arith, young, same))
+
+        now : ClosedAreCounted (after_issuing r.world n).numbers view.closed
+        now = counted-opened r.world.numbers n view.closed opens_at.1 none (r.closed id view n at gives)
+
+  -- and where one that was live closes, who is one more.
+  closed-counted :
+      (s : State (Option T) (View T)) (r : Ruled content begun limit s) (id : ℕ) (opener : View T) (n other k : ℕ) (marks : List (Mark T)) → get_elem? s.views id ≡ some opener
+      → opener.next ≡ Some n → other ≢ id → r.world.numbers.live k ≡ true
+      → OpenerHasClosed (slice_set (slice_set s.views id (with_closed opener (lone k marks))) other spent_view) (after_closing r.world k).numbers
+  closed-counted s r id opener n other k marks at gives apart live seat u m there says =
+      elim (at_set (slice_set s.views id (with_closed opener (lone k marks))) other seat spent_view u there) [
+        | inl spent ↦ let never : ◌≡◌ {A = Option ℕ} None (Some m) = ap (λ (z : View T). z.next) spent.1 ∙ says in absurd (cc (never))
+        | inr kept ↦ elim (at_set s.views id seat (with_closed opener (lone k marks)) u kept.1) [
+          | inl here ↦ subst (λ (z : View T). ClosedAreCounted (after_closing r.world k).numbers z.closed) here.1
+              (counted-closed r.world.numbers k marks opener.closed (r.safe.but_slots.table.carriers.numbers.live_is_issued k live) live
+              (λ place history stands. r.seats.closed id place opener history at stands) (r.closed id opener n at gives))
+          | inr elsewhere ↦ absurd (elsewhere.0 ((r.seats.next seat u m elsewhere.1 says).0 ∙ sym (r.seats.next id opener n at gives).0))
+        ]
+      ]
+
   -- A session opens.
   pub opens : (id : ℕ) (view : View T) → HasNumber view limit → Splits (Ruled content begun limit) id view (opened view) (newcomer view)
   opens id view has =
@@ -66,12 +123,13 @@ module _ {T : Type 0} (content : T → Content) (begun : T → Option Request) (
       let seats = seats-opened content r.world s.views id view has.number at has.next r.safe.but_slots.table.carriers.numbers r.seats in
       let within : has.number < r.world.numbers.limit = subst (λ (n : ℕ). has.number < n) (sym r.is_limit) has.within in
       let may : MayBeIssued r.world has.number = record { next = (r.seats.next id view has.number at has.next).1; within = within } in
-      ruled-numbered content begun limit s r (record { session = has.number; step = SplitSeat }) (after_issuing r.world has.number).numbers _ (inl (may, refl)) refl (issuing-safe_world r.world has.number r.safe may) seats)
+      ruled-numbered content begun limit s r (record { session = has.number; step = SplitSeat }) (after_issuing r.world has.number).numbers _ (inl (may, refl)) refl (issuing-safe_world r.world has.number r.safe may) seats
+      (opened-counted s r id view has.number at has.next))
 
   -- A session closes.
-  pub closes : (id : ℕ) (opener : View T) (other : ℕ) (view : View T) → IsForOne view → MayCloseBy (first_account content view.sessions)
+  pub closes : (id : ℕ) (opener : View T) (other : ℕ) (view : View T) → HasNext opener → IsForOne view → MayCloseBy (first_account content view.sessions)
       → Joins (Ruled content begun limit) id opener other view (with_closed opener view) spent_view
-  closes id opener other view one may s r at apart there =
+  closes id opener other view has one may s r at apart there =
       let k = one.number in
       let same : with_closed opener view ≡ with_closed opener (lone k one.marks) = ap (λ (z : View T). with_closed opener z) one.one in
       let stands : get_elem? s.views other ≡ some (lone k one.marks) = sym (set_else s.views id other (with_closed opener view) apart) ∙ there ∙ ap some one.one in
@@ -80,7 +138,8 @@ module _ {T : Type 0} (content : T → Content) (begun : T → Option Request) (
       let may_close = closing-lawful r.world r.safe k (record { live = shown.live; by_itself = shown.kept_by }) (keeps-nobody content r.world s.views other k one.marks stands r.seats) may_by in
       subst (λ (v : View T). Ruled content begun limit (record { words = s.words; homes = s.homes; views = slice_set (slice_set s.views id v) other spent_view })) (sym same)
       (ruled-closed content begun limit s r k _ may_close (closing-safe_world r.world k r.safe may_close)
-      (seats-closed content r.world s.views other k one.marks stands r.seats id opener at apart r.safe.but_slots.table.carriers.numbers))
+      (seats-closed content r.world s.views other k one.marks stands r.seats id opener at apart r.safe.but_slots.table.carriers.numbers)
+      (closed-counted s r id opener has.number other k one.marks at has.next apart shown.live))
 
   -- A session is kept apart.
   pub keeps_apart : (id : ℕ) (view : View T) (other : ℕ) (theirs : View T) → IsForOne view → IsForOne theirs → MayBeKeptApartBy (first_account content theirs.sessions)
@@ -103,7 +162,11 @@ module _ {T : Type 0} (content : T → Content) (begun : T → Option Request) (
       } in
       subst (λ (v : View T). Ruled content begun limit (record { words = s.words; homes = s.homes; views = slice_set (slice_set s.views id v) other spent_view })) (sym same)
       (ruled-numbered content begun limit s r (record { session = b; step = JoinSeat (Some a) }) (after_keeping_apart r.world b a).numbers _ (may_be, refl) refl (keeping_apart-safe_world r.world b a r.safe may_be)
-      (seats-met content r.world s.views id other a b one.marks two.marks stands others apart r.seats))
+      (seats-met content r.world s.views id other a b one.marks two.marks stands others apart r.seats)
+      (kept-counted r.world.numbers (after_keeping_apart r.world b a).numbers.kept_by _
+      (opener-set r.world.numbers (slice_set s.views id (met (lone a one.marks) (lone b two.marks))) other (lone b two.marks) spent_view
+      (set_else s.views id other (met (lone a one.marks) (lone b two.marks)) apart ∙ others) refl (λ n says. says)
+      (opener-set r.world.numbers s.views id (lone a one.marks) (met (lone a one.marks) (lone b two.marks)) stands refl (λ n says. says) r.closed))))
 
   -- It goes on by itself.
   pub hands_back : (id : ℕ) (view : View T) → IsForTwo view → Splits (Ruled content begun limit) id view (parted view) (handed_back view)
@@ -111,10 +174,30 @@ module _ {T : Type 0} (content : T → Content) (begun : T → Option Request) (
       let stands = at ∙ ap some is.two in
       let shown = two-shown content r.world s.views id is.first is.second stands r.seats in
       let y = is.second.number in
+      let two_of : View T = record { next = None; closed = []; sessions = is.first ∷ is.second ∷ [] } in
       subst (λ (v : View T). Ruled content begun limit (record { words = s.words; homes = s.homes; views = slice_set s.views id (parted v) ++ handed_back v ∷ [] })) (sym is.two)
       (ruled-numbered content begun limit s r (record { session = y; step = SplitSeat }) (after_going_on r.world y).numbers _ (inr ((is.first.number, shown.kept_by), refl)) refl
       (going_on-safe_world r.world y r.safe (is.first.number, shown.kept_by))
-      (seats-parted content r.world s.views id is.first is.second stands r.seats))
+      (seats-parted content r.world s.views id is.first is.second stands r.seats)
+      (kept-counted r.world.numbers (after_going_on r.world y).numbers.kept_by _
+      (opener-longer r.world.numbers (slice_set s.views id (parted two_of)) (handed_back two_of) refl
+      (opener-set r.world.numbers s.views id two_of (parted two_of) stands refl (λ n says. says) r.closed))))
+
+  -- Those that the opener has as closed were given out, each once.
+  pub tells_closed : (slots id i : ℕ) (me : Side T) (step : Step (Option T)) → HasNext me.0 → Allows (Ruled content begun limit) slots id me i (λ n. n) (ToldClosed step me)
+  tells_closed slots id i me step has s r many at below =
+      let opens_at = r.seats.next id me.0 has.number at has.next in (
+        me.0,
+        keeps,
+        tt,
+        nothing-changes content begun limit id i me.0 s r at,
+        (
+          refl,
+          subst (λ (o : Option ℕ). HaveClosed (number_in o) me.0.closed) (sym has.next)
+              (counted-told r.world.numbers has.number me.0.closed opens_at.1 (λ place history there. r.seats.closed id place me.0 history at there)
+              (r.closed id me.0 has.number at has.next)),
+        ),
+      )
 
   -- Where two meet, no hold of the one conflicts with a hold of the other.
   pub tells_apart : (slots id i : ℕ) (me : Side T) (step : Step (Option T)) → IsForTwo me.0 → Allows (Ruled content begun limit) slots id me i (λ n. n) (ToldApart content step me)

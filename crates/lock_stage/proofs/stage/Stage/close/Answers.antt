@@ -15,7 +15,7 @@ close-requires g c =
 pub invariant_of-self : goal.invariant_of-self
 invariant_of-self g c =
     let left = length-left c.args.self.now.crew.resting c.take-session.new.self c.args.place c.requires.place c.take-session.ensures.left in
-    rw c.close.ensures.closed (record {
+    rw c.close.ensures.closed.2 (record {
       own = c.args.self.now.own;
       size = c.args.self.now.size;
       named = c.args.self.now.named;

@@ -5,7 +5,7 @@ use Rattle.lock_stage.proofs.stage.Stage.close_all.Goals as goal
 pub invariant_of-self : goal.invariant_of-self
 invariant_of-self g c =
     let left = length-rest c.sessions.self.crew.resting c.take_first.new.self c.in-Some.first c.in-Some.ensures.first in
-    rw c.close.ensures.closed (record {
+    rw c.close.ensures.closed.2 (record {
       own = c.sessions.self.own;
       size = c.sessions.self.size;
       named = c.sessions.self.named;

@@ -1,0 +1,23 @@
+use Rattle.std.proofs.Common.{◌≡◌, ℕ, ◌+◌, ◌<◌, ◌≤◌, List, [], length, Some, arith}
+use Rattle.std.specs.Prelude.{slice_get}
+use Rattle.lock_table.specs.PartView.{PartView}
+use Rattle.shared_rule.specs.declared.history.History.{History}
+use Rattle.shared_rule.specs.Openers.{HaveClosed}
+
+-- Those that have closed, as more are given out.
+
+-- Nobody has closed at first,
+pub none-closed : HaveClosed {T = PartView} 0 []
+none-closed = record {
+  once = λ number. omega arith;
+  given_out = λ place history at. absurd (cc (at));
+  no_more = omega arith;
+}
+
+-- and whoever has closed was given out before the next one is.
+pub closed-before-next : (issued : ℕ) (closed : List (History PartView)) → HaveClosed issued closed → HaveClosed (issued + 1) closed
+closed-before-next issued closed have = record {
+  once = have.once;
+  given_out = λ place history at. let given = have.given_out place history at in omega (arith, given);
+  no_more = let few = have.no_more in omega (arith, few);
+}

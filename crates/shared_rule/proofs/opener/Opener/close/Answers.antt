@@ -1,0 +1,33 @@
+use Rattle.std.proofs.Common.{◌≡◌, ◌∷◌, ◌++◌, refl, sym, ap, ◌∙◌}
+use Rattle.shared_rule.specs.declared.history.History.{History}
+use Rattle.shared_rule.specs.declared.history.View.{View}
+use Rattle.shared_rule.specs.Boards.{first_marks}
+use Rattle.shared_rule.specs.History.{first_account}
+use Rattle.shared_rule.specs.Openers.{OpenerState}
+use Rattle.shared_rule.specs.Plays.{Side}
+use Rattle.shared_rule.specs.Seats.{first_of}
+use Rattle.shared_rule.proofs.opener.Opener.close.Goals as goal
+
+pub tell_closed-requires-clause-opener : goal.tell_closed-requires-clause-opener
+tell_closed-requires-clause-opener g c = record {
+  number = c.self.inside.issued;
+  next = ap (λ (side : Side g.row.T.Denot). side.0.next) c.close.ensures.side ∙ c.self.invariant.0;
+}
+
+pub returns-clause-closed : goal.returns-clause-closed
+returns-clause-closed g c =
+    let board = c.args.board in
+    let had = c.self.inside.place in
+    let last : History g.row.T.Denot = record { number = board.number; marks = first_marks board.place.me.0.sessions } in
+    let came : c.into_place-place.result.1.me.0 ≡ board.place.me.0 = ap (λ place. place.me.0) c.into_place-place.ensures.1 in
+    let closed : c.tell_closed.new.opener.me.0.closed ≡ last ∷ had.me.0.closed =
+    ap (λ (side : Side g.row.T.Denot). side.0.closed) (c.tell_closed.ensures.side ∙ c.close.ensures.side)
+    ∙ ap (λ (view : View g.row.T.Denot). first_of view.sessions ++ had.me.0.closed) (came ∙ board.lone) in
+    let table : c.tell_closed.new.opener.table_id ≡ had.table_id = c.tell_closed.ensures.seat.table_id ∙ c.close.ensures.seat.table_id in
+    record {
+      last = last;
+      number_ = refl;
+      trace_ = ap (λ (view : View g.row.T.Denot). (first_account g.T.PartTable.content view.sessions).trace) (sym board.lone);
+      opener = (λ i. record { table = table i; issued = c.self.inside.issued; limit = c.self.inside.sessions; closed = closed i })
+          ∙ ap (λ (old : OpenerState g.row.T.Denot). record old { closed = last ∷ old.closed }) c.self.view_is;
+    }
