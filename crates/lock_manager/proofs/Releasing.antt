@@ -9,7 +9,7 @@ use Rattle.lock_table.specs.Content.{Wait, Content}
 use Rattle.lock_table.specs.Moves.{Moves}
 use Rattle.lock_table.specs.Waiter.{whose_and_mode}
 use Rattle.lock_world.specs.Account.{Account, InHand}
-use Rattle.lock_world.specs.AccountFacts.{KnowsContent}
+use Rattle.lock_world.specs.AccountFacts.{OwnHoldsStand, KnowsContent}
 use Rattle.lock_world.specs.AccountLaw.{MayMoveBy, MayPutBy}
 use Rattle.lock_world.specs.AccountSteps.{account_taking, account_uncounting, own_with}
 use Rattle.lock_world.specs.Counted.{is_counted, uncounting}
@@ -96,6 +96,7 @@ module _ (number : ℕ) (a b : Account) (tag : Tag) (mode : Mode) (released : Re
     taken = released.taken;
     put = released.put;
     granted = released.granted;
+    own_stand = released.own_stand;
     moved = released.moved;
     account =
         released.account
@@ -111,6 +112,7 @@ module _ (number : ℕ) (a b : Account) (tag : Tag) (mode : Mode) (released : Re
     taken = released.taken;
     put = released.put;
     granted = released.granted;
+    own_stand = released.own_stand;
     moved = released.moved;
     account =
         back
@@ -192,6 +194,12 @@ module _ (number : ℕ) (a b c : Account) (uses left : ℕ) (tag : Tag) (mode : 
       ∙ (λ i. account_released b tag mode (sym (ap (λ (x : Account). x.fast.remembered) released.account) i) (sym (ap (λ (x : Account). x.trace) released.account) i))
       ∙ ap (λ (x : Account). account_released x tag mode c.fast.remembered c.trace) looked.account
 
+  table-stand : OwnHoldsStand number a.own a.fast.database c.fast.remembered (partition_of tag) released.taken
+  table-stand =
+      subst (λ (words : ℕ → ℕ). OwnHoldsStand number a.own a.fast.database words (partition_of tag) released.taken) (sym (ap (λ (x : Account). x.fast.remembered) released.account))
+      (subst (λ (own : Tag → Mode → Bool). OwnHoldsStand number own a.fast.database b.fast.remembered (partition_of tag) released.taken) (ap (λ (x : Account). x.own) looked.account)
+      (subst (λ (database : ℕ). OwnHoldsStand number b.own database b.fast.remembered (partition_of tag) released.taken) (ap (λ (x : Account). x.fast.database) looked.account) released.own_stand))
+
   pub table-released : Releases number a uses tag mode c left
   table-released = inr (record {
     loads = looked.loads;
@@ -199,6 +207,7 @@ module _ (number : ℕ) (a b c : Account) (uses left : ℕ) (tag : Tag) (mode : 
     taken = released.taken;
     put = released.put;
     granted = released.granted;
+    own_stand = table-stand;
     moved = released.moved;
     trace = table-trace;
     account = table-released_account;

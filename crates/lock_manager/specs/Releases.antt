@@ -9,6 +9,7 @@ use Rattle.lock_table.specs.Content.{Wait, Content}
 use Rattle.lock_table.specs.Moves.{Moves}
 use Rattle.lock_table.specs.Waiter.{whose_and_mode}
 use Rattle.lock_world.specs.Account.{Account, InHand}
+use Rattle.lock_world.specs.AccountFacts.{OwnHoldsStand}
 use Rattle.lock_world.specs.AccountLaw.{MayMoveBy}
 use Rattle.lock_world.specs.AccountSteps.{own_with, account_marking}
 use Rattle.lock_world.specs.Counted.{Counted, uncounting}
@@ -49,11 +50,13 @@ pub record Tells (seat : Seated) (a : Account) (partition : ℕ) (done : Move) (
   pub wakens : Wakens seat from partition done woken now
   pub so_far : IsMarking from partition done now woken woken a
 
--- The episode that releases a hold: the content is put once the hold is gone and who may go then is granted.
+-- The episode that releases a hold: the content is put once the hold is gone and who may go then is granted. The content
+-- taken has each own hold of its partition that is in no slot.
 pub record ReleasesInPart (number : ℕ) (a : Account) (tag : Tag) (mode : Mode) (b : Account) : Type 0 where
   pub taken : Content
   pub put : Content
   pub granted : List Wait
+  pub own_stand : OwnHoldsStand number a.own a.fast.database a.fast.remembered (partition_of tag) taken
   pub moved : Moves taken number (Release tag mode) granted put
   pub account : b ≡ account_episode a (partition_of tag) taken put (Release tag mode)
 
@@ -76,6 +79,7 @@ pub record ReleasesHold (number : ℕ) (a : Account) (tag : Tag) (mode : Mode) (
   pub taken : Content
   pub put : Content
   pub granted : List Wait
+  pub own_stand : OwnHoldsStand number a.own a.fast.database a.fast.remembered (partition_of tag) taken
   pub moved : Moves taken number (Release tag mode) granted put
   pub account : b ≡ account_released a tag mode a.fast.remembered
       (a.trace ++ Took (partition_of tag) taken ∷ Episode (partition_of tag) taken put ∷ [])
@@ -107,8 +111,9 @@ pub record LooksNowhere (a : Account) (uses : ℕ) (tag : Tag) (mode : Mode) (lo
   pub no_step : loads ≡ []
   pub same : left ≡ uses
 
--- One episode in the object's partition releases the hold: it is gone, and who may go then is granted. Before it
--- stands the look at the slots, if there was one. No other step joins the trace.
+-- One episode in the object's partition releases the hold: it is gone, and who may go then is granted. The content taken
+-- has each own hold of the partition that is in no slot. Before it stands the look at the slots, if there was one. No
+-- other step joins the trace.
 pub record ReleasesInTable (number : ℕ) (a : Account) (uses : ℕ) (tag : Tag) (mode : Mode) (b : Account) (left : ℕ) :
     Type 0 where
   pub loads : List TraceEntry
@@ -116,6 +121,7 @@ pub record ReleasesInTable (number : ℕ) (a : Account) (uses : ℕ) (tag : Tag)
   pub taken : Content
   pub put : Content
   pub granted : List Wait
+  pub own_stand : OwnHoldsStand number a.own a.fast.database b.fast.remembered (partition_of tag) taken
   pub moved : Moves taken number (Release tag mode) granted put
   pub trace : b.trace ≡ a.trace ++ loads ++ Took (partition_of tag) taken ∷ Episode (partition_of tag) taken put ∷ []
   pub account : b ≡ account_released a tag mode b.fast.remembered b.trace
