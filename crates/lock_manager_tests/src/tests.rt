@@ -19,6 +19,7 @@ mod threads;
 mod turn_lists;
 mod turns;
 mod waits;
+mod wakes;
 
 use desk::{Desk, ManagerDesk};
 use lock_manager::{Config, Final, Manager, Mode, Opener, OwnSession, Refusal};
@@ -43,8 +44,12 @@ enum Story<'a> {
     GoesOn,
     /// So many ask for the same objects, each in a thread of its own.
     Asks(u32, Plan),
-    /// They sleep in one queue, each in a thread of its own.
-    Queue,
+    /// They sleep in one queue for this mode, each in a thread of its own.
+    Queue(Mode),
+    /// One sleeps in a queue until the wait ahead of it is cancelled.
+    LetGoByCancel,
+    /// One sleeps in a queue until it is asked to cancel.
+    WokenAsAsked,
 }
 
 /// Tells a story, with sessions from a desk.
@@ -67,7 +72,9 @@ fn tell<
         }
         Story::GoesOn => memory::go_on(rt, desk),
         Story::Asks(number, plan) => threads::ask_in_threads(rt, alloc, desk, number, plan),
-        Story::Queue => queues::wake_one_by_one(rt, alloc, desk),
+        Story::Queue(mode) => queues::wake_sleepers(rt, alloc, desk, mode),
+        Story::LetGoByCancel => wakes::let_go_by_a_cancel(rt, desk),
+        Story::WokenAsAsked => wakes::woken_as_asked(rt, desk),
     }
 }
 
@@ -229,7 +236,10 @@ fn many_sessions_do_as_the_stories_say(rt: HostRuntime) -> Result<(), Fail> {
         (4, Story::Asks(4, Plan::of(10_000, 1, false))),
         (4, Story::Asks(4, Plan::of(10_000, 1, true))),
         (8, Story::Asks(8, Plan::of(3_000, 2, true))),
-        (queues::MANY + 1, Story::Queue),
+        (queues::MANY + 1, Story::Queue(Mode::AccessExclusive)),
+        (queues::MANY + 1, Story::Queue(Mode::AccessShare)),
+        (3, Story::LetGoByCancel),
+        (2, Story::WokenAsAsked),
     ] {
         let config = Config {
             sessions,

@@ -1,4 +1,4 @@
-//! Sessions in one queue, each asleep in a thread of its own, and each woken by the one before it.
+//! Sessions in one queue, each asleep in a thread of its own, and each woken by the one before it, or all by one release.
 
 ghost use Rattle.std.specs.Prelude.{◌≡◌, ◌+◌, vec_len};
 ghost use denote.Param.Send.{IsSync, IsSend};
@@ -8,6 +8,7 @@ ghost use Rattle.lock_manager_tests.specs.Crews.{AreOf, SeatsAre, WaitAt};
 use super::desk::{Desk, append, close_many, open};
 use super::races::see_nothing;
 use super::waits::{give_back, queue, take, wait_as};
+use super::wakes::pause;
 use lock_manager::{Acquired, Mode, OwnSession, OwnWaiting, SessionId};
 use lock_table::PartTable;
 use shared_rule::board::Board;
@@ -21,22 +22,25 @@ use std::thread::{Threads, join, map_vec};
 /// How many wait.
 pub const MANY: u32 = 32;
 
-/// How many of them have begun to sleep, and how many were woken.
+/// The mode that all wait for, how many of them have begun to sleep, and how many were woken.
 #[derive(Drop)]
 struct Tally {
+    mode: Mode,
     begun: AtomicU64,
     woken: AtomicU64,
 }
 
 impl Tally {
-    /// One more was woken. So many were before it as its number says: the holder's is 0, and those in the queue follow in
-    /// its order.
+    /// One more was woken. Where each is woken by the one before it, so many were as its number says: the holder's is 0,
+    /// and those in the queue follow in its order.
     fn wake<R: Abort>(&self, rt: &R, number: SessionId) {
         let before = self.woken.fetch_add(1, Ordering::SeqCst);
-        assert_eq!(rt; before.saturating_add(1), u64::from(number.number()));
+        if self.mode == Mode::AccessExclusive {
+            assert_eq!(rt; before.saturating_add(1), u64::from(number.number()));
+        }
     }
 
-    /// Waits until all are about to sleep, none of whom is woken.
+    /// Waits until all sleep, none of whom is woken.
     fn wait_for_all<R: Abort + Wait>(&self, rt: &R) {
         for _ in rt.forever() {
             if self.begun.load(Ordering::SeqCst) == u64::from(MANY) {
@@ -44,6 +48,7 @@ impl Tally {
             }
             thread::yield_now();
         }
+        pause();
         assert_eq!(rt; self.woken.load(Ordering::SeqCst), 0);
     }
 
@@ -53,7 +58,7 @@ impl Tally {
     }
 }
 
-/// Sleeps until the wait is granted, and gives the mode back to the next one.
+/// Sleeps until the wait is granted, and gives the mode back, to the next one if that waits still.
 fn sleep_and_pass_on<T: PartTable + Drop, B: Board<T> + Drop, R: Abort + Wait>(
     rt: &R,
     tally: &Tally,
@@ -64,11 +69,11 @@ fn sleep_and_pass_on<T: PartTable + Drop, B: Board<T> + Drop, R: Abort + Wait>(
     tally.begun.fetch_add(1, Ordering::SeqCst);
     let mut session = wait_as(rt, waiting, Ok(Acquired::Granted));
     tally.wake(rt, session.id());
-    give_back(rt, &mut session, Mode::AccessExclusive);
+    give_back(rt, &mut session, tally.mode);
     session
 }
 
-/// Gives the mode back once all are about to sleep.
+/// Gives the mode back that lets them go, once all sleep.
 fn release_once_asleep<T: PartTable + Drop, B: Board<T> + Drop, R: Abort + Wait>(
     rt: &R,
     tally: &Tally,
@@ -103,6 +108,7 @@ fn wake_all<
     R: Abort + Threads + Wait + Sync,
 >(
     rt: &R,
+    mode: Mode,
     holder: OwnSession<T, B>,
     queued: Vec<OwnWaiting<T, B>>,
 ) -> (OwnSession<T, B>, Vec<OwnSession<T, B>>)
@@ -111,6 +117,7 @@ fn wake_all<
     ensures own { (manager : ManagerView) → WaitAt B.seat manager queued.items → AreOf B.seat manager result.1.items }
 {
     let tally = Tally {
+        mode,
         begun: AtomicU64::new(0),
         woken: AtomicU64::new(0),
     };
@@ -128,13 +135,14 @@ fn wake_all<
 fn open_queued<T: PartTable + Drop, B: Board<T> + Drop, D: Desk<OwnSession<T, B>>, R: Abort + Wait>(
     rt: &R,
     desk: &mut D,
+    mode: Mode,
 ) -> OwnWaiting<T, B>
     requires seats { SeatsAre B.seat D.seat }
     ensures manager { D.manager desk.new ≡ D.manager desk.old }
     ensures own { (B.seat result.board).table ≡ (D.manager desk.old).table }
     ensures live { D.live desk.new ≡ D.live desk.old + 1 }
 {
-    queue(rt, open(rt, desk), Mode::AccessExclusive)
+    queue(rt, open(rt, desk), mode)
 }
 
 /// One more stands in the queue, behind the others.
@@ -143,7 +151,7 @@ fn queue_behind<
     B: Board<T> + Drop,
     D: Desk<OwnSession<T, B>>,
     R: Abort + Wait,
->(rt: &R, desk: &mut D, queued: &mut Vec<OwnWaiting<T, B>>)
+>(rt: &R, desk: &mut D, mode: Mode, queued: &mut Vec<OwnWaiting<T, B>>)
     requires seats { SeatsAre B.seat D.seat }
     requires own { WaitAt B.seat (D.manager desk.old) queued.old.items }
     ensures manager { D.manager desk.new ≡ D.manager desk.old }
@@ -151,7 +159,7 @@ fn queue_behind<
     ensures live { D.live desk.new ≡ D.live desk.old + 1 }
     ensures more { vec_len queued.new ≡ vec_len queued.old + 1 }
 {
-    let waiting = open_queued(rt, desk);
+    let waiting = open_queued(rt, desk, mode);
     append(rt, queued, waiting);
 }
 
@@ -160,6 +168,7 @@ fn queue_many<T: PartTable + Drop, B: Board<T> + Drop, D: Desk<OwnSession<T, B>>
     rt: &R,
     alloc: Global,
     desk: &mut D,
+    mode: Mode,
 ) -> Vec<OwnWaiting<T, B>>
     requires seats { SeatsAre B.seat D.seat }
     ensures manager { D.manager desk.new ≡ D.manager desk.old }
@@ -168,26 +177,27 @@ fn queue_many<T: PartTable + Drop, B: Board<T> + Drop, D: Desk<OwnSession<T, B>>
 {
     let mut queued = Vec::new(alloc);
     'queued: for _ in 0..MANY {
-        queue_behind(rt, desk, &mut queued);
+        queue_behind(rt, desk, mode, &mut queued);
     }
     queued
 }
 
-/// One session has the table and all others wait for it: they are woken one by one, in the order of their queue.
-pub fn wake_one_by_one<
+/// One session has the table and all others wait for it. Where they wait for `AccessExclusiveLock` they are woken one by
+/// one, in the order of their queue, and where for `AccessShareLock` all by one release.
+pub fn wake_sleepers<
     T: PartTable + Drop + Send,
     B: Board<T> + Drop + Send,
     D: Desk<OwnSession<T, B>>,
     R: Abort + Threads + Wait + Sync,
->(rt: &R, alloc: Global, desk: &mut D)
+>(rt: &R, alloc: Global, desk: &mut D, mode: Mode)
     requires seats { SeatsAre B.seat D.seat }
     ensures manager { D.manager desk.new ≡ D.manager desk.old }
     ensures live { D.live desk.new ≡ D.live desk.old }
 {
     let mut holder = open(rt, desk);
     take(rt, &mut holder, Mode::AccessExclusive);
-    let queued = queue_many(rt, alloc, desk);
-    let (mut holder, woken) = wake_all(rt, holder, queued);
+    let queued = queue_many(rt, alloc, desk, mode);
+    let (mut holder, woken) = wake_all(rt, mode, holder, queued);
     see_nothing(rt, &mut holder);
     desk.close(rt, holder);
     close_many(rt, desk, woken);

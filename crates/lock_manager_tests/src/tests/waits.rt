@@ -238,7 +238,7 @@ fn see_waiters<T: PartTable + Drop, B: Board<T> + Drop, R: Abort + Wait>(
 }
 
 /// Takes the wait out of the queue.
-fn leave<T: PartTable + Drop, B: Board<T> + Drop, R: Abort + Wait>(
+pub fn leave<T: PartTable + Drop, B: Board<T> + Drop, R: Abort + Wait>(
     rt: &R,
     waiting: OwnWaiting<T, B>,
 ) -> OwnSession<T, B>

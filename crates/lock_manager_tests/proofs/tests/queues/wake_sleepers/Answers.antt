@@ -1,4 +1,4 @@
-use Rattle.lock_manager_tests.proofs.tests.queues.wake_one_by_one.Goals as goal
+use Rattle.lock_manager_tests.proofs.tests.queues.wake_sleepers.Goals as goal
 
 pub close_many-requires : goal.close_many-requires
 close_many-requires g c = record {
