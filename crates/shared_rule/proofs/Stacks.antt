@@ -1,11 +1,11 @@
-use Rattle.std.proofs.Common.{◌≡◌, ◌≢◌, ℕ, ◌==◌, Bool, List, [], ◌∷◌, Option, refl, sym, ap, ◌∙◌}
+use Rattle.std.proofs.Common.{◌≡◌, ◌≢◌, ℕ, List, [], ◌∷◌, Option, refl, sym, ap, ◌∙◌}
 use Rattle.std.specs.Prelude.{if◌then◌else◌, None}
 use Rattle.std.proofs.lemmas.Bool.{eq-eqb, ne_eqb}
 use Rattle.lock_world.specs.WaitWord.{wait_state}
 use Rattle.lock_world.specs.Account.{Account, InHand}
 use Rattle.shared_rule.specs.Boards.{Stack, nothing_due, stack_taking, stack_putting, stack_asking, stack_waking}
 use Rattle.shared_rule.specs.Lawful.{IsAboveHand}
-use Rattle.shared_rule.specs.Owed.{owing, asking, waking}
+use Rattle.shared_rule.specs.Owed.{owing, waking}
 
 -- What a session has to do yet, after a few calls.
 
