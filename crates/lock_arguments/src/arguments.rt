@@ -30,6 +30,29 @@ const LINES_AND_EXAMPLE: &str = "Lines of a script begin with:
 Example:
   lock_scenario run --sessions 2 < scenarios/object_lock.scn";
 
+/// What `run --help` shows beside its options: each line of a script with its words, and what they may be.
+const FORMS: &str = "Lines of a script, after lock_scenario run < FILE:
+  session NAME DB                 open a session of a database
+  try NAME TAG MODE [session]     take a lock, if nothing is in the way
+  fast NAME TAG MODE [session]    take a lock by a fast-path slot, or not at all
+  lock NAME TAG MODE [session]    take a lock, and wait where something is in the way
+  unlock NAME TAG MODE [session]  give one count of a lock back
+  commit NAME                     drop what the transaction owns
+  abort NAME                      drop what the transaction and the session own
+  owned NAME TAG MODE             say how often each of the two owns a lock
+  waiters NAME TAG MODE           say whether somebody waits for a conflicting mode
+  cancel BY NAME                  ask a session to stop waiting
+  list NAME                       list all locks
+  count NAME INDEX                say how many strong locks are counted at a counter
+  hash TAG                        say a tag's hash, partition and counter
+  close NAME                      close a session
+  # TEXT                          a comment
+
+TAG is DB/REL for a relation, and DB/CLASS/OBJ/SUB for another object.
+MODE is AccessShareLock, RowShareLock, RowExclusiveLock, ShareUpdateExclusiveLock,
+  ShareLock, ShareRowExclusiveLock, ExclusiveLock or AccessExclusiveLock.
+A lock is the transaction's, and with the word session at the end of its line the session's.";
+
 /// The command line: `run [--sessions N] [--max-local M]`.
 fn command<'a>(alloc: Global) -> Result<Command<'a>, AllocError> {
     let sessions = Arg::new(alloc, "sessions")
@@ -46,6 +69,7 @@ fn command<'a>(alloc: Global) -> Result<Command<'a>, AllocError> {
         .default_value(USUAL_LOCAL_SHOWN);
     let run = Command::new(alloc, "run")
         .about("Run the script on standard input")
+        .after_help(FORMS)
         .arg(sessions)?
         .arg(max_local)?;
     Command::new(alloc, "lock_scenario")

@@ -1,7 +1,7 @@
 //! The program's own words, its statuses, and what it writes to its output and its errors.
 use crate::pipes::Pipe;
 use lock_arguments::{NoRun, parse_arguments};
-use lock_stage::run_program;
+use lock_stage::{Source, run_program};
 use std::alloc::Global;
 use std::io::{self, ErrorKind, Read};
 use std::process::Abort;
@@ -92,6 +92,43 @@ Example:
   lock_scenario run --sessions 2 < scenarios/object_lock.scn
 ";
 
+/// The text of `run --help`.
+const RUN_HELP: &str = "\
+Run the script on standard input
+
+Usage: lock_scenario run [OPTIONS]
+
+Options:
+      --sessions <N>   How many sessions the script may open [default: 8]
+      --max-local <M>  How many different locks a session may have [default: 1024]
+  -h, --help           Print help
+
+Lines of a script, after lock_scenario run < FILE:
+  session NAME DB                 open a session of a database
+  try NAME TAG MODE [session]     take a lock, if nothing is in the way
+  fast NAME TAG MODE [session]    take a lock by a fast-path slot, or not at all
+  lock NAME TAG MODE [session]    take a lock, and wait where something is in the way
+  unlock NAME TAG MODE [session]  give one count of a lock back
+  commit NAME                     drop what the transaction owns
+  abort NAME                      drop what the transaction and the session own
+  owned NAME TAG MODE             say how often each of the two owns a lock
+  waiters NAME TAG MODE           say whether somebody waits for a conflicting mode
+  cancel BY NAME                  ask a session to stop waiting
+  list NAME                       list all locks
+  count NAME INDEX                say how many strong locks are counted at a counter
+  hash TAG                        say a tag's hash, partition and counter
+  close NAME                      close a session
+  # TEXT                          a comment
+
+TAG is DB/REL for a relation, and DB/CLASS/OBJ/SUB for another object.
+MODE is AccessShareLock, RowShareLock, RowExclusiveLock, ShareUpdateExclusiveLock,
+  ShareLock, ShareRowExclusiveLock, ExclusiveLock or AccessExclusiveLock.
+A lock is the transaction's, and with the word session at the end of its line the session's.
+";
+
+/// What the errors take where the script is typed.
+const INVITATION: &str = "reading a script from the terminal; run --help shows its lines\n";
+
 /// A script, and whether reading it fails at its end; the status of the program on it, and what it writes to its
 /// output and to its errors.
 type Run = (&'static str, bool, u8, &'static str, &'static str);
@@ -101,7 +138,7 @@ const RUN: &str = "lock_scenario run";
 const OPENED: &str = "a: session 0 database 5\n";
 
 /// Words with a run of the program on them.
-static RUNS: [(&str, Run); 9] = [
+static RUNS: [(&str, Run); 10] = [
     (RUN, ("session a 5\n", false, 0, OPENED, "")),
     (
         "lock_scenario run --sessions 1 --max-local 2",
@@ -127,6 +164,10 @@ static RUNS: [(&str, Run); 9] = [
     (
         "lock_scenario --help",
         ("session a 5\n", false, 0, HELP, ""),
+    ),
+    (
+        "lock_scenario run --help",
+        ("session a 5\n", false, 0, RUN_HELP, ""),
     ),
     (
         "lock_scenario --version",
@@ -178,16 +219,30 @@ static UNREAD: [(ErrorKind, Run); 2] = [
     ),
 ];
 
+/// Words with a run of the program on them, where the script is typed.
+static TYPED: [(&str, Run); 3] = [
+    (RUN, ("session a 5\n", false, 0, OPENED, INVITATION)),
+    (RUN, ("", true, 1, "", "reading a script from the terminal; run --help shows its lines\nread failed\n")),
+    (
+        "lock_scenario --version",
+        ("", false, 0, "lock_scenario 0.1.0\n", ""),
+    ),
+];
+
 /// Runs the program on these words, and checks its status and both its texts.
 fn expect_program(
     rt: &(impl Abort + AllocGlobal + Wait),
     words: io::Result<Vec<String>>,
+    is_terminal: bool,
     run: Run,
 ) {
     let (script, fails, status, printed, said) = run;
-    let reader = Input {
-        text: script.as_bytes(),
-        fails,
+    let reader = Source {
+        reader: Input {
+            text: script.as_bytes(),
+            fails,
+        },
+        is_terminal,
     };
     let alloc: Global = rt.alloc();
     let (mut output, mut errors) = (Vec::new(alloc), Vec::new(alloc));
@@ -209,11 +264,15 @@ fn expect_program(
 fn answers_its_words(rt: HostRuntime) -> Result<(), Fail> {
     for row in &RUNS {
         let (line, run) = *row;
-        expect_program(&rt, Ok(words_of(rt.alloc(), line)?), run);
+        expect_program(&rt, Ok(words_of(rt.alloc(), line)?), false, run);
+    }
+    for row in &TYPED {
+        let (line, run) = *row;
+        expect_program(&rt, Ok(words_of(rt.alloc(), line)?), true, run);
     }
     for row in &UNREAD {
         let (kind, run) = *row;
-        expect_program(&rt, Err(io::Error::from(kind)), run);
+        expect_program(&rt, Err(io::Error::from(kind)), false, run);
     }
     Ok(())
 }
@@ -223,7 +282,7 @@ fn answers_its_words(rt: HostRuntime) -> Result<(), Fail> {
 type Closed = (&'static str, &'static str, u32, bool, u8, u32);
 
 /// Runs with writers that fail. A line that the errors don't take changes no status.
-static CLOSED: [Closed; 9] = [
+static CLOSED: [Closed; 10] = [
     (RUN, "session a 5\n", 0, true, 1, 1),
     (RUN, "session a 5\n", 1000, false, 1, 1),
     ("lock_scenario --help", "", 0, true, 1, 1),
@@ -232,7 +291,8 @@ static CLOSED: [Closed; 9] = [
     ("lock_scenario --version", "", 1000, false, 1, 1),
     (RUN, "frob\n", 1000, true, 3, 0),
     (RUN, "\u{e9}\n", 1000, true, 3, 0),
-    ("lock_scenario hammer", "", 1000, true, 1, 0),
+    ("lock_scenario hammer", "", 1000, true, 2, 0),
+    ("lock_scenario run --sessions 65", "", 1000, true, 2, 0),
 ];
 
 /// Runs the program with these writers, and checks its status, and that it writes what the errors take.
@@ -243,7 +303,11 @@ fn expect_closed(rt: &(impl Abort + AllocGlobal + Wait), words: Vec<String>, run
         lines: said,
         flushes: false,
     };
-    let answer = run_program(rt, Ok(words), script.as_bytes(), output, &mut errors);
+    let input = Source {
+        reader: script.as_bytes(),
+        is_terminal: false,
+    };
+    let answer = run_program(rt, Ok(words), input, output, &mut errors);
     assert_eq!(rt; answer, status, "the status of {line:?}");
     assert_eq!(rt; errors.lines, 0, "the errors of {line:?}");
 }

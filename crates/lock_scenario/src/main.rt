@@ -1,15 +1,21 @@
 //! `lock_scenario`: runs scripts against the lock manager.
 #![tactic(auto)]
 
-use lock_stage::run_program;
+use lock_stage::{Source, run_program};
+use std::io::IsTerminal;
 use std::process::ExitCode;
 use std::{env, io};
 
 /// Runs the script on standard input. The status is 0, 3 for a bad line of the script, 2 for refused
 /// words, and 1 for any other fault.
 fn main(rt: HostRuntime) -> ExitCode {
+    let reader = rt.stdin();
+    let input = Source {
+        is_terminal: reader.is_terminal(),
+        reader,
+    };
     let mut errors = rt.stderr();
-    let status = run_program(&rt, read_words(&rt), rt.stdin(), rt.stdout(), &mut errors);
+    let status = run_program(&rt, read_words(&rt), input, rt.stdout(), &mut errors);
     ExitCode::from(status)
 }
 

@@ -9,6 +9,6 @@ pub mod stage;
 
 pub use desk::{Desk, SharedDesk};
 pub use output::Output;
-pub use program::run_program;
+pub use program::{Source, run_program};
 pub use script::{Scene, run_script};
 pub use stage::{Began, Looked, Stage};

@@ -14,14 +14,22 @@ const SUCCESS: u8 = 0;
 /// The status where the program's own words are refused.
 const REFUSED_WORDS: u8 = 2;
 
+/// Where a script comes from.
+#[derive(Drop)]
+pub struct Source<R: Drop> {
+    pub reader: R,
+    /// Whether somebody types it.
+    pub is_terminal: bool,
+}
+
 /// Runs the program. The words are those of the command line, or the error of reading them; the script
 /// comes from `input`, what it prints goes to `output`, as the texts do that are asked for, and why the
-/// program ends early to `errors`. Answers the status: 0, 3 for a bad line of the script, 2 for refused
-/// words, and 1 for any other fault.
+/// program ends early to `errors`, with a word that it reads a terminal where it does. Answers the status: 0, 3 for a
+/// bad line of the script, 2 for refused words, and 1 for any other fault.
 pub fn run_program<H: AllocGlobal + Wait, R: Read + Drop, W: Write + Drop, E: Write>(
     rt: &H,
     words: io::Result<Vec<String>>,
-    input: R,
+    input: Source<R>,
     output: W,
     errors: &mut E,
 ) -> u8
@@ -42,7 +50,7 @@ pub fn run_program<H: AllocGlobal + Wait, R: Read + Drop, W: Write + Drop, E: Wr
 fn run_words<H: AllocGlobal + Wait, R: Read + Drop, W: Write + Drop, E: Write>(
     rt: &H,
     words: &[String],
-    input: R,
+    input: Source<R>,
     output: W,
     errors: &mut E,
 ) -> Result<u8, Fault>
@@ -56,7 +64,10 @@ fn run_words<H: AllocGlobal + Wait, R: Read + Drop, W: Write + Drop, E: Write>(
                 sessions: limits.sessions,
                 max_local: limits.max_local,
             };
-            run_script(rt, input, output, config)?;
+            if input.is_terminal {
+                invite(errors);
+            }
+            run_script(rt, input.reader, output, config)?;
             Ok(SUCCESS)
         }
         Err(NoRun::Text(text)) => {
@@ -64,11 +75,21 @@ fn run_words<H: AllocGlobal + Wait, R: Read + Drop, W: Write + Drop, E: Write>(
             Ok(SUCCESS)
         }
         Err(NoRun::Refused(text)) => {
-            write!(errors, "{text}").map_err(|_| Fault::WriteFailed)?;
+            // Where the errors can't be written, the status says it alone.
+            let _ = write!(errors, "{text}");
             Ok(REFUSED_WORDS)
         }
         Err(NoRun::NoMemory) => Err(Fault::NoMemory),
     }
+}
+
+/// Says to somebody at a terminal that the script is read from there.
+fn invite<E: Write>(errors: &mut E) {
+    // Where the errors can't be written, the script runs all the same.
+    let _ = writeln!(
+        errors,
+        "reading a script from the terminal; run --help shows its lines"
+    );
 }
 
 /// Prints a text that the words ask for.

@@ -7,6 +7,8 @@ mod pipes;
 #[cfg(test)]
 mod rows;
 #[cfg(test)]
+mod scenarios;
+#[cfg(test)]
 mod scenes;
 #[cfg(test)]
 mod scripts;

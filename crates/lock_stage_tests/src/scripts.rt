@@ -1,6 +1,7 @@
 //! Scripts with what they print, as the language says. They are rows; what plays them is proved once.
 use crate::pipes::Pipe;
 use crate::rows::{self, BadRow, Copies, Row};
+use crate::scenarios::SCENARIOS;
 use crate::waiting;
 use lock_manager::{Config, MOST_LOCAL, MOST_SESSIONS};
 use lock_script::{Defect, Fault};
@@ -140,6 +141,7 @@ fn expect_rows(
 
 #[test]
 fn scripts_print_what_the_rows_say(rt: HostRuntime) -> Result<(), Fail> {
+    expect_rows(&rt, EIGHT, &SCENARIOS)?;
     expect_rows(&rt, EIGHT, &rows::LINES)?;
     expect_rows(&rt, EIGHT, &rows::ENDS)?;
     expect_rows(&rt, EIGHT, &rows::LISTINGS)?;
