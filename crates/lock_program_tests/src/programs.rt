@@ -222,7 +222,16 @@ static UNREAD: [(ErrorKind, Run); 2] = [
 /// Words with a run of the program on them, where the script is typed.
 static TYPED: [(&str, Run); 3] = [
     (RUN, ("session a 5\n", false, 0, OPENED, INVITATION)),
-    (RUN, ("", true, 1, "", "reading a script from the terminal; run --help shows its lines\nread failed\n")),
+    (
+        RUN,
+        (
+            "",
+            true,
+            1,
+            "",
+            "reading a script from the terminal; run --help shows its lines\nread failed\n",
+        ),
+    ),
     (
         "lock_scenario --version",
         ("", false, 0, "lock_scenario 0.1.0\n", ""),
