@@ -1,6 +1,6 @@
 use Rattle.std.proofs.Common.{◌≡◌, ℕ, zero, suc, ◌+◌, ◌<◌, List, [], ◌∷◌, ◌++◌, length, take}
 use Rattle.std.proofs.Common.{Result, Ok, Err, OnOk, refl, sym, ap, ◌∙◌, subst, arith, append_assoc}
-use Rattle.std.proofs.Common.{append-nil, inl, inr, ◌≢◌}
+use Rattle.std.proofs.Common.{append-nil, inl, inr}
 use Rattle.std.proofs.lemmas.Bool.{cases_eq}
 use Rattle.std.proofs.lemmas.List.{take_at}
 use Rattle.lock_table.specs.declared.no_memory.NoMemory.{NoMemory}
@@ -10,8 +10,7 @@ use Rattle.lock_table.proofs.PutLemmas.{set_at-here, set_at-else}
 use Rattle.lock_world.specs.declared.events.Word.TheVariants.{Database}
 use Rattle.lock_world.specs.SlotHolds.{slot_count, ShowsNoMore}
 use Rattle.lock_world.specs.World.{TraceEntry, Loaded}
-use Rattle.lock_world.specs.Account.{Account, SlotsInHand}
-use Rattle.lock_world.specs.AccountFacts.{KnowsSlots}
+use Rattle.lock_world.specs.Account.{Account}
 use Rattle.lock_world.specs.AccountSteps.{account_putting_fast}
 use Rattle.shared_rule.specs.History.{slots_here}
 use Rattle.fast_path.specs.Slots.{word_of, AreWords, slot_loads, account_loading}
