@@ -1,0 +1,17 @@
+pub mod Tallies
+pub mod GrantedCounts
+pub mod Held
+pub mod Chains
+pub mod Steps
+pub mod ModeSets
+pub mod Taken
+pub mod Lowest
+pub mod IndexLaws
+pub mod Relocked
+pub mod Queues
+pub mod ObjectLaws
+pub mod Changes
+pub mod Parts
+pub mod Wakings
+pub mod Listings
+pub mod CountLaws

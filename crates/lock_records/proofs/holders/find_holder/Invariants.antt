@@ -1,0 +1,8 @@
+use Rattle.std.proofs.Common.{◌≡◌, ℕ, ◌+◌, List, length}
+use Rattle.lock_records.specs.Holders.{IsIn, IsChain, IsHolderAt}
+use Rattle.lock_records.proofs.holders.find_holder.Given as goal
+
+abbrev pub invariant-loop-step : goal.invariant-loop-step
+invariant-loop-step l =
+    (left : List ℕ) × IsChain l.slots.slots l.tag l.at left × (length left + l._step ≡ l._step-end)
+    × ((k : ℕ) → IsHolderAt l.slots.slots l.session l.tag k → IsIn k left)

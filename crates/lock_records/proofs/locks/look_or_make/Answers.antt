@@ -1,0 +1,8 @@
+use Rattle.std.proofs.Common.{inl}
+use Rattle.lock_records.proofs.IndexLaws.{same-itself}
+use Rattle.lock_records.proofs.locks.look_or_make.Goals as goal
+
+pub returns-in-Some-clause-made : goal.returns-in-Some-clause-made
+returns-in-Some-clause-made c =
+    let found = (c.in-Some.ensures {u = tt}).found in
+    record { at = found; was = inl found.there; same = same-itself c.args.locks.now.slots c.args.tag.now }

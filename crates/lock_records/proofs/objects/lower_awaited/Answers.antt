@@ -1,0 +1,14 @@
+use Rattle.std.proofs.Common.{ap, ◌∙◌, refl}
+use Rattle.lock_records.specs.declared.locks.LockRecord.{LockRecord}
+use Rattle.lock_records.proofs.IndexLaws.{same-lock}
+use Rattle.lock_records.proofs.Relocked.{relocked-set, room-set}
+use Rattle.lock_records.proofs.objects.lower_awaited.Goals as goal
+
+pub returns-clause-lock : goal.returns-clause-lock
+returns-clause-lock c =
+    let there = c.requires.there in
+    let on = ap (λ (l : LockRecord). l.tag) (same-lock c.args.locks.now.slots c.args.place _ _ c.index_mut.ensures.value there.there) ∙ there.on in
+    (relocked-set c.args.locks.now.slots c.args.tag.now c.args.place c.index_mut.result.now _ c.index_mut.ensures.value on on, refl, refl, c.lower.ensures)
+
+pub returns-clause-room : goal.returns-clause-room
+returns-clause-room c = λ room. room-set c.args.locks.now.slots c.args.place c.index_mut.result.now _ c.args.locks.now.capacity c.index_mut.ensures.value room

@@ -1,0 +1,10 @@
+pub mod Tally
+pub mod Counting
+pub mod Holders
+pub mod Lowest
+pub mod Locks
+pub mod Rows
+pub mod Objects
+pub mod View
+pub mod Part
+pub mod Counts

@@ -1,0 +1,228 @@
+ghost use Rattle.std.specs.Prelude.{◌≡◌, ◌<◌, ◌+◌, ◌≤◌, ◌⊎◌, length, false, true, IfSome, IfNone, Some};
+ghost use Rattle.modes_core.specs.ModeSet.{set_has};
+ghost use Rattle.slab.specs.Slab.{slab_len, HasRoomFor};
+ghost use Rattle.lock_records.specs.Holders.{holder_at, holds_in, IsHolderAt, HasNoHolder, AreHolders, IsHolderChain, SetsHold, IsTaken};
+ghost use Rattle.lock_records.specs.Lowest.{IsLowestHolder, considered_of};
+ghost use Rattle.modes_core.specs.Mode.{number_of};
+
+use crate::sets::has_some;
+use modes_core::{Mode, ModeSet, SessionId, Tag};
+use slab::Slab;
+
+/// What a session holds of an object (`PROCLOCK` in lock.h, with its `holdMask`), and the place of the next holder record of
+/// the object.
+#[derive(Clone, Copy, Debug)]
+pub struct HolderRecord {
+    pub tag: Tag,
+    pub next: usize,
+    pub modes: ModeSet,
+    pub session: SessionId,
+}
+
+/// The holder records of an object: how many they are, and where the first one stands (`procLocks` of `LOCK` in lock.h).
+#[derive(Clone, Copy, Debug)]
+pub struct Holders {
+    pub first: usize,
+    pub count: u8,
+}
+
+/// Where the session's record of the object stands.
+#[inline(always)]
+pub(crate) fn find_holder(
+    slots: &Slab<HolderRecord>,
+    holders: Holders,
+    tag: &Tag,
+    session: SessionId,
+) -> Option<usize>
+    requires { IsHolderChain slots.now.slots tag.now holders.first holders.count }
+    ensures found { IfSome result (IsHolderAt slots.now.slots session tag.now) }
+    ensures absent { IfNone result (HasNoHolder slots.now.slots session tag.now) }
+{
+    let mut at = holders.first;
+    for _step in 0..holders.count {
+        let holder = &slots[at];
+        if holder.session == session {
+            return Some(at);
+        }
+        at = holder.next;
+    }
+    None
+}
+
+/// Adds a mode that the session doesn't hold to its record of the object, which is made where there is none.
+#[inline(always)]
+pub(crate) fn raise_holder(
+    slots: &mut Slab<HolderRecord>,
+    holders: &mut Holders,
+    tag: &Tag,
+    session: SessionId,
+    mode: Mode,
+)
+    requires chain { IsHolderChain slots.old.slots tag.now holders.old.first holders.old.count }
+    requires are { AreHolders slots.old.slots tag.now }
+    requires room { HasRoomFor slots.old 1 }
+    requires new { holds_in slots.old.slots session tag.now mode ≡ false }
+    ensures set { SetsHold slots.old.slots slots.new.slots session tag.now mode true }
+    ensures chain { IsHolderChain slots.new.slots tag.now holders.new.first holders.new.count }
+    ensures len { slab_len slots.new ≤ slab_len slots.old + 1 }
+    ensures capacity { slots.new.capacity ≡ slots.old.capacity }
+{
+    match find_holder(slots, *holders, tag, session) {
+        Some(place) => {
+            let holder = &mut slots[place];
+            holder.modes = holder.modes.with(mode);
+        }
+        None => put_holder(slots, holders, tag, session, mode),
+    }
+}
+
+/// Makes a session's first record of the object, at the head of the chain.
+#[inline(always)]
+fn put_holder(
+    slots: &mut Slab<HolderRecord>,
+    holders: &mut Holders,
+    tag: &Tag,
+    session: SessionId,
+    mode: Mode,
+)
+    requires chain { IsHolderChain slots.old.slots tag.now holders.old.first holders.old.count }
+    requires are { AreHolders slots.old.slots tag.now }
+    requires room { HasRoomFor slots.old 1 }
+    requires new { HasNoHolder slots.old.slots session tag.now }
+    ensures set { SetsHold slots.old.slots slots.new.slots session tag.now mode true }
+    ensures chain { IsHolderChain slots.new.slots tag.now holders.new.first holders.new.count }
+    ensures len { slab_len slots.new ≡ slab_len slots.old + 1 }
+    ensures capacity { slots.new.capacity ≡ slots.old.capacity }
+{
+    let _number = session.number();
+    let record = HolderRecord {
+        tag: *tag,
+        next: holders.first,
+        modes: ModeSet::empty().with(mode),
+        session,
+    };
+    holders.first = slots.insert_reserved(record);
+    holders.count += 1;
+}
+
+/// Takes a mode out of the session's record of the object, and the record with the last one.
+#[inline(always)]
+pub(crate) fn lower_holder(
+    slots: &mut Slab<HolderRecord>,
+    holders: &mut Holders,
+    tag: &Tag,
+    session: SessionId,
+    mode: Mode,
+)
+    requires chain { IsHolderChain slots.old.slots tag.now holders.old.first holders.old.count }
+    requires are { AreHolders slots.old.slots tag.now }
+    requires held { holds_in slots.old.slots session tag.now mode ≡ true }
+    ensures set { SetsHold slots.old.slots slots.new.slots session tag.now mode false }
+    ensures chain { IsHolderChain slots.new.slots tag.now holders.new.first holders.new.count }
+    ensures len { slab_len slots.new ≤ slab_len slots.old }
+    ensures capacity { slots.new.capacity ≡ slots.old.capacity }
+{
+    let Some(place) = find_holder(slots, *holders, tag, session) else {
+        unreachable!()
+    };
+    let left = slots[place].modes.without(mode);
+    if has_some(left) {
+        slots[place].modes = left;
+    } else {
+        take_holder(slots, holders, tag, session, place);
+    }
+}
+
+/// Takes the session's record of the object out, which stands at this place: the head of the chain goes, and what it says
+/// goes into the gap.
+#[inline(always)]
+fn take_holder(
+    slots: &mut Slab<HolderRecord>,
+    holders: &mut Holders,
+    tag: &Tag,
+    session: SessionId,
+    place: usize,
+)
+    requires chain { IsHolderChain slots.old.slots tag.now holders.old.first holders.old.count }
+    requires are { AreHolders slots.old.slots tag.now }
+    requires its { IsHolderAt slots.old.slots session tag.now place }
+    ensures taken { IsTaken slots.old.slots slots.new.slots session tag.now }
+    ensures chain { IsHolderChain slots.new.slots tag.now holders.new.first holders.new.count }
+    ensures len { slab_len slots.new ≤ slab_len slots.old }
+    ensures capacity { slots.new.capacity ≡ slots.old.capacity }
+{
+    let first = holders.first;
+    let head = slots.remove(first);
+    holders.first = head.next;
+    holders.count -= 1;
+    if place == first {
+        return;
+    }
+    let gap = &mut slots[place];
+    gap.session = head.session;
+    gap.modes = head.modes;
+}
+
+/// The session with the lowest number, other than this one, that holds the object in one of these modes, with all the modes
+/// that it holds.
+pub(crate) fn lowest_holder(
+    slots: &Slab<HolderRecord>,
+    holders: Holders,
+    tag: &Tag,
+    session: SessionId,
+    set: ModeSet,
+) -> Option<(SessionId, ModeSet)>
+    requires chain { IsHolderChain slots.now.slots tag.now holders.first holders.count }
+    requires are { AreHolders slots.now.slots tag.now }
+    ensures { IsLowestHolder (holds_in slots.now.slots) session tag.now (set_has set) result }
+{
+    let mut lowest = None;
+    let mut at = holders.first;
+    for _step in 0..holders.count {
+        let holder = &slots[at];
+        lowest = considered(lowest, holder, session, set);
+        at = holder.next;
+    }
+    lowest
+}
+
+/// The lowest session so far, with this record considered.
+#[inline(always)]
+fn considered(
+    lowest: Option<(SessionId, ModeSet)>,
+    holder: &HolderRecord,
+    session: SessionId,
+    set: ModeSet,
+) -> Option<(SessionId, ModeSet)>
+    ensures { result ≡ considered_of lowest holder.now session set }
+{
+    if holder.session == session {
+        return lowest;
+    }
+    if !holder.modes.meets(set) {
+        return lowest;
+    }
+    if let Some((other, modes)) = lowest {
+        if other < holder.session {
+            return Some((other, modes));
+        }
+    }
+    Some((holder.session, holder.modes))
+}
+
+/// The lowest mode that is in both sets.
+pub(crate) fn lowest_mode(modes: ModeSet, set: ModeSet) -> Mode
+    requires { (mode : _) × (set_has modes mode ≡ true) × (set_has set mode ≡ true) }
+    ensures held { set_has modes result ≡ true }
+    ensures met { set_has set result ≡ true }
+    ensures lowest { (mode : _) → number_of mode < number_of result → set_has modes mode ≡ true → set_has set mode ≡ false }
+{
+    for number in 1..9u8 {
+        if let Some(mode) = Mode::from_number(number) {
+            if modes.has(mode) && set.has(mode) {
+                return mode;
+            }
+        }
+    }
+    unreachable!()
+}

@@ -1,0 +1,65 @@
+//! The rows of a listing that the records show, in no order.
+
+ghost use Rattle.std.specs.Prelude.{◌≡◌, ◌+◌, OnOk, OnErr, Some, length};
+ghost use Rattle.lock_table.specs.Listing.{row_eq};
+ghost use Rattle.lock_records.specs.Rows.{AppendsRows, HasMoreRows, shown_by, shown_below, awaited_in};
+
+use crate::holders::HolderRecord;
+use lock_table::part_waits::PartWait;
+use lock_table::{NoMemory, TableRow};
+use modes_core::Mode;
+use slab::Slab;
+
+/// Appends a row for each mode of a holder record.
+fn push_modes(holder: &HolderRecord, rows: &mut Vec<TableRow>) -> Result<(), NoMemory>
+    ensures ok { OnOk result (AppendsRows rows.old.items rows.new.items (shown_by (Some holder.now))) }
+    ensures err { OnErr result (HasMoreRows rows.old.items rows.new.items) }
+{
+    for number in 1..9u8 {
+        if let Some(mode) = Mode::from_number(number) {
+            if holder.modes.has(mode) {
+                let row = TableRow {
+                    session: holder.session,
+                    tag: holder.tag,
+                    mode,
+                    granted: true,
+                };
+                if rows.push(row).is_err() {
+                    return Err(NoMemory);
+                }
+            }
+        }
+    }
+    Ok(())
+}
+
+/// Appends a row for each hold that the holder records show.
+pub(crate) fn push_holds(
+    holders: &Slab<HolderRecord>,
+    rows: &mut Vec<TableRow>,
+) -> Result<(), NoMemory>
+    ensures ok { OnOk result (AppendsRows rows.old.items rows.new.items (shown_below holders.now.slots (length holders.now.slots))) }
+    ensures err { OnErr result (HasMoreRows rows.old.items rows.new.items) }
+{
+    for place in 0..holders.capacity() {
+        if let Some(holder) = holders.get(place) {
+            if push_modes(holder, rows).is_err() {
+                return Err(NoMemory);
+            }
+        }
+    }
+    Ok(())
+}
+
+/// Appends a row for each wait.
+pub(crate) fn push_waits(waits: &[PartWait], rows: &mut Vec<TableRow>) -> Result<(), NoMemory>
+    ensures ok { OnOk result (AppendsRows rows.old.items rows.new.items (awaited_in waits.now)) }
+    ensures err { OnErr result (HasMoreRows rows.old.items rows.new.items) }
+{
+    for wait in waits {
+        if rows.push(wait.row()).is_err() {
+            return Err(NoMemory);
+        }
+    }
+    Ok(())
+}

@@ -1,0 +1,168 @@
+ghost use Rattle.std.specs.Prelude.{◌≡◌, ◌<◌, ◌≤◌, false, true, IfSome, IfNone, Some};
+ghost use Rattle.slab.specs.Slab.{slab_len, HasRoomFor};
+ghost use Rattle.lock_records.specs.Locks.{lock_at, is_on, key_of, IsLockAt, HasNoLock, AreNoted, HasSameLocks, HasMadeLock, IsNewLock, IsIdle, IsCounting, IsDropped};
+
+use crate::holders::Holders;
+use crate::tally::Tally;
+use modes_core::Tag;
+use place_index::PlaceIndex;
+use slab::Slab;
+
+/// What the table has of an object that is held or awaited (`LOCK` in lock.h): its holder records, how many holds there are of
+/// each mode, and how many waits.
+#[derive(Debug, Drop)]
+pub struct LockRecord {
+    pub tag: Tag,
+    pub holders: Holders,
+    pub granted: Tally,
+    pub awaited: Tally,
+}
+
+impl LockRecord {
+    /// A record of an object that nobody holds or awaits.
+    fn new(tag: Tag) -> Self
+        ensures { IsNewLock result tag }
+    {
+        LockRecord {
+            tag,
+            holders: Holders { first: 0, count: 0 },
+            granted: Tally::new(),
+            awaited: Tally::new(),
+        }
+    }
+}
+
+impl LockRecord {
+    /// Whether nobody holds or awaits the object.
+    #[inline(always)]
+    pub(crate) fn is_empty(&self) -> bool
+        ensures nothing { result ≡ true → IsIdle self.now }
+        ensures something { result ≡ false → IsCounting self.now }
+    {
+        self.holders.count == 0 && self.awaited.is_empty()
+    }
+}
+
+/// What the index has an object under. The lowest bits of a tag's hash are those of its partition, and the index tells chains
+/// by the highest: the multiplication mixes them.
+#[inline(always)]
+fn key_of(tag: &Tag) -> u32
+    ensures { result ≡ key_of tag.now }
+{
+    tag.hash().wrapping_mul(2_654_435_761)
+}
+
+/// Whether the place has a record of the object.
+#[inline(always)]
+fn is_lock_on(locks: &Slab<LockRecord>, place: usize, tag: &Tag) -> bool
+    ensures { result ≡ is_on tag.now (lock_at locks.now.slots place) }
+{
+    match locks.get(place) {
+        Some(lock) => tag.is_same(lock.tag),
+        None => false,
+    }
+}
+
+/// Where the object's record stands. The place where it stood last is looked at first.
+#[inline(always)]
+pub(crate) fn look(
+    locks: &Slab<LockRecord>,
+    index: &PlaceIndex,
+    hint: usize,
+    tag: &Tag,
+) -> Option<usize>
+    requires { AreNoted locks.now.slots index.now }
+    ensures found { IfSome result (IsLockAt locks.now.slots tag.now) }
+    ensures absent { IfNone result (HasNoLock locks.now.slots tag.now) }
+{
+    if is_lock_on(locks, hint, tag) {
+        return Some(hint);
+    }
+    look_up(locks, index, tag)
+}
+
+/// The same through the index.
+#[inline(always)]
+fn look_up(locks: &Slab<LockRecord>, index: &PlaceIndex, tag: &Tag) -> Option<usize>
+    requires { AreNoted locks.now.slots index.now }
+    ensures found { IfSome result (IsLockAt locks.now.slots tag.now) }
+    ensures absent { IfNone result (HasNoLock locks.now.slots tag.now) }
+{
+    let is_it = |place: u32| -> bool
+        ensures { result ≡ is_on tag.entry.now (lock_at locks.entry.now.slots place) }
+    { is_lock_on(locks, place as usize, tag) };
+    match index.find(key_of(tag), is_it) {
+        Some(place) => Some(place as usize),
+        None => None,
+    }
+}
+
+/// Where the object's record stands, which is made where there is none.
+#[inline(always)]
+pub(crate) fn look_or_make(
+    locks: &mut Slab<LockRecord>,
+    index: &mut PlaceIndex,
+    hint: usize,
+    tag: &Tag,
+) -> usize
+    requires noted { AreNoted locks.old.slots index.old }
+    requires room { HasRoomFor locks.old 1 }
+    requires places { locks.old.vacant_key < index.old.places }
+    ensures noted { AreNoted locks.new.slots index.new }
+    ensures made { HasMadeLock locks.old.slots locks.new.slots tag.now result }
+{
+    match look(locks, index, hint, tag) {
+        Some(place) => place,
+        None => make_lock(locks, index, tag),
+    }
+}
+
+/// Makes a record of an object that has none.
+fn make_lock(locks: &mut Slab<LockRecord>, index: &mut PlaceIndex, tag: &Tag) -> usize
+    requires noted { AreNoted locks.old.slots index.old }
+    requires room { HasRoomFor locks.old 1 }
+    requires places { locks.old.vacant_key < index.old.places }
+    requires absent { HasNoLock locks.old.slots tag.now }
+    ensures noted { AreNoted locks.new.slots index.new }
+    ensures made { HasMadeLock locks.old.slots locks.new.slots tag.now result }
+{
+    let _places = index.places();
+    let place = locks.insert_reserved(LockRecord::new(*tag));
+    index.insert(key_of(tag), place as u32);
+    place
+}
+
+/// Takes the object's record out where nobody holds or awaits the object any more.
+#[inline(always)]
+pub(crate) fn drop_empty(
+    locks: &mut Slab<LockRecord>,
+    index: &mut PlaceIndex,
+    tag: &Tag,
+    place: usize,
+)
+    requires noted { AreNoted locks.old.slots index.old }
+    requires there { IsLockAt locks.old.slots tag.now place }
+    ensures noted { AreNoted locks.new.slots index.new }
+    ensures dropped { IsDropped locks.old.slots locks.new.slots tag.now place }
+    ensures room { HasRoomFor locks.old 1 → HasRoomFor locks.new 1 }
+    ensures places { locks.old.vacant_key < index.old.places → locks.new.vacant_key < index.new.places }
+{
+    if locks[place].is_empty() {
+        drop_lock(locks, index, tag, place);
+    }
+}
+
+/// Takes the object's record out.
+fn drop_lock(locks: &mut Slab<LockRecord>, index: &mut PlaceIndex, tag: &Tag, place: usize)
+    requires noted { AreNoted locks.old.slots index.old }
+    requires there { IsLockAt locks.old.slots tag.now place }
+    ensures noted { AreNoted locks.new.slots index.new }
+    ensures gone { HasNoLock locks.new.slots tag.now }
+    ensures same { HasSameLocks locks.old.slots locks.new.slots tag.now }
+    ensures room { HasRoomFor locks.new 1 }
+    ensures places { locks.new.vacant_key < index.new.places }
+{
+    let _places = index.places();
+    locks.remove(place);
+    index.remove(key_of(tag), place as u32);
+}

@@ -1,0 +1,160 @@
+//! What a call does to the records of one object, whose lock record stands at a known place.
+
+ghost use Rattle.std.specs.Prelude.{◌≡◌, ◌<◌, ◌≤◌, ◌+◌, false, true, vec_len, vec_capacity, OnOk};
+ghost use Rattle.modes_core.specs.declared.modes.Mode.{Mode};
+ghost use Rattle.slab.specs.Slab.{slab_len, HasRoomFor};
+ghost use Rattle.place_index.specs.Notes.{HasSameNotes};
+ghost use Rattle.lock_table.specs.Clash.{HolderInTheWay};
+ghost use Rattle.lock_records.specs.Tally.{counts_in, one_more, one_less};
+ghost use Rattle.lock_records.specs.Holders.{holds_in, AreHolders, SetsHold};
+ghost use Rattle.lock_records.specs.Locks.{IsLockAt, IsRelocked};
+ghost use Rattle.lock_records.specs.Objects.{IsHeldLock, HasRoom};
+
+use crate::holders::{HolderRecord, lower_holder, lowest_holder, lowest_mode, raise_holder};
+use crate::locks::LockRecord;
+use lock_table::NoMemory;
+use lock_table::part_waits::PartWait;
+use modes_core::{Mode, SessionId, Tag, conflicts};
+use place_index::PlaceIndex;
+use slab::Slab;
+
+/// Makes room for a request: in the index for one lock record more, for that record, for the hold that it and each wait
+/// becomes, and for its wait. No record changes.
+pub(crate) fn make_room(
+    locks: &mut Slab<LockRecord>,
+    holders: &mut Slab<HolderRecord>,
+    waits: &mut Vec<PartWait>,
+    index: &mut PlaceIndex,
+) -> Result<(), NoMemory>
+    ensures room { OnOk result (HasRoom locks.new holders.new (vec_len waits.new) (vec_capacity waits.new) index.new) }
+    ensures locks { locks.new ≡ record locks.old { capacity = locks.new.capacity } }
+    ensures holders { holders.new ≡ record holders.old { capacity = holders.new.capacity } }
+    ensures capacity { holders.old.capacity ≤ holders.new.capacity }
+    ensures waits { waits.new.items ≡ waits.old.items }
+    ensures len { vec_len waits.new ≡ vec_len waits.old }
+    ensures notes { HasSameNotes index.old index.new }
+    ensures places { index.old.places ≤ index.new.places }
+{
+    let Ok(place) = u32::try_from(locks.vacant_key()) else {
+        return Err(NoMemory);
+    };
+    index.reserve(place)?;
+    locks.reserve(1)?;
+    holders.reserve(waits.len() + 1)?;
+    waits.reserve(1)?;
+    Ok(())
+}
+
+/// Adds a hold that is not there.
+#[inline(always)]
+pub(crate) fn add_hold(
+    locks: &mut Slab<LockRecord>,
+    holders: &mut Slab<HolderRecord>,
+    place: usize,
+    tag: &Tag,
+    session: SessionId,
+    mode: Mode,
+)
+    requires there { IsLockAt locks.old.slots tag.now place }
+    requires held { (i : IsLockAt locks.old.slots tag.now place) → IsHeldLock holders.old.slots tag.now i.lock }
+    requires are { AreHolders holders.old.slots tag.now }
+    requires room { HasRoomFor holders.old 1 }
+    requires new { holds_in holders.old.slots session tag.now mode ≡ false }
+    ensures set { SetsHold holders.old.slots holders.new.slots session tag.now mode true }
+    ensures lock { (r : IsRelocked locks.old.slots locks.new.slots tag.now place)
+        × IsHeldLock holders.new.slots tag.now r.is.lock
+        × ((m : Mode) → counts_in r.is.lock.awaited m ≡ counts_in r.was.lock.awaited m) }
+    ensures len { slab_len holders.new ≤ slab_len holders.old + 1 }
+    ensures capacity { holders.new.capacity ≡ holders.old.capacity }
+    ensures room { HasRoomFor locks.old 1 → HasRoomFor locks.new 1 }
+    ensures key { locks.new.vacant_key ≡ locks.old.vacant_key }
+{
+    let _number = session.number();
+    let lock = &mut locks[place];
+    raise_holder(holders, &mut lock.holders, tag, session, mode);
+    lock.granted.raise(mode);
+}
+
+/// Takes a hold out.
+#[inline(always)]
+pub(crate) fn remove_hold(
+    locks: &mut Slab<LockRecord>,
+    holders: &mut Slab<HolderRecord>,
+    place: usize,
+    tag: &Tag,
+    session: SessionId,
+    mode: Mode,
+)
+    requires there { IsLockAt locks.old.slots tag.now place }
+    requires held { (i : IsLockAt locks.old.slots tag.now place) → IsHeldLock holders.old.slots tag.now i.lock }
+    requires are { AreHolders holders.old.slots tag.now }
+    requires there_is { holds_in holders.old.slots session tag.now mode ≡ true }
+    ensures set { SetsHold holders.old.slots holders.new.slots session tag.now mode false }
+    ensures lock { (r : IsRelocked locks.old.slots locks.new.slots tag.now place)
+        × IsHeldLock holders.new.slots tag.now r.is.lock
+        × ((m : Mode) → counts_in r.is.lock.awaited m ≡ counts_in r.was.lock.awaited m) }
+    ensures len { slab_len holders.new ≤ slab_len holders.old }
+    ensures capacity { holders.new.capacity ≡ holders.old.capacity }
+    ensures room { HasRoomFor locks.old 1 → HasRoomFor locks.new 1 }
+    ensures key { locks.new.vacant_key ≡ locks.old.vacant_key }
+{
+    let _number = session.number();
+    let lock = &mut locks[place];
+    lower_holder(holders, &mut lock.holders, tag, session, mode);
+    lock.granted.lower(mode);
+}
+
+/// The lowest-numbered other session that holds the object in a mode in conflict with the mode, with its lowest such mode. Where
+/// nobody holds one, the mask says so.
+#[inline(always)]
+pub(crate) fn holder_in_the_way(
+    locks: &Slab<LockRecord>,
+    holders: &Slab<HolderRecord>,
+    place: usize,
+    tag: &Tag,
+    session: SessionId,
+    mode: Mode,
+) -> Option<(SessionId, Mode)>
+    requires there { IsLockAt locks.now.slots tag.now place }
+    requires held { (i : IsLockAt locks.now.slots tag.now place) → IsHeldLock holders.now.slots tag.now i.lock }
+    requires are { AreHolders holders.now.slots tag.now }
+    ensures { HolderInTheWay (holds_in holders.now.slots) session tag.now mode result }
+{
+    let lock = &locks[place];
+    let conflicting = conflicts(mode);
+    if !lock.granted.mask().meets(conflicting) {
+        return None;
+    }
+    match lowest_holder(holders, lock.holders, tag, session, conflicting) {
+        Some(found) => Some((found.0, lowest_mode(found.1, conflicting))),
+        None => None,
+    }
+}
+
+/// Counts a wait more for the mode.
+#[inline(always)]
+pub(crate) fn raise_awaited(locks: &mut Slab<LockRecord>, place: usize, tag: &Tag, mode: Mode)
+    requires there { IsLockAt locks.old.slots tag.now place }
+    requires few { (i : IsLockAt locks.old.slots tag.now place) → counts_in i.lock.awaited mode < 255 }
+    ensures lock { (r : IsRelocked locks.old.slots locks.new.slots tag.now place)
+        × (r.is.lock.holders ≡ r.was.lock.holders) × (r.is.lock.granted ≡ r.was.lock.granted)
+        × (counts_in r.is.lock.awaited ≡ one_more (counts_in r.was.lock.awaited) mode) }
+    ensures room { HasRoomFor locks.old 1 → HasRoomFor locks.new 1 }
+    ensures key { locks.new.vacant_key ≡ locks.old.vacant_key }
+{
+    locks[place].awaited.raise(mode);
+}
+
+/// Counts a wait less for the mode.
+#[inline(always)]
+pub(crate) fn lower_awaited(locks: &mut Slab<LockRecord>, place: usize, tag: &Tag, mode: Mode)
+    requires there { IsLockAt locks.old.slots tag.now place }
+    requires some { (i : IsLockAt locks.old.slots tag.now place) → 0 < counts_in i.lock.awaited mode }
+    ensures lock { (r : IsRelocked locks.old.slots locks.new.slots tag.now place)
+        × (r.is.lock.holders ≡ r.was.lock.holders) × (r.is.lock.granted ≡ r.was.lock.granted)
+        × (counts_in r.is.lock.awaited ≡ one_less (counts_in r.was.lock.awaited) mode) }
+    ensures room { HasRoomFor locks.old 1 → HasRoomFor locks.new 1 }
+    ensures key { locks.new.vacant_key ≡ locks.old.vacant_key }
+{
+    locks[place].awaited.lower(mode);
+}

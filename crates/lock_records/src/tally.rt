@@ -1,0 +1,109 @@
+ghost use Rattle.std.specs.Prelude.{◌≡◌, ◌<◌, ◌≤◌, ◌+◌, ◌==◌, not, length, false, true};
+ghost use Rattle.modes_core.specs.ModeSet.{set_has};
+ghost use Rattle.lock_records.specs.Tally.{counts_in, one_more, one_less};
+ghost use Rattle.lock_records.specs.Counting.{total_of};
+
+use crate::sets::has_some;
+use modes_core::{Mode, ModeSet};
+use std::marker::Model;
+
+/// How many there are of each mode, with their total and the mask of the modes of which there is one: what lock.h keeps for a
+/// lock in `granted`, `nGranted` and `grantMask`, and in `requested`, `nRequested` and `waitMask`. Contracts see the numbers
+/// by mode, of which the first stands for no mode.
+#[derive(Debug, Drop)]
+pub struct Tally {
+    by_mode: [u8; 9],
+    total: u16,
+    mask: ModeSet,
+}
+
+impl Model for Tally {
+    ghost use Rattle.std.specs.Prelude.{List, ℕ};
+    ghost use Rattle.lock_records.specs.Tally.{IsTally};
+
+    ghost Value = { List ℕ };
+
+    ghost view = { λ tally. tally.by_mode };
+
+    ghost invariant = { λ tally. IsTally tally.by_mode tally.total tally.mask };
+}
+
+impl Tally {
+    /// Nothing of any mode.
+    pub fn new() -> Self
+        ensures { (mode : _) → counts_in result mode ≡ 0 }
+    {
+        Tally {
+            by_mode: [0; 9],
+            total: 0,
+            mask: ModeSet::empty(),
+        }
+    }
+
+    /// How many there are of the mode.
+    pub fn count(&self, mode: Mode) -> u8
+        ensures { result ≡ counts_in self.now mode }
+    {
+        self.by_mode[usize::from(mode.number())]
+    }
+
+    /// How many there are of each mode, at the number of the mode.
+    pub fn by_mode(&self) -> [u8; 9]
+        ensures value { result ≡ self.now }
+        ensures nine { length result ≡ 9 }
+    {
+        self.by_mode
+    }
+
+    /// How many there are together.
+    pub fn total(&self) -> u16
+        ensures value { result ≡ total_of (counts_in self.now) }
+        ensures few { result ≤ 2295 }
+    {
+        self.total
+    }
+
+    /// The modes of which there is one.
+    #[inline(always)]
+    pub fn mask(&self) -> ModeSet
+        ensures { (mode : _) → set_has result mode ≡ not (counts_in self.now mode == 0) }
+    {
+        self.mask
+    }
+
+    /// Whether there is nothing of any mode.
+    #[inline(always)]
+    pub fn is_empty(&self) -> bool
+        ensures nothing { result ≡ true → (mode : _) → counts_in self.now mode ≡ 0 }
+        ensures something { result ≡ false → (mode : _) × (0 < counts_in self.now mode) }
+    {
+        !has_some(self.mask)
+    }
+
+    /// One more of the mode.
+    #[inline(always)]
+    pub fn raise(&mut self, mode: Mode)
+        requires { counts_in self.old mode < 255 }
+        ensures { counts_in self.new ≡ one_more (counts_in self.old) mode }
+    {
+        let number = usize::from(mode.number());
+        self.by_mode[number] += 1;
+        self.total += 1;
+        self.mask = self.mask.with(mode);
+    }
+
+    /// One less of the mode.
+    #[inline(always)]
+    pub fn lower(&mut self, mode: Mode)
+        requires { 0 < counts_in self.old mode }
+        ensures { counts_in self.new ≡ one_less (counts_in self.old) mode }
+    {
+        let number = usize::from(mode.number());
+        let left = self.by_mode[number] - 1;
+        self.by_mode[number] = left;
+        self.total -= 1;
+        if left == 0 {
+            self.mask = self.mask.without(mode);
+        }
+    }
+}
