@@ -1,0 +1,116 @@
+//! Calls on any keeper of a partition, each with what has to be so before it asked first.
+
+ghost use Rattle.std.specs.Prelude.{◌≡◌, ◌≤◌, false, true, None, length};
+ghost use Rattle.lock_table.specs.Queue.{awaits_mode, waits_there};
+
+use lock_table::{NoMemory, PartTable, Woken};
+use modes_core::{Mode, SessionId, Tag};
+use std::process::Abort;
+
+/// The object of most tests.
+pub const OBJECT: Tag = Tag::Relation {
+    database: 5,
+    relation: 16384,
+};
+
+pub fn session(rt: &impl Abort, number: u8) -> SessionId {
+    SessionId::new(number).expect(rt, "a session number")
+}
+
+/// Whether the session may ask for the mode: it neither holds it nor waits. A wait of it ends.
+fn may_ask<P: PartTable>(part: &mut P, session: SessionId, tag: &Tag, mode: Mode) -> bool
+    ensures new { result ≡ true → (P.content part.new).holds session tag.now mode ≡ false }
+    ensures no_wait { waits_there ((P.content part.new).waits tag.now) session ≡ false }
+    ensures not_awaited { awaits_mode ((P.content part.new).waits tag.now) session mode ≡ false }
+    ensures begun { P.begun part.new ≡ P.begun part.old }
+{
+    part.leave(session, tag);
+    !part.held(session, tag).has(mode)
+}
+
+/// The session comes to hold the object, unless it holds it in this mode already. Nothing is looked at.
+pub fn hold<P: PartTable>(
+    part: &mut P,
+    session: SessionId,
+    tag: &Tag,
+    mode: Mode,
+) -> Result<bool, NoMemory>
+    requires none_begun { P.begun part.old ≡ None }
+    ensures none_begun { P.begun part.new ≡ None }
+{
+    if !may_ask(part, session, tag, mode) {
+        return Ok(false);
+    }
+    part.begin(session, tag, mode)?;
+    part.grant(session, tag, mode);
+    Ok(true)
+}
+
+/// The same where no other session is in the way; else the request is given up.
+pub fn hold_beside<P: PartTable>(
+    part: &mut P,
+    session: SessionId,
+    tag: &Tag,
+    mode: Mode,
+) -> Result<bool, NoMemory>
+    requires none_begun { P.begun part.old ≡ None }
+    ensures none_begun { P.begun part.new ≡ None }
+{
+    if !may_ask(part, session, tag, mode) {
+        return Ok(false);
+    }
+    part.begin(session, tag, mode)?;
+    if part.conflict_of(session, tag, mode).is_some() {
+        part.withdraw(session, tag, mode);
+        return Ok(false);
+    }
+    part.grant(session, tag, mode);
+    Ok(true)
+}
+
+/// The session comes to wait on the object, at this place of its queue, or first where there is no wait before that place.
+pub fn wait<P: PartTable>(
+    part: &mut P,
+    session: SessionId,
+    tag: &Tag,
+    mode: Mode,
+    place: usize,
+) -> Result<bool, NoMemory>
+    requires none_begun { P.begun part.old ≡ None }
+    ensures none_begun { P.begun part.new ≡ None }
+{
+    if !may_ask(part, session, tag, mode) {
+        return Ok(false);
+    }
+    part.begin(session, tag, mode)?;
+    if place > 0 && part.waiter(tag, place - 1).is_some() {
+        part.join(session, tag, mode, place);
+    } else {
+        part.join(session, tag, mode, 0);
+    }
+    Ok(true)
+}
+
+/// A hold of the session is taken out, if it is there.
+pub fn release<P: PartTable>(part: &mut P, session: SessionId, tag: &Tag, mode: Mode) -> bool
+    ensures begun { P.begun part.new ≡ P.begun part.old }
+{
+    if !part.held(session, tag).has(mode) {
+        return false;
+    }
+    part.ungrant(session, tag, mode);
+    true
+}
+
+/// Whether two wakeups granted the same.
+pub fn are_same(woken: &Woken, others: &Woken) -> bool {
+    if woken.len() != others.len() {
+        return false;
+    }
+    for place in 0..woken.len() {
+        if woken[place] != others[place] {
+            return false;
+        }
+    }
+    true
+}
