@@ -95,6 +95,28 @@ fn act<T: PartTable, B: Board<T>, R: Abort + Wait>(
     }
 }
 
+/// Two that are lent do something, the one beside the other, and what each was answered. The two deeds are lent too, since the
+/// check covers no two closures each of which borrows a variable of its own beside its session.
+fn act_on_loan<B: Board<PlainPart> + Send, R: Abort + Threads + Wait + Sync>(
+    rt: &R,
+    first: &mut OwnSession<PlainPart, B>,
+    second: &mut OwnSession<PlainPart, B>,
+    deeds: &(Deed, Deed),
+) -> (Option<Answer>, Option<Answer>)
+    ensures first { B.seat first.new.board ≡ B.seat first.old.board }
+    ensures second { B.seat second.new.board ≡ B.seat second.old.board }
+{
+    let shown = Shown {
+        arrived: AtomicU64::new(0),
+        is_busy: AtomicBool::new(false),
+    };
+    join_mut(
+        rt,
+        &mut || act(rt, &shown, first, deeds.0),
+        &mut || act(rt, &shown, second, deeds.1),
+    )
+}
+
 /// Each of two sessions does something, the one beside the other, and what each was answered.
 pub fn act_side_by_side<B: Board<PlainPart> + Send, R: Abort + Threads + Wait + Sync>(
     rt: &R,
@@ -105,18 +127,11 @@ pub fn act_side_by_side<B: Board<PlainPart> + Send, R: Abort + Threads + Wait + 
     ensures first { B.seat result.0.first.board ≡ B.seat pair.first.board }
     ensures second { B.seat result.0.second.board ≡ B.seat pair.second.board }
 {
-    let shown = Shown {
-        arrived: AtomicU64::new(0),
-        is_busy: AtomicBool::new(false),
-    };
     let Pair {
         mut first,
         mut second,
     } = pair;
-    let (for_first, for_second) = join_mut(
-        rt,
-        &mut || act(rt, &shown, &mut first, of_first),
-        &mut || act(rt, &shown, &mut second, of_second),
-    );
+    let deeds = (of_first, of_second);
+    let (for_first, for_second) = act_on_loan(rt, &mut first, &mut second, &deeds);
     (Pair { first, second }, for_first, for_second)
 }

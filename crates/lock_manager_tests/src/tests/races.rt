@@ -1,6 +1,6 @@
 //! Two sessions in threads of their own, which begin each round at the same moment, and what each is answered.
 
-ghost use Rattle.std.specs.Prelude.{◌≡◌, IsSome, IfSome, None};
+ghost use Rattle.std.specs.Prelude.{◌≡◌, IfSome, None};
 
 use super::answers::{Answer, expect_acted, expect_granted, expect_rows};
 use super::deeds::{Deed, act_side_by_side, begin};
@@ -153,13 +153,12 @@ fn cancel_lent<T: PartTable, B: Board<T>, R: Abort + Wait>(
     waiting: &mut Option<OwnWaiting<T, B>>,
     mode: Mode,
 ) -> OwnSession<T, B>
-    requires lent { IsSome waiting.old }
     ensures gone { waiting.new ≡ None }
     ensures seat { IfSome waiting.old (λ waiting. B.seat result.board ≡ B.seat waiting.board) }
 {
     match waiting.take() {
         Some(waiting) => cancel(rt, arrived, waiting, mode),
-        None => unreachable!(),
+        None => panic!(rt; "no wait"),
     }
 }
 
@@ -191,6 +190,26 @@ fn expect_none<T: PartTable, B: Board<T>, R: Abort>(rt: &R, session: &OwnSession
     assert_eq!(rt; session.held(TABLE).mask(), 0);
 }
 
+/// The one that waits cancels its wait for the first mode while the other one gives back the second one.
+fn cancel_on_loan<B: Board<PlainPart> + Send, R: Abort + Threads + Wait + Sync>(
+    rt: &R,
+    waiting: &mut Option<OwnWaiting<PlainPart, B>>,
+    session: &mut OwnSession<PlainPart, B>,
+    modes: &(Mode, Mode),
+) -> OwnSession<PlainPart, B>
+    ensures gone { waiting.new ≡ None }
+    ensures seat { IfSome waiting.old (λ waiting. B.seat result.board ≡ B.seat waiting.board) }
+    ensures its_seat { B.seat session.new.board ≡ B.seat session.old.board }
+{
+    let arrived = AtomicU64::new(0);
+    let (cancelled, ()) = join_mut(
+        rt,
+        &mut || cancel_lent(rt, &arrived, waiting, modes.0),
+        &mut || release(rt, &arrived, session, modes.1),
+    );
+    cancelled
+}
+
 /// The second one waits for a mode that the first one's is in the way of.
 fn cancel_as_released<B: Board<PlainPart> + Send, R: Abort + Threads + Wait + Sync>(
     rt: &R,
@@ -201,15 +220,10 @@ fn cancel_as_released<B: Board<PlainPart> + Send, R: Abort + Threads + Wait + Sy
     ensures first { B.seat result.first.board ≡ B.seat pair.first.board }
     ensures second { B.seat result.second.board ≡ B.seat pair.second.board }
 {
-    let arrived = AtomicU64::new(0);
     let Pair { mut first, second } = pair;
     take(rt, &mut first, held);
     let mut waiting = Some(queue(rt, second, awaited));
-    let (second, ()) = join_mut(
-        rt,
-        &mut || cancel_lent(rt, &arrived, &mut waiting, awaited),
-        &mut || release(rt, &arrived, &mut first, held),
-    );
+    let second = cancel_on_loan(rt, &mut waiting, &mut first, &(awaited, held));
     end_wait(waiting);
     expect_none(rt, &first);
     expect_none(rt, &second);
