@@ -176,7 +176,7 @@ fn release<T: PartTable, B: Board<T>, R: Abort + Wait>(
 }
 
 /// The wait is over.
-fn end_wait<T: PartTable, B: Board<T>>(waiting: Option<OwnWaiting<T, B>>)
+pub fn end_wait<T: PartTable, B: Board<T>>(waiting: Option<OwnWaiting<T, B>>)
     requires { waiting ≡ None }
 {
     match waiting {

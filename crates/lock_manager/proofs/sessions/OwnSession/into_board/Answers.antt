@@ -3,7 +3,7 @@ use Rattle.local_locks.specs.declared.ends.End.TheVariants.{Close}
 use Rattle.local_locks.specs.Owned.{ended_by}
 use Rattle.lock_manager.specs.declared.sessions.Own.{Own}
 use Rattle.lock_manager.specs.Releases.{ReleasesAll}
-use Rattle.lock_manager.proofs.any_board.OwnSession.into_board.Goals as goal
+use Rattle.lock_manager.proofs.sessions.OwnSession.into_board.Goals as goal
 
 pub returns-clause-released : goal.returns-clause-released
 returns-clause-released g c =
