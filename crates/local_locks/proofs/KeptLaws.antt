@@ -45,8 +45,8 @@ distinct_of slots once = distinct_present slots apart where
         | inr other ↦ other
       ]
 
-pub well_owned : (slots : Slots) (index : Notes) (len max_local : ℕ) (progress : Progress) (room : ℕ) → IsKept slots index len max_local progress → IsWellOwned (record { entries = present slots; room = room; max_local = max_local })
-well_owned slots index len max_local progress room kept =
+pub well_owned : (slots : Slots) (index : Notes) (len max_local : ℕ) (progress : Progress) (room places : ℕ) → IsKept slots index len max_local progress → IsWellOwned (record { entries = present slots; room = room; slots = places; max_local = max_local })
+well_owned slots index len max_local progress room places kept =
     record {
       once = distinct_of slots kept.indexed.once;
       counted = All-from_recursion IsCounted (present slots) (all_present IsCounted slots kept.counted);
@@ -168,10 +168,10 @@ past-all end old new place used past same within other =
     ]
 
 -- nothing at all is well owned
-well_owned-nil : (room max_local : ℕ) → IsWellOwned (record { entries = []; room = room; max_local = max_local })
+well_owned-nil : (room places max_local : ℕ) → IsWellOwned (record { entries = []; room = room; slots = places; max_local = max_local })
 unfolding IsDistinct
-well_owned-nil room max_local = record { once = tt; counted = All-from_recursion IsCounted [] tt; within = omega arith }
+well_owned-nil room places max_local = record { once = tt; counted = All-from_recursion IsCounted [] tt; within = omega arith }
 
-pub well_owned-empty : (es : List Entry) (room max_local : ℕ) → es ≡ [] → IsWellOwned (record { entries = es; room = room; max_local = max_local })
-well_owned-empty es room max_local empty =
-    subst (λ (l : List Entry). IsWellOwned (record { entries = l; room = room; max_local = max_local })) (sym empty) (well_owned-nil room max_local)
+pub well_owned-empty : (es : List Entry) (room places max_local : ℕ) → es ≡ [] → IsWellOwned (record { entries = es; room = room; slots = places; max_local = max_local })
+well_owned-empty es room places max_local empty =
+    subst (λ (l : List Entry). IsWellOwned (record { entries = l; room = room; slots = places; max_local = max_local })) (sym empty) (well_owned-nil room places max_local)

@@ -1,4 +1,4 @@
-use Rattle.std.specs.Prelude.{◌≡◌, ℕ, ◌+◌, ◌-◌, ◌<◌, ◌≤◌, Bool, false, not, ◌&&◌, ◌==◌, List, [], ◌∷◌, ◌++◌, map, filter, find, length, All, Option, is_some, if◌then◌else◌}
+use Rattle.std.specs.Prelude.{◌≡◌, ◌⊎◌, ℕ, ◌+◌, ◌-◌, ◌*◌, ◌<◌, ◌≤◌, Bool, false, not, ◌&&◌, ◌==◌, List, [], ◌∷◌, ◌++◌, map, filter, find, length, All, Option, is_some, if◌then◌else◌}
 use Rattle.std.specs.Option.{option_map_or}
 use Rattle.std.specs.List.{IsDistinct}
 use Rattle.modes_core.specs.declared.modes.Mode.{Mode}
@@ -13,11 +13,12 @@ use Rattle.local_locks.specs.declared.ends.End.{End}
 use Rattle.local_locks.specs.declared.ends.End.TheVariants.{Commit, Abort, Close}
 use Rattle.local_locks.specs.declared.records.Entry.{Entry}
 
--- What a session owns: its entries in the order of making, how many more entries can be made with no growth, and how
--- many it may have.
+-- What a session owns: its entries in the order of making, how many more entries can be made with no growth, for how
+-- many there are slots, used up or not, and how many it may have.
 pub record Owned : Type 0 where
   pub entries : List Entry
   pub room : ℕ
+  pub slots : ℕ
   pub max_local : ℕ
 
 -- how often an owner can acquire a mode
@@ -146,3 +147,9 @@ pub record IsReserved (owned : Owned) (tag : Tag) (mode : Mode) (owner : Owner) 
   pub countable : owner_count_of owned.entries tag mode owner < max_count
   pub allowed : has_entry owned.entries tag mode ≡ false → length owned.entries < owned.max_local
   pub roomy : has_entry owned.entries tag mode ≡ false → 0 < owned.room
+
+-- ---- growth
+
+-- The entries are so many that a table with this many slots may grow: more than half of the slots have one, if there is a slot.
+abbrev pub IsCrowded : ℕ → List Entry → Type 0
+IsCrowded slots entries = (slots ≡ 0) ⊎ (slots < 2 * length entries)

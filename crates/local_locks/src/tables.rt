@@ -1,6 +1,7 @@
 ghost use Rattle.std.specs.Prelude.{◌≡◌, ◌≢◌, ◌+◌, ◌<◌, ◌≤◌, ◌↔◌, ◌⊎◌, ◌∷◌, [], true, false, if◌then◌else◌, Some, None, IsErrOf, IsOkUnless, IfOk, IfErr, OnOk, OnErr, IfSome, IfNone, IsSome, IsNone, IsTrue, length};
 ghost use Rattle.local_locks.specs.Slots.{key_hash};
-ghost use Rattle.local_locks.specs.Owned.{max_count, has_entry, owner_count_of, total_of, with_one_more, with_one_less, acquired_as, ended_by, left_by, with_next_ended, IsWellOwned, IsReserved};
+ghost use Rattle.local_locks.specs.Owned.{max_count, has_entry, owner_count_of, total_of, with_one_more, with_one_less, acquired_as, ended_by, left_by, with_next_ended};
+ghost use Rattle.local_locks.specs.Owned.{IsWellOwned, IsReserved, IsCrowded};
 
 use crate::ends::Progress;
 use crate::looks::{Glance, glance_at, hash_of, key_hash, look, look_up, pair_bits};
@@ -26,7 +27,7 @@ const MAX_SLOTS: usize = u32::MAX as usize - 1;
 
 /// What a session holds, how often and for which owner (the hash table `LockMethodLocalHash` in
 /// lock.c). Contracts see the entries in the order of making, how many more can be made with no growth,
-/// and how many there may be.
+/// for how many there are slots, and how many there may be.
 #[derive(Drop)]
 pub struct LocalTable {
     slots: Vec<Entry>,
@@ -49,6 +50,7 @@ impl Model for LocalTable {
     ghost view = { λ t. record {
       entries = present (opened t.slots.items);
       room = min (min (vec_capacity t.slots) no_place) t.index.places - length t.slots.items;
+      slots = min (min (vec_capacity t.slots) no_place) t.index.places;
       max_local = t.max_local;
     } };
 
@@ -208,6 +210,7 @@ impl LocalTable {
             (refusal ≡ Refusal.CountFull) ⊎ ((refusal ≡ Refusal.LocalFull) ⊎ (refusal ≡ Refusal.NoMemory))) }
 
         // What stands after it, whatever the answer.
+        ensures grows { self.new.slots ≢ self.old.slots → IsCrowded self.old.slots self.old.entries }
         ensures entries { self.new.entries ≡ self.old.entries }
         ensures room { self.old.room ≤ self.new.room }
         ensures max_local { self.new.max_local ≡ self.old.max_local }
@@ -239,6 +242,7 @@ impl LocalTable {
         ensures no_other { IfErr result (λ refusal. (refusal ≡ Refusal.LocalFull) ⊎ (refusal ≡ Refusal.NoMemory)) }
 
         // What stands after it, whatever the answer.
+        ensures grows { self.new.slots ≢ self.old.slots → IsCrowded self.old.slots self.old.entries }
         ensures entries { self.new.entries ≡ self.old.entries }
         ensures room { self.old.room ≤ self.new.room }
         ensures max_local { self.new.max_local ≡ self.old.max_local }
@@ -271,10 +275,29 @@ impl LocalTable {
         used < self.slots.capacity() && used < self.index.places()
     }
 
-    /// Makes room for one more entry.
+    /// Makes room for one more entry: uses slots again whose entries are gone, and grows only where more than half of all
+    /// slots have entries.
     #[cold]
     #[inline(never)]
     fn make_room(&mut self) -> Result<(), Refusal>
+        ensures ok { OnOk result (0 < self.new.room) }
+        ensures err { OnErr result (self.old.room ≡ 0) }
+        ensures no_memory { IsOkUnless result Refusal.NoMemory }
+        ensures grows { self.new.slots ≢ self.old.slots → IsCrowded self.old.slots self.old.entries }
+        ensures entries { self.new.entries ≡ self.old.entries }
+        ensures room { self.old.room ≤ self.new.room }
+        ensures max_local { self.new.max_local ≡ self.old.max_local }
+        ensures well_owned { IsWellOwned self.new }
+    {
+        self.use_slots_again();
+        if self.has_room() {
+            return Ok(());
+        }
+        self.grow()
+    }
+
+    /// Takes memory for one more entry.
+    fn grow(&mut self) -> Result<(), Refusal>
         ensures ok { OnOk result (0 < self.new.room) }
         ensures err { OnErr result (self.old.room ≡ 0) }
         ensures no_memory { IsOkUnless result Refusal.NoMemory }
@@ -283,7 +306,6 @@ impl LocalTable {
         ensures max_local { self.new.max_local ≡ self.old.max_local }
         ensures well_owned { IsWellOwned self.new }
     {
-        self.use_slots_again();
         if self.slots.len() == MAX_SLOTS {
             return Err(Refusal::NoMemory);
         }
@@ -296,14 +318,17 @@ impl LocalTable {
         Ok(())
     }
 
-    /// Where all slots are used up, but the entries of half of them are gone, moves the others together.
+    /// Where the entries of half of the slots that are used up are gone, moves the others together.
     fn use_slots_again(&mut self)
+        ensures used { self.new.room ≡ 0 → IsCrowded self.old.slots self.old.entries }
+        ensures slots { self.new.slots ≡ self.old.slots }
         ensures entries { self.new.entries ≡ self.old.entries }
         ensures room { self.old.room ≤ self.new.room }
         ensures max_local { self.new.max_local ≡ self.old.max_local }
+        ensures well_owned { IsWellOwned self.new }
     {
         let slots = self.slots.len();
-        if slots == MAX_SLOTS || slots == self.slots.capacity() && self.len as usize <= slots / 2 {
+        if slots == MAX_SLOTS || self.len as usize <= slots / 2 {
             compact(&mut self.slots, &mut self.index);
             self.progress = Progress::start();
         }

@@ -58,7 +58,7 @@ fn play<R: Threads + Wait + Clock + AllocGlobal + Sync>(
 }
 
 /// Both sessions' turns: how many of them were granted, and the nanoseconds that they took.
-fn time_lock<B: Board<PlainPart> + Drop + Send, R: Threads + Wait + Clock + Sync>(
+fn time_lock<B: Board<PlainPart> + Send, R: Threads + Wait + Clock + Sync>(
     rt: &R,
     pair: Pair<PlainPart, B>,
     plan: Plan,

@@ -5,13 +5,13 @@ ghost use Rattle.std.specs.Prelude.{◌≡◌};
 use crate::pair::Pair;
 use bench_rows::keys::Key;
 use crossbeam_utils::Backoff;
-use lock_manager::{Locked, OwnSession};
-use lock_table::PartTable;
+use lock_manager::OwnSession;
+use lock_table::{PartTable, PlainPart};
 use modes_core::Owner;
 use shared_rule::board::Board;
 use std::sync::atomic::{AtomicU64, Ordering};
 use std::sync::{Condvar, Mutex, Wait};
-use std::thread::{Threads, join};
+use std::thread::{Threads, join, join_mut};
 
 /// What the two take, and how often each.
 #[derive(Clone, Copy)]
@@ -21,27 +21,17 @@ pub struct Plan {
     pub turns: u32,
 }
 
-/// A session that has taken its turns, and how many of them were granted.
-struct Player<T: PartTable, B: Board<T>> {
-    session: OwnSession<T, B>,
-    granted: u64,
-}
-
-/// The session with the lock, and whether it has it.
+/// Takes the lock, and waits for it where it must. Whether the session has it.
 #[inline(never)]
 fn lock<T: PartTable, B: Board<T>, R: Wait>(
     rt: &R,
-    session: OwnSession<T, B>,
+    session: &mut OwnSession<T, B>,
     plan: Plan,
-) -> (OwnSession<T, B>, bool)
-    ensures seat { B.seat result.0.board ≡ B.seat session.board }
+) -> bool
+    ensures seat { B.seat session.new.board ≡ B.seat session.old.board }
 {
     let (tag, mode) = plan.key;
-    match session.lock(rt, tag, mode, plan.owner) {
-        Locked::Granted(session) => (session, true),
-        Locked::AlreadyHeld(session) => (session, true),
-        Locked::Refused(session, _) => (session, false),
-    }
+    session.acquire(rt, tag, mode, plan.owner).is_ok()
 }
 
 /// Looks until the other one awaits the lock, or plays no more.
@@ -65,55 +55,48 @@ fn see_other<T: PartTable, B: Board<T>, R: Wait>(
     unreachable!()
 }
 
-/// Locks over and over, and unlocks each time as soon as the other one awaits it.
+/// Locks over and over, and unlocks each time as soon as the other one awaits it. How many times it was granted.
 fn take_turns<T: PartTable, B: Board<T>, R: Wait>(
     rt: &R,
-    mut session: OwnSession<T, B>,
+    session: &mut OwnSession<T, B>,
     plan: Plan,
     playing: &AtomicU64,
-) -> Player<T, B>
-    ensures seat { B.seat result.session.board ≡ B.seat session.board }
+) -> u64
+    ensures seat { B.seat session.new.board ≡ B.seat session.old.board }
 {
     let (tag, mode) = plan.key;
     let mut granted = 0u64;
     'turns: for _ in 0..plan.turns {
-        let (locked, is_granted) = lock(rt, session, plan);
-        session = locked;
-        if is_granted {
+        if lock(rt, session, plan) {
             granted = granted.wrapping_add(1);
-            see_other(rt, &mut session, plan, playing);
+            see_other(rt, session, plan, playing);
             let _ = session.unlock(rt, tag, mode, plan.owner);
         }
     }
     playing.fetch_sub(1, Ordering::SeqCst);
-    Player { session, granted }
+    granted
 }
 
 /// Both sessions' turns, each in a thread, and how many of them were granted.
-pub fn pass_lock<T: PartTable + Drop + Send, B: Board<T> + Drop + Send, R: Threads + Wait + Sync>(
+pub fn pass_lock<B: Board<PlainPart> + Send, R: Threads + Wait + Sync>(
     rt: &R,
-    pair: Pair<T, B>,
+    pair: Pair<PlainPart, B>,
     plan: Plan,
-) -> (Pair<T, B>, u64)
+) -> (Pair<PlainPart, B>, u64)
     ensures first { B.seat result.0.first.board ≡ B.seat pair.first.board }
     ensures second { B.seat result.0.second.board ≡ B.seat pair.second.board }
 {
     let players = AtomicU64::new(2);
     let playing = &players;
-    let Pair { first, second } = pair;
-    let (first, second) = join(
+    let Pair {
+        mut first,
+        mut second,
+    } = pair;
+    let (granted, its_granted) = join_mut(
         rt,
-        || take_turns(rt, first, plan, playing),
-        || take_turns(rt, second, plan, playing),
+        &mut || take_turns(rt, &mut first, plan, playing),
+        &mut || take_turns(rt, &mut second, plan, playing),
     );
-    let Player {
-        session: first,
-        granted,
-    } = first;
-    let Player {
-        session: second,
-        granted: its_granted,
-    } = second;
     (Pair { first, second }, granted.wrapping_add(its_granted))
 }
 

@@ -63,14 +63,14 @@ fn tell<R: Threads + Wait + Sync>(rt: &R, alloc: Global) -> Result<Story, Refusa
     let mut migration = match opener.session(&manager, 5) {
         Ok(session) => session,
         Err(refusal) => {
-            // A session that is let go keeps its holds and number for ever: close it before the return.
+            // A session ends by its close alone: the compiler refuses a return before it.
             worker.close(rt, &mut opener);
             return Err(refusal);
         }
     };
 
     // A turn runs in two threads, each of which borrows a session, and is over once both are joined. None of the
-    // requests of a turn stands in the way of the other, so the answers are the same in each run.
+    // requests of the first two turns stands in the way of the other, so the answers are the same in each run.
     let (read, index) = join_mut(
         rt,
         &mut || ask(rt, &mut worker, ACCOUNTS, Mode::AccessShare),
@@ -81,12 +81,12 @@ fn tell<R: Threads + Wait + Sync>(rt: &R, alloc: Global) -> Result<Story, Refusa
         &mut || ask(rt, &mut worker, ACCOUNTS, Mode::RowExclusive),
         &mut || ask(rt, &mut migration, ACCOUNTS, Mode::AccessExclusive),
     );
-    join_mut(
+    // Once both have committed the table is free. Until the worker has, the migration waits in its thread.
+    let ((), alter_again) = join_mut(
         rt,
         &mut || commit(rt, &mut worker),
-        &mut || commit(rt, &mut migration),
+        &mut || commit_and_wait(rt, &mut migration, ACCOUNTS, Mode::AccessExclusive),
     );
-    let alter_again = ask(rt, &mut migration, ACCOUNTS, Mode::AccessExclusive);
 
     // What a session still has is released as it is closed.
     worker.close(rt, &mut opener);
@@ -113,6 +113,14 @@ fn commit<R: Wait>(rt: &R, session: &mut Session<'_>)
     ensures same_manager { session.new.board.table.now.table_id ≡ session.old.board.table.now.table_id }
 {
     session.commit(rt);
+}
+
+/// Ends the session's transaction, and asks for a table on behalf of the next one. Where somebody is in the way it waits.
+fn commit_and_wait<R: Wait>(rt: &R, session: &mut Session<'_>, table: Tag, mode: Mode) -> Answer
+    ensures same_manager { session.new.board.table.now.table_id ≡ session.old.board.table.now.table_id }
+{
+    commit(rt, session);
+    session.acquire(rt, table, mode, Owner::Transaction)
 }
 
 /// Prints what a request was answered. A refusal says who stands in the way.

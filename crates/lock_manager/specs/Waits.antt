@@ -3,6 +3,7 @@ use Rattle.modes_core.specs.declared.modes.Mode.{Mode}
 use Rattle.modes_core.specs.declared.tags.Tag.{Tag}
 use Rattle.modes_core.specs.declared.sessions.Owner.{Owner}
 use Rattle.modes_core.specs.declared.refusals.Refusal.{Refusal}
+use Rattle.modes_core.specs.declared.refusals.Refusal.TheVariants as refusal_
 use Rattle.local_locks.specs.declared.answers.Acquired.{Acquired}
 use Rattle.local_locks.specs.declared.answers.Acquired.TheVariants as acquired
 use Rattle.local_locks.specs.Owned.{Owned}
@@ -115,6 +116,11 @@ abbrev pub session_cancelled : {S : Type 0} → Cancelled S → S
 session_cancelled (cancelled.Removed session) = session
 session_cancelled (cancelled.WasGranted session) = session
 
+-- what the acquire is answered whose wait ended so by its session's cancel
+abbrev pub acquired_despite : Ended → Result Acquired Refusal
+acquired_despite ended.Removed = Err refusal_.Cancelled
+acquired_despite ended.WasGranted = Ok acquired.Granted
+
 abbrev pub answer_waited : {S : Type 0} → Waited S → Result (Unit {0}) Refusal
 answer_waited (waited.Granted session) = Ok tt
 answer_waited (waited.Refused session refusal) = Err refusal
@@ -122,6 +128,11 @@ answer_waited (waited.Refused session refusal) = Err refusal
 abbrev pub session_waited : {S : Type 0} → Waited S → S
 session_waited (waited.Granted session) = session
 session_waited (waited.Refused session refusal) = session
+
+-- what the acquire is answered whose wait ended so
+abbrev pub acquired_after : Result (Unit {0}) Refusal → Result Acquired Refusal
+acquired_after (Ok done) = Ok acquired.Granted
+acquired_after (Err refusal) = Err refusal
 
 -- ---- an acquire that waits as long as it must
 

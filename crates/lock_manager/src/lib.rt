@@ -1,6 +1,7 @@
 //! The lock manager: sessions that live in their callers' threads, over one shared table.
 #![tactic(auto)]
 
+mod any_board;
 mod config;
 mod listing;
 mod manager;

@@ -7,8 +7,6 @@ ghost use Rattle.lock_manager.specs.Managers.{IsNew, IsOpenerOf, IsOpened, Takes
 
 use crate::config::Config;
 use crate::sessions::{Own, OwnSession, Session};
-use crossbeam_utils::CachePadded;
-use local_locks::LocalTable;
 use lock_table::{PlainPart, empty_parts};
 use modes_core::Refusal;
 use shared_rule::board::Board;
@@ -158,18 +156,7 @@ impl Opener {
         if self.issued == self.sessions {
             return Err(Refusal::NoMoreSessions);
         }
-        let locals = LocalTable::new(manager.alloc, manager.max_local)?;
-        let own = Own {
-            before: CachePadded::new(()),
-            locals,
-            database,
-            uses: 0,
-            alloc: manager.alloc,
-            after: CachePadded::new(()),
-        };
-        let Ok(own) = Box::new(manager.alloc, own) else {
-            return Err(Refusal::NoMemory);
-        };
+        let own = Own::new(manager.alloc, database, manager.max_local)?;
         let mut board = self.numbers.session(&manager.table.shared).unwrap();
         board.store_database(database);
         self.issued += 1;

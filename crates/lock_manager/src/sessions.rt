@@ -1,7 +1,7 @@
 //! Sessions: the calls that a server's thread makes.
 
 ghost use Rattle.std.specs.Prelude.{◌≡◌, ◌≢◌, ◌<◌, ◌≤◌, ◌-◌, ◌↔◌, [], ◌∷◌, ◌++◌, length, true, false};
-ghost use Rattle.std.specs.Prelude.{IsErrOf, IsOkUnless, OnOk, OnErr};
+ghost use Rattle.std.specs.Prelude.{IsErrOf, IsOkUnless, IfOk, OnOk, OnErr};
 ghost use Rattle.modes_core.specs.ModeSet.{set_has};
 ghost use Rattle.modes_core.specs.Tag.{is_eligible_for};
 ghost use Rattle.local_locks.specs.Owned.{has_entry, owner_count_of, total_of, max_count, with_one_more, with_one_less, ended_by, left_by, IsWellOwned};
@@ -48,10 +48,39 @@ pub struct Own {
     pub(crate) after: CachePadded<()>,
 }
 
+impl Own {
+    // What a session of this database has of its own at first: nothing, with room for one local entry.
+    pub(crate) fn new(alloc: Global, database: u32, max_local: u32) -> Result<Box<Own>, Refusal>
+        requires from { 1 ≤ max_local }
+        requires to { max_local ≤ 65536 }
+        ensures database { IfOk result (λ own. own.value.database ≡ database) }
+        ensures no_slot { IfOk result (λ own. own.value.uses ≡ 0) }
+        ensures nothing { IfOk result (λ own. own.value.locals.entries ≡ []) }
+        ensures room { IfOk result (λ own. 0 < own.value.locals.room) }
+        ensures max_local { IfOk result (λ own. own.value.locals.max_local ≡ max_local) }
+        ensures well_owned { IfOk result (λ own. IsWellOwned own.value.locals) }
+        ensures no_memory { IsOkUnless result Refusal.NoMemory }
+    {
+        let locals = LocalTable::new(alloc, max_local)?;
+        let own = Own {
+            before: CachePadded::new(()),
+            locals,
+            database,
+            uses: 0,
+            alloc,
+            after: CachePadded::new(()),
+        };
+        match Box::new(alloc, own) {
+            Ok(own) => Ok(own),
+            Err(_) => Err(Refusal::NoMemory),
+        }
+    }
+}
+
 /// A session, over any board and any keeper of the partitions. Contracts see its board, its database, its use
 /// count of its fast-path slots, and what it owns. It
-/// ends by `close`; one that is let go leaves its holds and its number taken for ever.
-#[derive(Drop)]
+/// ends by `close` alone: the compiler refuses code that lets one go, which would leave its holds and its number taken for
+/// ever.
 pub struct OwnSession<T: PartTable, B: Board<T>> {
     pub(crate) board: B,
     pub(crate) own: Box<Own>,
@@ -221,6 +250,7 @@ impl<T: PartTable, B: Board<T>> OwnSession<T, B> {
             (B.view self.old.board) self.old.uses tag mode (B.view self.new.board) self.new.uses }
         ensures no_step { result ≢ Ok Unlocked.Released →
             (B.view self.new.board).trace ≡ (B.view self.old.board).trace }
+        ensures same_uses { result ≢ Ok Unlocked.Released → self.new.uses ≡ self.old.uses }
 
         // What stands after it.
         ensures entries { OnOk result (self.new.owned.entries

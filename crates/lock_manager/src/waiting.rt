@@ -1,15 +1,18 @@
 //! Acquires that may wait, and their waits, over any board.
 
-ghost use Rattle.std.specs.Prelude.{◌≡◌, ◌≢◌, ◌<◌, ◌≤◌, ◌↔◌, ◌==◌, [], false, true, length, IsErrOf, IsOkUnless, IfOk, OnOk, OnErr};
+ghost use Rattle.std.specs.Prelude.{◌≡◌, ◌≢◌, ◌<◌, ◌≤◌, ◌↔◌, ◌==◌, [], false, true, length, None};
+ghost use Rattle.std.specs.Prelude.{IsErrOf, IsOkUnless, IfOk, OnOk, OnErr};
 ghost use Rattle.local_locks.specs.Owned.{has_entry, owner_count_of, max_count, with_one_more, IsReserved, IsWellOwned};
 ghost use Rattle.lock_world.specs.WaitWord as words;
 ghost use Rattle.lock_manager.specs.Rest.{IsAtRest};
 ghost use Rattle.lock_manager.specs.Waiting.{IsWaiting, HasLooked, entries_started, Starts, Asks, LooksForWaiters};
 ghost use Rattle.lock_manager.specs.Waiting.{IsInWait, polled_as, Polls, Cancels, Waits, account_cancelled};
+ghost use Rattle.lock_manager.specs.Waits.{Locks};
 
 use crate::releases::put_with_woken;
 use crate::requests::request;
 use crate::sessions::Own;
+use local_locks::Acquired;
 use lock_table::{Move, PartTable};
 use modes_core::{Mode, Owner, Refusal, SessionId, Tag, is_strong};
 use shared_rule::board::Board;
@@ -119,6 +122,8 @@ pub fn start<T: PartTable, B: Board<T>, R: Wait>(
 pub fn ask_cancel<T: PartTable, B: Board<T>>(board: &mut B, other: SessionId) -> Asked
     requires none_owed { (B.stack board.old).owed ≡ [] }
     ensures asked { Asks (B.view board.old) other result (B.view board.new) }
+    ensures oneself { other ≡ (B.seat board.old).number → (B.view board.old).awaited ≡ None
+        → result ≡ Asked.NotWaiting }
     ensures stack { B.stack board.new ≡ B.stack board.old }
     ensures seat { B.seat board.new ≡ B.seat board.old }
 {
@@ -312,6 +317,49 @@ pub fn wait<T: PartTable, B: Board<T>, R: Wait>(
         }
     }
     unreachable!()
+}
+
+/// Acquires a mode on an object for an owner, and waits for it where it must (`LockAcquire` in lock.c without
+/// `dontWait`): `start`, and `wait` where that queued the request.
+pub fn lock<T: PartTable, B: Board<T>, R: Wait>(
+    rt: &R,
+    board: &mut B,
+    own: &mut Own,
+    tag: Tag,
+    mode: Mode,
+    owner: Owner,
+) -> Result<Acquired, Refusal>
+    requires few { (B.seat board.old).limit ≤ 64 }
+    requires few_entries { own.old.locals.max_local ≤ 65536 }
+    requires rest { IsAtRest (B.seat board.old).limit own.old.database own.old.uses
+        (B.view board.old) (B.stack board.old) own.old.locals.entries }
+    ensures already_held { (result ≡ Ok Acquired.AlreadyHeld) ↔ ((has_entry own.old.locals.entries tag mode ≡ true)
+        × (owner_count_of own.old.locals.entries tag mode owner < max_count)) }
+    ensures count_full { IsErrOf result Refusal.CountFull
+        ↔ (owner_count_of own.old.locals.entries tag mode owner ≡ max_count) }
+    ensures local_full { IsErrOf result Refusal.LocalFull
+        ↔ ((has_entry own.old.locals.entries tag mode ≡ false)
+        × (length own.old.locals.entries ≡ own.old.locals.max_local)) }
+    ensures steps { Locks (B.seat board.old) own.old.locals (B.view board.old) own.old.uses tag mode result
+        (B.view board.new) own.new.uses }
+    ensures entries { OnOk result (own.new.locals.entries ≡ with_one_more own.old.locals.entries tag mode owner) }
+    ensures same_entries { OnErr result (own.new.locals.entries ≡ own.old.locals.entries) }
+    ensures rest { IsAtRest (B.seat board.old).limit own.old.database own.new.uses
+        (B.view board.new) (B.stack board.new) own.new.locals.entries }
+    ensures seat { B.seat board.new ≡ B.seat board.old }
+    ensures max_local { own.new.locals.max_local ≡ own.old.locals.max_local }
+    ensures well_owned { IsWellOwned own.new.locals }
+    ensures database { own.new.database ≡ own.old.database }
+{
+    match start(rt, board, own, tag, mode, owner) {
+        Ok(Started::Granted) => Ok(Acquired::Granted),
+        Ok(Started::AlreadyHeld) => Ok(Acquired::AlreadyHeld),
+        Ok(Started::Queued) => match wait(rt, board, own, tag, mode, owner) {
+            Ok(()) => Ok(Acquired::Granted),
+            Err(refusal) => Err(refusal),
+        },
+        Err(refusal) => Err(refusal),
+    }
 }
 
 /// Takes the wait out of the queue in the object's partition, or finds there that it was granted

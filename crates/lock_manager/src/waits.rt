@@ -9,7 +9,8 @@ ghost use Rattle.lock_manager.specs.Waiting.{entries_started, Starts, Asks, Look
 ghost use Rattle.lock_manager.specs.Waits.{answer_started, board_started, uses_started, owned_started};
 ghost use Rattle.lock_manager.specs.Waits.{UnlessQueued, IfQueued};
 ghost use Rattle.lock_manager.specs.Waits.{answer_polled, board_polled, IfGranted, UnlessGranted};
-ghost use Rattle.lock_manager.specs.Waits.{answer_cancelled, session_cancelled, answer_waited, session_waited};
+ghost use Rattle.lock_manager.specs.Waits.{answer_cancelled, session_cancelled, acquired_despite};
+ghost use Rattle.lock_manager.specs.Waits.{answer_waited, session_waited, acquired_after};
 ghost use Rattle.lock_manager.specs.Waits.{answer_locked, session_locked, Locks, HasBegun, WaitsOn, HasEnded};
 
 use crate::sessions::{Own, OwnSession};
@@ -26,9 +27,8 @@ use std::sync::Wait;
 pub type Waiting<'a> = OwnWaiting<PlainPart, SeatBoard<'a, PlainPart>>;
 
 /// A session that waits, over any board and any keeper of the partitions: it can make no call but those of its wait. It
-/// ends by one of them; one that is let go stands in the queue for ever. Contracts see its board, its database, what it
-/// owns, and what it waits for.
-#[derive(Drop)]
+/// ends by one of them alone: the compiler refuses code that lets one go, which would stand in the queue for ever. Contracts
+/// see its board, its database, what it owns, and what it waits for.
 pub struct OwnWaiting<T: PartTable, B: Board<T>> {
     board: B,
     own: Box<Own>,
@@ -115,6 +115,46 @@ pub enum Waited<S> {
     Granted(S),
     /// It is out of the queue, and holds what it held.
     Refused(S, Refusal),
+}
+
+impl<S> Locked<S> {
+    /// The session, and what its acquire is answered.
+    pub fn into_parts(self) -> (S, Result<Acquired, Refusal>)
+        ensures session { result.0 ≡ session_locked self }
+        ensures answer { result.1 ≡ answer_locked self }
+    {
+        match self {
+            Locked::Granted(session) => (session, Ok(Acquired::Granted)),
+            Locked::AlreadyHeld(session) => (session, Ok(Acquired::AlreadyHeld)),
+            Locked::Refused(session, refusal) => (session, Err(refusal)),
+        }
+    }
+}
+
+impl<S> Waited<S> {
+    /// The session, and what the acquire is answered for which it waited.
+    pub fn into_parts(self) -> (S, Result<Acquired, Refusal>)
+        ensures session { result.0 ≡ session_waited self }
+        ensures answer { result.1 ≡ acquired_after (answer_waited self) }
+    {
+        match self {
+            Waited::Granted(session) => (session, Ok(Acquired::Granted)),
+            Waited::Refused(session, refusal) => (session, Err(refusal)),
+        }
+    }
+}
+
+impl<S> Cancelled<S> {
+    /// The session, and what the acquire is answered whose wait it cancelled: granted, where the grant was first.
+    pub fn into_parts(self) -> (S, Result<Acquired, Refusal>)
+        ensures session { result.0 ≡ session_cancelled self }
+        ensures answer { result.1 ≡ acquired_despite (answer_cancelled self) }
+    {
+        match self {
+            Cancelled::Removed(session) => (session, Err(Refusal::Cancelled)),
+            Cancelled::WasGranted(session) => (session, Ok(Acquired::Granted)),
+        }
+    }
 }
 
 impl<T: PartTable, B: Board<T>> OwnSession<T, B> {
@@ -208,6 +248,36 @@ impl<T: PartTable, B: Board<T>> OwnSession<T, B> {
         }
     }
 
+    /// `lock` on a session that is lent, so that `?` works at its answer (`LockAcquire` in lock.c without `dontWait`). The
+    /// session waits where it must, and can make no other call meanwhile.
+    pub fn acquire<R: Wait>(
+        &mut self,
+        rt: &R,
+        tag: Tag,
+        mode: Mode,
+        owner: Owner,
+    ) -> Result<Acquired, Refusal>
+        // What it is answered.
+        ensures already_held { (result ≡ Ok Acquired.AlreadyHeld)
+            ↔ ((has_entry self.old.owned.entries tag mode ≡ true)
+            × (owner_count_of self.old.owned.entries tag mode owner < max_count)) }
+        ensures count_full { IsErrOf result Refusal.CountFull
+            ↔ (owner_count_of self.old.owned.entries tag mode owner ≡ max_count) }
+        ensures local_full { IsErrOf result Refusal.LocalFull
+            ↔ ((has_entry self.old.owned.entries tag mode ≡ false)
+            × (length self.old.owned.entries ≡ self.old.owned.max_local)) }
+        ensures steps { Locks (B.seat self.old.board) self.old.owned (B.view self.old.board) self.old.uses tag mode
+            result (B.view self.new.board) self.new.uses }
+
+        // What stands after it.
+        ensures entries { OnOk result (self.new.owned.entries
+            ≡ with_one_more self.old.owned.entries tag mode owner) }
+        ensures same_entries { OnErr result (self.new.owned.entries ≡ self.old.owned.entries) }
+        ensures same { IsSame B.seat B.view B.stack self.old self.new }
+    {
+        waiting::lock(rt, &mut self.board, &mut self.own, tag, mode, owner)
+    }
+
     /// Whether somebody awaits the object in a mode that conflicts with this one (`LockHasWaiters` in lock.c). It is
     /// refused where the session hasn't the mode; nothing has changed then.
     pub fn has_waiters<R: Wait>(&mut self, rt: &R, tag: Tag, mode: Mode) -> Result<bool, Refusal>
@@ -227,9 +297,11 @@ impl<T: PartTable, B: Board<T>> OwnSession<T, B> {
     }
 
     /// Asks a session to cancel its wait, and wakes it where it waits (`pg_cancel_backend` in signalfuncs.c). Where it
-    /// doesn't wait nothing stands of it. An asked session that is granted first keeps the grant.
+    /// doesn't wait nothing stands of it; nor does a session wait that asks itself. An asked session that is granted
+    /// first keeps the grant.
     pub fn ask_cancel(&mut self, other: SessionId) -> Asked
         ensures asked { Asks (B.view self.old.board) other result (B.view self.new.board) }
+        ensures oneself { other ≡ (B.seat self.old.board).number → result ≡ Asked.NotWaiting }
         ensures owned { self.new.owned ≡ self.old.owned }
         ensures uses { self.new.uses ≡ self.old.uses }
         ensures same { IsSame B.seat B.view B.stack self.old self.new }

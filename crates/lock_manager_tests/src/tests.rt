@@ -7,6 +7,7 @@ ghost use Rattle.lock_manager_tests.specs.Crews.{SeatsAre};
 mod answers;
 mod busy;
 mod conflicts;
+mod counted;
 mod deeds;
 mod desk;
 mod listings;
@@ -21,9 +22,10 @@ mod turns;
 mod waits;
 mod wakes;
 
+use counted::Steps;
 use desk::{Desk, ManagerDesk};
 use lock_manager::{Config, Final, Manager, Mode, Opener, OwnSession, Refusal};
-use lock_table::PartTable;
+use lock_table::PlainPart;
 use pair::Pair;
 use races::Race;
 use scenes::{Scene, perform};
@@ -54,9 +56,8 @@ enum Story<'a> {
 
 /// Tells a story, with sessions from a desk.
 fn tell<
-    T: PartTable + Drop + Send,
-    B: Board<T> + Drop + Send,
-    D: Desk<OwnSession<T, B>>,
+    B: Board<PlainPart> + Send,
+    D: Desk<OwnSession<PlainPart, B>>,
     R: Abort + Threads + Wait + Sync,
 >(rt: &R, alloc: Global, desk: &mut D, story: Story<'_>)
     requires seats { SeatsAre B.seat D.seat }
@@ -263,5 +264,14 @@ fn sessions_go_on_where_memory_was_wanting_once(rt: HostRuntime) -> Result<(), F
     ] {
         run(&rt, rt.alloc(), config, story)?;
     }
+    Ok(())
+}
+
+#[test]
+fn what_makes_no_step_does_nothing_on_the_board(rt: HostRuntime) -> Result<(), Fail> {
+    let steps = Steps::none();
+    let mut session = counted::open(rt.alloc(), &steps)?;
+    counted::make_all(&rt, &mut session, &steps);
+    session.into_board(&rt);
     Ok(())
 }

@@ -1,6 +1,7 @@
 //! The local lock table and its index.
 
 mod acquires;
+mod growth;
 mod long_table;
 mod places;
 mod random_calls;

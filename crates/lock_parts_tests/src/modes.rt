@@ -200,11 +200,15 @@ fn refusals(session: SessionId) -> [(Refusal, u8, &'static str); 14] {
         how,
     };
     [
-        (conflict(How::Held), 1, "conflict: session 63 has ShareLock"),
+        (
+            conflict(How::Held),
+            1,
+            "conflict: session 63 holds ShareLock",
+        ),
         (
             conflict(How::Awaited),
             1,
-            "conflict: session 63 has ShareLock",
+            "conflict: session 63 awaits ShareLock",
         ),
         (Refusal::NoMemory, 2, "out of memory"),
         (Refusal::LocalFull, 3, "the local lock table is full"),

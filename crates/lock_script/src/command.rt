@@ -57,7 +57,7 @@ pub enum Command {
 
 /// What the line asks for, or `None` of a line with no word and of a comment. The first six words say it, since no
 /// command has as many.
-pub fn parse<S: Drop, W: Drop>(line: &str, crew: &Crew<S, W>) -> Result<Option<Command>, Defect>
+pub fn parse<S, W>(line: &str, crew: &Crew<S, W>) -> Result<Option<Command>, Defect>
     ensures addressed { IfOk result (λ command. IfSome command (Addresses crew.now)) }
     ensures counter { IfOk result (λ command. IfSome command NamesCounter) }
     ensures meaning { IfOk result (λ command. MatchOption command (IsSilent (take 6 (words_of line.now)))
@@ -76,11 +76,7 @@ pub fn parse<S: Drop, W: Drop>(line: &str, crew: &Crew<S, W>) -> Result<Option<C
 
 /// The command of this first word and the words behind it. Here are those that open or close a session or end a
 /// transaction.
-fn parse_command<S: Drop, W: Drop>(
-    verb: &str,
-    words: &[&str],
-    crew: &Crew<S, W>,
-) -> Result<Command, Defect>
+fn parse_command<S, W>(verb: &str, words: &[&str], crew: &Crew<S, W>) -> Result<Command, Defect>
     ensures { IfOk result (IsCommandOf crew.now verb.now (map (λ word. word.now) words.now)) }
 {
     match verb {
@@ -96,7 +92,7 @@ fn parse_command<S: Drop, W: Drop>(
 }
 
 /// The same of the commands that ask for a lock, let one go or end a wait for one.
-fn parse_lock_command<S: Drop, W: Drop>(
+fn parse_lock_command<S, W>(
     verb: &str,
     words: &[&str],
     crew: &Crew<S, W>,
@@ -129,7 +125,7 @@ fn parse_lock_command<S: Drop, W: Drop>(
 }
 
 /// The same of the commands that only look.
-fn parse_look_command<S: Drop, W: Drop>(
+fn parse_look_command<S, W>(
     verb: &str,
     words: &[&str],
     crew: &Crew<S, W>,
@@ -150,7 +146,7 @@ fn parse_look_command<S: Drop, W: Drop>(
 }
 
 /// The words behind `session`: a name that no open session has, and a number.
-fn parse_session<S: Drop, W: Drop>(words: &[&str], crew: &Crew<S, W>) -> Result<(Name, u32), Defect>
+fn parse_session<S, W>(words: &[&str], crew: &Crew<S, W>) -> Result<(Name, u32), Defect>
     ensures named { IfOk result (λ parsed.
         NamesNew crew.now (map (λ word. word.now) words.now) parsed.0 parsed.1) }
 {
@@ -166,10 +162,7 @@ fn parse_session<S: Drop, W: Drop>(words: &[&str], crew: &Crew<S, W>) -> Result<
 }
 
 /// The words behind `try`, `fast`, `lock` and `unlock`. Where there is no fourth one the owner is the transaction.
-fn parse_owned_target<S: Drop, W: Drop>(
-    words: &[&str],
-    crew: &Crew<S, W>,
-) -> Result<(Target, Owner), Defect>
+fn parse_owned_target<S, W>(words: &[&str], crew: &Crew<S, W>) -> Result<(Target, Owner), Defect>
     ensures named { IfOk result (λ parsed.
         NamesOwned crew.now (map (λ word. word.now) words.now) parsed.0 parsed.1) }
 {
@@ -188,7 +181,7 @@ fn parse_owned_target<S: Drop, W: Drop>(
 }
 
 /// The words behind `owned` and `waiters`.
-fn parse_lone_target<S: Drop, W: Drop>(words: &[&str], crew: &Crew<S, W>) -> Result<Target, Defect>
+fn parse_lone_target<S, W>(words: &[&str], crew: &Crew<S, W>) -> Result<Target, Defect>
     ensures named { IfOk result (NamesLone crew.now (map (λ word. word.now) words.now)) }
 {
     let [name, tag, mode] = words else {
@@ -198,7 +191,7 @@ fn parse_lone_target<S: Drop, W: Drop>(words: &[&str], crew: &Crew<S, W>) -> Res
 }
 
 /// Which lock three words are about, and whose.
-fn parse_target<S: Drop, W: Drop>(
+fn parse_target<S, W>(
     name: &str,
     tag: &str,
     mode: &str,
@@ -216,10 +209,7 @@ fn parse_target<S: Drop, W: Drop>(
 }
 
 /// The word behind a command that takes a session's name alone.
-fn parse_lone_speaker<S: Drop, W: Drop>(
-    words: &[&str],
-    crew: &Crew<S, W>,
-) -> Result<Speaker, Defect>
+fn parse_lone_speaker<S, W>(words: &[&str], crew: &Crew<S, W>) -> Result<Speaker, Defect>
     ensures named { IfOk result (NamesActor crew.now (map (λ word. word.now) words.now)) }
 {
     let [name] = words else {
@@ -239,10 +229,7 @@ fn parse_hash(words: &[&str]) -> Result<Tag, Defect>
 }
 
 /// The words behind `count`: who looks, and at which strong lock counter.
-fn parse_count<S: Drop, W: Drop>(
-    words: &[&str],
-    crew: &Crew<S, W>,
-) -> Result<(Speaker, u16), Defect>
+fn parse_count<S, W>(words: &[&str], crew: &Crew<S, W>) -> Result<(Speaker, u16), Defect>
     ensures named { IfOk result (λ parsed.
         NamesCount crew.now (map (λ word. word.now) words.now) parsed.0 parsed.1) }
     ensures wrong_number { IsErrOf result Defect.WrongNumberOfWords ↔ (length words.now ≢ 2) }
@@ -261,10 +248,7 @@ fn parse_count<S: Drop, W: Drop>(
 }
 
 /// The words behind `cancel`: who asks, and the session that is asked, which may wait.
-fn parse_cancel<S: Drop, W: Drop>(
-    words: &[&str],
-    crew: &Crew<S, W>,
-) -> Result<(Speaker, Opened), Defect>
+fn parse_cancel<S, W>(words: &[&str], crew: &Crew<S, W>) -> Result<(Speaker, Opened), Defect>
     ensures named { IfOk result (λ parsed.
         NamesBoth crew.now (map (λ word. word.now) words.now) parsed.0 parsed.1) }
     ensures wrong_number { IsErrOf result Defect.WrongNumberOfWords ↔ (length words.now ≢ 2) }
@@ -282,7 +266,7 @@ fn parse_cancel<S: Drop, W: Drop>(
 }
 
 /// The session that a word names. It may not wait.
-fn parse_speaker<S: Drop, W: Drop>(name: &str, crew: &Crew<S, W>) -> Result<Speaker, Defect>
+fn parse_speaker<S, W>(name: &str, crew: &Crew<S, W>) -> Result<Speaker, Defect>
     ensures named { IfOk result (NamesSpeaker crew.now name.now) }
     ensures refused { IfErr result (IsBarred crew.now name.now) }
 {
@@ -294,7 +278,7 @@ fn parse_speaker<S: Drop, W: Drop>(name: &str, crew: &Crew<S, W>) -> Result<Spea
 }
 
 /// The session that a word names, whether it waits or not.
-fn parse_opened<S: Drop, W: Drop>(name: &str, crew: &Crew<S, W>) -> Result<Opened, Defect>
+fn parse_opened<S, W>(name: &str, crew: &Crew<S, W>) -> Result<Opened, Defect>
     ensures named { IfOk result (NamesOpen crew.now name.now) }
     ensures refused { IfErr result (IsUnnamed crew.now name.now) }
 {

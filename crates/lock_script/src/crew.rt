@@ -38,7 +38,7 @@ impl<S> Model for ByName<S> {
     ghost invariant = { λ those. IsByName those.sessions.items × (64 ≤ vec_capacity those.sessions) };
 }
 
-impl<S: Drop> ByName<S> {
+impl<S> ByName<S> {
     ghost use Rattle.lock_script.specs.declared.crew.Named.{Named};
     ghost use Rattle.lock_script.specs.Lending.{LendsSession};
 
@@ -94,7 +94,10 @@ impl<S: Drop> ByName<S> {
     {
         let place = self.place_of(&name);
         // There is room, so it takes no memory and is not refused.
-        let _ = self.sessions.insert(place, Named { name, session });
+        match self.sessions.insert(place, Named { name, session }) {
+            Ok(()) => {}
+            Err(_) => unreachable!(),
+        }
     }
 
     /// How many have a name that does not come after this one.
@@ -133,6 +136,14 @@ impl<S: Drop> ByName<S> {
         }
         Some(self.sessions.remove(0))
     }
+
+    /// The end of the list, once nobody is on it.
+    pub fn finish(self)
+        requires { self ≡ [] }
+    {
+        let ByName { sessions } = self;
+        sessions.destroy_empty();
+    }
 }
 
 /// The open sessions: those that don't wait, and those that do.
@@ -165,7 +176,7 @@ pub struct Opened {
     pub place: Place,
 }
 
-impl<S: Drop, W: Drop> Crew<S, W> {
+impl<S, W> Crew<S, W> {
     ghost use Rattle.lock_script.specs.Crew.{IsAt, IsUnknown};
 
     /// Nobody. It is refused where memory is wanting.
@@ -173,10 +184,24 @@ impl<S: Drop, W: Drop> Crew<S, W> {
         ensures resting { IfOk result (λ crew. crew.resting ≡ []) }
         ensures waiting { IfOk result (λ crew. crew.waiting ≡ []) }
     {
-        Ok(Crew {
-            resting: ByName::new(alloc)?,
-            waiting: ByName::new(alloc)?,
-        })
+        let resting = ByName::new(alloc)?;
+        match ByName::new(alloc) {
+            Ok(waiting) => Ok(Crew { resting, waiting }),
+            Err(refused) => {
+                resting.finish();
+                Err(refused)
+            }
+        }
+    }
+
+    /// The end of the crew, once nobody is in it.
+    pub fn finish(self)
+        requires resting { self.resting ≡ [] }
+        requires waiting { self.waiting ≡ [] }
+    {
+        let Crew { resting, waiting } = self;
+        resting.finish();
+        waiting.finish();
     }
 
     /// Where the open session of this name stands, if there is one.

@@ -44,8 +44,8 @@ pub fn run_script<H: AllocGlobal + Wait, R: Read + Drop, W: Write + Drop>(
 /// where memory is wanting for the list of them.
 fn play<
     'a,
-    T: PartTable + Drop,
-    B: Board<T> + Drop,
+    T: PartTable,
+    B: Board<T>,
     D: Desk<'a, OwnSession<T, B>>,
     H: Wait,
     R: Read + Drop,
@@ -73,13 +73,12 @@ fn play<
 }
 
 /// What the lines of a script act on: a lock manager with its sessions, and the output.
-#[derive(Drop)]
 pub struct Scene<'a, T: PartTable, B: Board<T>, W: Write + Drop> {
     pub stage: Stage<'a, T, B>,
     output: Output<W>,
 }
 
-impl<'a, T: PartTable + Drop, B: Board<T> + Drop, W: Write + Drop> Scene<'a, T, B, W> {
+impl<'a, T: PartTable, B: Board<T>, W: Write + Drop> Scene<'a, T, B, W> {
     /// A scene whose answers go to this writer.
     pub fn new(stage: Stage<'a, T, B>, writer: W) -> Self
         ensures { result.stage ≡ stage.entry }
@@ -94,7 +93,8 @@ impl<'a, T: PartTable + Drop, B: Board<T> + Drop, W: Write + Drop> Scene<'a, T, 
     pub fn into_stage(self) -> Stage<'a, T, B>
         ensures { result ≡ self.entry.stage }
     {
-        self.stage
+        let Scene { stage, output: _ } = self;
+        stage
     }
 
     /// Plays a script: runs its lines to their end or to the first fault, and then closes the sessions that

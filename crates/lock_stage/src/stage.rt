@@ -34,8 +34,7 @@ pub enum Looked {
 }
 
 /// A lock manager, its opener, the names of all sessions that were opened, and the open ones. Each of these is the
-/// manager's, and the opener counts them.
-#[derive(Drop)]
+/// manager's, and the opener counts them. It ends by `into_opener`, once no session is open.
 pub struct Stage<'a, T: PartTable, B: Board<T>> {
     pub manager: &'a Manager,
     pub opener: Opener,
@@ -51,7 +50,7 @@ pub struct Stage<'a, T: PartTable, B: Board<T>> {
     ghost waiting: { All (λ one. (B.seat one.session.board).table ≡ opener.table) crew.waiting },
 }
 
-impl<'a, T: PartTable + Drop, B: Board<T> + Drop> Stage<'a, T, B> {
+impl<'a, T: PartTable, B: Board<T>> Stage<'a, T, B> {
     ghost use Rattle.lock_script.specs.Crew.{IsThere, MayAct};
 
     /// A manager that has no session yet, with its opener.
@@ -60,6 +59,8 @@ impl<'a, T: PartTable + Drop, B: Board<T> + Drop> Stage<'a, T, B> {
         requires none_issued { opener.issued ≡ 0 }
         requires none_live { opener.live ≡ 0 }
         ensures manager { IfOk result (λ stage. stage.manager.now ≡ manager.now) }
+        ensures none_waits { IfOk result (λ stage. stage.crew.waiting ≡ []) }
+        ensures none_open { IfOk result (λ stage. stage.crew.resting ≡ []) }
     {
         let crew = Crew::new(alloc)?;
         Ok(Stage {
@@ -116,12 +117,21 @@ impl<'a, T: PartTable + Drop, B: Board<T> + Drop> Stage<'a, T, B> {
         }
     }
 
-    /// The opener, where the scene is over.
+    /// The opener, where the scene is over and no session is open.
     pub fn into_opener(self) -> Opener
+        requires none_waits { self.crew.waiting ≡ [] }
+        requires none_open { self.crew.resting ≡ [] }
         ensures opener { result ≡ self.entry.opener }
         ensures own { IsOpenerOf result self.entry.manager.now }
     {
-        self.opener
+        let Stage {
+            manager: _,
+            opener,
+            names: _,
+            crew,
+        } = self;
+        crew.finish();
+        opener
     }
 
     /// Takes a mode on an object for an owner, or refuses at once.

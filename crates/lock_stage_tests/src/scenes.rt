@@ -64,13 +64,7 @@ const PRINTED: &str = "b: session 0 database 5\na: session 1 database 5\nc: sess
     a: session 4 database 7\nrows 0\na: granted\n";
 
 /// Plays them on one stage, whose sessions the desk opens for this manager.
-fn play_in_turn<
-    'a,
-    T: PartTable + Drop,
-    B: Board<T> + Drop,
-    D: Desk<'a, OwnSession<T, B>>,
-    R: Abort + Wait,
->(
+fn play_in_turn<'a, T: PartTable, B: Board<T>, D: Desk<'a, OwnSession<T, B>>, R: Abort + Wait>(
     rt: &R,
     alloc: Global,
     desk: &D,
@@ -85,11 +79,12 @@ fn play_in_turn<
 {
     let stage = Stage::new(alloc, manager, opener)?;
     let mut scene = Scene::new(stage, output);
-    for turn in &IN_TURN {
+    'turns: for turn in &IN_TURN {
         let (script, is_good) = *turn;
         let ended = scene.play(desk, rt, script.as_bytes());
         assert_eq!(rt; ended.is_ok(), is_good, "{script:?}");
     }
+    scene.into_stage().into_opener();
     Ok(())
 }
 

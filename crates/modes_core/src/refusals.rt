@@ -2,6 +2,7 @@ ghost use Rattle.std.specs.Prelude.{◌≡◌};
 ghost use Rattle.modes_core.specs.Refusal.{refusal_number};
 
 use crate::{Mode, SessionId};
+use std::fmt;
 use thiserror::Error;
 
 /// What another session does with the mode that stands in the way.
@@ -13,11 +14,25 @@ pub enum How {
     Awaited,
 }
 
+impl fmt::Display for How {
+    ghost use Rattle.std.specs.Prelude.{Some};
+    ghost use Rattle.modes_core.specs.Refusal.{verb_of};
+
+    ghost output = { λ how. Some (verb_of how) };
+
+    fn fmt<W: fmt::Write>(&self, f: &mut fmt::Formatter<W>) -> fmt::Result {
+        match self {
+            How::Held => write!(f, "holds"),
+            How::Awaited => write!(f, "awaits"),
+        }
+    }
+}
+
 /// Why a call was refused. After each refusal the caller's holds and counts are as before.
 #[derive(Clone, Copy, Debug, PartialEq, Eq, Drop, Error)]
 pub enum Refusal {
     /// A conditional request met a conflicting hold or wait of another session.
-    #[error("conflict: session {session} has {mode}")]
+    #[error("conflict: session {session} {how} {mode}")]
     Conflict {
         session: SessionId,
         mode: Mode,

@@ -1,9 +1,10 @@
-use Rattle.std.specs.Prelude.{◌≡◌, ◌≢◌, ◌⊎◌, ℕ, MatchResult, Some}
+use Rattle.std.specs.Prelude.{◌≡◌, ◌≢◌, ◌⊎◌, ℕ, MatchResult, Some, None}
 use Rattle.std.specs.declared.result.Result.{Result}
 use Rattle.lw_word.specs.LightweightWord.{IsHeldByNobody}
 use Rattle.lock_world.specs.declared.events.Word.{Word}
 use Rattle.lock_world.specs.declared.events.Word.TheVariants.{Partition, Fast, Database, Slot, Wait, Strong, Sleep}
 use Rattle.lock_world.specs.SlotHolds.{slot_holds}
+use Rattle.lock_world.specs.WaitWord.{wait_state}
 use Rattle.lock_world.specs.World.{Loaded}
 use Rattle.lock_world.specs.Account.{Account, SlotsInHand}
 use Rattle.lock_world.specs.AccountSteps.{account_tracing, account_taking_fast}
@@ -43,7 +44,8 @@ abbrev pub TriesFast : {T E : Type 0} → ℕ → Account → Result T E → Acc
 TriesFast number a result b =
     MatchResult result (λ _. TookItFree number a b) (λ _. FoundItHeld number a b ⊎ FoundItChanged number a b)
 
--- What it knows of a number that it finds in a word: its slots in hand show it, and its database is its own.
+-- What it knows of a number that it finds in a word: its slots in hand show it, its database is its own, and its own wait
+-- word shows no wait where it has none.
 abbrev pub KnowsWord : ℕ → Account → Word → ℕ → Type 0
 KnowsWord number a (Partition p) found = Unit {0}
 KnowsWord number a (Fast owner) found = Unit {0}
@@ -52,6 +54,6 @@ KnowsWord number a (Database owner) found =
     × (owner ≡ number → found ≡ a.fast.database)
 KnowsWord number a (Slot owner place) found =
     (slots : SlotsInHand) → a.fast.slots owner ≡ Some slots → found ≡ slots.word place
-KnowsWord number a (Wait owner) found = Unit {0}
+KnowsWord number a (Wait owner) found = owner ≡ number → a.awaited ≡ None → wait_state found ≡ 0
 KnowsWord number a (Strong index) found = Unit {0}
 KnowsWord number a (Sleep owner) found = Unit {0}

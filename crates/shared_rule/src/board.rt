@@ -252,7 +252,8 @@ pub trait Board<T: PartTable> {
     fn ask_cancel(&mut self, other: SessionId) -> u64
         ensures seat { seat self.new ≡ seat self.old }
         ensures view { view self.new ≡ account_tracing (view self.old) (AskedToCancel other result) }
-        ensures stack { stack self.new ≡ stack_asking (stack self.old) other result };
+        ensures stack { stack self.new ≡ stack_asking (stack self.old) other result }
+        ensures own { other ≡ (seat self.old).number → (view self.old).awaited ≡ None → wait_state result ≡ 0 };
 
     /// Clears the own wait word: the wait is over, since the grant was seen or the wait is gone from the content in
     /// hand.

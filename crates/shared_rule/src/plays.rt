@@ -50,7 +50,7 @@ impl<T: PartTable> Play<Option<T>, View<T>> for TakesPart {
     ghost then = { TookPartition T.content T.begun };
 }
 
-/// A load that leaves its mark, and tells what the account knows of the number found.
+/// A load or a fetch operation that leaves its mark, and tells what the account knows of the number found.
 pub struct Looks<M> {
     of: PhantomData<M>,
 }

@@ -19,8 +19,8 @@ use modes_core::{Mode, SessionId, Tag};
 use std::marker::Brand;
 use std::sync::Wait;
 
-/// A session's seat at the table that all sessions share. One that is let go leaves its session open for ever.
-#[derive(Drop)]
+/// A session's seat at the table that all sessions share. It is no `Drop`, so that nobody lets one go, which would leave its
+/// session open for ever.
 pub struct SeatBoard<'a, T: PartTable> {
     table: &'a Top<T>,
     place: Place<T>,

@@ -1,7 +1,7 @@
 //! The steps of a session on wait words: its own, by which it learns that its wait was granted or is to be cancelled,
 //! and those of others whom it tells so.
 
-ghost use Rattle.std.specs.Prelude.{◌≡◌, ◌<◌, ◌+◌, ◌^◌, ◌%◌, [], bit_or, List, map};
+ghost use Rattle.std.specs.Prelude.{◌≡◌, ◌<◌, ◌+◌, ◌^◌, ◌%◌, [], bit_or, List, map, None};
 ghost use mathlib.Core.Option.{none};
 ghost use Rattle.atomic_table.specs.Table.{Allows, step};
 ghost use Rattle.modes_core.specs.Tag.{partition_of};
@@ -9,17 +9,21 @@ ghost use Rattle.lock_table.specs.declared.moves.Move.TheVariants.{Join};
 ghost use Rattle.lock_table.specs.Content as contents;
 ghost use Rattle.lock_table.specs.OwnWait.{OwnWait};
 ghost use Rattle.lock_table.specs.Waiter.{whose_and_mode};
+ghost use Rattle.lock_world.specs.declared.events.Word.{Word};
+ghost use Rattle.lock_world.specs.WaitWord.{wait_state};
 ghost use Rattle.lock_world.specs.Account.{InHand};
 ghost use Rattle.lock_world.specs.AccountLaw.{MayMoveBy, MayLeaveBy};
 ghost use Rattle.shared_rule.specs.declared.history.Mark.TheVariants.{SetWaiting, MarkedGranted, LoadedWait};
 ghost use Rattle.shared_rule.specs.declared.history.Mark.TheVariants.{Asked, ClearedWait, LeftQueue};
 ghost use Rattle.shared_rule.specs.History.{noting, sessions_told};
+ghost use Rattle.shared_rule.specs.Layout.{index_of_word, IsInTable};
 ghost use Rattle.shared_rule.specs.Ruled.{Ruled};
+ghost use Rattle.shared_rule.specs.Slots.{KnowsWord};
 ghost use Rattle.shared_rule.specs.Lawful.{IsGrantingIn, MayMarkBy, MayClearBy};
-ghost use Rattle.shared_rule.specs.Plays.{account_at, number_at, FitsTable, HasSession, IsSameSeat, Marked};
+ghost use Rattle.shared_rule.specs.Plays.{account_at, number_at, FitsTable, HasSession, IsSameSeat, Marked, Looked};
 
 use crate::layout::wait_word;
-use crate::plays::{Marking, Marks};
+use crate::plays::{Looks, Marking, Marks};
 use crate::rule::{Place, Top};
 use crate::steps::{fetch_add_as, load_as};
 use lock_table::{Move, PartTable, Woken};
@@ -50,11 +54,13 @@ fn fetch_or_as<T: PartTable, M: Marking<T>>(
     requires table { FitsTable place.old top.now.table_id × (word < top.now.table_id.words) }
     requires allowed { Allows (Ruled T.content T.begun top.now.key) top.now.table_id.slots
         place.old.id place.old.me word
-        (λ n. bit_or n bits) (Marked M.mark (step top.now.table_id.slots word bits 0 none) place.old.me) }
+        (λ n. bit_or n bits) (Looked T.content M.mark (step top.now.table_id.slots word bits 0 none) place.old.me) }
     ensures seat { IsSameSeat place.old place.new }
     ensures side { place.new.me ≡ (noting place.old.me.0 (M.mark result), place.old.me.1) }
+    ensures knows { (which : Word) → IsInTable which → word ≡ index_of_word which
+        → KnowsWord (number_at place.old) (account_at T.content place.old) which result }
 {
-    top.fetch_or::<Marks<M>>(place, word, bits)
+    top.fetch_or::<Looks<M>>(place, word, bits)
 }
 
 /// Stores in the own wait word that the session waits, with its join made in the content in hand (`ProcSleep` in
@@ -137,6 +143,8 @@ pub(crate) fn ask_cancel<T: PartTable, M: Marking<T>>(
     requires mark { M.mark ≡ Asked other }
     ensures seat { IsSameSeat place.old place.new }
     ensures side { place.new.me ≡ (noting place.old.me.0 (Asked other result), place.old.me.1) }
+    ensures own { other ≡ number_at place.old → (account_at T.content place.old).awaited ≡ None
+        → wait_state result ≡ 0 }
 {
     fetch_or_as::<T, M>(top, place, wait_word(other), 4)
 }

@@ -8,7 +8,7 @@ use super::pair::Pair;
 use super::races::see_nothing;
 use super::waits::{OWNER, TABLE, take};
 use lock_manager::{Acquired, Mode, OwnSession, Refusal};
-use lock_table::PartTable;
+use lock_table::{PartTable, PlainPart};
 use shared_rule::board::Board;
 use std::process::Abort;
 use std::sync::Wait;
@@ -56,10 +56,7 @@ pub fn try_until_busy<T: PartTable, B: Board<T>, R: Abort + Wait>(
 }
 
 /// Takes a strong mode, for which the session has the slots' locks of all sessions in hand in turn, and gives it back.
-fn go_past_slots<T: PartTable + Drop, B: Board<T> + Drop, R: Abort + Wait>(
-    rt: &R,
-    session: &mut OwnSession<T, B>,
-)
+fn go_past_slots<T: PartTable, B: Board<T>, R: Abort + Wait>(rt: &R, session: &mut OwnSession<T, B>)
     ensures seat { B.seat session.new.board ≡ B.seat session.old.board }
 {
     take(rt, session, Mode::Share);
@@ -67,7 +64,7 @@ fn go_past_slots<T: PartTable + Drop, B: Board<T> + Drop, R: Abort + Wait>(
 }
 
 /// Does so over and over, until the other one has seen it.
-pub fn take_until_seen<T: PartTable + Drop, B: Board<T> + Drop, R: Abort + Wait>(
+pub fn take_until_seen<T: PartTable, B: Board<T>, R: Abort + Wait>(
     rt: &R,
     session: &mut OwnSession<T, B>,
     is_seen: &AtomicBool,
@@ -83,11 +80,10 @@ pub fn take_until_seen<T: PartTable + Drop, B: Board<T> + Drop, R: Abort + Wait>
 }
 
 /// One goes past the slots of the other, until that one finds them busy. At the end nothing stands.
-pub fn find_slots_busy<
-    T: PartTable + Drop + Send,
-    B: Board<T> + Drop + Send,
-    R: Abort + Threads + Wait + Sync,
->(rt: &R, pair: Pair<T, B>) -> Pair<T, B>
+pub fn find_slots_busy<B: Board<PlainPart> + Send, R: Abort + Threads + Wait + Sync>(
+    rt: &R,
+    pair: Pair<PlainPart, B>,
+) -> Pair<PlainPart, B>
     ensures first { B.seat result.first.board ≡ B.seat pair.first.board }
     ensures second { B.seat result.second.board ≡ B.seat pair.second.board }
 {

@@ -5,15 +5,15 @@ ghost use Rattle.std.specs.Prelude.{◌≡◌};
 use super::answers::Answer;
 use super::busy::{take_until_seen, try_until_busy};
 use super::pair::Pair;
-use super::waits::{OWNER, TABLE, ask, ask_until_heard, give_back, lock, see_wait};
+use super::waits::{OWNER, TABLE, ask, ask_until_heard, give_back, see_wait};
 use lock_manager::{Asked, Mode, OwnSession, SessionId};
-use lock_table::PartTable;
+use lock_table::{PartTable, PlainPart};
 use shared_rule::board::Board;
 use std::process::Abort;
 use std::sync::Wait;
 use std::sync::atomic::{AtomicBool, AtomicU64, Ordering};
 use std::thread;
-use std::thread::{Threads, join};
+use std::thread::{Threads, join_mut};
 
 /// What a session does with the table.
 #[derive(Clone, Copy)]
@@ -57,76 +57,81 @@ pub fn begin<R: Wait>(rt: &R, arrived: &AtomicU64) {
 }
 
 /// Does it once both have begun. What a request was answered, if it is one.
-fn act<T: PartTable + Drop, B: Board<T> + Drop, R: Abort + Wait>(
+fn act<T: PartTable, B: Board<T>, R: Abort + Wait>(
     rt: &R,
     shown: &Shown,
-    mut session: OwnSession<T, B>,
+    session: &mut OwnSession<T, B>,
     deed: Deed,
-) -> (OwnSession<T, B>, Option<Answer>)
-    ensures seat { B.seat result.0.board ≡ B.seat session.board }
+) -> Option<Answer>
+    ensures seat { B.seat session.new.board ≡ B.seat session.old.board }
 {
     begin(rt, &shown.arrived);
     match deed {
-        Deed::TryFast(mode) => {
-            let answer = session.try_fast(TABLE, mode, OWNER);
-            (session, Some(answer))
-        }
-        Deed::Try(mode) => {
-            let answer = session.try_lock(rt, TABLE, mode, OWNER);
-            (session, Some(answer))
-        }
-        Deed::Lock(mode) => {
-            let (session, answer) = lock(rt, session, mode);
-            (session, Some(answer))
-        }
+        Deed::TryFast(mode) => Some(session.try_fast(TABLE, mode, OWNER)),
+        Deed::Try(mode) => Some(session.try_lock(rt, TABLE, mode, OWNER)),
+        Deed::Lock(mode) => Some(session.acquire(rt, TABLE, mode, OWNER)),
         Deed::AskUntilHeard(number) => {
-            ask_until_heard(rt, &mut session, number);
-            (session, None)
+            ask_until_heard(rt, session, number);
+            None
         }
         Deed::AskOnceAwaited(number) => {
-            see_wait(rt, &mut session, number);
-            ask(rt, &mut session, number, Asked::Waiting);
-            (session, None)
+            see_wait(rt, session, number);
+            ask(rt, session, number, Asked::Waiting);
+            None
         }
         Deed::GiveBackOnceAwaited(number, mode) => {
-            see_wait(rt, &mut session, number);
-            give_back(rt, &mut session, mode);
-            (session, None)
+            see_wait(rt, session, number);
+            give_back(rt, session, mode);
+            None
         }
         Deed::TryUntilBusy => {
-            try_until_busy(rt, &mut session, &shown.is_busy);
-            (session, None)
+            try_until_busy(rt, session, &shown.is_busy);
+            None
         }
         Deed::TakeUntilSeen => {
-            take_until_seen(rt, &mut session, &shown.is_busy);
-            (session, None)
+            take_until_seen(rt, session, &shown.is_busy);
+            None
         }
     }
 }
 
-/// Each of two sessions does something, the one beside the other, and what each was answered.
-pub fn act_side_by_side<
-    T: PartTable + Drop + Send,
-    B: Board<T> + Drop + Send,
-    R: Abort + Threads + Wait + Sync,
->(
+/// Two that are lent do something, the one beside the other, and what each was answered. The two deeds are lent too, since the
+/// check covers no two closures each of which borrows a variable of its own beside its session.
+fn act_on_loan<B: Board<PlainPart> + Send, R: Abort + Threads + Wait + Sync>(
     rt: &R,
-    pair: Pair<T, B>,
-    of_first: Deed,
-    of_second: Deed,
-) -> (Pair<T, B>, Option<Answer>, Option<Answer>)
-    ensures first { B.seat result.0.first.board ≡ B.seat pair.first.board }
-    ensures second { B.seat result.0.second.board ≡ B.seat pair.second.board }
+    first: &mut OwnSession<PlainPart, B>,
+    second: &mut OwnSession<PlainPart, B>,
+    deeds: &(Deed, Deed),
+) -> (Option<Answer>, Option<Answer>)
+    ensures first { B.seat first.new.board ≡ B.seat first.old.board }
+    ensures second { B.seat second.new.board ≡ B.seat second.old.board }
 {
     let shown = Shown {
         arrived: AtomicU64::new(0),
         is_busy: AtomicBool::new(false),
     };
-    let Pair { first, second } = pair;
-    let ((first, for_first), (second, for_second)) = join(
+    join_mut(
         rt,
-        || act(rt, &shown, first, of_first),
-        || act(rt, &shown, second, of_second),
-    );
+        &mut || act(rt, &shown, first, deeds.0),
+        &mut || act(rt, &shown, second, deeds.1),
+    )
+}
+
+/// Each of two sessions does something, the one beside the other, and what each was answered.
+pub fn act_side_by_side<B: Board<PlainPart> + Send, R: Abort + Threads + Wait + Sync>(
+    rt: &R,
+    pair: Pair<PlainPart, B>,
+    of_first: Deed,
+    of_second: Deed,
+) -> (Pair<PlainPart, B>, Option<Answer>, Option<Answer>)
+    ensures first { B.seat result.0.first.board ≡ B.seat pair.first.board }
+    ensures second { B.seat result.0.second.board ≡ B.seat pair.second.board }
+{
+    let Pair {
+        mut first,
+        mut second,
+    } = pair;
+    let deeds = (of_first, of_second);
+    let (for_first, for_second) = act_on_loan(rt, &mut first, &mut second, &deeds);
     (Pair { first, second }, for_first, for_second)
 }

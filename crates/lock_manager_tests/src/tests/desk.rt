@@ -140,14 +140,17 @@ pub fn open<T: PartTable, B: Board<T>, D: Desk<OwnSession<T, B>>, R: Abort>(
 }
 
 /// Puts it behind the others.
-pub fn append<S: Drop, R: Abort>(rt: &R, list: &mut Vec<S>, session: S)
+fn append<S, R: Abort>(rt: &R, list: &mut Vec<S>, session: S)
     ensures { list.new.items ≡ list.old.items ++ session ∷ [] }
 {
-    assert!(rt; list.push(session).is_ok());
+    match list.push(session) {
+        Ok(()) => {}
+        Err(_) => panic!(rt; "no memory for a list of sessions"),
+    }
 }
 
 /// Opens a session, and puts it behind the others.
-fn open_behind<T: PartTable + Drop, B: Board<T> + Drop, D: Desk<OwnSession<T, B>>, R: Abort>(
+fn open_behind<T: PartTable, B: Board<T>, D: Desk<OwnSession<T, B>>, R: Abort>(
     rt: &R,
     desk: &mut D,
     sessions: &mut Vec<OwnSession<T, B>>,
@@ -164,7 +167,7 @@ fn open_behind<T: PartTable + Drop, B: Board<T> + Drop, D: Desk<OwnSession<T, B>
 }
 
 /// So many sessions, in the order of their numbers.
-pub fn open_many<T: PartTable + Drop, B: Board<T> + Drop, D: Desk<OwnSession<T, B>>, R: Abort>(
+pub fn open_many<T: PartTable, B: Board<T>, D: Desk<OwnSession<T, B>>, R: Abort>(
     rt: &R,
     alloc: Global,
     desk: &mut D,
@@ -183,7 +186,7 @@ pub fn open_many<T: PartTable + Drop, B: Board<T> + Drop, D: Desk<OwnSession<T, 
 }
 
 /// Closes them all.
-pub fn close_many<T: PartTable + Drop, B: Board<T> + Drop, D: Desk<OwnSession<T, B>>, R: Wait>(
+pub fn close_many<T: PartTable, B: Board<T>, D: Desk<OwnSession<T, B>>, R: Wait>(
     rt: &R,
     desk: &mut D,
     mut sessions: Vec<OwnSession<T, B>>,
@@ -196,4 +199,5 @@ pub fn close_many<T: PartTable + Drop, B: Board<T> + Drop, D: Desk<OwnSession<T,
     'sessions: while let Some(session) = sessions.pop() {
         desk.close(rt, session);
     }
+    sessions.destroy_empty();
 }

@@ -111,7 +111,7 @@ fn give_many_back<T: PartTable, B: Board<T>, R: Abort + Wait>(
 }
 
 /// A session of a desk takes many modes and gives them back.
-pub fn go_on<T: PartTable + Drop, B: Board<T> + Drop, D: Desk<OwnSession<T, B>>, R: Abort + Wait>(
+pub fn go_on<T: PartTable, B: Board<T>, D: Desk<OwnSession<T, B>>, R: Abort + Wait>(
     rt: &R,
     desk: &mut D,
 )

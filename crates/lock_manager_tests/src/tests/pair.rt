@@ -15,7 +15,7 @@ pub struct Pair<T: PartTable, B: Board<T>> {
     pub second: OwnSession<T, B>,
 }
 
-impl<T: PartTable + Drop, B: Board<T> + Drop> Pair<T, B> {
+impl<T: PartTable, B: Board<T>> Pair<T, B> {
     /// Two sessions from a desk.
     pub fn open<D: Desk<OwnSession<T, B>>, R: Abort>(rt: &R, desk: &mut D) -> Self
         requires seats { SeatsAre B.seat D.seat }

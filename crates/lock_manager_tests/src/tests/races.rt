@@ -1,18 +1,18 @@
 //! Two sessions in threads of their own, which begin each round at the same moment, and what each is answered.
 
-ghost use Rattle.std.specs.Prelude.{◌≡◌};
+ghost use Rattle.std.specs.Prelude.{◌≡◌, IfSome, None};
 
 use super::answers::{Answer, expect_acted, expect_granted, expect_rows};
 use super::deeds::{Deed, act_side_by_side, begin};
 use super::pair::Pair;
-use super::waits::{self, OWNER, TABLE, give_back, queue, take};
+use super::waits::{OWNER, TABLE, give_back, queue, take};
 use lock_manager::{Acquired, How, Mode, OwnSession, OwnWaiting, Refusal, SessionId};
-use lock_table::PartTable;
+use lock_table::{PartTable, PlainPart};
 use shared_rule::board::Board;
 use std::process::Abort;
 use std::sync::Wait;
 use std::sync::atomic::AtomicU64;
-use std::thread::{Threads, join};
+use std::thread::{Threads, join_mut};
 
 /// What two sessions race for.
 #[derive(Clone, Copy)]
@@ -58,11 +58,12 @@ fn expect_one<R: Abort>(
 }
 
 /// One tries a weak mode by a slot, and the other one a strong one.
-fn try_weak_against_strong<
-    T: PartTable + Drop + Send,
-    B: Board<T> + Drop + Send,
-    R: Abort + Threads + Wait + Sync,
->(rt: &R, pair: Pair<T, B>, weak: Mode, strong: Mode) -> Pair<T, B>
+fn try_weak_against_strong<B: Board<PlainPart> + Send, R: Abort + Threads + Wait + Sync>(
+    rt: &R,
+    pair: Pair<PlainPart, B>,
+    weak: Mode,
+    strong: Mode,
+) -> Pair<PlainPart, B>
     ensures first { B.seat result.first.board ≡ B.seat pair.first.board }
     ensures second { B.seat result.second.board ≡ B.seat pair.second.board }
 {
@@ -91,11 +92,12 @@ fn take_fast<T: PartTable, B: Board<T>, R: Abort>(
 }
 
 /// Both have a weak mode, and ask for a strong one.
-fn try_strong_over_weak<
-    T: PartTable + Drop + Send,
-    B: Board<T> + Drop + Send,
-    R: Abort + Threads + Wait + Sync,
->(rt: &R, pair: Pair<T, B>, weak: Mode, strong: Mode) -> Pair<T, B>
+fn try_strong_over_weak<B: Board<PlainPart> + Send, R: Abort + Threads + Wait + Sync>(
+    rt: &R,
+    pair: Pair<PlainPart, B>,
+    weak: Mode,
+    strong: Mode,
+) -> Pair<PlainPart, B>
     ensures first { B.seat result.first.board ≡ B.seat pair.first.board }
     ensures second { B.seat result.second.board ≡ B.seat pair.second.board }
 {
@@ -116,7 +118,7 @@ fn try_strong_over_weak<
 }
 
 /// Gives a mode back that was granted.
-fn give_back_if<T: PartTable + Drop, B: Board<T> + Drop, R: Abort + Wait>(
+fn give_back_if<T: PartTable, B: Board<T>, R: Abort + Wait>(
     rt: &R,
     session: &mut OwnSession<T, B>,
     mode: Mode,
@@ -130,7 +132,7 @@ fn give_back_if<T: PartTable + Drop, B: Board<T> + Drop, R: Abort + Wait>(
 }
 
 /// Cancels the wait. Where it was granted the mode is given back.
-fn cancel<T: PartTable + Drop, B: Board<T> + Drop, R: Abort + Wait>(
+fn cancel<T: PartTable, B: Board<T>, R: Abort + Wait>(
     rt: &R,
     arrived: &AtomicU64,
     waiting: OwnWaiting<T, B>,
@@ -139,23 +141,48 @@ fn cancel<T: PartTable + Drop, B: Board<T> + Drop, R: Abort + Wait>(
     ensures seat { B.seat result.board ≡ B.seat waiting.board }
 {
     begin(rt, arrived);
-    let (mut session, was_granted) = waits::cancel(rt, waiting);
-    give_back_if(rt, &mut session, mode, was_granted);
+    let (mut session, answer) = waiting.cancel(rt).into_parts();
+    give_back_if(rt, &mut session, mode, answer.is_ok());
     session
 }
 
-/// Gives a mode back.
-fn release<T: PartTable + Drop, B: Board<T> + Drop, R: Abort + Wait>(
+/// Cancels the wait that is lent.
+fn cancel_lent<T: PartTable, B: Board<T>, R: Abort + Wait>(
     rt: &R,
     arrived: &AtomicU64,
-    mut session: OwnSession<T, B>,
+    waiting: &mut Option<OwnWaiting<T, B>>,
     mode: Mode,
 ) -> OwnSession<T, B>
-    ensures seat { B.seat result.board ≡ B.seat session.board }
+    ensures gone { waiting.new ≡ None }
+    ensures seat { IfSome waiting.old (λ waiting. B.seat result.board ≡ B.seat waiting.board) }
+{
+    match waiting.take() {
+        Some(waiting) => cancel(rt, arrived, waiting, mode),
+        None => panic!(rt; "no wait"),
+    }
+}
+
+/// Gives a mode back.
+fn release<T: PartTable, B: Board<T>, R: Abort + Wait>(
+    rt: &R,
+    arrived: &AtomicU64,
+    session: &mut OwnSession<T, B>,
+    mode: Mode,
+)
+    ensures seat { B.seat session.new.board ≡ B.seat session.old.board }
 {
     begin(rt, arrived);
-    give_back(rt, &mut session, mode);
-    session
+    give_back(rt, session, mode);
+}
+
+/// The wait is over.
+pub fn end_wait<T: PartTable, B: Board<T>>(waiting: Option<OwnWaiting<T, B>>)
+    requires { waiting ≡ None }
+{
+    match waiting {
+        None => {}
+        Some(_) => unreachable!(),
+    }
 }
 
 /// The session hasn't the table.
@@ -163,35 +190,51 @@ fn expect_none<T: PartTable, B: Board<T>, R: Abort>(rt: &R, session: &OwnSession
     assert_eq!(rt; session.held(TABLE).mask(), 0);
 }
 
+/// The one that waits cancels its wait for the first mode while the other one gives back the second one.
+fn cancel_on_loan<B: Board<PlainPart> + Send, R: Abort + Threads + Wait + Sync>(
+    rt: &R,
+    waiting: &mut Option<OwnWaiting<PlainPart, B>>,
+    session: &mut OwnSession<PlainPart, B>,
+    modes: &(Mode, Mode),
+) -> OwnSession<PlainPart, B>
+    ensures gone { waiting.new ≡ None }
+    ensures seat { IfSome waiting.old (λ waiting. B.seat result.board ≡ B.seat waiting.board) }
+    ensures its_seat { B.seat session.new.board ≡ B.seat session.old.board }
+{
+    let arrived = AtomicU64::new(0);
+    let (cancelled, ()) = join_mut(
+        rt,
+        &mut || cancel_lent(rt, &arrived, waiting, modes.0),
+        &mut || release(rt, &arrived, session, modes.1),
+    );
+    cancelled
+}
+
 /// The second one waits for a mode that the first one's is in the way of.
-fn cancel_as_released<
-    T: PartTable + Drop + Send,
-    B: Board<T> + Drop + Send,
-    R: Abort + Threads + Wait + Sync,
->(rt: &R, pair: Pair<T, B>, held: Mode, awaited: Mode) -> Pair<T, B>
+fn cancel_as_released<B: Board<PlainPart> + Send, R: Abort + Threads + Wait + Sync>(
+    rt: &R,
+    pair: Pair<PlainPart, B>,
+    held: Mode,
+    awaited: Mode,
+) -> Pair<PlainPart, B>
     ensures first { B.seat result.first.board ≡ B.seat pair.first.board }
     ensures second { B.seat result.second.board ≡ B.seat pair.second.board }
 {
-    let arrived = AtomicU64::new(0);
     let Pair { mut first, second } = pair;
     take(rt, &mut first, held);
-    let waiting = queue(rt, second, awaited);
-    let (second, first) = join(
-        rt,
-        || cancel(rt, &arrived, waiting, awaited),
-        || release(rt, &arrived, first, held),
-    );
+    let mut waiting = Some(queue(rt, second, awaited));
+    let second = cancel_on_loan(rt, &mut waiting, &mut first, &(awaited, held));
+    end_wait(waiting);
     expect_none(rt, &first);
     expect_none(rt, &second);
     Pair { first, second }
 }
 
 /// The second one waits, and the first one asks it to cancel as soon as it does.
-fn ask_before_sleep<
-    T: PartTable + Drop + Send,
-    B: Board<T> + Drop + Send,
-    R: Abort + Threads + Wait + Sync,
->(rt: &R, pair: Pair<T, B>) -> Pair<T, B>
+fn ask_before_sleep<B: Board<PlainPart> + Send, R: Abort + Threads + Wait + Sync>(
+    rt: &R,
+    pair: Pair<PlainPart, B>,
+) -> Pair<PlainPart, B>
     ensures first { B.seat result.first.board ≡ B.seat pair.first.board }
     ensures second { B.seat result.second.board ≡ B.seat pair.second.board }
 {
@@ -205,11 +248,11 @@ fn ask_before_sleep<
 }
 
 /// One round of a race, after which both hold what they held.
-fn race_once<
-    T: PartTable + Drop + Send,
-    B: Board<T> + Drop + Send,
-    R: Abort + Threads + Wait + Sync,
->(rt: &R, pair: Pair<T, B>, race: Race) -> Pair<T, B>
+fn race_once<B: Board<PlainPart> + Send, R: Abort + Threads + Wait + Sync>(
+    rt: &R,
+    pair: Pair<PlainPart, B>,
+    race: Race,
+) -> Pair<PlainPart, B>
     ensures first { B.seat result.first.board ≡ B.seat pair.first.board }
     ensures second { B.seat result.second.board ≡ B.seat pair.second.board }
 {
@@ -234,11 +277,12 @@ pub fn see_nothing<T: PartTable, B: Board<T>, R: Abort + Wait>(
 }
 
 /// Round after round, at the end of which nothing stands.
-pub fn race_often<
-    T: PartTable + Drop + Send,
-    B: Board<T> + Drop + Send,
-    R: Abort + Threads + Wait + Sync,
->(rt: &R, pair: Pair<T, B>, race: Race, rounds: u32) -> Pair<T, B>
+pub fn race_often<B: Board<PlainPart> + Send, R: Abort + Threads + Wait + Sync>(
+    rt: &R,
+    pair: Pair<PlainPart, B>,
+    race: Race,
+    rounds: u32,
+) -> Pair<PlainPart, B>
     ensures first { B.seat result.first.board ≡ B.seat pair.first.board }
     ensures second { B.seat result.second.board ≡ B.seat pair.second.board }
 {

@@ -1,7 +1,7 @@
 //! Sessions in threads of their own, each of which sees by a table of the test that no two conflicting grants stand
 //! at a time.
 
-ghost use Rattle.std.specs.Prelude.{◌≡◌, ◌<◌, ◌≤◌, vec_len};
+ghost use Rattle.std.specs.Prelude.{◌≡◌, ◌<◌, ◌≤◌};
 ghost use Rattle.lock_manager.specs.Managers.{ManagerView};
 ghost use Rattle.lock_manager_tests.specs.Crews.{AreOf, SeatsAre};
 
@@ -9,13 +9,13 @@ use super::answers::{expect_granted, expect_released};
 use super::conflicts::conflicts;
 use super::desk::{Desk, close_many, open_many};
 use lock_manager::{How, Mode, OwnSession, Owner, Refusal, SessionId, Tag};
-use lock_table::PartTable;
+use lock_table::{PartTable, PlainPart};
 use shared_rule::board::Board;
 use std::alloc::Global;
 use std::process::Abort;
 use std::sync::{Mutex, Wait};
 use std::thread;
-use std::thread::{Threads, map_vec};
+use std::thread::{Threads, for_each_mut};
 
 /// How many have an object in each mode.
 type Modes = [u32; 8];
@@ -140,52 +140,46 @@ fn ask_often<T: PartTable, B: Board<T>, R: Abort + Wait>(
     rt: &R,
     holders: &Mutex<Holders>,
     plan: Plan,
-    mut session: OwnSession<T, B>,
-) -> OwnSession<T, B>
-    ensures seat { B.seat result.board ≡ B.seat session.board }
+    session: &mut OwnSession<T, B>,
+)
+    ensures seat { B.seat session.new.board ≡ B.seat session.old.board }
 {
     'rounds: for round in 0..plan.rounds {
-        ask(rt, holders, plan, &mut session, round);
+        ask(rt, holders, plan, session, round);
     }
-    session
 }
 
 /// Each session does so in a thread of its own.
-fn ask_side_by_side<
-    T: PartTable + Drop + Send,
-    B: Board<T> + Drop + Send,
-    R: Abort + Threads + Wait + Sync,
->(
+fn ask_side_by_side<B: Board<PlainPart> + Send, R: Abort + Threads + Wait + Sync>(
     rt: &R,
     holders: &Mutex<Holders>,
     plan: Plan,
-    sessions: Vec<OwnSession<T, B>>,
-) -> Vec<OwnSession<T, B>>
-    ensures len { vec_len result ≡ vec_len sessions }
-    ensures own { (manager : ManagerView) → AreOf B.seat manager sessions.items → AreOf B.seat manager result.items }
+    sessions: &mut [OwnSession<PlainPart, B>],
+)
+    ensures own { (manager : ManagerView) → AreOf B.seat manager sessions.old → AreOf B.seat manager sessions.new }
 {
-    map_vec(
+    let threads = sessions.len().max(1);
+    for_each_mut(
         rt,
         sessions,
-        &|session| ask_often(rt, holders, plan, session),
-    )
-    .expect(rt, "memory for a list of sessions")
+        threads,
+        &|_, session| ask_often(rt, holders, plan, session),
+    );
 }
 
 /// So many sessions from a desk do as the plan says, and at the end nobody has anything.
 pub fn ask_in_threads<
-    T: PartTable + Drop + Send,
-    B: Board<T> + Drop + Send,
-    D: Desk<OwnSession<T, B>>,
+    B: Board<PlainPart> + Send,
+    D: Desk<OwnSession<PlainPart, B>>,
     R: Abort + Threads + Wait + Sync,
 >(rt: &R, alloc: Global, desk: &mut D, number: u32, plan: Plan)
     requires seats { SeatsAre B.seat D.seat }
     ensures manager { D.manager desk.new ≡ D.manager desk.old }
     ensures live { D.live desk.new ≡ D.live desk.old }
 {
-    let sessions = open_many(rt, alloc, desk, number);
+    let mut sessions = open_many(rt, alloc, desk, number);
     let holders = Mutex::new([[0; 8]; 4]);
-    let sessions = ask_side_by_side(rt, &holders, plan, sessions);
+    ask_side_by_side(rt, &holders, plan, sessions.as_mut_slice());
     close_many(rt, desk, sessions);
     assert!(rt; holders.into_inner() == [[0; 8]; 4]);
 }

@@ -5,7 +5,7 @@ use super::turns::Answer::{
     Times,
 };
 use super::turns::Call::{
-    Abort, Commit, Count, Database, Fast, FastOnEach, Held, Strong, Try, Unlock,
+    Abort, Acquire, Commit, Count, Database, Fast, FastOnEach, Held, Strong, Try, Unlock,
 };
 use super::turns::Who::{First, Second};
 use super::turns::{Answer, Call, Turn};
@@ -30,17 +30,17 @@ const OBJECT: Tag = Tag::Object {
 
 // Refusals, by their numbers.
 
-const LOCAL_FULL: Answer = Refused(3);
+pub const LOCAL_FULL: Answer = Refused(3);
 
-const COUNT_FULL: Answer = Refused(4);
+pub const COUNT_FULL: Answer = Refused(4);
 
-const NOT_HELD: Answer = Refused(7);
+pub const NOT_HELD: Answer = Refused(7);
 
 const SLOTS_FULL: Answer = Refused(9);
 
 const STRONG_COUNTED: Answer = Refused(10);
 
-const NOT_ELIGIBLE: Answer = Refused(11);
+pub const NOT_ELIGIBLE: Answer = Refused(11);
 
 const TAKE: Call = Try(TABLE, AccessExclusive, Transaction);
 
@@ -53,7 +53,7 @@ const READ_OBJECT: Call = Try(OBJECT, AccessShare, Session);
 /// What a session has itself never stands in its way.
 const OWN_HOLDS: [Turn; 7] = [
     (First, 1, Try(TABLE, AccessExclusive, Session), Granted),
-    (First, 1, Try(TABLE, Exclusive, Session), Granted),
+    (First, 1, Acquire(TABLE, Exclusive, Session), Granted),
     (First, 1, Try(TABLE, Share, Session), Granted),
     (First, 1, Try(TABLE, RowExclusive, Transaction), Granted),
     (First, 1, Try(TABLE, AccessShare, Transaction), Granted),

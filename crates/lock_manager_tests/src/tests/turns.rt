@@ -12,6 +12,8 @@ use std::sync::Wait;
 #[derive(Clone, Copy)]
 pub enum Call {
     Try(Tag, Mode, Owner),
+    /// The same, with a wait where it must.
+    Acquire(Tag, Mode, Owner),
     /// By a slot or not at all.
     Fast(Tag, Mode, Owner),
     /// The same, each time on another relation of the sessions' database.
@@ -113,6 +115,7 @@ fn make<T: PartTable, B: Board<T>, R: Wait>(
 {
     match call {
         Call::Try(tag, mode, owner) => taken(session.try_lock(rt, tag, mode, owner)),
+        Call::Acquire(tag, mode, owner) => taken(session.acquire(rt, tag, mode, owner)),
         Call::Fast(tag, mode, owner) => taken(session.try_fast(tag, mode, owner)),
         Call::FastOnEach(mode, owner) => taken(session.try_fast(relation(time), mode, owner)),
         Call::Unlock(tag, mode, owner) => given_back(session.unlock(rt, tag, mode, owner)),
@@ -133,7 +136,7 @@ fn make<T: PartTable, B: Board<T>, R: Wait>(
 }
 
 /// A session's turn, the one at this place of its list.
-fn take_turn<T: PartTable, B: Board<T>, R: Abort + Wait>(
+pub fn take_turn<T: PartTable, B: Board<T>, R: Abort + Wait>(
     rt: &R,
     session: &mut OwnSession<T, B>,
     times: u32,

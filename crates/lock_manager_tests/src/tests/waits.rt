@@ -8,10 +8,10 @@ use super::answers::{
 use super::deeds::{Deed, act_side_by_side};
 use super::pair::Pair;
 use lock_manager::{
-    Acquired, Asked, Cancelled, Locked, Mode, OwnSession, OwnWaiting, Owner, Polled, Refusal,
-    SessionId, Started, TableRow, Tag, Waited,
+    Acquired, Asked, Mode, OwnSession, OwnWaiting, Owner, Polled, Refusal, SessionId, Started,
+    TableRow, Tag,
 };
-use lock_table::PartTable;
+use lock_table::{PartTable, PlainPart};
 use shared_rule::board::Board;
 use std::process::Abort;
 use std::sync::Wait;
@@ -26,7 +26,7 @@ pub const TABLE: Tag = Tag::Relation {
 pub const OWNER: Owner = Owner::Transaction;
 
 /// Takes a mode on the table at once.
-pub fn take<T: PartTable + Drop, B: Board<T> + Drop, R: Abort + Wait>(
+pub fn take<T: PartTable, B: Board<T>, R: Abort + Wait>(
     rt: &R,
     session: &mut OwnSession<T, B>,
     mode: Mode,
@@ -38,7 +38,7 @@ pub fn take<T: PartTable + Drop, B: Board<T> + Drop, R: Abort + Wait>(
 }
 
 /// Gives it back.
-pub fn give_back<T: PartTable + Drop, B: Board<T> + Drop, R: Abort + Wait>(
+pub fn give_back<T: PartTable, B: Board<T>, R: Abort + Wait>(
     rt: &R,
     session: &mut OwnSession<T, B>,
     mode: Mode,
@@ -50,7 +50,7 @@ pub fn give_back<T: PartTable + Drop, B: Board<T> + Drop, R: Abort + Wait>(
 }
 
 /// Begins to wait for a mode on the table.
-pub fn queue<T: PartTable + Drop, B: Board<T> + Drop, R: Abort + Wait>(
+pub fn queue<T: PartTable, B: Board<T>, R: Abort + Wait>(
     rt: &R,
     session: OwnSession<T, B>,
     mode: Mode,
@@ -64,7 +64,7 @@ pub fn queue<T: PartTable + Drop, B: Board<T> + Drop, R: Abort + Wait>(
 }
 
 /// Takes a mode on the table, or is refused it, with no wait for it, and is answered this.
-fn start_as<T: PartTable + Drop, B: Board<T> + Drop, R: Abort + Wait>(
+fn start_as<T: PartTable, B: Board<T>, R: Abort + Wait>(
     rt: &R,
     session: OwnSession<T, B>,
     mode: Mode,
@@ -82,23 +82,8 @@ fn start_as<T: PartTable + Drop, B: Board<T> + Drop, R: Abort + Wait>(
     session
 }
 
-/// Takes a mode on the table, and waits for it where it must. What it is answered.
-pub fn lock<T: PartTable + Drop, B: Board<T> + Drop, R: Wait>(
-    rt: &R,
-    session: OwnSession<T, B>,
-    mode: Mode,
-) -> (OwnSession<T, B>, Answer)
-    ensures seat { B.seat result.0.board ≡ B.seat session.board }
-{
-    match session.lock(rt, TABLE, mode, OWNER) {
-        Locked::Granted(session) => (session, Ok(Acquired::Granted)),
-        Locked::AlreadyHeld(session) => (session, Ok(Acquired::AlreadyHeld)),
-        Locked::Refused(session, refusal) => (session, Err(refusal)),
-    }
-}
-
-/// Does so, and is answered this.
-fn lock_as<T: PartTable + Drop, B: Board<T> + Drop, R: Abort + Wait>(
+/// Takes a mode on the table, and waits for it where it must. It is answered this.
+fn lock_as<T: PartTable, B: Board<T>, R: Abort + Wait>(
     rt: &R,
     session: OwnSession<T, B>,
     mode: Mode,
@@ -106,42 +91,26 @@ fn lock_as<T: PartTable + Drop, B: Board<T> + Drop, R: Abort + Wait>(
 ) -> OwnSession<T, B>
     ensures seat { B.seat result.board ≡ B.seat session.board }
 {
-    let (session, answer) = lock(rt, session, mode);
+    let (session, answer) = session.lock(rt, TABLE, mode, OWNER).into_parts();
     expect_answer(rt, answer, expected);
     session
 }
 
 /// Waits until the wait is over, and is answered this.
-pub fn wait_as<T: PartTable + Drop, B: Board<T> + Drop, R: Abort + Wait>(
+fn wait_as<T: PartTable, B: Board<T>, R: Abort + Wait>(
     rt: &R,
     waiting: OwnWaiting<T, B>,
     expected: Answer,
 ) -> OwnSession<T, B>
     ensures seat { B.seat result.board ≡ B.seat waiting.board }
 {
-    let (session, answer) = match waiting.wait(rt) {
-        Waited::Granted(session) => (session, Ok(Acquired::Granted)),
-        Waited::Refused(session, refusal) => (session, Err(refusal)),
-    };
+    let (session, answer) = waiting.wait(rt).into_parts();
     expect_answer(rt, answer, expected);
     session
 }
 
-/// Takes the wait out of the queue, unless it was granted before. Whether it was.
-pub fn cancel<T: PartTable + Drop, B: Board<T> + Drop, R: Wait>(
-    rt: &R,
-    waiting: OwnWaiting<T, B>,
-) -> (OwnSession<T, B>, bool)
-    ensures seat { B.seat result.0.board ≡ B.seat waiting.board }
-{
-    match waiting.cancel(rt) {
-        Cancelled::Removed(session) => (session, false),
-        Cancelled::WasGranted(session) => (session, true),
-    }
-}
-
 /// Finds the wait granted.
-fn find_granted<T: PartTable + Drop, B: Board<T> + Drop, R: Abort>(
+fn find_granted<T: PartTable, B: Board<T>, R: Abort>(
     rt: &R,
     waiting: OwnWaiting<T, B>,
 ) -> OwnSession<T, B>
@@ -154,7 +123,7 @@ fn find_granted<T: PartTable + Drop, B: Board<T> + Drop, R: Abort>(
 }
 
 /// Finds that the wait goes on, and whether another session asked to cancel it.
-fn find_still<T: PartTable + Drop, B: Board<T> + Drop, R: Abort>(
+fn find_still<T: PartTable, B: Board<T>, R: Abort>(
     rt: &R,
     waiting: OwnWaiting<T, B>,
     is_asked: bool,
@@ -171,7 +140,7 @@ fn find_still<T: PartTable + Drop, B: Board<T> + Drop, R: Abort>(
 }
 
 /// A wait is seen by the holder, asked to cancel, and left; what was asked before it stands for nothing.
-pub fn leave_as_asked<T: PartTable + Drop, B: Board<T> + Drop, R: Abort + Wait>(
+pub fn leave_as_asked<T: PartTable, B: Board<T>, R: Abort + Wait>(
     rt: &R,
     pair: Pair<T, B>,
 ) -> Pair<T, B>
@@ -191,7 +160,7 @@ pub fn leave_as_asked<T: PartTable + Drop, B: Board<T> + Drop, R: Abort + Wait>(
 }
 
 /// Asks a session to cancel.
-pub fn ask<T: PartTable + Drop, B: Board<T> + Drop, R: Abort>(
+pub fn ask<T: PartTable, B: Board<T>, R: Abort>(
     rt: &R,
     session: &mut OwnSession<T, B>,
     number: SessionId,
@@ -225,7 +194,7 @@ pub fn ask_until_heard<T: PartTable, B: Board<T>, R: Wait>(
 }
 
 /// Sees that somebody waits for the table, in a mode that conflicts with the one that the session has.
-fn see_waiters<T: PartTable + Drop, B: Board<T> + Drop, R: Abort + Wait>(
+fn see_waiters<T: PartTable, B: Board<T>, R: Abort + Wait>(
     rt: &R,
     session: &mut OwnSession<T, B>,
     mode: Mode,
@@ -238,19 +207,19 @@ fn see_waiters<T: PartTable + Drop, B: Board<T> + Drop, R: Abort + Wait>(
 }
 
 /// Takes the wait out of the queue.
-pub fn leave<T: PartTable + Drop, B: Board<T> + Drop, R: Abort + Wait>(
+pub fn leave<T: PartTable, B: Board<T>, R: Abort + Wait>(
     rt: &R,
     waiting: OwnWaiting<T, B>,
 ) -> OwnSession<T, B>
     ensures seat { B.seat result.board ≡ B.seat waiting.board }
 {
-    let (session, was_granted) = cancel(rt, waiting);
-    assert!(rt; !was_granted);
+    let (session, answer) = waiting.cancel(rt).into_parts();
+    expect_answer(rt, answer, Err(Refusal::Cancelled));
     session
 }
 
 /// A wait that is cancelled after it was granted has the mode.
-pub fn cancel_too_late<T: PartTable + Drop, B: Board<T> + Drop, R: Abort + Wait>(
+pub fn cancel_too_late<T: PartTable, B: Board<T>, R: Abort + Wait>(
     rt: &R,
     pair: Pair<T, B>,
 ) -> Pair<T, B>
@@ -263,14 +232,14 @@ pub fn cancel_too_late<T: PartTable + Drop, B: Board<T> + Drop, R: Abort + Wait>
     let waiting = queue(rt, second, Mode::AccessExclusive);
     give_back(rt, &mut first, Mode::Share);
     ask(rt, &mut first, number, Asked::NotWaiting);
-    let (mut second, was_granted) = cancel(rt, waiting);
-    assert!(rt; was_granted);
+    let (mut second, answer) = waiting.cancel(rt).into_parts();
+    expect_answer(rt, answer, Ok(Acquired::Granted));
     give_back(rt, &mut second, Mode::AccessExclusive);
     Pair { first, second }
 }
 
 /// A wait that was granted before it looks is found granted.
-pub fn look_too_late<T: PartTable + Drop, B: Board<T> + Drop, R: Abort + Wait>(
+pub fn look_too_late<T: PartTable, B: Board<T>, R: Abort + Wait>(
     rt: &R,
     pair: Pair<T, B>,
 ) -> Pair<T, B>
@@ -287,7 +256,7 @@ pub fn look_too_late<T: PartTable + Drop, B: Board<T> + Drop, R: Abort + Wait>(
 }
 
 /// A wait that was asked to cancel is over at once.
-pub fn wait_as_asked<T: PartTable + Drop, B: Board<T> + Drop, R: Abort + Wait>(
+pub fn wait_as_asked<T: PartTable, B: Board<T>, R: Abort + Wait>(
     rt: &R,
     pair: Pair<T, B>,
 ) -> Pair<T, B>
@@ -305,7 +274,7 @@ pub fn wait_as_asked<T: PartTable + Drop, B: Board<T> + Drop, R: Abort + Wait>(
 }
 
 /// So is one that was granted.
-pub fn wait_for_nothing<T: PartTable + Drop, B: Board<T> + Drop, R: Abort + Wait>(
+pub fn wait_for_nothing<T: PartTable, B: Board<T>, R: Abort + Wait>(
     rt: &R,
     pair: Pair<T, B>,
 ) -> Pair<T, B>
@@ -322,7 +291,7 @@ pub fn wait_for_nothing<T: PartTable + Drop, B: Board<T> + Drop, R: Abort + Wait
 }
 
 /// What needs no wait is answered at once.
-pub fn answer_at_once<T: PartTable + Drop, B: Board<T> + Drop, R: Abort + Wait>(
+pub fn answer_at_once<T: PartTable, B: Board<T>, R: Abort + Wait>(
     rt: &R,
     pair: Pair<T, B>,
 ) -> Pair<T, B>
@@ -334,12 +303,14 @@ pub fn answer_at_once<T: PartTable + Drop, B: Board<T> + Drop, R: Abort + Wait>(
     let first = start_as(rt, first, Mode::Exclusive, Ok(Acquired::AlreadyHeld));
     let first = lock_as(rt, first, Mode::Exclusive, Ok(Acquired::AlreadyHeld));
     let mut first = lock_as(rt, first, Mode::Share, Ok(Acquired::Granted));
+    let oneself = first.id();
+    ask(rt, &mut first, oneself, Asked::NotWaiting);
     first.commit(rt);
     Pair { first, second }
 }
 
 /// Two that have a mode and want a higher one: the second that asks is refused, and the first one is granted.
-pub fn refuse_a_simple_deadlock<T: PartTable + Drop, B: Board<T> + Drop, R: Abort + Wait>(
+pub fn refuse_a_simple_deadlock<T: PartTable, B: Board<T>, R: Abort + Wait>(
     rt: &R,
     pair: Pair<T, B>,
 ) -> Pair<T, B>
@@ -374,7 +345,7 @@ fn is_awaited(rows: &[TableRow], number: SessionId) -> bool {
 }
 
 /// Whether it shows in a listing.
-fn shows_wait<T: PartTable + Drop, B: Board<T> + Drop, R: Wait>(
+fn shows_wait<T: PartTable, B: Board<T>, R: Wait>(
     rt: &R,
     session: &mut OwnSession<T, B>,
     number: SessionId,
@@ -388,7 +359,7 @@ fn shows_wait<T: PartTable + Drop, B: Board<T> + Drop, R: Wait>(
 }
 
 /// Lists until the session's wait shows.
-pub fn see_wait<T: PartTable + Drop, B: Board<T> + Drop, R: Wait>(
+pub fn see_wait<T: PartTable, B: Board<T>, R: Wait>(
     rt: &R,
     session: &mut OwnSession<T, B>,
     number: SessionId,
@@ -404,11 +375,11 @@ pub fn see_wait<T: PartTable + Drop, B: Board<T> + Drop, R: Wait>(
 }
 
 /// A session sleeps in its thread until the other one, in another thread, gives back or asks it to cancel.
-pub fn sleep_in_a_thread<
-    T: PartTable + Drop + Send,
-    B: Board<T> + Drop + Send,
-    R: Abort + Threads + Wait + Sync,
->(rt: &R, pair: Pair<T, B>, asks: bool) -> Pair<T, B>
+pub fn sleep_in_a_thread<B: Board<PlainPart> + Send, R: Abort + Threads + Wait + Sync>(
+    rt: &R,
+    pair: Pair<PlainPart, B>,
+    asks: bool,
+) -> Pair<PlainPart, B>
     ensures first { B.seat result.first.board ≡ B.seat pair.first.board }
     ensures second { B.seat result.second.board ≡ B.seat pair.second.board }
 {

@@ -10,6 +10,8 @@ use Rattle.lock_table.specs.Content.{Content}
 use Rattle.lock_world.specs.declared.events.Word.{Word}
 use Rattle.lock_world.specs.declared.events.Word.TheVariants.{Partition, Fast, Database, Slot, Wait, Strong, Sleep}
 use Rattle.lock_world.specs.SlotHolds.{slot_holds}
+use Rattle.lock_world.specs.WaitWord.{wait_state}
+use Rattle.lock_world.specs.SafeWorld.{SafeWorld}
 use Rattle.lock_world.specs.Account.{SlotsInHand, account}
 use Rattle.lock_world.proofs.Accounts.Lawful.{slots-known}
 use mathlib.Core.Option as maybe
@@ -44,22 +46,23 @@ home-kept {T} content begun homes before after kept home p within = go (after.ha
   go (Some hand) away = tt
 
 -- What a session knows of a word is so.
-word-known : (w : World) (s : ℕ) (word : Word) → KnowsWord s (account w s) word (word_in w.words word)
-word-known w s (Partition p) = tt
-word-known w s (Fast k) = tt
-word-known w s (Database k) = (
+word-known : (w : World) → SafeWorld w → (s : ℕ) (word : Word) → KnowsWord s (account w s) word (word_in w.words word)
+word-known w safe s (Partition p) = tt
+word-known w safe s (Fast k) = tt
+word-known w safe s (Database k) = (
   λ slots known.
       let is = (slots-known (w.sessions.holds_fast s k) (w.words.database k) (w.words.slot k) slots known).1 in
       ap (λ (its : SlotsInHand). its.holds) is
       ∙ ap (slot_holds (w.words.database k)) (sym (ap (λ (its : SlotsInHand). its.word) is)),
   λ own. ap w.words.database own,
 )
-word-known w s (Slot k place) = λ slots known.
+word-known w safe s (Slot k place) = λ slots known.
     let is = (slots-known (w.sessions.holds_fast s k) (w.words.database k) (w.words.slot k) slots known).1 in
     sym (ap (λ (its : SlotsInHand). its.word place) is)
-word-known w s (Wait k) = tt
-word-known w s (Strong index) = tt
-word-known w s (Sleep k) = tt
+word-known w safe s (Wait k) = λ own no_wait.
+    ap (λ session. wait_state (w.words.wait session)) own ∙ safe.but_slots.table.promise.wait_words.idle s no_wait
+word-known w safe s (Strong index) = tt
+word-known w safe s (Sleep k) = tt
 
 module _ {T : Type 0} (content : T → Content) where
   -- Whatever the World is, the step on a word that shows this is noted so, and leaves the contents alone.
@@ -119,24 +122,24 @@ marks_at {T} content begun limit slots id me x others is word exists i at next m
     subst (λ k. Allows (Ruled content begun limit) slots id me k next (Marked mark (step 0 0 0 0 none) me)) (sym at)
     (marks content begun limit slots id me x others is word exists next mark (step 0 0 0 0 none) lawful)
 
--- A load that tells what the account knows of the number found.
+-- A load, or a fetch operation, that tells what the account knows of the number found.
 pub looks_at :
     {T : Type 0} (content : T → Content) (begun : T → Option Request) (limit slots id : ℕ) (me : Side T) (x : History T) (others : List (History T)) → me.0.sessions ≡ x ∷ others
-    → (word : Word) → IsInTable word → (i : ℕ) → i ≡ index_of_word word → (mark : ℕ → Mark T)
-    → IsAlwaysLawful content limit x word (λ _. Unit {0}) (λ n. n) mark
-    → Allows (Ruled content begun limit) slots id me i (λ n. n) (Looked content mark (step slots i 0 0 none) me)
-looks_at {T} content begun limit slots id me x others is word exists i at mark lawful =
-    subst (λ k. Allows (Ruled content begun limit) slots id me k (λ n. n) (Looked content mark (step slots k 0 0 none)
+    → (word : Word) → IsInTable word → (i : ℕ) → i ≡ index_of_word word → (first : ℕ) (next : ℕ → ℕ) (mark : ℕ → Mark T)
+    → IsAlwaysLawful content limit x word (λ _. Unit {0}) next mark
+    → Allows (Ruled content begun limit) slots id me i next (Looked content mark (step slots i first 0 none) me)
+looks_at {T} content begun limit slots id me x others is word exists i at first next mark lawful =
+    subst (λ k. Allows (Ruled content begun limit) slots id me k next (Looked content mark (step slots k first 0 none)
     me)) (sym at) here where
-      here : Allows (Ruled content begun limit) slots id me (index_of_word word) (λ n. n)
-          (Looked content mark (step slots (index_of_word word) 0 0 none) me)
+      here : Allows (Ruled content begun limit) slots id me (index_of_word word) next
+          (Looked content mark (step slots (index_of_word word) first 0 none) me)
       here s r many at_view below =
           let n : ℕ = slice_index s.words (index_of_word word) in
           let steps = ruled-steps content begun limit s r id me.0 x others at_view is in (
             noting me.0 (mark n),
             keeps,
             tt,
-            rule-after content begun limit slots id me x others is word exists (λ k. k) mark (λ _. Unit {0}) lawful s
+            rule-after content begun limit slots id me x others is word exists next mark (λ _. Unit {0}) lawful s
                 r at_view n below refl tt,
             (
               refl,
@@ -147,7 +150,7 @@ looks_at {T} content begun limit slots id me x others is word exists i at mark l
                   (first_account content sessions) other n) (sym is)
                   (subst (λ a. KnowsWord x.number a other n) (sym steps.account)
                   (subst (KnowsWord x.number (account r.world x.number) other) shown
-                  (word-known r.world x.number other)))),
+                  (word-known r.world steps.safe x.number other)))),
             ),
           )
 

@@ -11,7 +11,8 @@ look_as-requires-clause-allowed g c =
     let session = c.requires.session in
     looks_at content g.T.PartTable.begun c.args.top.now.key c.args.top.now.table_id.slots place.id place.me
     session.history session.others session.sessions
-    (Database c.args.owner) (tt, search rules) c.database_word.result c.database_word.ensures.index g.M.Marking.mark
+    (Database c.args.owner) (tt, search rules) c.database_word.result c.database_word.ensures.index
+    0 (λ n. n) g.M.Marking.mark
     (subst (IsAlwaysLawful content c.args.top.now.key session.history (Database c.args.owner) (λ _. Unit {0})
     (λ n. n)) (sym c.requires.mark)
     (loading_database-lawful content c.args.top.now.key session.history c.args.owner))

@@ -12,7 +12,7 @@ look_as-requires-clause-allowed g c =
     looks_at content g.T.PartTable.begun c.args.top.now.key c.args.top.now.table_id.slots place.id place.me
     session.history session.others session.sessions
     (Slot c.args.owner c.args.slot) (c.requires.within, search rules) c.slot_word.result c.slot_word.ensures.index
-    g.M.Marking.mark
+    0 (λ n. n) g.M.Marking.mark
     (subst (IsAlwaysLawful content c.args.top.now.key session.history (Slot c.args.owner c.args.slot) (λ _. Unit {0})
     (λ n. n)) (sym c.requires.mark)
     (loading_slot-lawful content c.args.top.now.key session.history c.args.owner c.args.slot c.requires.within))

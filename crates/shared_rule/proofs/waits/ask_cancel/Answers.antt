@@ -1,7 +1,7 @@
 use Rattle.std.proofs.Common.{rules, sym, subst}
 use Rattle.lock_world.specs.declared.events.Word.TheVariants.{Wait}
 use Rattle.std.specs.Prelude.{bit_or}
-use Rattle.shared_rule.proofs.Events.Marks.{IsAlwaysLawful, marks_at}
+use Rattle.shared_rule.proofs.Events.Marks.{IsAlwaysLawful, looks_at}
 use Rattle.shared_rule.proofs.Events.Waits.{asking-lawful}
 use Rattle.shared_rule.proofs.waits.ask_cancel.Goals as goal
 
@@ -10,6 +10,9 @@ fetch_or_as-requires-clause-allowed g c =
     let content = g.T.PartTable.content in
     let place = c.args.place.now in
     let session = c.requires.session in
-    marks_at content g.T.PartTable.begun c.args.top.now.key c.args.top.now.table_id.slots place.id place.me session.history session.others session.sessions
-    (Wait c.args.other) (tt, search rules) c.wait_word.result c.wait_word.ensures.index (λ n. bit_or n 4) g.M.Marking.mark
+    looks_at content g.T.PartTable.begun c.args.top.now.key c.args.top.now.table_id.slots place.id place.me session.history session.others session.sessions
+    (Wait c.args.other) (tt, search rules) c.wait_word.result c.wait_word.ensures.index 4 (λ n. bit_or n 4) g.M.Marking.mark
     (subst (IsAlwaysLawful content c.args.top.now.key session.history (Wait c.args.other) (λ _. Unit {0}) (λ n. bit_or n 4)) (sym c.requires.mark) (asking-lawful content c.args.top.now.key session.history c.args.other))
+
+pub returns-clause-own : goal.returns-clause-own
+returns-clause-own g c = c.fetch_or_as.ensures.knows (Wait c.args.other) (tt, search rules) c.wait_word.ensures.index

@@ -22,7 +22,7 @@ invariant_of-self c =
     c.in-Some.place c.args.owner c.self.invariant at limit c.raise.ensures.slots c.raise.ensures.number)
 
 pub returns-in-Some-clause-well_owned : goal.returns-in-Some-clause-well_owned
-returns-in-Some-clause-well_owned c = well_owned _ _ _ _ _ _ (invariant_of-self c).kept
+returns-in-Some-clause-well_owned c = well_owned _ _ _ _ _ _ _ (invariant_of-self c).kept
 
 pub returns-in-Some-clause-entries : goal.returns-in-Some-clause-entries
 returns-in-Some-clause-entries c =

@@ -9,14 +9,14 @@ use Rattle.local_locks.proofs.TableSteps.{IsTable-raised_held, entries-raised, o
 use Rattle.local_locks.proofs.tables.LocalTable.add_at_once.Goals as goal
 
 pub returns-in-Nothing-clause-well_owned : goal.returns-in-Nothing-clause-well_owned
-returns-in-Nothing-clause-well_owned c = subst IsWellOwned c.self.view_is (well_owned _ _ _ _ _ _ c.self.invariant.kept)
+returns-in-Nothing-clause-well_owned c = subst IsWellOwned c.self.view_is (well_owned _ _ _ _ _ _ _ c.self.invariant.kept)
 
 pub returns-in-Unknown-clause-well_owned : goal.returns-in-Unknown-clause-well_owned
-returns-in-Unknown-clause-well_owned c = subst IsWellOwned c.self.view_is (well_owned _ _ _ _ _ _ c.self.invariant.kept)
+returns-in-Unknown-clause-well_owned c = subst IsWellOwned c.self.view_is (well_owned _ _ _ _ _ _ _ c.self.invariant.kept)
 
 pub returns-then-not-raise_held-clause-well_owned : goal.returns-then-not-raise_held-clause-well_owned
 returns-then-not-raise_held-clause-well_owned c =
-    well_owned _ _ _ _ _ _
+    well_owned _ _ _ _ _ _ _
     (subst (λ (es : List Entry). IsKept (opened es) c.self.inside.index c.self.inside.len c.self.inside.max_local c.self.inside.progress)
     (sym (ap (λ v. v.items) (c.raise_held.ensures.same c.if-not-raise_held.true))) c.self.invariant.kept)
 
@@ -39,7 +39,7 @@ invariant_of-self-in-Place c =
     c.in-Place.place c.args.owner c.self.invariant (at c) (counts c).0 (counts c).1 (c.raise_held.ensures.slots c.if-not-raise_held.false) c.raise_held.ensures.number
 
 pub returns-else-not-raise_held-clause-well_owned : goal.returns-else-not-raise_held-clause-well_owned
-returns-else-not-raise_held-clause-well_owned c = well_owned _ _ _ _ _ _ (invariant_of-self-in-Place c).kept
+returns-else-not-raise_held-clause-well_owned c = well_owned _ _ _ _ _ _ _ (invariant_of-self-in-Place c).kept
 
 pub returns-else-not-raise_held-clause-entries : goal.returns-else-not-raise_held-clause-entries
 returns-else-not-raise_held-clause-entries c held =

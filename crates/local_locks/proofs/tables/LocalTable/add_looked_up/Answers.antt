@@ -9,10 +9,10 @@ use Rattle.local_locks.proofs.TableSteps.{IsTable-raised, entries-raised}
 use Rattle.local_locks.proofs.tables.LocalTable.add_looked_up.Goals as goal
 
 pub returns-in_default-clause-well_owned : goal.returns-in_default-clause-well_owned
-returns-in_default-clause-well_owned c = subst IsWellOwned c.self.view_is (well_owned _ _ _ _ _ _ c.self.invariant.kept)
+returns-in_default-clause-well_owned c = subst IsWellOwned c.self.view_is (well_owned _ _ _ _ _ _ _ c.self.invariant.kept)
 
 pub returns-then-count_for-clause-well_owned : goal.returns-then-count_for-clause-well_owned
-returns-then-count_for-clause-well_owned c = subst IsWellOwned c.self.view_is (well_owned _ _ _ _ _ _ c.self.invariant.kept)
+returns-then-count_for-clause-well_owned c = subst IsWellOwned c.self.view_is (well_owned _ _ _ _ _ _ _ c.self.invariant.kept)
 
 -- ---- one more is counted
 
@@ -27,7 +27,7 @@ invariant_of-self c =
     c.in-Some.place c.args.owner c.self.invariant at limit c.raise.ensures.slots c.raise.ensures.number)
 
 pub returns-clause-well_owned : goal.returns-clause-well_owned
-returns-clause-well_owned c = well_owned _ _ _ _ _ _ (invariant_of-self c).kept
+returns-clause-well_owned c = well_owned _ _ _ _ _ _ _ (invariant_of-self c).kept
 
 pub returns-clause-entries : goal.returns-clause-entries
 returns-clause-entries c held =

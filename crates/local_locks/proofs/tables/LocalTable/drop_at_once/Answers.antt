@@ -18,18 +18,18 @@ use Rattle.local_locks.proofs.tables.LocalTable.drop_at_once.Goals.{Then-lower_h
 -- ---- it doesn't say
 
 pub returns-then-last-len-clause-well_owned : goal.returns-then-last-len-clause-well_owned
-returns-then-last-len-clause-well_owned c = subst IsWellOwned c.self.view_is (well_owned _ _ _ _ _ _ c.self.invariant.kept)
+returns-then-last-len-clause-well_owned c = subst IsWellOwned c.self.view_is (well_owned _ _ _ _ _ _ _ c.self.invariant.kept)
 
 pub returns-in_default-clause-well_owned : goal.returns-in_default-clause-well_owned
-returns-in_default-clause-well_owned c = subst IsWellOwned c.self.view_is (well_owned _ _ _ _ _ _ c.self.invariant.kept)
+returns-in_default-clause-well_owned c = subst IsWellOwned c.self.view_is (well_owned _ _ _ _ _ _ _ c.self.invariant.kept)
 
 pub returns-then-not-is_of_relation-clause-well_owned : goal.returns-then-not-is_of_relation-clause-well_owned
-returns-then-not-is_of_relation-clause-well_owned c = subst IsWellOwned c.self.view_is (well_owned _ _ _ _ _ _ c.self.invariant.kept)
+returns-then-not-is_of_relation-clause-well_owned c = subst IsWellOwned c.self.view_is (well_owned _ _ _ _ _ _ _ c.self.invariant.kept)
 
 pub returns-then-not-is_only-clause-well_owned : goal.returns-then-not-is_only-clause-well_owned
 returns-then-not-is_only-clause-well_owned c =
-    subst (λ (es : List Entry). IsWellOwned (record { entries = present (opened es); room = min (min (vec_capacity c.lower_held.new.slots) no_place) c.self.inside.index.places - length c.lower_held.new.slots.items; max_local = c.self.inside.max_local })) (sym (ap (λ v. v.items) (c.lower_held.ensures.same c.if-lower_held.false)))
-    (well_owned _ _ _ _ _ _ c.self.invariant.kept)
+    subst (λ (es : List Entry). IsWellOwned (record { entries = present (opened es); room = min (min (vec_capacity c.lower_held.new.slots) no_place) c.self.inside.index.places - length c.lower_held.new.slots.items; slots = min (min (vec_capacity c.lower_held.new.slots) no_place) c.self.inside.index.places; max_local = c.self.inside.max_local })) (sym (ap (λ v. v.items) (c.lower_held.ensures.same c.if-lower_held.false)))
+    (well_owned _ _ _ _ _ _ _ c.self.invariant.kept)
 
 -- ---- the owner has it more than once, so it stays
 
@@ -58,7 +58,7 @@ invariant_of-self c =
     }
 
 pub returns-then-lower_held-clause-well_owned : goal.returns-then-lower_held-clause-well_owned
-returns-then-lower_held-clause-well_owned c = well_owned _ _ _ _ _ _ (invariant_of-self c).kept
+returns-then-lower_held-clause-well_owned c = well_owned _ _ _ _ _ _ _ (invariant_of-self c).kept
 
 pub returns-then-lower_held-clause-entries : goal.returns-then-lower_held-clause-entries
 returns-then-lower_held-clause-entries c = λ _.
@@ -148,7 +148,7 @@ taken c =
 pub returns-clause-well_owned : goal.returns-clause-well_owned
 returns-clause-well_owned c =
     let e = c.take_last.ensures in
-    well_owned _ _ _ _ _ _
+    well_owned _ _ _ _ _ _ _
     (kept-taken (opened c.lower_held.new.slots.items) (opened c.take_last.new.slots.items) c.self.inside.index c.take_last.new.index c.self.inside.len c.self.inside.max_local c.self.inside.progress c.self.inside.last
     (still c).kept e.indexed e.taken.gone e.taken.others e.taken.number)
 

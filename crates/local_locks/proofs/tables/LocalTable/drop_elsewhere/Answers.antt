@@ -9,17 +9,17 @@ use Rattle.local_locks.proofs.TableSteps.{kept-lowered, kept-taken, entries-lowe
 use Rattle.local_locks.proofs.tables.LocalTable.drop_elsewhere.Goals as goal
 
 pub returns-in_default-clause-well_owned : goal.returns-in_default-clause-well_owned
-returns-in_default-clause-well_owned c = subst IsWellOwned c.self.view_is (well_owned _ _ _ _ _ _ c.self.invariant.kept)
+returns-in_default-clause-well_owned c = subst IsWellOwned c.self.view_is (well_owned _ _ _ _ _ _ _ c.self.invariant.kept)
 
 pub returns-then-count_for-eq0-clause-well_owned : goal.returns-then-count_for-eq0-clause-well_owned
-returns-then-count_for-eq0-clause-well_owned c = subst IsWellOwned c.self.view_is (well_owned _ _ _ _ _ _ c.self.invariant.kept)
+returns-then-count_for-eq0-clause-well_owned c = subst IsWellOwned c.self.view_is (well_owned _ _ _ _ _ _ _ c.self.invariant.kept)
 
 -- ---- the last count goes
 
 pub returns-then-total-eq1-clause-well_owned : goal.returns-then-total-eq1-clause-well_owned
 returns-then-total-eq1-clause-well_owned c =
     let e = c.take_out.ensures in
-    well_owned _ _ _ _ _ _
+    well_owned _ _ _ _ _ _ _
     (kept-taken (opened c.self.inside.slots.items) (opened c.take_out.new.slots.items) c.self.inside.index c.take_out.new.index c.self.inside.len c.self.inside.max_local c.self.inside.progress c.in-Some.place
     c.self.invariant.kept e.indexed e.taken.gone e.taken.others e.taken.number)
 
@@ -49,7 +49,7 @@ invariant_of-self-else-total-eq1 c =
     }
 
 pub returns-else-total-eq1-clause-well_owned : goal.returns-else-total-eq1-clause-well_owned
-returns-else-total-eq1-clause-well_owned c = well_owned _ _ _ _ _ _ (invariant_of-self-else-total-eq1 c).kept
+returns-else-total-eq1-clause-well_owned c = well_owned _ _ _ _ _ _ _ (invariant_of-self-else-total-eq1 c).kept
 
 pub returns-else-total-eq1-clause-entries : goal.returns-else-total-eq1-clause-entries
 returns-else-total-eq1-clause-entries c =

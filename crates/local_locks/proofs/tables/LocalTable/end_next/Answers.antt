@@ -49,7 +49,7 @@ invariant_of-self c =
     }
 
 pub returns-then-place-len-clause-well_owned : goal.returns-then-place-len-clause-well_owned
-returns-then-place-len-clause-well_owned c = well_owned _ _ _ _ _ _ (invariant_of-self c).kept
+returns-then-place-len-clause-well_owned c = well_owned _ _ _ _ _ _ _ (invariant_of-self c).kept
 
 pub returns-then-place-len-clause-entries : goal.returns-then-place-len-clause-entries
 returns-then-place-len-clause-entries c =
@@ -115,7 +115,7 @@ invariant_of-self-2 c =
     }
 
 pub returns-clause-well_owned : goal.returns-clause-well_owned
-returns-clause-well_owned c = well_owned _ _ _ _ _ _ (invariant_of-self-2 c).kept
+returns-clause-well_owned c = well_owned _ _ _ _ _ _ _ (invariant_of-self-2 c).kept
 
 -- the entry that the end takes away next, and the entries without it
 stepped : (c : goal.After-self-2-1) →

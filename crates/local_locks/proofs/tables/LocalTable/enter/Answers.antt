@@ -36,7 +36,7 @@ invariant_of-self c =
     }
 
 pub returns-clause-well_owned : goal.returns-clause-well_owned
-returns-clause-well_owned c = well_owned _ _ _ _ _ _ (invariant_of-self c).kept
+returns-clause-well_owned c = well_owned _ _ _ _ _ _ _ (invariant_of-self c).kept
 
 pub returns-clause-entries : goal.returns-clause-entries
 returns-clause-entries c =

@@ -13,4 +13,4 @@ invariant_of-result c =
     (table-empty c.in-Ok-new.index c.args.max_local (c.in-Ok-new.ensures {u = tt}).empty))
 
 pub returns-clause-well_owned : goal.returns-clause-well_owned
-returns-clause-well_owned c = well_owned-empty _ _ _ (ap (λ (es : List Entry). present (opened es)) (c.in-Ok.ensures {u = tt}).items)
+returns-clause-well_owned c = well_owned-empty _ _ _ _ (ap (λ (es : List Entry). present (opened es)) (c.in-Ok.ensures {u = tt}).items)

@@ -1,6 +1,8 @@
 use Rattle.std.proofs.Common.{sym, subst, arith}
 use Rattle.local_locks.specs.declared.ends.Progress.{Progress}
+use Rattle.local_locks.specs.Owned.{IsWellOwned}
 use Rattle.local_locks.specs.Slots.{opened, IsKept}
+use Rattle.local_locks.proofs.KeptLaws.{well_owned}
 use Rattle.local_locks.proofs.EndSteps.{kept-compact}
 use Rattle.local_locks.proofs.SlotLaws.{length-present-le}
 use Rattle.local_locks.proofs.OpenLaws.{length-opened}
@@ -14,3 +16,9 @@ invariant_of-self c =
           c.self.invariant.kept c.compact.ensures.indexed c.compact.ensures.entries);
       few = omega (arith, c.compact.ensures.full, c.self.invariant.few, length-present-le (opened c.self.inside.slots.items), length-opened c.self.inside.slots.items);
     }
+
+pub returns-then-slots-eq-MAX_SLOTS-clause-well_owned : goal.returns-then-slots-eq-MAX_SLOTS-clause-well_owned
+returns-then-slots-eq-MAX_SLOTS-clause-well_owned c = well_owned _ _ _ _ _ _ _ (invariant_of-self c).kept
+
+pub returns-else-self-slots-clause-well_owned : goal.returns-else-self-slots-clause-well_owned
+returns-else-self-slots-clause-well_owned c = subst IsWellOwned c.self.view_is (well_owned _ _ _ _ _ _ _ c.self.invariant.kept)

@@ -1,0 +1,15 @@
+use Rattle.std.proofs.Common.{subst}
+use Rattle.local_locks.specs.declared.ends.End.TheVariants.{Close}
+use Rattle.local_locks.specs.Owned.{ended_by}
+use Rattle.lock_manager.specs.declared.sessions.Own.{Own}
+use Rattle.lock_manager.specs.Releases.{ReleasesAll}
+use Rattle.lock_manager.proofs.sessions.OwnSession.into_board.Goals as goal
+
+pub returns-clause-released : goal.returns-clause-released
+returns-clause-released g c =
+    let after = g.B.Board.view c.end_all.new.board in
+    let left = c.end_all.new.own.uses in
+    let own = subst
+    (λ (own : Own). ReleasesAll (g.B.Board.seat c.self.inside.board).number (g.B.Board.view c.self.inside.board) own.uses (ended_by Close own.locals.entries) after left)
+    c.deref_mut.ensures.value c.end_all.ensures.steps in
+    (left, subst (λ s. ReleasesAll (g.B.Board.seat s.board).number (g.B.Board.view s.board) s.uses (ended_by Close s.owned.entries) after left) c.self.view_is own)

@@ -1,0 +1,56 @@
+//! Sessions over boards that no manager made, for tests of a session's calls.
+
+ghost use Rattle.std.specs.Prelude.{◌≡◌, ℕ, ◌≤◌, [], IfOk, IfErr};
+ghost use Rattle.local_locks.specs.Owned.{ended_by};
+ghost use Rattle.shared_rule.specs.Boards.{nothing_due};
+ghost use Rattle.shared_rule.specs.History.{blank_account};
+ghost use Rattle.lock_manager.specs.Releases.{ReleasesAll};
+
+use crate::releases::end_all;
+use crate::sessions::{Own, OwnSession};
+use local_locks::End;
+use lock_table::PartTable;
+use shared_rule::board::Board;
+use std::alloc::Global;
+use std::sync::Wait;
+
+impl<T: PartTable, B: Board<T>> OwnSession<T, B> {
+    /// A session of this database over a board on which nothing was done: for tests of a session's calls over boards of
+    /// their own, since a manager's sessions are opened by its opener. Where memory is wanting the board comes back.
+    pub fn over(alloc: Global, board: B, database: u32, max_local: u32) -> Result<Self, B>
+        requires limit { (B.seat board).limit ≤ 64 }
+        requires blank { B.view board ≡ blank_account }
+        requires stack { B.stack board ≡ nothing_due }
+        requires from { 1 ≤ max_local }
+        requires to { max_local ≤ 65536 }
+        ensures seat { IfOk result (λ session. B.seat session.board ≡ B.seat board) }
+        ensures database { IfOk result (λ session. session.database ≡ database) }
+        ensures nothing { IfOk result (λ session. session.owned.entries ≡ []) }
+        ensures back { IfErr result (λ back. back ≡ board) }
+    {
+        match Own::new(alloc, database, max_local) {
+            Ok(own) => {
+                let mut board = board;
+                board.store_database(database);
+                Ok(OwnSession::of(board, own))
+            }
+            Err(_) => Err(board),
+        }
+    }
+
+    /// The end of such a session: all that it holds is released, in the order of making, and its board comes back.
+    pub fn into_board<R: Wait>(self, rt: &R) -> B
+        ensures seat { B.seat result ≡ B.seat self.board }
+        ensures stack { B.stack result ≡ nothing_due }
+        ensures released { (uses : ℕ) × ReleasesAll (B.seat self.board).number (B.view self.board) self.uses
+            (ended_by End.Close self.owned.entries) (B.view result) uses }
+    {
+        let OwnSession {
+            mut board,
+            mut own,
+            parts: _,
+        } = self;
+        end_all(rt, &mut board, &mut own, End::Close);
+        board
+    }
+}

@@ -1,0 +1,58 @@
+//! A session that keeps one lock and goes on for long: its table uses slots again, and grows no more.
+
+use super::acquires::{acquire, new_table};
+use local_locks::{LocalTable, Unlocked};
+use modes_core::Mode::AccessShare;
+use modes_core::{Owner, Tag};
+use std::process::Abort;
+
+const ROUNDS: u32 = 100_000;
+
+/// How many entries more a table of this test may ever have room for.
+const FEW: u32 = 100;
+
+/// The relation that is taken in this round.
+fn relation(round: u32) -> Tag {
+    Tag::relation(5, round)
+}
+
+/// Takes the relation of this round, for which the one of the round before is given back: its slot, which isn't the last one, is
+/// empty from then on.
+fn go_on(rt: &impl Abort, table: &mut LocalTable, round: u32) {
+    let taken = acquire(rt, table, relation(round), AccessShare, Owner::Transaction);
+    assert!(rt; taken.is_ok(), "{round}");
+    let before = relation(round.saturating_sub(1));
+    let given_back = table.drop_one(before, AccessShare, Owner::Transaction);
+    assert!(rt; given_back == Ok(Unlocked::Released), "{round}");
+}
+
+/// In each round but some in a hundred the table has room. Once it is full it uses slots again, so it soon is full again.
+fn expect_few_slots(rt: &impl Abort, table: &mut LocalTable) {
+    let mut with_room = 0u32;
+    for round in 2..ROUNDS {
+        with_room = if table.can_add() {
+            with_room.saturating_add(1)
+        } else {
+            0
+        };
+        assert!(rt; with_room <= FEW, "{round}");
+        go_on(rt, table, round);
+    }
+}
+
+#[test]
+fn a_table_that_goes_on_for_long_does_not_grow(rt: HostRuntime) {
+    let mut table = new_table(&rt, rt.alloc(), 65536);
+    for first in 0..2 {
+        let taken = acquire(
+            &rt,
+            &mut table,
+            relation(first),
+            AccessShare,
+            Owner::Transaction,
+        );
+        assert!(rt; taken.is_ok(), "{first}");
+    }
+    expect_few_slots(&rt, &mut table);
+    assert_eq!(rt; table.total(relation(0), AccessShare), 1);
+}
