@@ -5,8 +5,7 @@ ghost use Rattle.lock_manager.specs.Managers.{ManagerView};
 ghost use Rattle.lock_manager_tests.specs.Crews.{AreOf, SeatsAre};
 
 use super::answers::expect_granted;
-use super::desk::{Desk, close_many, open, open_many};
-use super::races::see_nothing;
+use super::desk::{Desk, close_many, open_many};
 use super::waits::{OWNER, TABLE, give_back, see_wait, take};
 use super::wakes::pause;
 use lock_manager::{Mode, OwnSession, SessionId};
@@ -15,8 +14,9 @@ use shared_rule::board::Board;
 use std::alloc::Global;
 use std::process::Abort;
 use std::sync::Wait;
-use std::sync::atomic::{AtomicU64, Ordering};
-use std::thread::{Threads, for_each_mut, join_mut};
+use std::sync::atomic::{AtomicBool, AtomicU64, Ordering};
+use std::thread;
+use std::thread::{Threads, for_each_mut};
 
 /// How many wait.
 pub const MANY: u32 = 32;
@@ -25,6 +25,8 @@ pub const MANY: u32 = 32;
 #[derive(Drop)]
 struct Tally {
     mode: Mode,
+    /// Whether the first session has the table.
+    held: AtomicBool,
     woken: AtomicU64,
 }
 
@@ -38,6 +40,16 @@ impl Tally {
         }
     }
 
+    /// Waits until the first session has the table.
+    fn wait_for_holder<R: Wait>(&self, rt: &R) {
+        for _ in rt.forever() {
+            if self.held.load(Ordering::SeqCst) {
+                break;
+            }
+            thread::yield_now();
+        }
+    }
+
     /// So many were woken.
     fn expect<R: Abort>(&self, rt: &R, number: u32) {
         assert_eq!(rt; self.woken.load(Ordering::SeqCst), u64::from(number));
@@ -46,11 +58,16 @@ impl Tally {
 
 /// Lets those go before whose numbers are lower: it is time once the one before stands in the queue. The first of them stands
 /// behind the holder.
-fn see_turn<T: PartTable, B: Board<T>, R: Wait>(rt: &R, session: &mut OwnSession<T, B>)
+fn see_turn<T: PartTable, B: Board<T>, R: Wait>(
+    rt: &R,
+    tally: &Tally,
+    session: &mut OwnSession<T, B>,
+)
     ensures seat { B.seat session.new.board ≡ B.seat session.old.board }
 {
     let number = session.id().number();
     if number < 2 {
+        tally.wait_for_holder(rt);
         return;
     }
     if let Some(before) = SessionId::new(number - 1) {
@@ -67,14 +84,14 @@ fn sleep_and_pass_on<T: PartTable, B: Board<T>, R: Abort + Wait>(
 )
     ensures seat { B.seat session.new.board ≡ B.seat session.old.board }
 {
-    see_turn(rt, session);
+    see_turn(rt, tally, session);
     let answer = session.acquire(rt, TABLE, tally.mode, OWNER);
     expect_granted(rt, answer, TABLE, tally.mode);
     tally.wake(rt, session.id());
     give_back(rt, session, tally.mode);
 }
 
-/// Gives the mode back that lets them go, once all sleep, none of whom is woken.
+/// Takes the table first, and gives it back, which lets them go, once all sleep, none of whom is woken.
 fn release_once_asleep<T: PartTable, B: Board<T>, R: Abort + Wait>(
     rt: &R,
     tally: &Tally,
@@ -82,6 +99,8 @@ fn release_once_asleep<T: PartTable, B: Board<T>, R: Abort + Wait>(
 )
     ensures seat { B.seat session.new.board ≡ B.seat session.old.board }
 {
+    take(rt, session, Mode::AccessExclusive);
+    tally.held.store(true, Ordering::SeqCst);
     if let Some(last) = SessionId::new(MANY as u8) {
         see_wait(rt, session, last);
     }
@@ -90,7 +109,22 @@ fn release_once_asleep<T: PartTable, B: Board<T>, R: Abort + Wait>(
     give_back(rt, session, Mode::AccessExclusive);
 }
 
-/// Each sleeps in a thread of its own, and passes the mode on.
+/// Plays the part of the holder, or of one that sleeps.
+fn play_part<T: PartTable, B: Board<T>, R: Abort + Wait>(
+    rt: &R,
+    tally: &Tally,
+    session: &mut OwnSession<T, B>,
+)
+    ensures seat { B.seat session.new.board ≡ B.seat session.old.board }
+{
+    if session.id().number() == 0 {
+        release_once_asleep(rt, tally, session);
+    } else {
+        sleep_and_pass_on(rt, tally, session);
+    }
+}
+
+/// Each does its part in a thread of its own.
 fn sleep_side_by_side<B: Board<PlainPart> + Send, R: Abort + Threads + Wait + Sync>(
     rt: &R,
     tally: &Tally,
@@ -103,30 +137,8 @@ fn sleep_side_by_side<B: Board<PlainPart> + Send, R: Abort + Threads + Wait + Sy
         rt,
         sleepers,
         threads,
-        &|_, session| sleep_and_pass_on(rt, tally, session),
+        &|_, session| play_part(rt, tally, session),
     );
-}
-
-/// One gives the mode back that all others wait for, who stand in the queue in the order of their numbers.
-fn wake_all<B: Board<PlainPart> + Send, R: Abort + Threads + Wait + Sync>(
-    rt: &R,
-    mode: Mode,
-    holder: &mut OwnSession<PlainPart, B>,
-    sleepers: &mut [OwnSession<PlainPart, B>],
-)
-    ensures seat { B.seat holder.new.board ≡ B.seat holder.old.board }
-    ensures own { (manager : ManagerView) → AreOf B.seat manager sleepers.old → AreOf B.seat manager sleepers.new }
-{
-    let tally = Tally {
-        mode,
-        woken: AtomicU64::new(0),
-    };
-    join_mut(
-        rt,
-        &mut || release_once_asleep(rt, &tally, holder),
-        &mut || sleep_side_by_side(rt, &tally, sleepers),
-    );
-    tally.expect(rt, MANY);
 }
 
 /// One session has the table and all others wait for it. Where they wait for `AccessExclusiveLock` they are woken one by
@@ -140,11 +152,13 @@ pub fn wake_sleepers<
     ensures manager { D.manager desk.new ≡ D.manager desk.old }
     ensures live { D.live desk.new ≡ D.live desk.old }
 {
-    let mut holder = open(rt, desk);
-    take(rt, &mut holder, Mode::AccessExclusive);
-    let mut sleepers = open_many(rt, alloc, desk, MANY);
-    wake_all(rt, mode, &mut holder, sleepers.as_mut_slice());
-    see_nothing(rt, &mut holder);
-    desk.close(rt, holder);
-    close_many(rt, desk, sleepers);
+    let mut sessions = open_many(rt, alloc, desk, MANY + 1);
+    let tally = Tally {
+        mode,
+        held: AtomicBool::new(false),
+        woken: AtomicU64::new(0),
+    };
+    sleep_side_by_side(rt, &tally, sessions.as_mut_slice());
+    tally.expect(rt, MANY);
+    close_many(rt, desk, sessions);
 }
