@@ -77,6 +77,24 @@ fn take_turns<T: PartTable, B: Board<T>, R: Wait>(
     granted
 }
 
+/// The turns of two sessions that are lent, each in a thread, and how many of each were granted.
+fn pass_on_loan<B: Board<PlainPart> + Send, R: Threads + Wait + Sync>(
+    rt: &R,
+    first: &mut OwnSession<PlainPart, B>,
+    second: &mut OwnSession<PlainPart, B>,
+    plan: &Plan,
+) -> (u64, u64)
+    ensures first { B.seat first.new.board ≡ B.seat first.old.board }
+    ensures second { B.seat second.new.board ≡ B.seat second.old.board }
+{
+    let playing = AtomicU64::new(2);
+    join_mut(
+        rt,
+        &mut || take_turns(rt, first, *plan, &playing),
+        &mut || take_turns(rt, second, *plan, &playing),
+    )
+}
+
 /// Both sessions' turns, each in a thread, and how many of them were granted.
 pub fn pass_lock<B: Board<PlainPart> + Send, R: Threads + Wait + Sync>(
     rt: &R,
@@ -86,17 +104,11 @@ pub fn pass_lock<B: Board<PlainPart> + Send, R: Threads + Wait + Sync>(
     ensures first { B.seat result.0.first.board ≡ B.seat pair.first.board }
     ensures second { B.seat result.0.second.board ≡ B.seat pair.second.board }
 {
-    let players = AtomicU64::new(2);
-    let playing = &players;
     let Pair {
         mut first,
         mut second,
     } = pair;
-    let (granted, its_granted) = join_mut(
-        rt,
-        &mut || take_turns(rt, &mut first, plan, playing),
-        &mut || take_turns(rt, &mut second, plan, playing),
-    );
+    let (granted, its_granted) = pass_on_loan(rt, &mut first, &mut second, &plan);
     (Pair { first, second }, granted.wrapping_add(its_granted))
 }
 

@@ -6,13 +6,13 @@ ghost use Rattle.shared_rule.specs.History.{blank_account};
 ghost use Rattle.shared_rule.specs.Seats.{MayCloseBy};
 
 use super::{empty_slots, one_thread};
-use lock_table::{Move, PartTable};
+use lock_table::{Move, PartTable, PlainPart};
 use shared_rule::board::Board;
 use shared_rule::table::open;
 use std::process::Abort;
 use std::sync::Wait;
 use std::test::Fail;
-use std::thread::{Threads, join};
+use std::thread::{Threads, join_mut};
 
 const ROUNDS: u32 = 10_000;
 
@@ -30,53 +30,40 @@ fn keep_once<T: PartTable, B: Board<T>, R: Wait>(rt: &R, board: &mut B, part: u8
 }
 
 // Does so over and over.
-fn keep_often<T: PartTable + Drop, B: Board<T> + Drop, R: Wait>(rt: &R, mut board: B) -> B
-    requires idle { MayCloseBy (B.view board) }
-    requires stack { B.stack board ≡ nothing_due }
-    ensures idle { MayCloseBy (B.view result) }
-    ensures stack { B.stack result ≡ nothing_due }
-    ensures seat { B.seat result ≡ B.seat board }
+fn keep_often<T: PartTable, B: Board<T>, R: Wait>(rt: &R, board: &mut B)
+    requires idle { MayCloseBy (B.view board.old) }
+    requires stack { B.stack board.old ≡ nothing_due }
+    ensures idle { MayCloseBy (B.view board.new) }
+    ensures stack { B.stack board.new ≡ nothing_due }
+    ensures seat { B.seat board.new ≡ B.seat board.old }
 {
     'rounds: for _ in 0..ROUNDS {
-        keep_once(rt, &mut board, 3);
+        keep_once(rt, board, 3);
     }
-    board
 }
 
 // Each in a thread of its own.
-fn in_two_threads<T: PartTable + Drop + Send, B: Board<T> + Drop + Send, R: Threads + Wait + Sync>(
+fn in_two_threads<B: Board<PlainPart> + Send, R: Threads + Wait + Sync>(
     rt: &R,
-    first: B,
-    second: B,
-) -> (B, B)
-    requires idle { MayCloseBy (B.view first) }
-    requires stack { B.stack first ≡ nothing_due }
-    requires its_idle { MayCloseBy (B.view second) }
-    requires its_stack { B.stack second ≡ nothing_due }
-    ensures idle { MayCloseBy (B.view result.0) }
-    ensures stack { B.stack result.0 ≡ nothing_due }
-    ensures seat { B.seat result.0 ≡ B.seat first }
-    ensures its_idle { MayCloseBy (B.view result.1) }
-    ensures its_stack { B.stack result.1 ≡ nothing_due }
-    ensures its_seat { B.seat result.1 ≡ B.seat second }
+    first: &mut B,
+    second: &mut B,
+)
+    requires idle { MayCloseBy (B.view first.old) }
+    requires stack { B.stack first.old ≡ nothing_due }
+    requires its_idle { MayCloseBy (B.view second.old) }
+    requires its_stack { B.stack second.old ≡ nothing_due }
+    ensures idle { MayCloseBy (B.view first.new) }
+    ensures stack { B.stack first.new ≡ nothing_due }
+    ensures seat { B.seat first.new ≡ B.seat first.old }
+    ensures its_idle { MayCloseBy (B.view second.new) }
+    ensures its_stack { B.stack second.new ≡ nothing_due }
+    ensures its_seat { B.seat second.new ≡ B.seat second.old }
 {
-    join(
+    join_mut(
         rt,
-        move || -> B
-            requires idle { MayCloseBy (B.view first) }
-            requires stack { B.stack first ≡ nothing_due }
-            ensures idle { MayCloseBy (B.view result) }
-            ensures stack { B.stack result ≡ nothing_due }
-            ensures seat { B.seat result ≡ B.seat first }
-        { keep_often(rt, first) },
-        move || -> B
-            requires idle { MayCloseBy (B.view second) }
-            requires stack { B.stack second ≡ nothing_due }
-            ensures idle { MayCloseBy (B.view result) }
-            ensures stack { B.stack result ≡ nothing_due }
-            ensures seat { B.seat result ≡ B.seat second }
-        { keep_often(rt, second) },
-    )
+        &mut || keep_often(rt, first),
+        &mut || keep_often(rt, second),
+    );
 }
 
 // Two sessions open, make their steps side by side, meet, part and close.
@@ -86,12 +73,14 @@ fn two_threads_take_one_partition(rt: HostRuntime) -> Result<(), Fail> {
     let Ok((table, mut opener)) = open(alloc, 2, empty_slots(alloc)?) else {
         return Err("out of memory".into());
     };
-    let first = opener.session(&table.shared).ok_or("no first session")?;
-    let Some(second) = opener.session(&table.shared) else {
+    let Some(mut first) = opener.session(&table.shared) else {
+        return Err("no first session".into());
+    };
+    let Some(mut second) = opener.session(&table.shared) else {
         opener.close(first);
         return Err("no second session".into());
     };
-    let (mut first, second) = in_two_threads(&rt, first, second);
+    in_two_threads(&rt, &mut first, &mut second);
     let second = first.meet(second);
     opener.close(second);
     opener.close(first);

@@ -7,5 +7,5 @@ abbrev pub invariant-rounds : goal.invariant-rounds
 invariant-rounds g l = record {
   idle : MayCloseBy (g.B.Board.view l.board);
   stack : g.B.Board.stack l.board ≡ nothing_due;
-  seat : g.B.Board.seat l.board ≡ g.B.Board.seat l.initial.board;
+  seat : g.B.Board.seat l.board ≡ g.B.Board.seat l.fn.board;
 }
