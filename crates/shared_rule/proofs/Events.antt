@@ -1,7 +1,7 @@
-pub mod Marks
+pub mod Words
 pub mod Partitions
 pub mod Loads
-pub mod Fast
+pub mod Locks
 pub mod Counters
 pub mod Waits
 pub mod Slots

@@ -4,17 +4,20 @@
 
 pub mod board;
 pub mod busy;
+mod counters;
 pub mod history;
 pub mod laws;
 pub mod layout;
+mod locks;
 pub mod one_thread;
 pub mod opener;
 mod owed;
+mod partitions;
 mod plays;
 pub mod rule;
 pub mod seat_board;
 mod seats;
 mod slots;
-mod steps;
 pub mod table;
 mod waits;
+mod words;

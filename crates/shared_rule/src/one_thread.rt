@@ -12,7 +12,7 @@ use crate::layout::wait_word;
 use crate::owed::{Change, Owed};
 use crate::rule::Place;
 use crate::table::{SharedTable, open};
-use crate::{slots, steps, waits};
+use crate::{counters, locks, partitions, slots, waits};
 use atomic_table::Refused;
 use lock_table::{Move, PartTable, Woken};
 use lw_word::SlotWord;
@@ -85,42 +85,42 @@ impl<T: PartTable> Board<T> for OneThread<T> {
 
     fn take_part<R: Wait>(&mut self, rt: &R, part: u8) -> T {
         let table = &self.table;
-        steps::take_part(rt, &table.shared, &mut self.place, part)
+        partitions::take_part(rt, &table.shared, &mut self.place, part)
     }
 
     fn put_part(&mut self, part: u8, done: &Move, content: T) {
         let table = &self.table;
-        steps::put_part::<T, Brand>(&table.shared, &mut self.place, part, done, content);
+        partitions::put_part::<T, Brand>(&table.shared, &mut self.place, part, done, content);
     }
 
     fn take_fast<R: Wait>(&mut self, rt: &R, owner: SessionId) {
         let table = &self.table;
-        slots::take_fast(rt, &table.shared, &mut self.place, owner);
+        locks::take_fast(rt, &table.shared, &mut self.place, owner);
     }
 
     fn try_take_fast(&mut self) -> Result<(), Busy> {
         let table = &self.table;
-        slots::try_take_fast(&table.shared, &mut self.place, self.number)
+        locks::try_take_fast(&table.shared, &mut self.place, self.number)
     }
 
     fn put_fast(&mut self, owner: SessionId) {
         let table = &self.table;
-        steps::put_fast::<T, Brand>(&table.shared, &mut self.place, owner);
+        locks::put_fast::<T, Brand>(&table.shared, &mut self.place, owner);
     }
 
     fn pass_fast(&mut self, owner: SessionId, tag: &Tag, mode: Mode) {
         let table = &self.table;
-        steps::pass_fast::<T, Brand>(&table.shared, &mut self.place, owner, tag, mode);
+        locks::pass_fast::<T, Brand>(&table.shared, &mut self.place, owner, tag, mode);
     }
 
     fn add_strong(&mut self, tag: &Tag, mode: Mode) {
         let table = &self.table;
-        steps::add_strong::<T, Brand>(&table.shared, &mut self.place, tag, mode);
+        counters::add_strong::<T, Brand>(&table.shared, &mut self.place, tag, mode);
     }
 
     fn sub_strong(&mut self, tag: &Tag, mode: Mode) {
         let table = &self.table;
-        steps::sub_strong::<T, Brand>(&table.shared, &mut self.place, tag, mode);
+        counters::sub_strong::<T, Brand>(&table.shared, &mut self.place, tag, mode);
     }
 
     fn load_database(&mut self, owner: SessionId) -> u64 {
@@ -140,7 +140,7 @@ impl<T: PartTable> Board<T> for OneThread<T> {
 
     fn load_strong(&mut self, index: u16) -> u64 {
         let table = &self.table;
-        slots::load_strong::<T, Brand>(&table.shared, &mut self.place, index)
+        counters::load_strong::<T, Brand>(&table.shared, &mut self.place, index)
     }
 
     fn set_slot(&mut self, place: u8, shown: SlotWord, tag: &Tag, mode: Mode) {

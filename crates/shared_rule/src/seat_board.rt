@@ -12,7 +12,7 @@ use crate::busy::Busy;
 use crate::layout::wait_word;
 use crate::owed::{Change, Owed};
 use crate::rule::{Place, Top};
-use crate::{seats, slots, steps, waits};
+use crate::{counters, locks, partitions, seats, slots, waits};
 use lock_table::{Move, PartTable, Woken};
 use lw_word::SlotWord;
 use modes_core::{Mode, SessionId, Tag};
@@ -134,35 +134,35 @@ impl<'a, T: PartTable> Board<T> for SeatBoard<'a, T> {
     }
 
     fn take_part<R: Wait>(&mut self, rt: &R, part: u8) -> T {
-        steps::take_part(rt, self.table, &mut self.place, part)
+        partitions::take_part(rt, self.table, &mut self.place, part)
     }
 
     fn put_part(&mut self, part: u8, done: &Move, content: T) {
-        steps::put_part::<T, Brand>(self.table, &mut self.place, part, done, content);
+        partitions::put_part::<T, Brand>(self.table, &mut self.place, part, done, content);
     }
 
     fn take_fast<R: Wait>(&mut self, rt: &R, owner: SessionId) {
-        slots::take_fast(rt, self.table, &mut self.place, owner);
+        locks::take_fast(rt, self.table, &mut self.place, owner);
     }
 
     fn try_take_fast(&mut self) -> Result<(), Busy> {
-        slots::try_take_fast(self.table, &mut self.place, self.number)
+        locks::try_take_fast(self.table, &mut self.place, self.number)
     }
 
     fn put_fast(&mut self, owner: SessionId) {
-        steps::put_fast::<T, Brand>(self.table, &mut self.place, owner);
+        locks::put_fast::<T, Brand>(self.table, &mut self.place, owner);
     }
 
     fn pass_fast(&mut self, owner: SessionId, tag: &Tag, mode: Mode) {
-        steps::pass_fast::<T, Brand>(self.table, &mut self.place, owner, tag, mode);
+        locks::pass_fast::<T, Brand>(self.table, &mut self.place, owner, tag, mode);
     }
 
     fn add_strong(&mut self, tag: &Tag, mode: Mode) {
-        steps::add_strong::<T, Brand>(self.table, &mut self.place, tag, mode);
+        counters::add_strong::<T, Brand>(self.table, &mut self.place, tag, mode);
     }
 
     fn sub_strong(&mut self, tag: &Tag, mode: Mode) {
-        steps::sub_strong::<T, Brand>(self.table, &mut self.place, tag, mode);
+        counters::sub_strong::<T, Brand>(self.table, &mut self.place, tag, mode);
     }
 
     fn load_database(&mut self, owner: SessionId) -> u64 {
@@ -178,7 +178,7 @@ impl<'a, T: PartTable> Board<T> for SeatBoard<'a, T> {
     }
 
     fn load_strong(&mut self, index: u16) -> u64 {
-        slots::load_strong::<T, Brand>(self.table, &mut self.place, index)
+        counters::load_strong::<T, Brand>(self.table, &mut self.place, index)
     }
 
     fn set_slot(&mut self, place: u8, shown: SlotWord, tag: &Tag, mode: Mode) {

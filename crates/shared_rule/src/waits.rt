@@ -1,67 +1,27 @@
 //! The steps of a session on wait words: its own, by which it learns that its wait was granted or is to be cancelled,
 //! and those of others whom it tells so.
 
-ghost use Rattle.std.specs.Prelude.{◌≡◌, ◌<◌, ◌+◌, ◌^◌, ◌%◌, [], bit_or, List, map, None};
-ghost use mathlib.Core.Option.{none};
-ghost use Rattle.atomic_table.specs.Table.{Allows, step};
+ghost use Rattle.std.specs.Prelude.{◌≡◌, None, [], List, map};
+ghost use Rattle.lock_world.specs.Account.{InHand};
+ghost use Rattle.shared_rule.specs.History.{noting, sessions_told};
+ghost use Rattle.shared_rule.specs.Plays.{account_at, number_at, FitsTable, HasSession, IsSameSeat};
 ghost use Rattle.modes_core.specs.Tag.{partition_of};
 ghost use Rattle.lock_table.specs.declared.moves.Move.TheVariants.{Join};
 ghost use Rattle.lock_table.specs.Content as contents;
 ghost use Rattle.lock_table.specs.OwnWait.{OwnWait};
 ghost use Rattle.lock_table.specs.Waiter.{whose_and_mode};
-ghost use Rattle.lock_world.specs.declared.events.Word.{Word};
 ghost use Rattle.lock_world.specs.WaitWord.{wait_state};
-ghost use Rattle.lock_world.specs.Account.{InHand};
 ghost use Rattle.lock_world.specs.AccountLaw.{MayMoveBy, MayLeaveBy};
-ghost use Rattle.shared_rule.specs.declared.history.Mark.TheVariants.{SetWaiting, MarkedGranted, LoadedWait};
-ghost use Rattle.shared_rule.specs.declared.history.Mark.TheVariants.{Asked, ClearedWait, LeftQueue};
-ghost use Rattle.shared_rule.specs.History.{noting, sessions_told};
-ghost use Rattle.shared_rule.specs.Layout.{index_of_word, IsInTable};
-ghost use Rattle.shared_rule.specs.Ruled.{Ruled};
-ghost use Rattle.shared_rule.specs.Slots.{KnowsWord};
+ghost use Rattle.shared_rule.specs.declared.history.Mark.TheVariants.{SetWaiting, MarkedGranted, LoadedWait, Asked};
+ghost use Rattle.shared_rule.specs.declared.history.Mark.TheVariants.{ClearedWait, LeftQueue};
 ghost use Rattle.shared_rule.specs.Lawful.{IsGrantingIn, MayMarkBy, MayClearBy};
-ghost use Rattle.shared_rule.specs.Plays.{account_at, number_at, FitsTable, HasSession, IsSameSeat, Marked, Looked};
 
 use crate::layout::wait_word;
-use crate::plays::{Looks, Marking, Marks};
+use crate::plays::Marking;
 use crate::rule::{Place, Top};
-use crate::steps::{fetch_add_as, load_as};
+use crate::words::{fetch_add_as, fetch_or_as, load_as, store_as};
 use lock_table::{Move, PartTable, Woken};
 use modes_core::{Mode, SessionId, Tag};
-
-pub(crate) fn store_as<T: PartTable, M: Marking<T>>(
-    top: &Top<T>,
-    place: &mut Place<T>,
-    word: usize,
-    new: u64,
-)
-    requires table { FitsTable place.old top.now.table_id × (word < top.now.table_id.words) }
-    requires allowed { Allows (Ruled T.content T.begun top.now.key) top.now.table_id.slots
-        place.old.id place.old.me word
-        (λ _. new) (λ _. Marked M.mark (step top.now.table_id.slots word new 0 none) place.old.me new) }
-    ensures seat { IsSameSeat place.old place.new }
-    ensures side { place.new.me ≡ (noting place.old.me.0 (M.mark new), place.old.me.1) }
-{
-    top.store::<Marks<M>>(place, word, new);
-}
-
-fn fetch_or_as<T: PartTable, M: Marking<T>>(
-    top: &Top<T>,
-    place: &mut Place<T>,
-    word: usize,
-    bits: u64,
-) -> u64
-    requires table { FitsTable place.old top.now.table_id × (word < top.now.table_id.words) }
-    requires allowed { Allows (Ruled T.content T.begun top.now.key) top.now.table_id.slots
-        place.old.id place.old.me word
-        (λ n. bit_or n bits) (Looked T.content M.mark (step top.now.table_id.slots word bits 0 none) place.old.me) }
-    ensures seat { IsSameSeat place.old place.new }
-    ensures side { place.new.me ≡ (noting place.old.me.0 (M.mark result), place.old.me.1) }
-    ensures knows { (which : Word) → IsInTable which → word ≡ index_of_word which
-        → KnowsWord (number_at place.old) (account_at T.content place.old) which result }
-{
-    top.fetch_or::<Looks<M>>(place, word, bits)
-}
 
 /// Stores in the own wait word that the session waits, with its join made in the content in hand (`ProcSleep` in
 /// proc.c sets `waitStatus` so).

@@ -23,7 +23,7 @@ use Rattle.shared_rule.specs.declared.history.History.{History}
 use Rattle.shared_rule.specs.Shown.{set_word}
 use Rattle.shared_rule.specs.History.{told}
 use Rattle.shared_rule.proofs.Frame.{Stepper}
-use Rattle.shared_rule.proofs.Events.Marks.{IsAlwaysLawful}
+use Rattle.shared_rule.proofs.Events.Words.{IsAlwaysLawful}
 
 -- Counting a strong lock, and counting it no more.
 

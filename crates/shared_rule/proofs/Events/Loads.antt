@@ -12,7 +12,7 @@ use Rattle.shared_rule.specs.declared.history.Mark.TheVariants as mark
 use Rattle.shared_rule.specs.declared.history.History.{History}
 use Rattle.shared_rule.specs.Shown.{set_word}
 use Rattle.shared_rule.specs.Ruled.{NoneBeyondSlots}
-use Rattle.shared_rule.proofs.Events.Marks.{IsAlwaysLawful}
+use Rattle.shared_rule.proofs.Events.Words.{IsAlwaysLawful}
 
 -- Loading a session's database, a slot of it, the lock of the own slots, and a strong lock counter.
 

@@ -43,8 +43,8 @@ use Rattle.shared_rule.specs.Ruled.{IsAtHome, IsHomeUnlessInHand, ContentsAreHom
 use Rattle.shared_rule.specs.Plays.{Side, WentHome, TookContent, TookPartition}
 use Rattle.shared_rule.proofs.Shown.{words-set}
 use Rattle.shared_rule.proofs.Frame.{Stepper, IsNoted, ruled-steps, ruled-noted}
-use Rattle.shared_rule.proofs.Events.Marks.{nothing-changes}
-use Rattle.shared_rule.proofs.Events.Fast.{put_word-wraps}
+use Rattle.shared_rule.proofs.Events.Words.{nothing-changes}
+use Rattle.shared_rule.proofs.Events.Locks.{put_word-wraps}
 
 -- Taking a partition in hand with its content, and putting it home.
 

@@ -26,7 +26,7 @@ use Rattle.shared_rule.proofs.ClosedCounts.{opener-set, counted-opened, counted-
 use Rattle.shared_rule.specs.Seats.{MayCloseBy, MayBeKeptApartBy, DoNotConflict, HasNumber, HasNext, ToldClosed, IsForOne, IsForTwo, number_in, number_after, behind_of, opened, newcomer, with_closed, met, parted, handed_back, ToldApart}
 use Rattle.shared_rule.proofs.Views.{there-snoc, ruled-numbered, ruled-closed, seats-opened, seats-closed, history-alone, keeps-nobody}
 use Rattle.shared_rule.proofs.Meetings.{first-shown, second-shown, are-two, seats-met, one-shown, two-shown, are-two_behind, seats-parted}
-use Rattle.shared_rule.proofs.Events.Marks.{nothing-changes}
+use Rattle.shared_rule.proofs.Events.Words.{nothing-changes}
 
 -- Seats that are cut in two and joined keep the rule.
 

@@ -28,7 +28,7 @@ use Rattle.shared_rule.specs.declared.history.History.{History}
 use Rattle.shared_rule.specs.Shown.{set_word}
 use Rattle.shared_rule.specs.Ruled.{NoneBeyondSlots}
 use Rattle.shared_rule.specs.History.{told, in_hand, slots_here}
-use Rattle.shared_rule.proofs.Events.Marks.{IsAlwaysLawful}
+use Rattle.shared_rule.proofs.Events.Words.{IsAlwaysLawful}
 use Rattle.shared_rule.proofs.Events.Waits.{home-recorded}
 
 -- Setting and clearing a mode in an own slot, moving one from a slot to the table, and storing the own database.

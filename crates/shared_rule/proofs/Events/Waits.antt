@@ -32,7 +32,7 @@ use Rattle.shared_rule.specs.declared.history.History.{History}
 use Rattle.shared_rule.specs.Shown.{set_word}
 use Rattle.shared_rule.specs.History.{told, in_hand, is_among, sessions_told, account_granting, account_granting_by, is_granted, account_cleared, account_left}
 use Rattle.shared_rule.specs.Lawful.{IsGrantingIn, MayMarkBy, MayClearBy}
-use Rattle.shared_rule.proofs.Events.Marks.{IsAlwaysLawful, KeepsHome}
+use Rattle.shared_rule.proofs.Events.Words.{IsAlwaysLawful, KeepsHome}
 
 -- Steps on wait words.
 

@@ -7,7 +7,7 @@ use Rattle.shared_rule.specs.declared.history.History.{History}
 use Rattle.shared_rule.specs.declared.history.Mark.TheVariants as mark
 use Rattle.shared_rule.specs.Layout.{index_of_word}
 use Rattle.shared_rule.specs.History.{first_account, first_number}
-use Rattle.shared_rule.proofs.Events.Marks.{IsAlwaysLawful, stores_at}
+use Rattle.shared_rule.proofs.Events.Words.{IsAlwaysLawful, stores_at}
 use Rattle.lock_world.proofs.Slots.Eligible.{eligible-is}
 use Rattle.shared_rule.proofs.Events.Slots.{clearing_slot-lawful}
 use Rattle.shared_rule.proofs.slots.clear_slot.Goals as goal

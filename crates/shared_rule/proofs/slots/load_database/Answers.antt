@@ -1,6 +1,6 @@
 use Rattle.std.proofs.Common.{rules, sym, subst}
 use Rattle.lock_world.specs.declared.events.Word.TheVariants.{Database}
-use Rattle.shared_rule.proofs.Events.Marks.{IsAlwaysLawful, looks_at}
+use Rattle.shared_rule.proofs.Events.Words.{IsAlwaysLawful, looks_at}
 use Rattle.shared_rule.proofs.Events.Loads.{loading_database-lawful}
 use Rattle.shared_rule.proofs.slots.load_database.Goals as goal
 

@@ -1,6 +1,6 @@
 use Rattle.std.proofs.Common.{rules, sym, ◌∙◌, subst}
 use Rattle.lock_world.specs.declared.events.Word.TheVariants.{Slot}
-use Rattle.shared_rule.proofs.Events.Marks.{IsAlwaysLawful, looks_at}
+use Rattle.shared_rule.proofs.Events.Words.{IsAlwaysLawful, looks_at}
 use Rattle.shared_rule.proofs.Events.Loads.{loading_slot-lawful}
 use Rattle.shared_rule.proofs.slots.load_slot.Goals as goal
 

@@ -4,7 +4,7 @@ use Rattle.shared_rule.specs.declared.history.History.{History}
 use Rattle.shared_rule.specs.declared.history.Mark.TheVariants.{StoredDatabase}
 use Rattle.shared_rule.specs.Layout.{index_of_word}
 use Rattle.shared_rule.specs.History.{first_account, first_number}
-use Rattle.shared_rule.proofs.Events.Marks.{IsAlwaysLawful, stores_at}
+use Rattle.shared_rule.proofs.Events.Words.{IsAlwaysLawful, stores_at}
 use Rattle.shared_rule.proofs.Events.Slots.{storing-lawful}
 use Rattle.shared_rule.proofs.slots.store_database.Goals as goal
 

@@ -8,7 +8,7 @@ use Rattle.lock_world.specs.AccountLaw.{MayTransferBy}
 use Rattle.shared_rule.specs.declared.history.History.{History}
 use Rattle.shared_rule.specs.declared.history.Mark.TheVariants as mark
 use Rattle.shared_rule.specs.History.{first_account}
-use Rattle.shared_rule.proofs.Events.Marks.{IsAlwaysLawful, stores_at}
+use Rattle.shared_rule.proofs.Events.Words.{IsAlwaysLawful, stores_at}
 use Rattle.shared_rule.proofs.SlotWords.{shown-weak}
 use Rattle.shared_rule.proofs.Events.Slots.{transferring-lawful}
 use Rattle.shared_rule.proofs.slots.transfer_slot.Goals as goal

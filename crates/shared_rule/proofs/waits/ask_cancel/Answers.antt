@@ -1,7 +1,7 @@
 use Rattle.std.proofs.Common.{rules, sym, subst}
 use Rattle.lock_world.specs.declared.events.Word.TheVariants.{Wait}
 use Rattle.std.specs.Prelude.{bit_or}
-use Rattle.shared_rule.proofs.Events.Marks.{IsAlwaysLawful, looks_at}
+use Rattle.shared_rule.proofs.Events.Words.{IsAlwaysLawful, looks_at}
 use Rattle.shared_rule.proofs.Events.Waits.{asking-lawful}
 use Rattle.shared_rule.proofs.waits.ask_cancel.Goals as goal
 

@@ -3,7 +3,7 @@ use Rattle.lock_world.specs.declared.events.Word.TheVariants.{Wait}
 use Rattle.shared_rule.specs.declared.history.History.{History}
 use Rattle.shared_rule.specs.Layout.{index_of_word}
 use Rattle.shared_rule.specs.History.{first_number}
-use Rattle.shared_rule.proofs.Events.Marks.{IsAlwaysLawful, marks_at}
+use Rattle.shared_rule.proofs.Events.Words.{IsAlwaysLawful, marks_at}
 use Rattle.shared_rule.proofs.Events.Waits.{loading_wait-lawful}
 use Rattle.shared_rule.proofs.waits.load_wait.Goals as goal
 

@@ -3,7 +3,7 @@ use Rattle.lock_world.specs.declared.events.Word.TheVariants.{Wait}
 use Rattle.shared_rule.specs.declared.history.History.{History}
 use Rattle.shared_rule.specs.Layout.{index_of_word}
 use Rattle.shared_rule.specs.History.{first_account, first_number}
-use Rattle.shared_rule.proofs.Events.Marks.{stores_at}
+use Rattle.shared_rule.proofs.Events.Words.{stores_at}
 use Rattle.lock_world.specs.Account.{InHand}
 use Rattle.modes_core.specs.Tag.{partition_of}
 use Rattle.lock_table.specs.declared.moves.Move.TheVariants.{Join}

@@ -1,0 +1,243 @@
+use Rattle.std.proofs.Common.{◌≡◌, ℕ, zero, suc, ◌+◌, ◌-◌, ◌%◌, ◌^◌, ◌<◌, ◌≤◌, ◌==◌, List, [], ◌∷◌, length}
+use Rattle.std.proofs.Common.{Option, refl, sym, ap, ◌∙◌, subst, arith}
+use Rattle.std.specs.Prelude.{slice_set, slice_index, slice_index_or}
+use mathlib.Core.Option.{some, none}
+use lib.ListN.{get_elem?}
+use prog.Atomic.{either}
+use Rattle.atomic_table.specs.Table.{State, step, Act, keeps, Allows, Valid, stepped, carried_after}
+use Rattle.atomic_table.proofs.Lists.{exchanged}
+use Rattle.modes_core.specs.declared.modes.Mode.{Mode}
+use Rattle.modes_core.specs.declared.tags.Tag.{Tag}
+use Rattle.lw_word.specs.LightweightWord.{IsHeldByNobody, IsHeldExclusively, taken_word, put_word}
+use Rattle.lock_table.specs.declared.request.Request.{Request}
+use Rattle.lock_table.specs.declared.moves.Move.TheVariants.{Keep}
+use Rattle.lock_table.specs.Content.{Content}
+use Rattle.lock_table.proofs.PutLemmas.{set_at-here}
+use Rattle.lock_world.specs.declared.events.Word.TheVariants.{Fast}
+use Rattle.lock_world.specs.declared.events.Step.TheVariants.{TakeExclusive, PutExclusive, PutPassing}
+use Rattle.lock_world.specs.SlotHolds.{slot_count, slot_holds}
+use Rattle.lock_world.specs.World.{World}
+use Rattle.lock_world.specs.Counted.{passing, passed}
+use Rattle.lock_world.specs.Happens.Slots.{after_taking_fast, after_putting_fast}
+use Rattle.lock_world.specs.Happens.Counters.{most_counted, after_passing}
+use Rattle.lock_world.specs.Account.{SlotsInHand, account}
+use Rattle.lock_world.specs.AccountSteps.{account_taking_fast, account_putting_fast, account_passing}
+use Rattle.lock_world.specs.AccountLaw.{MayPutFastBy, MayPassBy}
+use Rattle.lock_world.proofs.Accounts.Lawful.{put_fast-lawful, pass-lawful, slots-known}
+use Rattle.lock_world.specs.AccountFacts.{KnowsSlots}
+use Rattle.lock_world.proofs.Accounts.Facts.{slots-told}
+use Rattle.lock_world.proofs.Accounts.Slots.{account-taking_fast, account-putting_fast, account-passing}
+use Rattle.shared_rule.specs.declared.history.Mark.TheVariants as mark
+use Rattle.shared_rule.specs.declared.history.History.{History}
+use Rattle.shared_rule.specs.declared.history.View.{View}
+use Rattle.shared_rule.specs.Layout.{index_of_word}
+use Rattle.shared_rule.specs.Shown.{WordsAreShown, set_word}
+use Rattle.shared_rule.specs.History.{told, noting, first_account, first_number, slots_shown}
+use Rattle.shared_rule.specs.Ruled.{Ruled}
+use Rattle.shared_rule.specs.Plays.{Side, TookSlots, TookSlotsOr, unnoted, noted_load}
+use Rattle.shared_rule.proofs.Shown.{words-set}
+use Rattle.shared_rule.proofs.Frame.{Stepper, IsNoted, ruled-steps, ruled-noted}
+use Rattle.shared_rule.proofs.Events.Words.{IsAlwaysLawful, rule-after, nothing-changes}
+use Rattle.shared_rule.proofs.Events.Loads.{loading_fast-lawful}
+
+-- Taking the lock of a session's fast-path slots, and putting it, with that session passed or not.
+
+-- What the fetch-and-subtract of an exclusive holder makes of a word.
+pub put_word-wraps : (n : ℕ) → n < 2 ^ 64 → IsHeldExclusively n → put_word n ≡ (n + (2 ^ 64 - 2 ^ 24)) % 2 ^ 64
+put_word-wraps n below held = omega (arith, below, held)
+
+-- The first words of a session's slots, as a list.
+abbrev pub listed : ℕ → (ℕ → ℕ) → List ℕ
+listed zero slot = []
+listed (suc n) slot = slot 0 ∷ listed n (λ k. slot (suc k))
+
+-- Where there are no more, the list has all of them.
+read-listed : (n : ℕ) (slot : ℕ → ℕ) (k : ℕ) → ((j : ℕ) → n ≤ j → slot j ≡ 0)
+    → slice_index_or (listed n slot) k 0 ≡ slot k
+read-listed zero slot k rest = sym (rest k (omega arith))
+read-listed (suc n) slot zero rest = refl
+read-listed (suc n) slot (suc k) rest = read-listed n (λ j. slot (suc j)) k
+    (λ j later. rest (suc j) (omega (arith, later)))
+
+slots-listed : (database : ℕ) (slot : ℕ → ℕ) → ((j : ℕ) → slot_count ≤ j → slot j ≡ 0)
+    → slots_shown database (listed slot_count slot) ≡ record { word = slot; holds = slot_holds database slot }
+slots-listed database slot rest =
+    let same : (λ place. slice_index_or (listed slot_count slot) place 0) ≡ slot = λ i k. read-listed slot_count slot
+    k rest i in
+    λ i. record { word = same i; holds = slot_holds database (same i) }
+
+-- Taking it is noted so, with what the slots show.
+abbrev taking_fast-noted :
+    {T : Type 0} (content : T → Content) (limit : ℕ) (x : History T) (owner : ℕ) (w : World)
+    → Stepper limit w x.number (told content x.number x.marks) → owner < w.numbers.limit
+    → IsHeldByNobody (w.words.fast owner)
+    → IsNoted content w x.number (told content x.number x.marks) (mark.TookFast owner (w.words.database owner)
+    (listed slot_count (w.words.slot owner))) (set_word w.words (Fast owner) (taken_word (w.words.fast owner)))
+taking_fast-noted content limit x owner w steps exists free = record {
+  step = TakeExclusive (Fast owner);
+  after = after_taking_fast w x.number owner;
+  happens = (record { steps = steps.makes; exists = exists; free = free }, refl);
+  numbers = refl;
+  account = (λ i. account_taking_fast x.number (steps.account i) owner (slots-listed (w.words.database owner)
+      (w.words.slot owner) (steps.none_beyond owner) i))
+      ∙ sym (account-taking_fast w x.number owner);
+  words = refl;
+  none_beyond = steps.none_beyond;
+  few_counted = steps.few_counted x.number;
+}
+
+module _ {T : Type 0} (content : T → Content) (begun : T → Option Request) (limit slots id : ℕ) (me : Side T)
+    (x : History T) (others : List (History T)) (is : me.0.sessions ≡ x ∷ others)
+    (owner : ℕ) (inside : owner < 64) where
+  -- where the word stands
+  abbrev at_word : ℕ
+  at_word = index_of_word (Fast owner)
+
+  -- The exchange takes it where it finds the number of a free word. A lost one is a step that keeps the rule.
+  takes_fast_or :
+      (lost : ℕ → View T → View T) (old new : ℕ)
+      → ((w : World) → Stepper limit w x.number (told content x.number x.marks) → owner < w.numbers.limit)
+      → IsHeldByNobody old → new ≡ taken_word old
+      → ((s : State (Option T) (View T)) → Ruled content begun limit s → get_elem? s.views id ≡ some me.0
+      → slice_index s.words at_word < 2 ^ 64
+      → Ruled content begun limit (record {
+        words = slice_set s.words at_word (slice_index s.words at_word);
+        homes =
+            s.homes;
+        views = slice_set s.views id (lost (slice_index s.words at_word) me.0);
+      }))
+      → (i : ℕ) → i ≡ at_word
+      → Allows (Ruled content begun limit) slots id me i (λ n. either (n == old) new n)
+      (TookSlotsOr content lost (step slots i old new none) me)
+  takes_fast_or lost old new there free is_new stays i at =
+      subst (λ k. Allows (Ruled content begun limit) slots id me k (λ n. either (n == old) new n)
+      (TookSlotsOr content lost (step slots k old new none) me)) (sym at) here where
+        here : Allows (Ruled content begun limit) slots id me at_word (λ n. either (n == old) new n)
+            (TookSlotsOr content lost (step slots at_word old new none) me)
+        here s r many at_view below =
+            exchanged (slice_index s.words at_word) old new (λ m. (view : View T) × (act : Act (Option T))
+            × Valid s.homes me.1 act
+            × Ruled content begun limit (stepped s at_word m id me.1 view act)
+            × TookSlotsOr content lost (step slots at_word old new none) me (slice_index s.words at_word)
+            (view, carried_after me.1 act))
+            (λ hit.
+            let w : World = r.world in
+            let shown : w.words.fast owner ≡ old = sym (r.words.word (Fast owner) (tt, inside)) ∙ hit in
+            let steps = ruled-steps content begun limit s r id me.0 x others at_view is in
+            let noted = taking_fast-noted content limit x owner w steps (there w steps)
+            (subst IsHeldByNobody (sym shown) free) in
+            let next : taken_word (w.words.fast owner) ≡ new = ap taken_word shown ∙ sym is_new in
+            let database : ℕ = w.words.database owner in
+            let words : List ℕ = listed slot_count (w.words.slot owner) in (
+              noting me.0 (mark.TookFast owner database words),
+              keeps,
+              tt,
+              ruled-noted content begun limit s r id me.0 x others at_view is (mark.TookFast owner database words)
+                  (set_word w.words (Fast owner) (taken_word (w.words.fast owner))) (slice_set s.words at_word new)
+                  s.homes noted
+                  (subst (λ k. WordsAreShown (slice_set s.words at_word k)
+                  (set_word w.words (Fast owner) (taken_word (w.words.fast owner)))) next
+                  (words-set s.words w.words (Fast owner) (taken_word (w.words.fast owner)) r.words (tt, inside)))
+                  r.contents,
+              (
+                (λ _ k within same.
+                    let one : owner ≡ k = omega (arith, same) in
+                    subst (λ k. TookSlots content k me (noting me.0 (mark.TookFast owner database words), me.1)) one
+                    (record {
+                      database = database;
+                      words = words;
+                      side = refl;
+                      knows = subst (λ (sessions : List (History T)). KnowsSlots (first_number sessions)
+                          (first_account content sessions) owner (slots_shown database words)) (sym is)
+                          (subst (λ a. KnowsSlots x.number a owner (slots_shown database words)) (sym steps.account)
+                          (subst (KnowsSlots x.number (account w x.number) owner)
+                          (sym (slots-listed database (w.words.slot owner) (steps.none_beyond owner)))
+                          (slots-told w steps.safe x.number owner)));
+                    })),
+                (λ miss. absurd (miss hit)),
+              ),
+            ))
+            (λ miss. (
+              lost (slice_index s.words at_word) me.0,
+              keeps,
+              tt,
+              stays s r at_view below,
+              ((λ hit. absurd (miss hit)), λ _. refl),
+            ))
+
+  -- of a session that there can be
+  pub takes_fast_at : (old new : ℕ) → owner < limit → IsHeldByNobody old → new ≡ taken_word old → (i : ℕ) → i ≡ at_word
+      → Allows (Ruled content begun limit) slots id me i (λ n. either (n == old) new n)
+      (TookSlotsOr content unnoted (step slots i old new none) me)
+  takes_fast_at old new exists free is_new =
+      takes_fast_or unnoted old new (λ w steps. subst (λ n. owner < n) (sym steps.is_limit) exists) free is_new
+      (λ s r at_view below. nothing-changes content begun limit id at_word me.0 s r at_view)
+
+  -- of the own session
+  pub tries_fast_at : (old new : ℕ) → owner ≡ x.number → IsHeldByNobody old → new ≡ taken_word old → (i : ℕ)
+      → i ≡ at_word
+      → Allows (Ruled content begun limit) slots id me i (λ n. either (n == old) new n)
+      (TookSlotsOr content noted_load (step slots i old new none) me)
+  tries_fast_at old new own free is_new =
+      takes_fast_or noted_load old new
+      (λ w steps.
+      let numbers = steps.safe.but_slots.table.carriers.numbers in
+      let issued = numbers.live_is_issued x.number steps.makes.live in
+      let all = numbers.within in
+      omega (arith, issued, all, own))
+      free is_new
+      (λ s r at_view below. rule-after content begun limit slots id me x others is (Fast owner) (tt, inside) (λ n. n)
+      mark.LoadedFast (λ _. Unit {0})
+      (subst (λ k. IsAlwaysLawful content limit x (Fast k) (λ _. Unit {0}) (λ n. n) mark.LoadedFast) (sym own)
+      (loading_fast-lawful content limit x (λ _. Unit {0})))
+      s r at_view (slice_index s.words at_word) below refl tt)
+
+module _ {T : Type 0} (content : T → Content) (limit : ℕ) (x : History T) (owner : ℕ) (exists : owner < limit) where
+  there : (w : World) → Stepper limit w x.number (told content x.number x.marks) → owner < w.numbers.limit
+  there w steps = subst (λ n. owner < n) (sym steps.is_limit) exists
+
+  -- whoever knows the slots holds the word
+  shows-held : (w : World) → Stepper limit w x.number (told content x.number x.marks) → (slots : SlotsInHand) → (account w x.number).fast.slots owner ≡ Rattle.std.proofs.Common.Some slots
+      → IsHeldExclusively (w.words.fast owner)
+  shows-held w steps slots known =
+      (steps.safe.but_slots.locks.fast_words owner).held_is_shown x.number
+      (slots-known (w.sessions.holds_fast x.number owner) (w.words.database owner) (w.words.slot owner) slots known).0
+
+  pub putting_fast-lawful : (slots : SlotsInHand) → MayPutFastBy (told content x.number x.marks) owner slots
+      → IsAlwaysLawful content limit x (Fast owner) (λ _. Unit {0}) (λ n. (n + (2 ^ 64 - 2 ^ 24)) % 2 ^ 64) (λ _. mark.PutFast owner)
+  putting_fast-lawful slots may w steps n below shown _ =
+      let may' = subst (λ a. MayPutFastBy a owner slots) steps.account may in
+      let held = subst IsHeldExclusively (sym shown) (shows-held w steps slots may'.in_hand) in
+      record {
+        noted = record {
+          step = PutExclusive (Fast owner) Keep;
+          after = after_putting_fast w x.number owner;
+          happens = (refl, (put_fast-lawful w steps.safe x.number steps.makes owner slots may', refl));
+          numbers = refl;
+          account = ap (λ a. account_putting_fast x.number a owner) steps.account ∙ sym (account-putting_fast w x.number owner);
+          words = ap (λ k. set_word w.words (Fast owner) (put_word k)) (sym shown) ∙ ap (set_word w.words (Fast owner)) (put_word-wraps n below held);
+          none_beyond = steps.none_beyond;
+          few_counted = steps.few_counted x.number;
+        };
+        home = λ p none. (none, refl);
+      }
+
+  pub passing-lawful : (slots : SlotsInHand) (tag : Tag) (mode : Mode) → MayPassBy (told content x.number x.marks) owner slots tag mode
+      → IsAlwaysLawful content limit x (Fast owner) (λ _. Unit {0}) (λ n. (n + (2 ^ 64 - 2 ^ 24)) % 2 ^ 64) (λ _. mark.Passed owner tag mode)
+  passing-lawful slots tag mode may w steps n below shown _ =
+      let may' = subst (λ a. MayPassBy a owner slots tag mode) steps.account may in
+      let held = subst IsHeldExclusively (sym shown) (shows-held w steps slots may'.in_hand) in
+      record {
+        noted = record {
+          step = PutPassing owner tag mode;
+          after = after_passing w x.number owner tag mode;
+          happens = (pass-lawful w steps.safe x.number steps.makes owner slots tag mode (there w steps) may', refl);
+          numbers = refl;
+          account = ap (λ a. account_passing x.number a owner tag mode) steps.account ∙ sym (account-passing w x.number owner tag mode);
+          words = ap (λ k. set_word w.words (Fast owner) (put_word k)) (sym shown) ∙ ap (set_word w.words (Fast owner)) (put_word-wraps n below held);
+          none_beyond = steps.none_beyond;
+          few_counted = subst (λ list. length list ≤ most_counted) (sym (set_at-here w.sessions.counted x.number (passing (w.sessions.counted x.number) tag mode owner) x.number refl))
+              (subst (λ k. k ≤ most_counted) (sym (lib.ListN.length-map (w.sessions.counted x.number) (passed tag mode owner))) (steps.few_counted x.number));
+        };
+        home = λ p none. (none, refl);
+      }

@@ -1,0 +1,15 @@
+use Rattle.std.proofs.Common.{rules}
+use Rattle.shared_rule.proofs.Events.Locks.{takes_fast_at}
+use Rattle.shared_rule.proofs.locks.attempt_fast.Goals as goal
+
+pub compare_exchange-requires : goal.compare_exchange-requires
+compare_exchange-requires g c =
+    let place = c.args.place.now in
+    let session = c.requires.session in (
+      c.requires.table.at,
+      search rules,
+      takes_fast_at g.T.PartTable.content g.T.PartTable.begun c.args.top.now.key c.args.top.now.table_id.slots
+          place.id place.me session.history session.others session.sessions
+          c.args.owner (search rules) c.args.shown c.args.taken c.requires.exists c.requires.free.0 c.requires.free.1
+          c.fast_word.result c.fast_word.ensures.index,
+    )

@@ -1,0 +1,19 @@
+use Rattle.std.proofs.Common.{rules, ◌≡◌, List, ap, ◌∙◌}
+use Rattle.shared_rule.specs.declared.history.History.{History}
+use Rattle.shared_rule.specs.History.{first_number}
+use Rattle.shared_rule.proofs.Events.Locks.{tries_fast_at}
+use Rattle.shared_rule.proofs.locks.take_own_fast.Goals as goal
+
+pub compare_exchange-requires : goal.compare_exchange-requires
+compare_exchange-requires g c =
+    let place = c.args.place.now in
+    let session = c.requires.session in
+    let own : c.args.number ≡ session.history.number = c.requires.own
+    ∙ ap (λ (sessions : List (History g.row.T.Denot)). first_number sessions) session.sessions in (
+      c.requires.table.at,
+      search rules,
+      tries_fast_at g.T.PartTable.content g.T.PartTable.begun c.args.top.now.key c.args.top.now.table_id.slots
+          place.id place.me session.history session.others session.sessions
+          c.args.number (search rules) c.args.shown c.args.taken own c.requires.free.0 c.requires.free.1
+          c.fast_word.result c.fast_word.ensures.index,
+    )

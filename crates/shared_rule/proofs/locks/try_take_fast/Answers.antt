@@ -1,0 +1,10 @@
+use Rattle.std.proofs.Common.{sym, subst}
+use Rattle.shared_rule.specs.declared.history.Mark.TheVariants.{LoadedFast}
+use Rattle.shared_rule.specs.Plays.{Side, HasSession}
+use Rattle.shared_rule.proofs.Taken.{session-noted}
+use Rattle.shared_rule.proofs.locks.try_take_fast.Goals as goal
+
+pub take_own_fast-requires-clause-session : goal.take_own_fast-requires-clause-session
+take_own_fast-requires-clause-session g c =
+    subst (λ (side : Side g.row.T.Denot). HasSession side.0) (sym c.load_fast-shown.ensures.side)
+    (session-noted c.args.place.now.me.0 (LoadedFast c.load_fast-shown.result) c.requires.session)

@@ -1,5 +1,0 @@
-use Rattle.shared_rule.specs.declared.history.Mark.TheVariants.{LoadedFast}
-use Rattle.shared_rule.proofs.slots.try_take_fast.Given as goal
-
-abbrev pub ghosts-load_fast : goal.ghosts-load_fast
-ghosts-load_fast g a = record { mark = LoadedFast }

@@ -1,0 +1,64 @@
+//! The steps of a session on strong lock counters.
+
+ghost use Rattle.std.specs.Prelude.{◌≡◌, ◌<◌};
+ghost use Rattle.lock_world.specs.AccountLaw.{MayCountBy, MayUncountBy};
+ghost use Rattle.shared_rule.specs.declared.history.Mark.TheVariants.{Counted, Uncounted, LoadedStrong};
+ghost use Rattle.shared_rule.specs.History.{noting};
+ghost use Rattle.shared_rule.specs.Plays.{account_at, FitsTable, HasSession, IsSameSeat};
+
+use crate::layout::strong_word;
+use crate::plays::Marking;
+use crate::rule::{Place, Top};
+use crate::words::{fetch_add_as, fetch_sub_as, load_as};
+use lock_table::PartTable;
+use modes_core::{Mode, Tag};
+
+/// Counts a strong lock, past nobody yet (`BeginStrongLockAcquire` in lock.c).
+pub(crate) fn add_strong<T: PartTable, M: Marking<T>>(
+    top: &Top<T>,
+    place: &mut Place<T>,
+    tag: &Tag,
+    mode: Mode,
+)
+    requires table { FitsTable place.old top.now.table_id }
+    requires session { HasSession place.old.me.0 }
+    requires lawful { MayCountBy (account_at T.content place.old) tag.now mode }
+    requires mark { M.mark ≡ (λ _. Counted tag.now mode) }
+    ensures seat { IsSameSeat place.old place.new }
+    ensures side { place.new.me ≡ (noting place.old.me.0 (Counted tag.now mode), place.old.me.1) }
+{
+    fetch_add_as::<T, M>(top, place, strong_word(tag.strong_index()), 1);
+}
+
+/// Counts it no more (`AbortStrongLockAcquire`, and `RemoveLocalLock` in lock.c).
+pub(crate) fn sub_strong<T: PartTable, M: Marking<T>>(
+    top: &Top<T>,
+    place: &mut Place<T>,
+    tag: &Tag,
+    mode: Mode,
+)
+    requires table { FitsTable place.old top.now.table_id }
+    requires session { HasSession place.old.me.0 }
+    requires lawful { MayUncountBy (account_at T.content place.old) tag.now mode }
+    requires mark { M.mark ≡ (λ _. Uncounted tag.now mode) }
+    ensures seat { IsSameSeat place.old place.new }
+    ensures side { place.new.me ≡ (noting place.old.me.0 (Uncounted tag.now mode), place.old.me.1) }
+{
+    fetch_sub_as::<T, M>(top, place, strong_word(tag.strong_index()), 1);
+}
+
+/// Loads a strong lock counter (`FastPathStrongRelationLocks->count` in `LockAcquireExtended` of lock.c).
+pub(crate) fn load_strong<T: PartTable, M: Marking<T>>(
+    top: &Top<T>,
+    place: &mut Place<T>,
+    index: u16,
+) -> u64
+    requires table { FitsTable place.old top.now.table_id }
+    requires session { HasSession place.old.me.0 }
+    requires within { index < 1024 }
+    requires mark { M.mark ≡ LoadedStrong index }
+    ensures seat { IsSameSeat place.old place.new }
+    ensures side { place.new.me ≡ (noting place.old.me.0 (LoadedStrong index result), place.old.me.1) }
+{
+    load_as::<T, M>(top, place, strong_word(index))
+}

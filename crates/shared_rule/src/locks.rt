@@ -1,0 +1,210 @@
+//! The steps by which a session takes the lightweight lock of a session's fast-path slots, and puts it.
+
+ghost use Rattle.std.specs.Prelude.{◌≡◌, ◌<◌, None, ◌≢◌, Some};
+ghost use Rattle.lw_word.specs.LightweightWord.{IsHeldByNobody, taken_word};
+ghost use Rattle.lock_world.specs.Account.{SlotsInHand};
+ghost use Rattle.lock_world.specs.AccountLaw.{MayPutFastBy, MayPassBy};
+ghost use Rattle.shared_rule.specs.declared.history.Mark.TheVariants.{PutFast, Passed, LoadedFast};
+ghost use Rattle.shared_rule.specs.History.{noting};
+ghost use Rattle.shared_rule.specs.Plays.{account_at, number_at, FitsTable, HasSession, IsSameSeat, TookSlots};
+ghost use Rattle.std.specs.Bool.{OnTrue, OnFalse};
+ghost use Rattle.shared_rule.specs.Slots.{TakesFast, TriesFast};
+ghost use Rattle.shared_rule.specs.Boards.{StaysLone};
+
+use crate::busy::Busy;
+use crate::layout::fast_word;
+use crate::plays::{Marking, TakesSlots, TriesSlots};
+use crate::rule::{Place, Top};
+use crate::words::{fetch_sub_as, load_as, taken};
+use crossbeam_utils::Backoff;
+use lock_table::PartTable;
+use lw_word::LwMode;
+use modes_core::{Mode, SessionId, Tag};
+use std::marker::Brand;
+use std::sync::Wait;
+
+// One attempt to take the lock of a session's slots, by the number that its word may show.
+fn attempt_fast<T: PartTable>(
+    top: &Top<T>,
+    place: &mut Place<T>,
+    owner: SessionId,
+    shown: u64,
+    taken: u64,
+) -> bool
+    requires table { FitsTable place.old top.now.table_id }
+    requires exists { owner < top.now.key }
+    requires session { HasSession place.old.me.0 }
+    requires free { IsHeldByNobody shown × (taken ≡ taken_word shown) }
+    ensures seat { IsSameSeat place.old place.new }
+    ensures won { OnTrue result (TookSlots T.content owner place.old.me place.new.me) }
+    ensures lost { OnFalse result (place.new.me ≡ place.old.me) }
+{
+    top.compare_exchange::<TakesSlots>(place, fast_word(owner), shown, taken) == shown
+}
+
+// The same, where the word shows that nobody holds the lock, and else no attempt.
+#[inline(always)]
+fn attempt_free_fast<T: PartTable>(top: &Top<T>, place: &mut Place<T>, owner: SessionId) -> bool
+    requires table { FitsTable place.old top.now.table_id }
+    requires exists { owner < top.now.key }
+    requires session { HasSession place.old.me.0 }
+    ensures seat { IsSameSeat place.old place.new }
+    ensures won { OnTrue result (TookSlots T.content owner place.old.me place.new.me) }
+    ensures lost { OnFalse result (place.new.me ≡ place.old.me) }
+{
+    let shown = top.peek(fast_word(owner));
+    match taken(shown) {
+        Some(taken) => attempt_fast(top, place, owner, shown, taken),
+        None => false,
+    }
+}
+
+/// Takes the lock of a session's fast-path slots exclusively, issued or not (`LWLockAcquire` of `fpInfoLock`). It
+/// waits until the lock is free.
+#[inline]
+pub(crate) fn take_fast<T: PartTable, R: Wait>(
+    rt: &R,
+    top: &Top<T>,
+    place: &mut Place<T>,
+    owner: SessionId,
+)
+    requires table { FitsTable place.old top.now.table_id }
+    requires exists { owner < top.now.key }
+    requires session { HasSession place.old.me.0 }
+    ensures seat { IsSameSeat place.old place.new }
+    ensures taken { TakesFast (number_at place.old) (account_at T.content place.old) owner
+        (account_at T.content place.new) }
+    ensures lone { StaysLone place.old.me.0 place.new.me.0 }
+    ensures slots { place.new.me.1 ≡ place.old.me.1 }
+{
+    if !attempt_free_fast(top, place, owner) {
+        take_fast_held(rt, top, place, owner);
+    }
+}
+
+/// The same after an attempt that failed: it waits before each further one.
+#[cold]
+#[inline(never)]
+fn take_fast_held<T: PartTable, R: Wait>(
+    rt: &R,
+    top: &Top<T>,
+    place: &mut Place<T>,
+    owner: SessionId,
+)
+    requires table { FitsTable place.old top.now.table_id }
+    requires exists { owner < top.now.key }
+    requires session { HasSession place.old.me.0 }
+    ensures seat { IsSameSeat place.old place.new }
+    ensures taken { TakesFast (number_at place.old) (account_at T.content place.old) owner
+        (account_at T.content place.new) }
+    ensures lone { StaysLone place.old.me.0 place.new.me.0 }
+    ensures slots { place.new.me.1 ≡ place.old.me.1 }
+{
+    let backoff = Backoff::new();
+    for _ in rt.forever() {
+        backoff.snooze();
+        if attempt_free_fast(top, place, owner) {
+            return;
+        }
+    }
+    unreachable!()
+}
+
+// Loads the word of the lock of the own slots.
+fn load_fast<T: PartTable, M: Marking<T>>(
+    top: &Top<T>,
+    place: &mut Place<T>,
+    number: SessionId,
+) -> u64
+    requires table { FitsTable place.old top.now.table_id }
+    requires session { HasSession place.old.me.0 }
+    requires own { number ≡ number_at place.old }
+    requires mark { M.mark ≡ LoadedFast }
+    ensures seat { IsSameSeat place.old place.new }
+    ensures side { place.new.me ≡ (noting place.old.me.0 (LoadedFast result), place.old.me.1) }
+{
+    load_as::<T, M>(top, place, fast_word(number))
+}
+
+// Takes the lock of the own slots where its word still shows this number, and tells the number that it showed.
+fn take_own_fast<T: PartTable>(
+    top: &Top<T>,
+    place: &mut Place<T>,
+    number: SessionId,
+    shown: u64,
+    taken: u64,
+) -> u64
+    requires table { FitsTable place.old top.now.table_id }
+    requires session { HasSession place.old.me.0 }
+    requires own { number ≡ number_at place.old }
+    requires free { IsHeldByNobody shown × (taken ≡ taken_word shown) }
+    ensures seat { IsSameSeat place.old place.new }
+    ensures won { result ≡ shown → TookSlots T.content number place.old.me place.new.me }
+    ensures lost { result ≢ shown → place.new.me ≡ (noting place.old.me.0 (LoadedFast result), place.old.me.1) }
+{
+    top.compare_exchange::<TriesSlots>(place, fast_word(number), shown, taken)
+}
+
+/// Takes the lock of the own slots if nobody holds it, by a load and one exchange that expects the very number loaded
+/// (`LWLockConditionalAcquire` in lwlock.c).
+pub(crate) fn try_take_fast<T: PartTable>(
+    top: &Top<T>,
+    place: &mut Place<T>,
+    number: SessionId,
+) -> Result<(), Busy>
+    requires table { FitsTable place.old top.now.table_id }
+    requires session { HasSession place.old.me.0 }
+    requires own { number ≡ number_at place.old }
+    ensures seat { IsSameSeat place.old place.new }
+    ensures tried { TriesFast (number_at place.old) (account_at T.content place.old) result
+        (account_at T.content place.new) }
+    ensures lone { StaysLone place.old.me.0 place.new.me.0 }
+    ensures slots { place.new.me.1 ≡ place.old.me.1 }
+{
+    let shown = load_fast::<T, Brand>(top, place, number);
+    let Some(taken) = taken(shown) else {
+        return Err(Busy);
+    };
+    if take_own_fast(top, place, number, shown, taken) == shown {
+        Ok(())
+    } else {
+        Err(Busy)
+    }
+}
+
+/// Puts the lock of a session's fast-path slots.
+pub(crate) fn put_fast<T: PartTable, M: Marking<T>>(
+    top: &Top<T>,
+    place: &mut Place<T>,
+    owner: SessionId,
+)
+    requires table { FitsTable place.old top.now.table_id }
+    requires exists { owner < top.now.key }
+    requires session { HasSession place.old.me.0 }
+    requires lawful { (slots : SlotsInHand) × MayPutFastBy (account_at T.content place.old) owner slots }
+    requires mark { M.mark ≡ (λ _. PutFast owner) }
+    ensures seat { IsSameSeat place.old place.new }
+    ensures side { place.new.me ≡ (noting place.old.me.0 (PutFast owner), place.old.me.1) }
+{
+    fetch_sub_as::<T, M>(top, place, fast_word(owner), LwMode::Exclusive.amount());
+}
+
+/// Puts that lock, and goes past its session with a strong lock that is counted (the end of a turn of the loop in
+/// `FastPathTransferRelationLocks` in lock.c): the session has no slot on the object.
+pub(crate) fn pass_fast<T: PartTable, M: Marking<T>>(
+    top: &Top<T>,
+    place: &mut Place<T>,
+    owner: SessionId,
+    tag: &Tag,
+    mode: Mode,
+)
+    requires table { FitsTable place.old top.now.table_id }
+    requires exists { owner < top.now.key }
+    requires session { HasSession place.old.me.0 }
+    requires lawful { (slots : SlotsInHand) × MayPassBy (account_at T.content place.old) owner slots tag.now mode }
+    requires mark { M.mark ≡ (λ _. Passed owner tag.now mode) }
+    ensures seat { IsSameSeat place.old place.new }
+    ensures side { place.new.me ≡ (noting place.old.me.0 (Passed owner tag.now mode), place.old.me.1) }
+{
+    fetch_sub_as::<T, M>(top, place, fast_word(owner), LwMode::Exclusive.amount());
+}
