@@ -3,7 +3,7 @@ use Rattle.std.proofs.Common.{refl, sym, ap, ◌∙◌, subst, inl, inr, arith}
 use Rattle.std.specs.Prelude.{◌&&◌, if◌then◌else◌, IfSome, IfNone}
 use Rattle.std.proofs.lemmas.Bool.{cases_eq, and_from, eq-eqb, ne_eqb, cond-true, cond-false}
 use Rattle.lw_word.specs.SlotWord.{in_use, relation_in}
-use Rattle.lock_world.specs.Total.{total, how_many}
+use Rattle.lock_table.specs.Total.{total, how_many}
 use Rattle.lock_world.specs.SlotHolds.{slot_count, is_slot_of}
 use Rattle.fast_path.specs.declared.slot_words.SeenSlot.{SeenSlot}
 use Rattle.fast_path.specs.declared.slot_words.Sighting.{Sighting}

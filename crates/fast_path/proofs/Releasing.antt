@@ -12,7 +12,7 @@ use Rattle.lock_world.specs.Account.{Account, SlotsInHand}
 use Rattle.lock_world.specs.AccountSteps.{own_with, account_unsetting, account_taking_fast, account_putting_fast}
 use Rattle.lock_world.specs.AccountLaw.{MayPutFastBy}
 use Rattle.lock_world.proofs.Slots.Eligible.{shown-in_use, slot_holds-none}
-use Rattle.lock_world.proofs.Totals.{some_pass}
+use Rattle.lock_table.proofs.Totals.{some_pass}
 use Rattle.lock_world.proofs.Slots.Used.{used-most, used-same, used-one_less, used-zero, no_slot-no_hold}
 use Rattle.shared_rule.specs.History.{slots_here}
 use Rattle.shared_rule.specs.Slots.{TakesFast}

@@ -8,9 +8,9 @@ use Rattle.std.proofs.lemmas.List.Elements.{filter-append}
 use Rattle.std.proofs.lemmas.List.Sums.{length-filter, sum_by-cons}
 use Rattle.lock_table.specs.Put.{set_at}
 use Rattle.lock_table.proofs.PutLemmas.{set_at-here, set_at-else}
-use Rattle.lock_world.specs.Total.{total}
+use Rattle.lock_table.specs.Total.{total}
 use Rattle.lock_world.specs.Counted.{Counted}
-use Rattle.lock_world.proofs.Totals.{total-same, total-change, total-nothing}
+use Rattle.lock_table.proofs.Totals.{total-same, total-change, total-nothing}
 use Rattle.lock_model.specs.declared.machine.state.CountedBy.{CountedBy}
 use Rattle.lock_model.specs.Shows.{counted_from, counted_of}
 

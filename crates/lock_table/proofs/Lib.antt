@@ -6,6 +6,7 @@ pub mod Holders
 pub mod Options
 pub mod ListingLemmas
 pub mod PutLemmas
+pub mod Totals
 pub mod HoldLemmas
 pub mod QueueLemmas
 pub mod QueuesOf

@@ -1,4 +1,5 @@
 pub mod Put
+pub mod Total
 pub mod Content
 pub mod Clash
 pub mod Request

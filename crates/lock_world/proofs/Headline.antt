@@ -15,7 +15,7 @@ use Rattle.lock_table.specs.Content.{Holds, Wait, Content}
 use Rattle.lock_table.specs.Clash.{ClashIs, ClashAfterWaiters, IsConflictingHolder, first_waiter}
 use Rattle.lock_table.specs.OwnWait.{OwnWait, is_for, is_pending}
 use Rattle.lock_table.specs.Queue.{waits_there}
-use Rattle.lock_world.specs.Total.{total, how_many}
+use Rattle.lock_table.specs.Total.{total, how_many}
 use Rattle.lock_world.specs.Counted.{is_done}
 use Rattle.lock_world.specs.World.{World}
 use Rattle.lock_world.specs.Safe.{stages}

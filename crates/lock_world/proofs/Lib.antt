@@ -1,4 +1,3 @@
-pub mod Totals
 pub mod Words
 pub mod Slots
 pub mod Counters
@@ -20,3 +19,6 @@ pub mod ListWords
 pub mod Headline
 pub mod Closed
 pub mod Telling
+pub mod Remembered
+pub mod OwnStand
+pub mod Tallies

@@ -8,7 +8,7 @@ use Rattle.lock_table.specs.declared.moves.Move.{Move}
 use Rattle.lock_table.specs.declared.moves.Move.TheVariants.{Keep, Grant, Join, Release, Leave, Adopt}
 use Rattle.lock_table.specs.Content.{Holds}
 use Rattle.lock_table.specs.OwnWait.{OwnWait, is_for}
-use Rattle.lock_world.specs.Total.{total}
+use Rattle.lock_table.specs.Total.{total}
 
 -- What a session has counted: the strong locks that it has, awaits or is about to ask for, each counted by one in the strong
 -- lock counter of its object (FastPathStrongRelationLocks in lock.c).

@@ -10,7 +10,7 @@ use Rattle.lock_table.specs.Content.{Content}
 use Rattle.lock_table.specs.Clash.{ClashIs}
 use Rattle.lock_table.specs.OwnWait.{is_pending}
 use Rattle.lock_table.specs.Queue.{waits_there, awaits_mode}
-use Rattle.lock_world.specs.Total.{how_many}
+use Rattle.lock_table.specs.Total.{how_many}
 use Rattle.lock_world.specs.SlotHolds.{IsHeldIn}
 use Rattle.lock_world.specs.Counted.{counter, is_done}
 use Rattle.lock_world.specs.World.{World, TraceEntry, Took}

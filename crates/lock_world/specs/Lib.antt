@@ -1,4 +1,4 @@
-pub mod Total
+pub mod Tallies
 pub mod WaitWord
 pub mod World
 pub mod SlotHolds

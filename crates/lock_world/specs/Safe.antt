@@ -9,7 +9,7 @@ use Rattle.lock_table.specs.Content.{Holds, Wait, Content}
 use Rattle.lw_word.specs.LightweightWord.{IsHeldExclusively, shared_count}
 use Rattle.lock_table.specs.OwnWait.{OwnWait, Stage, InQueue, WasGranted, HasLeft, is_for, is_pending, queued_by}
 use Rattle.lock_table.specs.Queue.{NoneFree}
-use Rattle.lock_world.specs.Total.{how_many}
+use Rattle.lock_table.specs.Total.{how_many}
 use Rattle.lock_world.specs.WaitWord.{wait_state}
 use Rattle.lock_table.specs.Moves.{Moves, Adopts, IsInPartition}
 use Rattle.lock_table.specs.Put.{set_at}

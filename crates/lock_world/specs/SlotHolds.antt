@@ -4,7 +4,7 @@ use Rattle.modes_core.specs.declared.tags.Tag.{Tag}
 use Rattle.modes_core.specs.declared.tags.Tag.TheVariants.{Relation, Object}
 use Rattle.modes_core.specs.Tag.{is_eligible_for}
 use Rattle.lw_word.specs.SlotWord.{relation_in, in_use, shows}
-use Rattle.lock_world.specs.Total.{how_many}
+use Rattle.lock_table.specs.Total.{how_many}
 
 -- Which holds a session's fast-path slots show, with the word of its database (`fpRelId`, `fpLockBits` and `databaseId` of a
 -- PGPROC).

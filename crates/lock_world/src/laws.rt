@@ -2,7 +2,7 @@
 //! proved, and its body is empty. Every World of a run is safe (`every_world_is_safe`), so what the laws say
 //! of a safe World they say of each of these. The laws that speak of runs, or of one event, say so.
 
-ghost use Rattle.std.specs.Prelude.{◌≡◌, ◌≢◌, ◌↔◌, ◌⊎◌, ◌<◌, ◌≤◌, ◌+◌, ◌^◌, ◌==◌, ℕ, List, [], ◌∷◌, ◌++◌, true, false, if◌then◌else◌, Some, None, slice_get, count_by};
+ghost use Rattle.std.specs.Prelude.{◌≡◌, ◌≢◌, ◌↔◌, ◌⊎◌, ◌<◌, ◌≤◌, ◌+◌, ◌^◌, ◌==◌, ℕ, List, [], ◌∷◌, ◌++◌, true, false, if◌then◌else◌, Some, None, slice_get, count_by, length};
 ghost use Rattle.modes_core.specs.declared.modes.Mode.{Mode};
 ghost use Rattle.modes_core.specs.declared.tags.Tag.{Tag};
 ghost use Rattle.modes_core.specs.declared.tags.Tag.TheVariants.{Relation};
@@ -16,7 +16,11 @@ ghost use Rattle.lw_word.specs.LightweightWord.{IsHeldExclusively, IsListLocked,
 ghost use Rattle.lw_word.specs.WaitList.{stands_in, times_in};
 ghost use Rattle.lock_table.specs.OwnWait.{OwnWait, entry_of, is_for};
 ghost use Rattle.lock_table.specs.Queue.{NoneFree, waits_there, awaits_mode};
-ghost use Rattle.lock_world.specs.Total.{how_many};
+ghost use Rattle.lock_table.specs.declared.rows.TableRow.{TableRow};
+ghost use Rattle.lock_table.specs.Listing.{IsListing};
+ghost use Rattle.lock_table.specs.WholeContent.{whole_of};
+ghost use Rattle.lock_table.specs.Total.{total, how_many};
+ghost use Rattle.lock_world.specs.Tallies.{AreSoMany, OwnStand, ShowsLeft, shown_in_slots};
 ghost use Rattle.lw_word.specs.SlotWord.{shows};
 ghost use Rattle.lock_world.specs.SlotHolds.{relation_of, IsHeldIn, OneSlotEach, InUseHasDatabase, NoSlotInUse, slot_count};
 ghost use Rattle.lock_world.specs.Counted.{AtMostOnce, counter, is_done, is_past};
@@ -385,4 +389,29 @@ pub fn others_are_untouched()
         (v.words.wait other ≡ w.words.wait other)
         ⊎ ((v.words.wait other ≡ asked_word (w.words.wait other))
         ⊎ ((wait_state (w.words.wait other) ≡ 1) × (v.words.wait other ≡ granted_word (w.words.wait other)))) }
+{}
+
+/// In each World of a run the own holds of a session that waits for nothing stand in its slots or in contents: what
+/// contents have of it is own, and the word of each of its slots shows just the own holds that it remembers there and that
+/// no content has. What it remembers has one slot at most for a relation.
+pub fn own_holds_are_in_slots_or_contents()
+    ensures stand { (limit : ℕ) (events : List Event) (w : World) (session : ℕ) → limit < 2 ^ 24 →
+        Runs (opening limit) events w → w.sessions.awaited session ≡ None →
+        OwnStand session (account w session) w.contents.now }
+    ensures shows { (limit : ℕ) (events : List Event) (w : World) (session place : ℕ) → limit < 2 ^ 24 →
+        Runs (opening limit) events w → place < slot_count →
+        ShowsLeft session (account w session) w.contents.now place (w.words.slot session place) }
+{}
+
+/// In each World of a run in which nobody waits, what all slots show and the granted rows of all contents together are
+/// as much as all sessions own; and in each World all strong lock counters together show how much is counted.
+pub fn what_all_sessions_own_adds_up()
+    ensures holds { (limit : ℕ) (events : List Event) (w : World) (rows : List TableRow) (many : ℕ → ℕ) →
+        limit < 2 ^ 24 → Runs (opening limit) events w → ((session : ℕ) → w.sessions.awaited session ≡ None) →
+        IsListing (whole_of w.contents.now) rows →
+        ((session : ℕ) → AreSoMany (w.sessions.own session) (many session)) →
+        shown_in_slots w.numbers.limit w.words.slot + count_by (λ (row : TableRow). row.granted) rows
+        ≡ total w.numbers.limit many }
+    ensures counters { (w : World) → SafeWorld w →
+        total 1024 w.words.strong ≡ total w.numbers.limit (λ session. length (w.sessions.counted session)) }
 {}

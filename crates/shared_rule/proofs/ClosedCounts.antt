@@ -6,9 +6,9 @@ use lib.ListN.{get_elem?}
 use Rattle.atomic_table.proofs.Lists.{at_set}
 use Rattle.lock_table.specs.Put.{set_at}
 use Rattle.lock_table.proofs.HoldLists.{count_by-cons}
-use Rattle.lock_world.specs.Total.{total, how_many}
+use Rattle.lock_table.specs.Total.{total, how_many}
 use Rattle.lock_world.specs.World.{Numbers}
-use Rattle.lock_world.proofs.Totals.{one_more, one_less}
+use Rattle.lock_table.proofs.Totals.{one_more, one_less}
 use Rattle.shared_rule.specs.declared.history.History.{History}
 use Rattle.shared_rule.specs.declared.history.Mark.{Mark}
 use Rattle.shared_rule.specs.declared.history.View.{View}

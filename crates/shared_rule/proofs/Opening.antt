@@ -10,7 +10,7 @@ use Rattle.lock_table.specs.Content.{Content}
 use Rattle.lock_table.specs.PartView.{PartView, content_of}
 use Rattle.lock_table.specs.Parts.{AreEmpty, part_at, no_part}
 use Rattle.lock_world.specs.World.{opening}
-use Rattle.lock_world.specs.Total.{total}
+use Rattle.lock_table.specs.Total.{total}
 use Rattle.lock_world.proofs.SafeWorld.Opening.{opening-safe}
 use Rattle.lock_world.proofs.SafeWorld.Runs.{Runs-none}
 use Rattle.shared_rule.specs.declared.history.History.{History}

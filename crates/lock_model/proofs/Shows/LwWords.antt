@@ -8,9 +8,9 @@ use Rattle.lw_word.specs.Packing.{word_of-state_of}
 use Rattle.lw_word.proofs.WordLemmas.{holders-shared, holders-exclusive}
 use Rattle.lw_word.proofs.FlagLemmas.{list_unlocked_word-list_locked, list_unlocked_word-holders, list_unlocked_word-release_ok, list_unlocked_word-not_release_ok, list_unlocked_word-has_waiters, list_unlocked_word-no_waiters, IsLightweightWord-list_locked, IsLightweightWord-release_ok, IsLightweightWord-has_waiters, IsLightweightWord-and}
 use Rattle.lw_word.proofs.StateLemmas.{IsFreeFor-exclusive, IsFreeFor-shared, bit_is_set, state_of-taken, state_of-put, IsLightweightWord-taken, IsLightweightWord-put, state_of-list_locked, state_of-release_ok, state_of-has_waiters}
-use Rattle.lock_world.specs.Total.{how_many}
+use Rattle.lock_table.specs.Total.{how_many}
 use Rattle.lock_world.specs.Safe.{ShowsHolders}
-use Rattle.lock_world.proofs.Totals.{some_pass, how_many-most}
+use Rattle.lock_table.proofs.Totals.{some_pass, how_many-most}
 use Rattle.lock_model.specs.Shows.{ShowsLock}
 use Rattle.lock_model.specs.ListWords.{unlocked_in}
 

@@ -42,7 +42,7 @@ use Rattle.lock_world.specs.World.{WordExists, word_in, World, opening}
 use Rattle.lock_world.specs.SafeWorld.{SafeWorld, slots_of}
 use Rattle.lock_world.proofs.FromSafeWorld.{shown-in_no_content}
 use Rattle.lock_world.specs.Counted.{Counted, count_at}
-use Rattle.lock_world.specs.Total.{total}
+use Rattle.lock_table.specs.Total.{total}
 use Rattle.lock_model.proofs.CountedLists.{total-of_sessions}
 use Rattle.lock_model.specs.Shows.{Shows, ShowsHandIfAny, AreInTable, ListsHolds, is_hold, counted_of, waiters_of}
 use Rattle.lock_model.proofs.Shows.Places.{get_or-one_value}

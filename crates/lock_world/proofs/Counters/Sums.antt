@@ -8,9 +8,9 @@ use Rattle.modes_core.proofs.Laws.{tag_eq-same}
 use Rattle.lock_table.specs.Put.{set_at}
 use Rattle.lock_table.proofs.PutLemmas.{set_at-here, set_at-else}
 use Rattle.lock_table.proofs.ListLemmas.{any_weaker, any-counted}
-use Rattle.lock_world.specs.Total.{total}
+use Rattle.lock_table.specs.Total.{total}
 use Rattle.lock_world.specs.Counted.{Counted, counting, uncounting, passing, count_at, is_counted, is_past, AtMostOnce, counter}
-use Rattle.lock_world.proofs.Totals.{total-same, total-change, total-least}
+use Rattle.lock_table.proofs.Totals.{total-same, total-change, total-least}
 use Rattle.lock_world.proofs.Counters.Counting.{count_at-counting, count_at-counting_else}
 use Rattle.lock_world.proofs.Counters.Uncounting.{count_at-uncounting, count_at-uncounting_else}
 use Rattle.lock_world.proofs.Counters.Passing.{count_at-passing}

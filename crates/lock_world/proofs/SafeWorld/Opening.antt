@@ -8,7 +8,7 @@ use Rattle.lock_world.specs.World.{opening}
 use Rattle.lock_world.specs.WaitLists.{lock_word, ShowsList}
 use Rattle.lock_world.specs.Safe.{SafeButSlots, ShowsHolders}
 use Rattle.lock_world.specs.SafeWorld.{SafeWorld, slots_of, tabled}
-use Rattle.lock_world.proofs.Totals.{none_pass}
+use Rattle.lock_table.proofs.Totals.{none_pass}
 use Rattle.lock_world.proofs.Slots.Databases.{slot_holds-unused}
 
 -- A free word shows that nobody holds it.

@@ -14,7 +14,7 @@ use Rattle.lock_world.proofs.Slots.Remembered.{eligible-of}
 -- Each mode bit of a slot is a hold.
 
 -- A slot shows modes up to 3 alone.
-shows-weak : (word relation : ℕ) (mode : Mode) → shows word relation mode ≡ true → number_of mode ≤ 3
+pub shows-weak : (word relation : ℕ) (mode : Mode) → shows word relation mode ≡ true → number_of mode ≤ 3
 shows-weak word relation mode shown =
     elim (cases_lt (number_of mode) 4) [
       | inl low ↦ omega (arith, low)

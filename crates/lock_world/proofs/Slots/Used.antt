@@ -10,9 +10,9 @@ use Rattle.lw_word.specs.SlotWord.{relation_in, in_use, shows, word_with}
 use Rattle.lw_word.proofs.SlotLemmas.{in_use-shows, shows-of, shows-word_with}
 use Rattle.lock_table.specs.Put.{set_at}
 use Rattle.lock_table.proofs.PutLemmas.{set_at-here, set_at-else}
-use Rattle.lock_world.specs.Total.{total, how_many}
+use Rattle.lock_table.specs.Total.{total, how_many}
 use Rattle.lock_world.specs.SlotHolds.{slot_count, slot_holds, used, ShowsNoMore, NoSlotInUse}
-use Rattle.lock_world.proofs.Totals.{total-same, none_pass, some_pass, one_more, one_less, how_many-most}
+use Rattle.lock_table.proofs.Totals.{total-same, none_pass, some_pass, one_more, one_less, how_many-most}
 use Rattle.lock_world.proofs.Slots.Databases.{slot_holds-unused}
 
 -- How many of a session's slots are in use.

@@ -2,11 +2,11 @@ use Rattle.std.proofs.Common.{◌≡◌, ◌≢◌, ℕ, ◌+◌, ◌%◌, ◌^�
 use Rattle.std.proofs.lemmas.Bool.{cases_eq, false≢true, false_from_ne_true}
 use Rattle.lw_word.specs.LightweightWord.{IsHeldByNobody, IsFreeToShare, shared_count, taken_word, put_word, shared_word, unshared_word, HoldersStay}
 use Rattle.lock_table.specs.Put.{set_at}
-use Rattle.lock_world.specs.Total.{how_many}
+use Rattle.lock_table.specs.Total.{how_many}
 use Rattle.lock_world.specs.Safe.{ShowsHolders, WordsShowHolders}
 use Rattle.lock_table.proofs.PutLemmas.{set_at-here, set_at-else, set_at-each, column-here, column-else}
 use Rattle.lw_word.proofs.WordLemmas.{nobody-not_exclusive, nobody-shared, free_to_share-not_exclusive, taken_word-exclusive, taken_word-shared, put_word-not_exclusive, put_word-shared, shared_word-shared, shared_word-exclusive, unshared_word-shared, unshared_word-exclusive, holders-shared, holders-exclusive}
-use Rattle.lock_world.proofs.Totals.{one_more, one_less, none_pass, some_pass, how_many-most}
+use Rattle.lock_table.proofs.Totals.{one_more, one_less, none_pass, some_pass, how_many-most}
 
 -- A table of rows and columns, changed in one place and read in one column, as functions.
 column-here_all : (f : ℕ → ℕ → Bool) (s p : ℕ) (b : Bool) (q : ℕ) → q ≡ p → ◌≡◌ {A = ℕ → Bool} (λ k. set_at f s (set_at (f s) p b) k q) (set_at (λ k. f k q) s b)

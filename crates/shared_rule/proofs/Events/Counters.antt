@@ -9,12 +9,12 @@ use Rattle.lock_table.proofs.PutLemmas.{set_at-here}
 use Rattle.lock_world.specs.declared.events.Word.TheVariants.{Strong}
 use Rattle.lock_world.specs.declared.events.Step.TheVariants.{Count, Uncount}
 use Rattle.lock_world.specs.World.{World}
-use Rattle.lock_world.specs.Total.{total}
+use Rattle.lock_table.specs.Total.{total}
 use Rattle.lock_world.specs.Counted.{Counted, is_of, count_at, counter, counting, uncounting}
 use Rattle.lock_world.specs.Happens.Counters.{most_counted, after_counting, after_uncounting}
 use Rattle.lock_world.specs.AccountSteps.{account_counting, account_uncounting}
 use Rattle.lock_world.specs.AccountLaw.{MayCountBy, MayUncountBy}
-use Rattle.lock_world.proofs.Totals.{total-least}
+use Rattle.lock_table.proofs.Totals.{total-least}
 use Rattle.lock_world.proofs.Counters.Uncounting.{count_at-uncounting}
 use Rattle.lock_world.proofs.Accounts.Lawful.{count-lawful, uncount-lawful}
 use Rattle.lock_world.proofs.Accounts.Slots.{account-counting, account-uncounting}

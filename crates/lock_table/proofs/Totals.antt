@@ -2,7 +2,7 @@ use Rattle.std.proofs.Common.{◌≡◌, ℕ, ◌+◌, ◌<◌, ◌≤◌, Bool,
 use Rattle.std.specs.Prelude.{if◌then◌else◌}
 use Rattle.std.proofs.lemmas.Bool.{cases_eq, cond-true, cond-false}
 use Rattle.lock_table.specs.Put.{set_at}
-use Rattle.lock_world.specs.Total.{total, how_many}
+use Rattle.lock_table.specs.Total.{total, how_many}
 use Rattle.lock_table.proofs.PutLemmas.{set_at-here, set_at-else}
 
 -- A sum is one of its values: below the limit what each number has may be replaced by an equal.
