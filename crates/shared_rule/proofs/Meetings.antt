@@ -1,4 +1,4 @@
-use Rattle.std.proofs.Common.{◌≡◌, ◌≢◌, ◌⊎◌, ℕ, zero, suc, ◌<◌, List, [], ◌∷◌, ◌++◌, length, Option, Some, None, refl, sym, ap, ◌∙◌, subst, inl, inr, arith, length-set}
+use Rattle.std.proofs.Common.{◌≡◌, ◌≢◌, ◌⊎◌, ℕ, zero, suc, ◌+◌, ◌<◌, List, [], ◌∷◌, ◌++◌, length, Option, Some, None, refl, sym, ap, ◌∙◌, subst, inl, inr, arith, length-set, length-append}
 use Rattle.std.specs.Prelude.{slice_get, slice_set}
 use Rattle.std.proofs.lemmas.Bool.{cases_eq}
 use mathlib.Core.Option.{some}
@@ -7,132 +7,198 @@ use Rattle.atomic_table.proofs.Lists.{at_set, set_here, set_else, at_longer}
 use Rattle.lock_table.specs.Put.{set_at}
 use Rattle.lock_table.specs.Content.{Content}
 use Rattle.lock_table.proofs.PutLemmas.{set_at-here, set_at-else}
-use Rattle.lock_world.specs.World.{World}
-use Rattle.lock_world.specs.Happens.Seats.{after_going_on, after_keeping_apart}
+use Rattle.lock_world.specs.World.{World, Numbers}
 use Rattle.shared_rule.specs.declared.history.Mark.{Mark}
 use Rattle.shared_rule.specs.declared.history.History.{History}
 use Rattle.shared_rule.specs.declared.history.View.{View}
 use Rattle.shared_rule.specs.History.{keeper, lone, spent_view}
 use Rattle.shared_rule.specs.Ruled.{IsClosed, HistoryIsShown, IsBehind, SeatsAreShown}
+use Rattle.shared_rule.specs.Seats.{all_but_last, last_of}
 use Rattle.shared_rule.proofs.Standing.{there-within, there-one}
-use Rattle.shared_rule.proofs.Views.{there-snoc, one-get, still-shown, history-alone, nobody-behind}
+use Rattle.shared_rule.proofs.Views.{there-snoc, one-get, still-shown, with_numbers, history-alone, nobody-behind}
 
--- Two sessions that meet at one seat, and part again: the views show what the World after it has.
+-- Sessions that meet at one seat, each behind those that came before it, and part again, the last one first: the views show what
+-- the World after it has.
 
--- One of two in a list.
-pub two-get : {A : Type 0} (x y : A) (j : ℕ) (z : A) → slice_get (x ∷ y ∷ []) j ≡ Some z → ((j ≡ 0) × (z ≡ x)) ⊎ ((j ≡ 1) × (z ≡ y))
-two-get x y zero z get = let same : x ≡ z = cc (get) in inl (refl, sym same)
-two-get x y (suc zero) z get = let same : y ≡ z = cc (get) in inr (refl, sym same)
-two-get x y (suc (suc j)) z get = absurd (cc (get))
+-- Lists with one more behind.
+module _ {A : Type 0} where
+  pub last-get : (xs : List A) (y : A) → slice_get (xs ++ y ∷ []) (length xs) ≡ Some y
+  last-get [] y = refl
+  last-get (x ∷ xs) y = last-get xs y
 
--- The session b is kept apart by the session a.
-module _ {T : Type 0} (content : T → Content) (w : World) (views : List (View T)) (id other a b : ℕ) (its others : List (Mark T))
-    (at : get_elem? views id ≡ some (lone a its)) (there : get_elem? views other ≡ some (lone b others)) (apart : other ≢ id) (seats : SeatsAreShown content views w) where
-  abbrev first : History T
-  first = record { number = a; marks = its }
+  pub before-get : (xs ys : List A) (j : ℕ) (z : A) → slice_get xs j ≡ Some z → slice_get (xs ++ ys) j ≡ Some z
+  before-get [] ys j z get = absurd (cc (get))
+  before-get (x ∷ xs) ys zero z get = get
+  before-get (x ∷ xs) ys (suc j) z get = before-get xs ys j z get
 
+  pub get-within : (xs : List A) (j : ℕ) (z : A) → slice_get xs j ≡ Some z → j < length xs
+  get-within [] j z get = absurd (cc (get))
+  get-within (x ∷ xs) zero z get = omega arith
+  get-within (x ∷ xs) (suc j) z get = let less = get-within xs j z get in omega (arith, less)
+
+  pub more-get : (xs : List A) (y : A) (j : ℕ) (z : A) → slice_get (xs ++ y ∷ []) j ≡ Some z → (slice_get xs j ≡ Some z) ⊎ ((j ≡ length xs) × (z ≡ y))
+  more-get [] y j z get = inr (one-get y j z get)
+  more-get (x ∷ xs) y zero z get = inl get
+  more-get (x ∷ xs) y (suc j) z get =
+      elim (more-get xs y j z get) [
+        | inl there ↦ inl there
+        | inr last ↦ inr (ap suc last.0, last.1)
+      ]
+
+  pub all_but_last-of : (xs : List A) (y : A) → all_but_last (xs ++ y ∷ []) ≡ xs
+  all_but_last-of [] y = refl
+  all_but_last-of (x ∷ []) y = refl
+  all_but_last-of (x ∷ z ∷ xs) y = ap (λ rest. x ∷ rest) (all_but_last-of (z ∷ xs) y)
+
+  pub last_of-of : (xs : List A) (y : A) → last_of (xs ++ y ∷ []) ≡ y ∷ []
+  last_of-of [] y = refl
+  last_of-of (x ∷ []) y = refl
+  last_of-of (x ∷ z ∷ xs) y = last_of-of (z ∷ xs) y
+
+-- Who keeps whom apart, with one more behind.
+module _ {T : Type 0} where
+  keeper-before : (xs : List (History T)) (y : History T) (j : ℕ) → j < length xs → keeper (xs ++ y ∷ []) j ≡ keeper xs j
+  keeper-before [] y j less = absurd (omega (arith, less))
+  keeper-before (x ∷ xs) y zero less = refl
+  keeper-before (x ∷ xs) y (suc j) less = refl
+
+  keeper-last : (xs : List (History T)) (y : History T) (by : ℕ) → keeper (xs ++ y ∷ []) (length xs) ≡ Some by
+      → (x : History T) × (slice_get xs 0 ≡ Some x) × (x.number ≡ by)
+  keeper-last [] y by kept = absurd (cc (kept))
+  keeper-last (x ∷ xs) y by kept = let same : Some x.number ≡ Some by = kept in (x, refl, cc (same))
+
+-- The session b is kept apart behind those at a seat.
+module _ {T : Type 0} (content : T → Content) (w : World) (views : List (View T)) (id : ℕ) (view : View T) (other b : ℕ) (others : List (Mark T))
+    (at : get_elem? views id ≡ some view) (there : get_elem? views other ≡ some (lone b others)) (apart : other ≢ id) (seats : SeatsAreShown content views w) where
   abbrev second : History T
   second = record { number = b; marks = others }
 
   abbrev both : View T
-  both = record { next = None; closed = []; sessions = first ∷ second ∷ [] }
+  both = record { next = view.next; closed = view.closed; sessions = view.sessions ++ second ∷ [] }
 
   abbrev joined : List (View T)
   joined = slice_set (slice_set views id both) other spent_view
 
-  pub first-shown : HistoryIsShown content w seats.seat_of seats.place_in id 0 (record { number = a; marks = its } ∷ []) (record { number = a; marks = its })
-  first-shown = history-alone content w views id a its at seats
+  abbrev numbers_met : Numbers
+  numbers_met = record (w.numbers) { kept_by = set_at w.numbers.kept_by b (keeper (view.sessions ++ second ∷ []) (length view.sessions)) }
+
+  abbrev after_meeting : World
+  after_meeting = with_numbers w numbers_met
 
   pub second-shown : HistoryIsShown content w seats.seat_of seats.place_in other 0 (record { number = b; marks = others } ∷ []) (record { number = b; marks = others })
   second-shown = history-alone content w views other b others there seats
 
-  -- They are two sessions.
-  pub are-two : a ≢ b
-  are-two same = apart (sym second-shown.seat ∙ ap seats.seat_of (sym same) ∙ first-shown.seat)
+  -- Whoever is at the seat is another session.
+  pub another-there : (j : ℕ) (x : History T) → slice_get view.sessions j ≡ Some x → x.number ≢ b
+  another-there j x get same = apart (sym second-shown.seat ∙ ap seats.seat_of (sym same) ∙ (seats.history id j view x at get).seat)
 
   abbrev seat_of : ℕ → ℕ
   seat_of = set_at seats.seat_of b id
 
   abbrev place_in : ℕ → ℕ
-  place_in = set_at seats.place_in b 1
+  place_in = set_at seats.place_in b (length view.sessions)
 
   still : (i j : ℕ) (sessions after : List (History T)) (y : History T) → y.number ≢ b → keeper after j ≡ keeper sessions j
-      → HistoryIsShown content w seats.seat_of seats.place_in i j sessions y → HistoryIsShown content (after_keeping_apart w b a) seat_of place_in i j after y
+      → HistoryIsShown content w seats.seat_of seats.place_in i j sessions y → HistoryIsShown content after_meeting seat_of place_in i j after y
   still i j sessions after y another same old =
-      still-shown content w (after_keeping_apart w b a).numbers seats.seat_of seats.place_in seat_of place_in i j sessions after y refl
-      (set_at-else w.numbers.kept_by b (Some a) y.number another) (set_at-else seats.seat_of b id y.number another) (set_at-else seats.place_in b 1 y.number another) same old
+      still-shown content w numbers_met seats.seat_of seats.place_in seat_of place_in i j sessions after y refl
+      (set_at-else w.numbers.kept_by b (keeper (view.sessions ++ second ∷ []) (length view.sessions)) y.number another)
+      (set_at-else seats.seat_of b id y.number another) (set_at-else seats.place_in b (length view.sessions) y.number another) same old
 
-  first-met : (y : History T) → y ≡ first → HistoryIsShown content (after_keeping_apart w b a) seat_of place_in id 0 (first ∷ second ∷ []) y
-  first-met y same = subst (HistoryIsShown content (after_keeping_apart w b a) seat_of place_in id 0 (first ∷ second ∷ [])) (sym same)
-      (still id 0 (first ∷ []) (first ∷ second ∷ []) first are-two refl first-shown)
-
-  second-met : (y : History T) → y ≡ second → HistoryIsShown content (after_keeping_apart w b a) seat_of place_in id 1 (first ∷ second ∷ []) y
-  second-met y same = subst (HistoryIsShown content (after_keeping_apart w b a) seat_of place_in id 1 (first ∷ second ∷ [])) (sym same) (record {
+  second-met : (y : History T) → y ≡ second → HistoryIsShown content after_meeting seat_of place_in id (length view.sessions) both.sessions y
+  second-met y same = subst (HistoryIsShown content after_meeting seat_of place_in id (length view.sessions) both.sessions) (sym same) (record {
     account = second-shown.account;
     live = second-shown.live;
-    kept_by = set_at-here w.numbers.kept_by b (Some a) b refl;
+    kept_by = set_at-here w.numbers.kept_by b (keeper (view.sessions ++ second ∷ []) (length view.sessions)) b refl;
     seat = set_at-here seats.seat_of b id b refl;
-    place = set_at-here seats.place_in b 1 b refl;
+    place = set_at-here seats.place_in b (length view.sessions) b refl;
   })
 
-  met-here : (j : ℕ) (y : History T) → slice_get both.sessions j ≡ Some y → HistoryIsShown content (after_keeping_apart w b a) seat_of place_in id j both.sessions y
+  met-here : (j : ℕ) (y : History T) → slice_get both.sessions j ≡ Some y → HistoryIsShown content after_meeting seat_of place_in id j both.sessions y
   met-here j y get =
-      elim (two-get first second j y get) [
-        | inl one ↦ subst (λ k. HistoryIsShown content (after_keeping_apart w b a) seat_of place_in id k both.sessions y) (sym one.0) (first-met y one.1)
-        | inr two ↦ subst (λ k. HistoryIsShown content (after_keeping_apart w b a) seat_of place_in id k both.sessions y) (sym two.0) (second-met y two.1)
+      elim (more-get view.sessions second j y get) [
+        | inl old ↦
+            still id j view.sessions both.sessions y (another-there j y old) (keeper-before view.sessions second j (get-within view.sessions j y old)) (seats.history id j view y at old)
+        | inr last ↦ subst (λ k. HistoryIsShown content after_meeting seat_of place_in id k both.sessions y) (sym last.0) (second-met y last.1)
       ]
 
   met-shown : (i j : ℕ) (u : View T) (y : History T) → get_elem? joined i ≡ some u → slice_get u.sessions j ≡ Some y
-      → HistoryIsShown content (after_keeping_apart w b a) seat_of place_in i j u.sessions y
+      → HistoryIsShown content after_meeting seat_of place_in i j u.sessions y
   met-shown i j u y stands get =
       elim (at_set (slice_set views id both) other i spent_view u stands) [
         | inl here ↦ let never : ◌≡◌ {A = Option (History T)} None (Some y) = ap (λ (z : View T). slice_get z.sessions j) here.1 ∙ get in absurd (cc (never))
         | inr else ↦ elim (at_set views id i both u else.1) [
           | inl here ↦
-              subst (λ k. HistoryIsShown content (after_keeping_apart w b a) seat_of place_in k j u.sessions y) (sym here.0)
-              (subst (λ (z : View T). slice_get z.sessions j ≡ Some y → HistoryIsShown content (after_keeping_apart w b a) seat_of place_in id j z.sessions y) here.1 (met-here j y) get)
+              subst (λ k. HistoryIsShown content after_meeting seat_of place_in k j u.sessions y) (sym here.0)
+              (subst (λ (z : View T). slice_get z.sessions j ≡ Some y → HistoryIsShown content after_meeting seat_of place_in id j z.sessions y) here.1 (met-here j y) get)
           | inr elsewhere ↦
               let old = seats.history i j u y elsewhere.1 get in
               still i j u.sessions u.sessions y (λ e. else.0 (sym old.seat ∙ ap seats.seat_of e ∙ second-shown.seat)) refl old
         ]
       ]
 
-  -- whoever is kept apart now
-  met-behind : (k by : ℕ) → set_at w.numbers.kept_by b (Some a) k ≡ Some by → IsBehind content joined seat_of place_in k by
+  joined-at : get_elem? joined id ≡ some both
+  joined-at = set_else (slice_set views id both) other id spent_view (λ e. apart (sym e)) ∙ set_here views id both (there-within views id view at)
+
+  -- where whoever was kept apart before stands now
+  there-met : (k by : ℕ) (kept : w.numbers.kept_by k ≡ Some by) →
+      (z : View T) × (get_elem? joined (seats.seat_of by) ≡ some z) × (slice_get z.sessions (seats.place_in k) ≡ Some (seats.behind k by kept).history)
+  there-met k by kept =
+      let old = seats.behind k by kept in
+      elim (cases_eq (seats.seat_of by) id) [
+        | inl same ↦
+            let one : old.view ≡ view = there-one views id old.view view (ap (get_elem? views) (sym same) ∙ old.there) at in (
+              both,
+              ap (get_elem? joined) same ∙ joined-at,
+              before-get view.sessions (second ∷ []) (seats.place_in k) old.history (ap (λ (z : View T). slice_get z.sessions (seats.place_in k)) (sym one) ∙ old.stands),
+            )
+        | inr not_id ↦ (
+          old.view,
+          set_else (slice_set views id both) other (seats.seat_of by) spent_view (nobody-behind content w views other b others there seats k by kept)
+              ∙ set_else views id (seats.seat_of by) both not_id ∙ old.there,
+          old.stands,
+        )
+      ]
+
+  behind-still : (k by : ℕ) → k ≢ b → w.numbers.kept_by k ≡ Some by → IsBehind content joined seat_of place_in k by
+  behind-still k by other_one kept =
+      let old = seats.behind k by kept in
+      let not_other = nobody-behind content w views other b others there seats k by kept in
+      let another : by ≢ b = λ e. not_other (ap seats.seat_of e ∙ second-shown.seat) in
+      let seat = set_at-else seats.seat_of b id by another in
+      let place = set_at-else seats.place_in b (length view.sessions) k other_one in
+      let there_now = there-met k by kept in
+      record {
+        view = there_now.0;
+        there = ap (get_elem? joined) seat ∙ there_now.1;
+        same_seat = set_at-else seats.seat_of b id k other_one ∙ old.same_seat ∙ sym seat;
+        history = old.history;
+        stands = ap (slice_get there_now.0.sessions) place ∙ there_now.2;
+        whose = old.whose;
+        behind = subst (λ (i : ℕ). i < place_in k) (sym (set_at-else seats.place_in b (length view.sessions) by another)) (subst (λ (j : ℕ). seats.place_in by < j) (sym place) old.behind);
+      }
+
+  met-behind : (k by : ℕ) → numbers_met.kept_by k ≡ Some by → IsBehind content joined seat_of place_in k by
   met-behind k by kept =
       elim (cases_eq k b) [
         | inl same ↦
-            let says : Some a ≡ Some by = sym (set_at-here w.numbers.kept_by b (Some a) k same) ∙ kept in
-            let keeper_is : ◌≡◌ {A = ℕ} a by = cc (says) in
-            let seat : seat_of by ≡ id = ap seat_of (sym keeper_is) ∙ set_at-else seats.seat_of b id a are-two ∙ first-shown.seat in
-            let place : place_in by ≡ 0 = ap place_in (sym keeper_is) ∙ set_at-else seats.place_in b 1 a are-two ∙ first-shown.place in
-            let second_place : place_in k ≡ 1 = set_at-here seats.place_in b 1 k same in
+            let first = keeper-last view.sessions second by (sym (set_at-here w.numbers.kept_by b (keeper (view.sessions ++ second ∷ []) (length view.sessions)) k same) ∙ kept) in
+            let shown = seats.history id 0 view first.0 at first.1 in
+            let another : by ≢ b = λ e. another-there 0 first.0 first.1 (first.2 ∙ e) in
+            let seat : seat_of by ≡ id = set_at-else seats.seat_of b id by another ∙ ap seats.seat_of (sym first.2) ∙ shown.seat in
+            let place : place_in by ≡ 0 = set_at-else seats.place_in b (length view.sessions) by another ∙ ap seats.place_in (sym first.2) ∙ shown.place in
+            let last : place_in k ≡ length view.sessions = set_at-here seats.place_in b (length view.sessions) k same in
+            let some_there = get-within view.sessions 0 first.0 first.1 in
             record {
               view = both;
-              there = ap (get_elem? joined) seat ∙ set_else (slice_set views id both) other id spent_view (λ e. apart (sym e)) ∙ set_here views id both (there-within views id (lone a its) at);
+              there = ap (get_elem? joined) seat ∙ joined-at;
               same_seat = set_at-here seats.seat_of b id k same ∙ sym seat;
               history = second;
-              stands = ap (slice_get both.sessions) second_place;
+              stands = ap (slice_get both.sessions) last ∙ last-get view.sessions second;
               whose = sym same;
-              behind = omega (arith, place, second_place);
+              behind = omega (arith, place, last, some_there);
             }
-        | inr else ↦
-            let kept_before : w.numbers.kept_by k ≡ Some by = sym (set_at-else w.numbers.kept_by b (Some a) k else) ∙ kept in
-            let old = seats.behind k by kept_before in
-            let not_id = nobody-behind content w views id a its at seats k by kept_before in
-            let not_other = nobody-behind content w views other b others there seats k by kept_before in
-            let another : by ≢ b = λ e. not_other (ap seats.seat_of e ∙ second-shown.seat) in
-            let seat = set_at-else seats.seat_of b id by another in
-            let place = set_at-else seats.place_in b 1 k else in
-            record {
-              view = old.view;
-              there = ap (get_elem? joined) seat ∙ set_else (slice_set views id both) other (seats.seat_of by) spent_view not_other ∙ set_else views id (seats.seat_of by) both not_id ∙ old.there;
-              same_seat = set_at-else seats.seat_of b id k else ∙ old.same_seat ∙ sym seat;
-              history = old.history;
-              stands = ap (slice_get old.view.sessions) place ∙ old.stands;
-              whose = old.whose;
-              behind = subst (λ (i : ℕ). i < place_in k) (sym (set_at-else seats.place_in b 1 by another)) (subst (λ (j : ℕ). seats.place_in by < j) (sym place) old.behind);
-            }
+        | inr other_one ↦ behind-still k by other_one (sym (set_at-else w.numbers.kept_by b (keeper (view.sessions ++ second ∷ []) (length view.sessions)) k other_one) ∙ kept)
       ]
 
   met-next : (i : ℕ) (u : View T) (m : ℕ) → get_elem? joined i ≡ some u → u.next ≡ Some m → (i ≡ seats.opener) × (m ≡ w.numbers.issued)
@@ -140,7 +206,7 @@ module _ {T : Type 0} (content : T → Content) (w : World) (views : List (View 
       elim (at_set (slice_set views id both) other i spent_view u stands) [
         | inl here ↦ let never : ◌≡◌ {A = Option ℕ} None (Some m) = ap (λ (z : View T). z.next) here.1 ∙ says in absurd (cc (never))
         | inr else ↦ elim (at_set views id i both u else.1) [
-          | inl here ↦ let never : ◌≡◌ {A = Option ℕ} None (Some m) = ap (λ (z : View T). z.next) here.1 ∙ says in absurd (cc (never))
+          | inl here ↦ let was = seats.next id view m at (ap (λ (z : View T). z.next) here.1 ∙ says) in (here.0 ∙ was.0, was.1)
           | inr elsewhere ↦ seats.next i u m elsewhere.1 says
         ]
       ]
@@ -150,15 +216,12 @@ module _ {T : Type 0} (content : T → Content) (w : World) (views : List (View 
       elim (at_set (slice_set views id both) other i spent_view u stands) [
         | inl here ↦ let never : ◌≡◌ {A = Option (History T)} None (Some y) = ap (λ (z : View T). slice_get z.closed j) here.1 ∙ says in absurd (cc (never))
         | inr else ↦ elim (at_set views id i both u else.1) [
-          | inl here ↦ let never : ◌≡◌ {A = Option (History T)} None (Some y) = ap (λ (z : View T). slice_get z.closed j) here.1 ∙ says in absurd (cc (never))
+          | inl here ↦ seats.closed id j view y at (ap (λ (z : View T). slice_get z.closed j) here.1 ∙ says)
           | inr elsewhere ↦ seats.closed i j u y elsewhere.1 says
         ]
       ]
 
-  pub seats-met :
-      SeatsAreShown content
-      (slice_set (slice_set views id (record { next = None; closed = []; sessions = record { number = a; marks = its } ∷ record { number = b; marks = others } ∷ [] })) other spent_view)
-      (after_keeping_apart w b a)
+  pub seats-met : SeatsAreShown content joined after_meeting
   seats-met = record {
     seat_of = seat_of;
     place_in = place_in;
@@ -170,31 +233,41 @@ module _ {T : Type 0} (content : T → Content) (w : World) (views : List (View 
     not_issued = seats.not_issued;
   }
 
--- The session behind the other at a seat goes on by itself.
-module _ {T : Type 0} (content : T → Content) (w : World) (views : List (View T)) (id : ℕ) (x y : History T)
-    (at : get_elem? views id ≡ some (record { next = None; closed = []; sessions = x ∷ y ∷ [] })) (seats : SeatsAreShown content views w) where
-  pub one-shown : HistoryIsShown content w seats.seat_of seats.place_in id 0 (x ∷ y ∷ []) x
-  one-shown = seats.history id 0 (record { next = None; closed = []; sessions = x ∷ y ∷ [] }) x at refl
+-- The last session at a seat goes on by itself.
+module _ {T : Type 0} (content : T → Content) (w : World) (views : List (View T)) (id : ℕ) (view : View T) (before : List (History T)) (y : History T)
+    (at : get_elem? views id ≡ some view) (is : view.sessions ≡ before ++ y ∷ []) (seats : SeatsAreShown content views w) where
+  last-there : slice_get view.sessions (length before) ≡ Some y
+  last-there = ap (λ sessions. slice_get sessions (length before)) is ∙ last-get before y
 
-  pub two-shown : HistoryIsShown content w seats.seat_of seats.place_in id 1 (x ∷ y ∷ []) y
-  two-shown = seats.history id 1 (record { next = None; closed = []; sessions = x ∷ y ∷ [] }) y at refl
+  pub last-shown : HistoryIsShown content w seats.seat_of seats.place_in id (length before) view.sessions y
+  last-shown = seats.history id (length before) view y at last-there
 
-  -- They are two sessions.
-  pub are-two_behind : x.number ≢ y.number
-  are-two_behind same =
-      let first : seats.place_in x.number ≡ 0 = one-shown.place in
-      let second : seats.place_in y.number ≡ 1 = two-shown.place in
-      let one : seats.place_in x.number ≡ seats.place_in y.number = ap seats.place_in same in
-      omega (arith, first, second, one)
+  old-there : (j : ℕ) (z : History T) → slice_get before j ≡ Some z → slice_get view.sessions j ≡ Some z
+  old-there j z get = ap (λ sessions. slice_get sessions j) is ∙ before-get before (y ∷ []) j z get
+
+  -- Those before it are other sessions.
+  not-last : (j : ℕ) (z : History T) → slice_get before j ≡ Some z → z.number ≢ y.number
+  not-last j z get same =
+      let first : seats.place_in z.number ≡ j = (seats.history id j view z at (old-there j z get)).place in
+      let last : seats.place_in y.number ≡ length before = last-shown.place in
+      let one : seats.place_in z.number ≡ seats.place_in y.number = ap seats.place_in same in
+      let less = get-within before j z get in
+      omega (arith, first, last, one, less)
 
   abbrev kept_view : View T
-  kept_view = record { next = None; closed = []; sessions = x ∷ [] }
+  kept_view = record { next = view.next; closed = view.closed; sessions = before }
 
   abbrev given_view : View T
   given_view = record { next = None; closed = []; sessions = y ∷ [] }
 
   abbrev parted_views : List (View T)
   parted_views = slice_set views id kept_view ++ given_view ∷ []
+
+  abbrev numbers_parted : Numbers
+  numbers_parted = record (w.numbers) { kept_by = set_at w.numbers.kept_by y.number None }
+
+  abbrev after_parting : World
+  after_parting = with_numbers w numbers_parted
 
   abbrev seat_after : ℕ → ℕ
   seat_after = set_at seats.seat_of y.number (length views)
@@ -203,78 +276,94 @@ module _ {T : Type 0} (content : T → Content) (w : World) (views : List (View 
   place_after = set_at seats.place_in y.number 0
 
   still-parted : (i j : ℕ) (sessions after : List (History T)) (z : History T) → z.number ≢ y.number → keeper after j ≡ keeper sessions j
-      → HistoryIsShown content w seats.seat_of seats.place_in i j sessions z → HistoryIsShown content (after_going_on w y.number) seat_after place_after i j after z
+      → HistoryIsShown content w seats.seat_of seats.place_in i j sessions z → HistoryIsShown content after_parting seat_after place_after i j after z
   still-parted i j sessions after z another same old =
-      still-shown content w (after_going_on w y.number).numbers seats.seat_of seats.place_in seat_after place_after i j sessions after z refl
+      still-shown content w numbers_parted seats.seat_of seats.place_in seat_after place_after i j sessions after z refl
       (set_at-else w.numbers.kept_by y.number None z.number another) (set_at-else seats.seat_of y.number (length views) z.number another)
       (set_at-else seats.place_in y.number 0 z.number another) same old
 
-  kept-shown : (j : ℕ) (z : History T) → slice_get kept_view.sessions j ≡ Some z → HistoryIsShown content (after_going_on w y.number) seat_after place_after id j kept_view.sessions z
+  kept-shown : (j : ℕ) (z : History T) → slice_get kept_view.sessions j ≡ Some z → HistoryIsShown content after_parting seat_after place_after id j kept_view.sessions z
   kept-shown j z get =
-      let only = one-get x j z get in
-      subst (λ k. HistoryIsShown content (after_going_on w y.number) seat_after place_after id k kept_view.sessions z) (sym only.0)
-      (subst (HistoryIsShown content (after_going_on w y.number) seat_after place_after id 0 kept_view.sessions) (sym only.1)
-      (still-parted id 0 (x ∷ y ∷ []) (x ∷ []) x are-two_behind refl one-shown))
+      still-parted id j view.sessions before z (not-last j z get)
+      (sym (keeper-before before y j (get-within before j z get)) ∙ sym (ap (λ sessions. keeper sessions j) is))
+      (seats.history id j view z at (old-there j z get))
 
   given-shown : (j : ℕ) (z : History T) → slice_get given_view.sessions j ≡ Some z
-      → HistoryIsShown content (after_going_on w y.number) seat_after place_after (length views) j given_view.sessions z
+      → HistoryIsShown content after_parting seat_after place_after (length views) j given_view.sessions z
   given-shown j z get =
       let only = one-get y j z get in
-      subst (λ k. HistoryIsShown content (after_going_on w y.number) seat_after place_after (length views) k given_view.sessions z) (sym only.0)
-      (subst (HistoryIsShown content (after_going_on w y.number) seat_after place_after (length views) 0 given_view.sessions) (sym only.1) (record {
-        account = two-shown.account;
-        live = two-shown.live;
+      subst (λ k. HistoryIsShown content after_parting seat_after place_after (length views) k given_view.sessions z) (sym only.0)
+      (subst (HistoryIsShown content after_parting seat_after place_after (length views) 0 given_view.sessions) (sym only.1) (record {
+        account = last-shown.account;
+        live = last-shown.live;
         kept_by = set_at-here w.numbers.kept_by y.number None y.number refl;
         seat = set_at-here seats.seat_of y.number (length views) y.number refl;
         place = set_at-here seats.place_in y.number 0 y.number refl;
       }))
 
   parted-shown : (i j : ℕ) (u : View T) (z : History T) → get_elem? parted_views i ≡ some u → slice_get u.sessions j ≡ Some z
-      → HistoryIsShown content (after_going_on w y.number) seat_after place_after i j u.sessions z
+      → HistoryIsShown content after_parting seat_after place_after i j u.sessions z
   parted-shown i j u z stands get =
       elim (there-snoc (slice_set views id kept_view) given_view u i stands) [
         | inl there ↦ elim (at_set views id i kept_view u there) [
           | inl here ↦
-              subst (λ k. HistoryIsShown content (after_going_on w y.number) seat_after place_after k j u.sessions z) (sym here.0)
-              (subst (λ (v : View T). slice_get v.sessions j ≡ Some z → HistoryIsShown content (after_going_on w y.number) seat_after place_after id j v.sessions z) here.1 (kept-shown j z) get)
+              subst (λ k. HistoryIsShown content after_parting seat_after place_after k j u.sessions z) (sym here.0)
+              (subst (λ (v : View T). slice_get v.sessions j ≡ Some z → HistoryIsShown content after_parting seat_after place_after id j v.sessions z) here.1 (kept-shown j z) get)
           | inr else ↦
               let old = seats.history i j u z else.1 get in
-              still-parted i j u.sessions u.sessions z (λ e. else.0 (sym old.seat ∙ ap seats.seat_of e ∙ two-shown.seat)) refl old
+              still-parted i j u.sessions u.sessions z (λ e. else.0 (sym old.seat ∙ ap seats.seat_of e ∙ last-shown.seat)) refl old
         ]
         | inr last ↦
-            subst (λ k. HistoryIsShown content (after_going_on w y.number) seat_after place_after k j u.sessions z) (sym (last.0 ∙ length-set views id kept_view))
-            (subst (λ (v : View T). slice_get v.sessions j ≡ Some z → HistoryIsShown content (after_going_on w y.number) seat_after place_after (length views) j v.sessions z) last.1 (given-shown j z) get)
+            subst (λ k. HistoryIsShown content after_parting seat_after place_after k j u.sessions z) (sym (last.0 ∙ length-set views id kept_view))
+            (subst (λ (v : View T). slice_get v.sessions j ≡ Some z → HistoryIsShown content after_parting seat_after place_after (length views) j v.sessions z) last.1 (given-shown j z) get)
       ]
 
-  -- Nobody else stands behind the first one.
-  only-behind : (k by : ℕ) → k ≢ y.number → w.numbers.kept_by k ≡ Some by → seats.seat_of by ≢ id
-  only-behind k by another kept same =
+  -- The last one keeps nobody apart.
+  keeps-none : (k : ℕ) → w.numbers.kept_by k ≢ Some y.number
+  keeps-none k kept =
+      let old = seats.behind k y.number kept in
+      let one : old.view ≡ view = there-one views id old.view view (ap (get_elem? views) (sym last-shown.seat) ∙ old.there) at in
+      let within = get-within view.sessions (seats.place_in k) old.history (ap (λ (v : View T). slice_get v.sessions (seats.place_in k)) (sym one) ∙ old.stands) in
+      let all : length view.sessions ≡ length (before ++ y ∷ []) = ap length is in
+      let long = length-append before (y ∷ []) in
+      let behind : seats.place_in y.number < seats.place_in k = old.behind in
+      let last : seats.place_in y.number ≡ length before = last-shown.place in
+      omega (arith, within, all, long, behind, last)
+
+  -- where whoever is kept apart still stands now
+  there-parted : (k by : ℕ) → k ≢ y.number → (kept : w.numbers.kept_by k ≡ Some by) →
+      (z : View T) × (get_elem? (slice_set views id kept_view) (seats.seat_of by) ≡ some z) × (slice_get z.sessions (seats.place_in k) ≡ Some (seats.behind k by kept).history)
+  there-parted k by else kept =
       let old = seats.behind k by kept in
-      let one : old.view ≡ record { next = None; closed = []; sessions = x ∷ y ∷ [] } = there-one views id old.view (record { next = None; closed = []; sessions = x ∷ y ∷ [] }) (ap (get_elem? views) (sym same) ∙ old.there) at in
-      let behind : seats.place_in by < seats.place_in k = old.behind in
-      elim (two-get x y (seats.place_in k) old.history (ap (λ (v : View T). slice_get v.sessions (seats.place_in k)) (sym one) ∙ old.stands)) [
-        | inl first ↦ let zeroth : seats.place_in k ≡ 0 = first.0 in omega (arith, behind, zeroth)
-        | inr second ↦ another (sym old.whose ∙ ap (λ (h : History T). h.number) second.1)
+      elim (cases_eq (seats.seat_of by) id) [
+        | inl same ↦
+            let one : old.view ≡ view = there-one views id old.view view (ap (get_elem? views) (sym same) ∙ old.there) at in
+            let stands_there : slice_get (before ++ y ∷ []) (seats.place_in k) ≡ Some old.history =
+            ap (λ sessions. slice_get sessions (seats.place_in k)) (sym is) ∙ ap (λ (v : View T). slice_get v.sessions (seats.place_in k)) (sym one) ∙ old.stands in
+            elim (more-get before y (seats.place_in k) old.history stands_there) [
+              | inl there ↦ (kept_view, ap (get_elem? (slice_set views id kept_view)) same ∙ set_here views id kept_view (there-within views id view at), there)
+              | inr last ↦ absurd (else (sym old.whose ∙ ap (λ (h : History T). h.number) last.1))
+            ]
+        | inr not_id ↦ (old.view, set_else views id (seats.seat_of by) kept_view not_id ∙ old.there, old.stands)
       ]
 
-  parted-behind : (k by : ℕ) → set_at w.numbers.kept_by y.number None k ≡ Some by → IsBehind content parted_views seat_after place_after k by
+  parted-behind : (k by : ℕ) → numbers_parted.kept_by k ≡ Some by → IsBehind content parted_views seat_after place_after k by
   parted-behind k by kept =
       elim (cases_eq k y.number) [
         | inl same ↦ let never : ◌≡◌ {A = Option ℕ} None (Some by) = sym (set_at-here w.numbers.kept_by y.number None k same) ∙ kept in absurd (cc (never))
         | inr else ↦
             let kept_before : w.numbers.kept_by k ≡ Some by = sym (set_at-else w.numbers.kept_by y.number None k else) ∙ kept in
             let old = seats.behind k by kept_before in
-            let not_id = only-behind k by else kept_before in
-            let another : by ≢ y.number = λ e. not_id (ap seats.seat_of e ∙ two-shown.seat) in
+            let another : by ≢ y.number = λ e. keeps-none k (kept_before ∙ ap (λ (n : ℕ). Some n) e) in
             let seat = set_at-else seats.seat_of y.number (length views) by another in
             let place = set_at-else seats.place_in y.number 0 k else in
+            let there_now = there-parted k by else kept_before in
             record {
-              view = old.view;
-              there = ap (get_elem? parted_views) seat
-                  ∙ at_longer (slice_set views id kept_view) (given_view ∷ []) (seats.seat_of by) old.view (set_else views id (seats.seat_of by) kept_view not_id ∙ old.there);
+              view = there_now.0;
+              there = ap (get_elem? parted_views) seat ∙ at_longer (slice_set views id kept_view) (given_view ∷ []) (seats.seat_of by) there_now.0 there_now.1;
               same_seat = set_at-else seats.seat_of y.number (length views) k else ∙ old.same_seat ∙ sym seat;
               history = old.history;
-              stands = ap (slice_get old.view.sessions) place ∙ old.stands;
+              stands = ap (slice_get there_now.0.sessions) place ∙ there_now.2;
               whose = old.whose;
               behind = subst (λ (i : ℕ). i < place_after k) (sym (set_at-else seats.place_in y.number 0 by another)) (subst (λ (j : ℕ). seats.place_in by < j) (sym place) old.behind);
             }
@@ -284,24 +373,23 @@ module _ {T : Type 0} (content : T → Content) (w : World) (views : List (View 
   parted-next i u m stands says =
       elim (there-snoc (slice_set views id kept_view) given_view u i stands) [
         | inl there ↦ elim (at_set views id i kept_view u there) [
-          | inl here ↦ let never : ◌≡◌ {A = Option ℕ} None (Some m) = ap (λ (z : View T). z.next) here.1 ∙ says in absurd (cc (never))
+          | inl here ↦ let was = seats.next id view m at (ap (λ (z : View T). z.next) here.1 ∙ says) in (here.0 ∙ was.0, was.1)
           | inr else ↦ seats.next i u m else.1 says
         ]
         | inr last ↦ let never : ◌≡◌ {A = Option ℕ} None (Some m) = ap (λ (z : View T). z.next) last.1 ∙ says in absurd (cc (never))
       ]
 
-  parted-closed : (i j : ℕ) (u : View T) (y : History T) → get_elem? parted_views i ≡ some u → slice_get u.closed j ≡ Some y → IsClosed w.numbers y.number
-  parted-closed i j u y stands says =
+  parted-closed : (i j : ℕ) (u : View T) (z : History T) → get_elem? parted_views i ≡ some u → slice_get u.closed j ≡ Some z → IsClosed w.numbers z.number
+  parted-closed i j u z stands says =
       elim (there-snoc (slice_set views id kept_view) given_view u i stands) [
         | inl there ↦ elim (at_set views id i kept_view u there) [
-          | inl here ↦ let never : ◌≡◌ {A = Option (History T)} None (Some y) = ap (λ (z : View T). slice_get z.closed j) here.1 ∙ says in absurd (cc (never))
-          | inr else ↦ seats.closed i j u y else.1 says
+          | inl here ↦ seats.closed id j view z at (ap (λ (v : View T). slice_get v.closed j) here.1 ∙ says)
+          | inr else ↦ seats.closed i j u z else.1 says
         ]
-        | inr last ↦ let never : ◌≡◌ {A = Option (History T)} None (Some y) = ap (λ (z : View T). slice_get z.closed j) last.1 ∙ says in absurd (cc (never))
+        | inr last ↦ let never : ◌≡◌ {A = Option (History T)} None (Some z) = ap (λ (v : View T). slice_get v.closed j) last.1 ∙ says in absurd (cc (never))
       ]
 
-  pub seats-parted :
-      SeatsAreShown content (slice_set views id (record { next = None; closed = []; sessions = x ∷ [] }) ++ record { next = None; closed = []; sessions = y ∷ [] } ∷ []) (after_going_on w y.number)
+  pub seats-parted : SeatsAreShown content parted_views after_parting
   seats-parted = record {
     seat_of = seat_after;
     place_in = place_after;

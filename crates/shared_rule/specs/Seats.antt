@@ -12,7 +12,7 @@ use Rattle.shared_rule.specs.History.{lone, first_account}
 use Rattle.shared_rule.specs.Plays.{Side}
 use Rattle.shared_rule.specs.Openers.{HaveClosed}
 
--- Seats that are cut in two and joined: sessions open and close, and two of them meet.
+-- Seats that are cut in two and joined: sessions open and close, and meet at one seat, each behind those that came before it.
 
 -- Closing, by the session's account: nothing is held, awaited or counted, and it has no wait list nor stands in one.
 pub record MayCloseBy (a : Account) : Type 0 where
@@ -45,6 +45,17 @@ abbrev pub number_after : Option ℕ → Option ℕ
 number_after None = None
 number_after (Some number) = Some (number + 1)
 
+-- a list without its last element, and that one alone
+abbrev pub all_but_last : {A : Type 0} → List A → List A
+all_but_last [] = []
+all_but_last (x ∷ []) = []
+all_but_last (x ∷ y ∷ others) = x ∷ all_but_last (y ∷ others)
+
+abbrev pub last_of : {A : Type 0} → List A → List A
+last_of [] = []
+last_of (x ∷ []) = x ∷ []
+last_of (x ∷ y ∷ others) = last_of (y ∷ others)
+
 module _ {T : Type 0} where
   -- the history of the session that makes its steps with the seat, and those behind it
   abbrev pub first_of : List (History T) → List (History T)
@@ -74,12 +85,12 @@ module _ {T : Type 0} where
   abbrev pub met : View T → View T → View T
   met view other = record { next = view.next; closed = view.closed; sessions = view.sessions ++ other.sessions }
 
-  -- the view with its first session alone, and the view of those behind it
+  -- the view without its last session, and the view of that one
   abbrev pub parted : View T → View T
-  parted view = record { next = view.next; closed = view.closed; sessions = first_of view.sessions }
+  parted view = record { next = view.next; closed = view.closed; sessions = all_but_last view.sessions }
 
   abbrev pub handed_back : View T → View T
-  handed_back view = record { next = None; closed = []; sessions = behind_of view.sessions }
+  handed_back view = record { next = None; closed = []; sessions = last_of view.sessions }
 
   -- The opener's seat gives out a number below the limit.
   pub record HasNumber (view : View T) (limit : ℕ) : Type 0 where
@@ -103,6 +114,12 @@ module _ {T : Type 0} where
     pub first : History T
     pub second : History T
     pub two : view ≡ record { next = None; closed = []; sessions = first ∷ second ∷ [] }
+
+  -- Some session is the last one there.
+  pub record HasLast (view : View T) : Type 0 where
+    pub before : List (History T)
+    pub last : History T
+    pub sessions : view.sessions ≡ before ++ last ∷ []
 
   -- Nothing changed, and those that the opener has as closed were given out, each once.
   abbrev pub ToldClosed : Step (Option T) → Side T → ℕ → Side T → Type 0

@@ -1,10 +1,10 @@
-//! Seats that are cut in two and joined: a session opens and closes, and two sessions meet. What each does to the views
-//! is in specs/Seats.
+//! Seats that are cut in two and joined: a session opens and closes, and sessions meet at one seat. What each does to the
+//! views is in specs/Seats.
 
 ghost use Rattle.std.specs.Prelude.{◌≡◌, []};
 ghost use Rattle.shared_rule.specs.History.{first_account};
 ghost use Rattle.shared_rule.specs.Plays.{FitsTable, IsSameSeat};
-ghost use Rattle.shared_rule.specs.Seats.{MayCloseBy, MayBeKeptApartBy, DoNotConflict, HasNumber, HasNext, IsForOne, IsForTwo};
+ghost use Rattle.shared_rule.specs.Seats.{MayCloseBy, MayBeKeptApartBy, DoNotConflict, HasNumber, HasNext, HasLast, IsForOne, IsForTwo};
 ghost use Rattle.shared_rule.specs.Seats.{behind_of, opened, newcomer, with_closed, met, parted, handed_back, number_in};
 ghost use Rattle.shared_rule.specs.Openers.{HaveClosed};
 
@@ -37,7 +37,7 @@ impl<T> Join<View<T>> for Closes {
     ghost spent = { spent_view };
 }
 
-/// A session is kept apart: its history goes behind that of the other one.
+/// A session is kept apart: its history goes behind those at the other seat.
 struct KeepsApart;
 
 impl<T> Join<View<T>> for KeepsApart {
@@ -97,12 +97,11 @@ pub(crate) fn tell_closed<T: PartTable>(top: &Top<T>, opener: &mut Place<T>)
     top.load::<TellsClosed>(opener, 0);
 }
 
-/// Keeps a session apart that holds no word: its history goes behind that of the other, for as long as the two meet.
+/// Keeps a session apart that holds no word: its history goes behind those at the seat, for as long as they meet.
 pub(crate) fn keep_apart<T: PartTable>(top: &Top<T>, place: &mut Place<T>, other: Place<T>)
     requires table { FitsTable place.old top.now.table_id }
     requires other_table { FitsTable other top.now.table_id }
-    requires one { IsForOne place.old.me.0 }
-    requires another { IsForOne other.me.0 }
+    requires one { IsForOne other.me.0 }
     requires nothing_in_hand { other.me.1 ≡ [] }
     requires lawful { MayBeKeptApartBy (first_account T.content other.me.0.sessions) }
     ensures seat { IsSameSeat place.old place.new }
@@ -111,10 +110,10 @@ pub(crate) fn keep_apart<T: PartTable>(top: &Top<T>, place: &mut Place<T>, other
     top.join_seat::<KeepsApart>(place, other);
 }
 
-/// Hands the seat of the session that was kept apart back: it goes on by itself.
+/// Hands the seat of the session that came last back: it goes on by itself.
 pub(crate) fn hand_back<T: PartTable>(top: &Top<T>, place: &mut Place<T>) -> Place<T>
     requires table { FitsTable place.old top.now.table_id }
-    requires two { IsForTwo place.old.me.0 }
+    requires last { HasLast place.old.me.0 }
     ensures seat { IsSameSeat place.old place.new }
     ensures side { place.new.me ≡ (parted place.old.me.0, place.old.me.1) }
     ensures table { result.table_id ≡ place.old.table_id }

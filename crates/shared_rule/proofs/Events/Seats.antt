@@ -1,10 +1,12 @@
-use Rattle.std.proofs.Common.{◌≡◌, ◌≢◌, ℕ, ◌+◌, ◌<◌, arith, Bool, true, false, List, [], ◌∷◌, ◌++◌, Option, Some, None, refl, sym, ap, ◌∙◌, subst, inl, inr}
-use Rattle.std.specs.Prelude.{if◌then◌else◌, ◌==◌, slice_set}
+use Rattle.std.proofs.Common.{◌≡◌, ◌≢◌, ℕ, ◌+◌, ◌<◌, arith, Bool, true, false, List, [], ◌∷◌, ◌++◌, length, Option, Some, None, refl, sym, ap, ◌∙◌, subst, inl, inr}
+use Rattle.std.specs.Prelude.{if◌then◌else◌, ◌==◌, slice_get, slice_set}
 use mathlib.Core.Option.{some}
 use lib.ListN.{get_elem?}
 use Rattle.atomic_table.specs.Table.{State, Step, keeps, Allows, Splits, Joins}
 use Rattle.atomic_table.proofs.Lists.{at_set, set_else}
 use Rattle.lw_word.specs.declared.wait_lists.LwWaiter.{LwWaiter}
+use Rattle.lock_table.specs.Put.{set_at}
+use Rattle.lock_table.proofs.PutLemmas.{set_at-same}
 use Rattle.lock_table.specs.declared.request.Request.{Request}
 use Rattle.lock_table.specs.Content.{Content}
 use Rattle.lock_world.specs.declared.events.Step.TheVariants.{SplitSeat, JoinSeat}
@@ -16,16 +18,17 @@ use Rattle.lock_world.specs.Happens.Seats.{MayBeIssued, after_issuing, MayBeKept
 use Rattle.lock_world.proofs.SafeWorld.Seats.{issuing-safe_world, going_on-safe_world, keeping_apart-safe_world, closing-safe_world}
 use Rattle.lock_world.proofs.FromSafeWorld.{no_conflict-own_world}
 use Rattle.shared_rule.specs.declared.history.Mark.{Mark}
+use Rattle.shared_rule.specs.declared.history.History.{History}
 use Rattle.shared_rule.specs.declared.history.View.{View}
 use Rattle.std.proofs.lemmas.Bool.{false_from_ne_true}
-use Rattle.shared_rule.specs.History.{lone, spent_view, first_account}
+use Rattle.shared_rule.specs.History.{keeper, lone, spent_view, first_account}
 use Rattle.shared_rule.specs.Plays.{Side}
 use Rattle.shared_rule.specs.Openers.{HaveClosed}
-use Rattle.shared_rule.specs.Ruled.{ClosedAreCounted, OpenerHasClosed, Ruled}
+use Rattle.shared_rule.specs.Ruled.{HistoryIsShown, ClosedAreCounted, OpenerHasClosed, SeatsAreShown, Ruled}
 use Rattle.shared_rule.proofs.ClosedCounts.{opener-set, counted-opened, counted-closed, counted-told}
-use Rattle.shared_rule.specs.Seats.{MayCloseBy, MayBeKeptApartBy, DoNotConflict, HasNumber, HasNext, ToldClosed, IsForOne, IsForTwo, number_in, number_after, behind_of, opened, newcomer, with_closed, met, parted, handed_back, ToldApart}
-use Rattle.shared_rule.proofs.Views.{there-snoc, ruled-numbered, ruled-closed, seats-opened, seats-closed, history-alone, keeps-nobody}
-use Rattle.shared_rule.proofs.Meetings.{first-shown, second-shown, are-two, seats-met, one-shown, two-shown, are-two_behind, seats-parted}
+use Rattle.shared_rule.specs.Seats.{MayCloseBy, MayBeKeptApartBy, DoNotConflict, HasNumber, HasNext, HasLast, all_but_last, last_of, ToldClosed, IsForOne, IsForTwo, number_in, number_after, behind_of, opened, newcomer, with_closed, met, parted, handed_back, ToldApart}
+use Rattle.shared_rule.proofs.Views.{with_numbers, there-snoc, ruled-numbered, ruled-closed, seats-opened, seats-closed, history-alone, keeps-nobody}
+use Rattle.shared_rule.proofs.Meetings.{second-shown, another-there, seats-met, last-shown, seats-parted, all_but_last-of, last_of-of}
 use Rattle.shared_rule.proofs.Events.Words.{nothing-changes}
 
 -- Seats that are cut in two and joined keep the rule.
@@ -141,47 +144,127 @@ module _ {T : Type 0} (content : T → Content) (begun : T → Option Request) (
       (seats-closed content r.world s.views other k one.marks stands r.seats id opener at apart r.safe.but_slots.table.carriers.numbers)
       (closed-counted s r id opener has.number other k one.marks at has.next apart shown.live))
 
-  -- A session is kept apart.
-  pub keeps_apart : (id : ℕ) (view : View T) (other : ℕ) (theirs : View T) → IsForOne view → IsForOne theirs → MayBeKeptApartBy (first_account content theirs.sessions)
-      → Joins (Ruled content begun limit) id view other theirs (met view theirs) spent_view
-  keeps_apart id view other theirs one two may s r at apart there =
-      let a = one.number in
-      let b = two.number in
-      let same : met view theirs ≡ met (lone a one.marks) (lone b two.marks) = λ i. met (one.one i) (two.one i) in
-      let stands : get_elem? s.views id ≡ some (lone a one.marks) = at ∙ ap some one.one in
-      let others : get_elem? s.views other ≡ some (lone b two.marks) = sym (set_else s.views id other (met view theirs) apart) ∙ there ∙ ap some two.one in
-      let joiner = first-shown content r.world s.views id other a b one.marks two.marks stands others apart r.seats in
-      let joins = second-shown content r.world s.views id other a b one.marks two.marks stands others apart r.seats in
-      let may_by : MayBeKeptApartBy (account r.world b) = subst MayBeKeptApartBy (ap (λ (z : View T). first_account content z.sessions) two.one ∙ joins.account) may in
-      let may_be : MayBeKeptApart r.world b a = record {
-        steps = record { live = joins.live; by_itself = joins.kept_by };
-        another = are-two content r.world s.views id other a b one.marks two.marks stands others apart r.seats;
-        joiner_steps = record { live = joiner.live; by_itself = joiner.kept_by };
-        no_word = λ p. r.safe.but_slots.table.carriers.hands p b ∙ no-hand (r.world.contents.hand p) (r.world.contents.now p) b (may_by.no_partition p);
-        no_fast_word = λ o. none-tested (r.world.sessions.holds_fast b o) _ (may_by.no_fast_word o);
-      } in
-      subst (λ (v : View T). Ruled content begun limit (record { words = s.words; homes = s.homes; views = slice_set (slice_set s.views id v) other spent_view })) (sym same)
-      (ruled-numbered content begun limit s r (record { session = b; step = JoinSeat (Some a) }) (after_keeping_apart r.world b a).numbers _ (may_be, refl) refl (keeping_apart-safe_world r.world b a r.safe may_be)
-      (seats-met content r.world s.views id other a b one.marks two.marks stands others apart r.seats)
-      (kept-counted r.world.numbers (after_keeping_apart r.world b a).numbers.kept_by _
-      (opener-set r.world.numbers (slice_set s.views id (met (lone a one.marks) (lone b two.marks))) other (lone b two.marks) spent_view
-      (set_else s.views id other (met (lone a one.marks) (lone b two.marks)) apart ∙ others) refl (λ n says. says)
-      (opener-set r.world.numbers s.views id (lone a one.marks) (met (lone a one.marks) (lone b two.marks)) stands refl (λ n says. says) r.closed))))
+  -- A session meets those at a seat, behind them.
+  meets : (s : State (Option T) (View T)) (r : Ruled content begun limit s) (id : ℕ) (view : View T) (other b : ℕ) (marks : List (Mark T)) (at : get_elem? s.views id ≡ some view)
+      (there : get_elem? s.views other ≡ some (lone b marks)) (apart : other ≢ id) → MayBeKeptApartBy (account r.world b) → (sessions : List (History T)) → view.sessions ≡ sessions
+      → Ruled content begun limit (record { words = s.words; homes = s.homes; views = slice_set (slice_set s.views id (met view (lone b marks))) other spent_view })
+  meets s r id view other b marks at there apart may sessions is = by sessions is where
+    theirs : History T
+    theirs = record { number = b; marks = marks }
 
-  -- It goes on by itself.
-  pub hands_back : (id : ℕ) (view : View T) → IsForTwo view → Splits (Ruled content begun limit) id view (parted view) (handed_back view)
+    after : List (View T)
+    after = slice_set (slice_set s.views id (met view (lone b marks))) other spent_view
+
+    shown : HistoryIsShown content r.world r.seats.seat_of r.seats.place_in other 0 (theirs ∷ []) theirs
+    shown = second-shown content r.world s.views id view other b marks at there apart r.seats
+
+    closed : OpenerHasClosed after r.world.numbers
+    closed =
+        opener-set r.world.numbers (slice_set s.views id (met view (lone b marks))) other (lone b marks) spent_view
+        (set_else s.views id other (met view (lone b marks)) apart ∙ there) refl (λ n says. says)
+        (opener-set r.world.numbers s.views id view (met view (lone b marks)) at refl (λ n says. says) r.closed)
+
+    seats_as : (kept : ℕ → Option ℕ) → set_at r.world.numbers.kept_by b (keeper (view.sessions ++ theirs ∷ []) (length view.sessions)) ≡ kept
+        → SeatsAreShown content after (with_numbers r.world (record (r.world.numbers) { kept_by = kept }))
+    seats_as kept same =
+        subst (λ (k : ℕ → Option ℕ). SeatsAreShown content after (with_numbers r.world (record (r.world.numbers) { kept_by = k }))) same
+        (seats-met content r.world s.views id view other b marks at there apart r.seats)
+
+    by : (sessions : List (History T)) → view.sessions ≡ sessions → Ruled content begun limit (record { words = s.words; homes = s.homes; views = after })
+    by [] none = record {
+      world = r.world;
+      events = r.events;
+      run = r.run;
+      safe = r.safe;
+      is_limit = r.is_limit;
+      few = r.few;
+      words = r.words;
+      none_beyond = r.none_beyond;
+      few_counted = r.few_counted;
+      contents = r.contents;
+      seats = seats_as r.world.numbers.kept_by
+          (ap (λ (xs : List (History T)). set_at r.world.numbers.kept_by b (keeper (xs ++ theirs ∷ []) (length xs))) none
+          ∙ set_at-same r.world.numbers.kept_by b None (sym shown.kept_by));
+      closed = closed;
+    }
+    by (x ∷ others) its =
+        let get : slice_get view.sessions 0 ≡ Some x = ap (λ (xs : List (History T)). slice_get xs 0) its in
+        let joiner = r.seats.history id 0 view x at get in
+        let may_be : MayBeKeptApart r.world b x.number = record {
+          steps = record { live = shown.live; by_itself = shown.kept_by };
+          another = another-there content r.world s.views id view other b marks at there apart r.seats 0 x get;
+          joiner_steps = record { live = joiner.live; by_itself = joiner.kept_by ∙ ap (λ (xs : List (History T)). keeper xs 0) its };
+          no_word = λ p. r.safe.but_slots.table.carriers.hands p b ∙ no-hand (r.world.contents.hand p) (r.world.contents.now p) b (may.no_partition p);
+          no_fast_word = λ o. none-tested (r.world.sessions.holds_fast b o) _ (may.no_fast_word o);
+        } in
+        ruled-numbered content begun limit s r (record { session = b; step = JoinSeat (Some x.number) }) (after_keeping_apart r.world b x.number).numbers after (may_be, refl) refl
+        (keeping_apart-safe_world r.world b x.number r.safe may_be)
+        (seats_as (set_at r.world.numbers.kept_by b (Some x.number)) (ap (λ (xs : List (History T)). set_at r.world.numbers.kept_by b (keeper (xs ++ theirs ∷ []) (length xs))) its))
+        (kept-counted r.world.numbers (after_keeping_apart r.world b x.number).numbers.kept_by after closed)
+
+  -- A session is kept apart.
+  pub keeps_apart : (id : ℕ) (view : View T) (other : ℕ) (theirs : View T) → IsForOne theirs → MayBeKeptApartBy (first_account content theirs.sessions)
+      → Joins (Ruled content begun limit) id view other theirs (met view theirs) spent_view
+  keeps_apart id view other theirs one may s r at apart there =
+      let b = one.number in
+      let stands : get_elem? s.views other ≡ some (lone b one.marks) = sym (set_else s.views id other (met view theirs) apart) ∙ there ∙ ap some one.one in
+      let shown = history-alone content r.world s.views other b one.marks stands r.seats in
+      let may_by : MayBeKeptApartBy (account r.world b) = subst MayBeKeptApartBy (ap (λ (z : View T). first_account content z.sessions) one.one ∙ shown.account) may in
+      subst (λ (v : View T). Ruled content begun limit (record { words = s.words; homes = s.homes; views = slice_set (slice_set s.views id v) other spent_view }))
+      (sym (ap (λ (z : View T). met view z) one.one))
+      (meets s r id view other b one.marks at stands apart may_by view.sessions refl)
+
+  -- The last one goes on by itself.
+  parts : (s : State (Option T) (View T)) (r : Ruled content begun limit s) (id : ℕ) (view : View T) (before : List (History T)) (y : History T) (at : get_elem? s.views id ≡ some view)
+      (is : view.sessions ≡ before ++ y ∷ [])
+      → Ruled content begun limit (record {
+        words = s.words;
+        homes = s.homes;
+        views = slice_set s.views id (record { next = view.next; closed = view.closed; sessions = before }) ++ record { next = None; closed = []; sessions = y ∷ [] } ∷ [];
+      })
+  parts s r id view [] y at is =
+      let shown = last-shown content r.world s.views id view [] y at is r.seats in
+      record {
+        world = r.world;
+        events = r.events;
+        run = r.run;
+        safe = r.safe;
+        is_limit = r.is_limit;
+        few = r.few;
+        words = r.words;
+        none_beyond = r.none_beyond;
+        few_counted = r.few_counted;
+        contents = r.contents;
+        seats =
+            let kept : set_at r.world.numbers.kept_by y.number None ≡ r.world.numbers.kept_by =
+            set_at-same r.world.numbers.kept_by y.number None (sym (shown.kept_by ∙ ap (λ (xs : List (History T)). keeper xs 0) is)) in
+            subst
+            (λ (k : ℕ → Option ℕ).
+            SeatsAreShown content (slice_set s.views id (record { next = view.next; closed = view.closed; sessions = [] }) ++ record { next = None; closed = []; sessions = y ∷ [] } ∷ [])
+            (with_numbers r.world (record (r.world.numbers) { kept_by = k })))
+            kept (seats-parted content r.world s.views id view [] y at is r.seats);
+        closed =
+            opener-longer r.world.numbers (slice_set s.views id (record { next = view.next; closed = view.closed; sessions = [] })) (record { next = None; closed = []; sessions = y ∷ [] }) refl
+            (opener-set r.world.numbers s.views id view (record { next = view.next; closed = view.closed; sessions = [] }) at refl (λ n says. says) r.closed);
+      }
+  parts s r id view (x ∷ before) y at is =
+      let shown = last-shown content r.world s.views id view (x ∷ before) y at is r.seats in
+      let kept : r.world.numbers.kept_by y.number ≡ Some x.number = shown.kept_by ∙ ap (λ (xs : List (History T)). keeper xs (length (x ∷ before))) is in
+      ruled-numbered content begun limit s r (record { session = y.number; step = SplitSeat }) (after_going_on r.world y.number).numbers _ (inr ((x.number, kept), refl)) refl
+      (going_on-safe_world r.world y.number r.safe (x.number, kept))
+      (seats-parted content r.world s.views id view (x ∷ before) y at is r.seats)
+      (kept-counted r.world.numbers (after_going_on r.world y.number).numbers.kept_by _
+      (opener-longer r.world.numbers (slice_set s.views id (record { next = view.next; closed = view.closed; sessions = x ∷ before })) (record { next = None; closed = []; sessions = y ∷ [] }) refl
+      (opener-set r.world.numbers s.views id view (record { next = view.next; closed = view.closed; sessions = x ∷ before }) at refl (λ n says. says) r.closed)))
+
+  pub hands_back : (id : ℕ) (view : View T) → HasLast view → Splits (Ruled content begun limit) id view (parted view) (handed_back view)
   hands_back id view is s r at =
-      let stands = at ∙ ap some is.two in
-      let shown = two-shown content r.world s.views id is.first is.second stands r.seats in
-      let y = is.second.number in
-      let two_of : View T = record { next = None; closed = []; sessions = is.first ∷ is.second ∷ [] } in
-      subst (λ (v : View T). Ruled content begun limit (record { words = s.words; homes = s.homes; views = slice_set s.views id (parted v) ++ handed_back v ∷ [] })) (sym is.two)
-      (ruled-numbered content begun limit s r (record { session = y; step = SplitSeat }) (after_going_on r.world y).numbers _ (inr ((is.first.number, shown.kept_by), refl)) refl
-      (going_on-safe_world r.world y r.safe (is.first.number, shown.kept_by))
-      (seats-parted content r.world s.views id is.first is.second stands r.seats)
-      (kept-counted r.world.numbers (after_going_on r.world y).numbers.kept_by _
-      (opener-longer r.world.numbers (slice_set s.views id (parted two_of)) (handed_back two_of) refl
-      (opener-set r.world.numbers s.views id two_of (parted two_of) stands refl (λ n says. says) r.closed))))
+      let rest : all_but_last view.sessions ≡ is.before = ap all_but_last is.sessions ∙ all_but_last-of is.before is.last in
+      let last : last_of view.sessions ≡ is.last ∷ [] = ap last_of is.sessions ∙ last_of-of is.before is.last in
+      subst
+      (λ (views : List (View T)). Ruled content begun limit (record { words = s.words; homes = s.homes; views = views }))
+      (λ i. slice_set s.views id (record { next = view.next; closed = view.closed; sessions = sym rest i }) ++ record { next = None; closed = []; sessions = sym last i } ∷ [])
+      (parts s r id view is.before is.last at is.sessions)
 
   -- Those that the opener has as closed were given out, each once.
   pub tells_closed : (slots id i : ℕ) (me : Side T) (step : Step (Option T)) → HasNext me.0 → Allows (Ruled content begun limit) slots id me i (λ n. n) (ToldClosed step me)
@@ -202,10 +285,14 @@ module _ {T : Type 0} (content : T → Content) (begun : T → Option Request) (
   -- Where two meet, no hold of the one conflicts with a hold of the other.
   pub tells_apart : (slots id i : ℕ) (me : Side T) (step : Step (Option T)) → IsForTwo me.0 → Allows (Ruled content begun limit) slots id me i (λ n. n) (ToldApart content step me)
   tells_apart slots id i me step is s r many at below =
-      let stands = at ∙ ap some is.two in
-      let one = one-shown content r.world s.views id is.first is.second stands r.seats in
-      let other = two-shown content r.world s.views id is.first is.second stands r.seats in
-      let apart = are-two_behind content r.world s.views id is.first is.second stands r.seats in (
+      let both : me.0.sessions ≡ is.first ∷ is.second ∷ [] = ap (λ (v : View T). v.sessions) is.two in
+      let one = r.seats.history id 0 me.0 is.first at (ap (λ (xs : List (History T)). slice_get xs 0) both) in
+      let other = r.seats.history id 1 me.0 is.second at (ap (λ (xs : List (History T)). slice_get xs 1) both) in
+      let apart : is.first.number ≢ is.second.number = λ same.
+      (let first : r.seats.place_in is.first.number ≡ 0 = one.place in
+      let second : r.seats.place_in is.second.number ≡ 1 = other.place in
+      let places : r.seats.place_in is.first.number ≡ r.seats.place_in is.second.number = ap r.seats.place_in same in
+      omega (arith, first, second, places)) in (
         me.0,
         keeps,
         tt,

@@ -7,5 +7,5 @@ split_seat-requires g c =
     let place = c.args.place.now in (
       c.requires.table.at,
       search rules,
-      hands_back g.T.PartTable.content g.T.PartTable.begun c.args.top.now.key place.id place.me.0 c.requires.two,
+      hands_back g.T.PartTable.content g.T.PartTable.begun c.args.top.now.key place.id place.me.0 c.requires.last,
     )
