@@ -36,6 +36,7 @@ has_own_slots number a b uses own same ready takes = record {
   slots = takes.slots;
   in_hand =
       ap (λ (x : Account). x.fast.slots) taken ∙ (λ i. set_at (ready.no_slots i) number (Some takes.slots));
+  no_shared_slots = ap (λ (x : Account). x.fast.shared_slots) taken ∙ ready.no_shared_slots;
   as_shown =
       ap (λ (x : Account). x.fast.remembered) taken
       ∙ cond-true (number == number) takes.slots.word a.fast.remembered (eq-eqb number number refl);
@@ -206,16 +207,18 @@ module _ (number : ℕ) (a : Account) (tag : Tag) (mine : SlotsInHand)
 
       -- and the session is ready for the next call.
       pub ready :
-          (e : Account) (uses left : ℕ) → a.fast.zero ≡ None → e ≡ account_putting_fast by d own
+          (e : Account) (uses left : ℕ) → a.fast.zero ≡ None → a.fast.shared_slots ≡ (λ _. None)
+          → e ≡ account_putting_fast by d own
           → IsSlotToGrant mine.word (relation_of tag) place
           → is_eligible_for a.fast.database tag mode ≡ true → relation_of tag < 2 ^ 32 → used mine.word ≤ uses
           → left ≡ (if in_use (mine.word place) then uses else uses + 1) → left ≤ slot_count → IsReady e left
-      ready e uses left no_zero put takes eligible fits enough raised within =
+      ready e uses left no_zero no_shared put takes eligible fits enough raised within =
           let after = granted e no_zero put in
           let most = used-granted mine.word (relation_of tag) place uses mode fits
           (eligible-is a.fast.database tag mode eligible).2 takes enough in
           record {
             no_slots = ap (λ (x : Account). x.fast.slots) after;
+            no_shared_slots = ap (λ (x : Account). x.fast.shared_slots) after ∙ no_shared;
             no_zero = ap (λ (x : Account). x.fast.zero) after ∙ no_zero;
             enough = subst (λ word. used word ≤ left) (sym (ap (λ (x : Account). x.fast.remembered) after))
                 (subst (λ (n : ℕ). used words_granted ≤ n) (sym raised) most);
@@ -254,7 +257,7 @@ module _ (number : ℕ) (a : Account) (uses : ℕ) (tag : Tag) (mode : Mode) (ha
       grants number a tag has.slots has.in_hand mode slot.place c d by own same_by same is_looked set e uses left
           has.no_zero is_put takes highest raised,
       ready number a tag has.slots has.in_hand mode slot.place c d by own same_by same is_looked set e uses left
-          has.no_zero is_put takes eligible
+          has.no_zero has.no_shared_slots is_put takes eligible
           (subst (λ r. r < 2 ^ 32) its_relation fits) has.enough raised within,
     )
 

@@ -9,4 +9,5 @@ pub mod Moving
 pub mod Adopting
 pub mod Passing
 pub mod Transferring
+mod Reading
 pub mod SlotRows

@@ -40,3 +40,14 @@ pub loading-shows :
 loading-shows a b owner word count place shown slots so_far in_hand told =
     told slots (ap (λ (x : Account). x.fast.slots owner) so_far ∙ in_hand)
     ∙ sym (ap (λ found. (slots_here found).word place) in_hand)
+
+-- So does a slot whose lock is shared.
+pub loading-shows_shared :
+    (a b : Account) (owner : ℕ) (word : ℕ → ℕ) (count place shown : ℕ) (slots : SlotsInHand)
+    → b ≡ account_loading a owner word count
+    → a.fast.shared_slots owner ≡ Some slots
+    → ((its : SlotsInHand) → b.fast.shared_slots owner ≡ Some its → shown ≡ its.word place)
+    → shown ≡ (slots_here (a.fast.shared_slots owner)).word place
+loading-shows_shared a b owner word count place shown slots so_far shared told =
+    told slots (ap (λ (x : Account). x.fast.shared_slots owner) so_far ∙ shared)
+    ∙ sym (ap (λ found. (slots_here found).word place) shared)

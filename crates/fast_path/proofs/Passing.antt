@@ -21,7 +21,6 @@ use Rattle.shared_rule.specs.History.{slots_here}
 use Rattle.shared_rule.specs.Slots.{TakesFast}
 use Rattle.fast_path.specs.declared.slot_words.SeenSlot.{SeenSlot}
 use Rattle.fast_path.specs.declared.slot_words.Sighting.{Sighting}
-use Rattle.fast_path.specs.Rows.{HasInHand}
 use Rattle.fast_path.specs.Slots.{slot_loads, account_loading, IsSeenOf, Sights}
 use Rattle.fast_path.specs.Transfers.{database_of, adopting, finding, Adopts}
 use Rattle.fast_path.specs.Transfers.{IsAfterScan, Passes, StopsAt}
@@ -35,7 +34,7 @@ abbrev pub remembered_then : ℕ → Account → ℕ → SlotsInHand → ℕ →
 remembered_then number a owner slots = if owner == number then slots.word else a.fast.remembered
 
 -- It is no more than before.
-remembered-no_more :
+pub remembered-no_more :
     (number : ℕ) (a : Account) (owner : ℕ) (slots : SlotsInHand) → KnowsSlots number a owner slots
     → ShowsNoMore (remembered_then number a owner slots) a.fast.remembered
 remembered-no_more number a owner slots knows = at (owner == number)
@@ -58,20 +57,6 @@ looks number a taken b owner shown takes of_slots loaded = record {
   holds = of_slots takes.slots
       ((λ i. (takes.account i).fast.slots owner) ∙ set_at-here a.fast.slots owner (Some takes.slots) owner refl);
   account = loaded ∙ (λ i. account_tracing (takes.account i) (Loaded (Database owner) shown));
-}
-
--- So it has them in hand, and knows of them what whoever has their lock does.
-pub looks-in_hand :
-    (number : ℕ) (a taken b : Account) (owner shown : ℕ) (takes : TakesFast number a owner taken)
-    (of_slots : (slots : SlotsInHand) → taken.fast.slots owner ≡ Some slots → slots.holds ≡ slot_holds shown slots.word)
-    (loaded : b ≡ account_tracing taken (Loaded (Database owner) shown))
-    → HasInHand number a owner shown (looks number a taken b owner shown takes of_slots loaded).slots.word
-unfolding looks
-looks-in_hand number a taken b owner shown takes of_slots loaded = record {
-  slots = takes.slots;
-  knows = takes.knows;
-  words = refl;
-  holds = (looks number a taken b owner shown takes of_slots loaded).holds;
 }
 
 pub slots-looked : (a b : Account) (owner shown : ℕ) (looked : Looks a owner shown b)

@@ -201,6 +201,7 @@ module _ (number : ℕ) (a : Account) (uses own : ℕ) (ready : IsReady a uses) 
           },
           record {
             no_slots = ap (λ (x : Account). x.fast.slots) after ∙ ready.no_slots;
+            no_shared_slots = ap (λ (x : Account). x.fast.shared_slots) after ∙ ready.no_shared_slots;
             no_zero = ap (λ (x : Account). x.fast.zero) after ∙ ready.no_zero;
             enough = subst (λ slots. used slots ≤ left) (sym (ap (λ (x : Account). x.fast.remembered) after))
                 (omega (arith, recounted));
@@ -260,6 +261,7 @@ module _ (number : ℕ) (a : Account) (uses own : ℕ) (ready : IsReady a uses) 
         record { word = takes.slots.word; in_none = none; account = left_alone; recomputed = recounted },
         record {
           no_slots = ap (λ (x : Account). x.fast.slots) left_alone ∙ ready.no_slots;
+          no_shared_slots = ap (λ (x : Account). x.fast.shared_slots) left_alone ∙ ready.no_shared_slots;
           no_zero = ap (λ (x : Account). x.fast.zero) left_alone ∙ ready.no_zero;
           enough = subst (λ slot. used slot ≤ left) (sym (ap (λ (x : Account). x.fast.remembered) left_alone))
               (omega (arith, recounted));

@@ -1,4 +1,4 @@
-use Rattle.std.proofs.Common.{◌≡◌, ℕ, zero, suc, ◌+◌, ◌<◌, List, [], ◌∷◌, ◌++◌, length, take}
+use Rattle.std.proofs.Common.{◌≡◌, ◌≢◌, ℕ, zero, suc, ◌+◌, ◌<◌, List, [], ◌∷◌, ◌++◌, length, take}
 use Rattle.std.proofs.Common.{Result, Ok, Err, OnOk, refl, sym, ap, ◌∙◌, subst, arith, append_assoc}
 use Rattle.std.proofs.Common.{append-nil, inl, inr}
 use Rattle.std.proofs.lemmas.Bool.{cases_eq}
@@ -11,14 +11,16 @@ use Rattle.lock_world.specs.declared.events.Word.TheVariants.{Database}
 use Rattle.lock_world.specs.SlotHolds.{slot_count, ShowsNoMore}
 use Rattle.lock_world.specs.World.{TraceEntry, Loaded}
 use Rattle.lock_world.specs.Account.{Account}
-use Rattle.lock_world.specs.AccountSteps.{account_putting_fast}
+use Rattle.lock_world.specs.AccountSteps.{account_unsharing_fast}
 use Rattle.shared_rule.specs.History.{slots_here}
 use Rattle.fast_path.specs.Slots.{word_of, AreWords, slot_loads, account_loading}
 use Rattle.fast_path.specs.Rows.{database_in, rows_of_slot, rows_below, rows_of_session, rows_of_all, loads_of_all}
-use Rattle.fast_path.specs.Rows.{HasInHand, ListsSlots, ListsSession, BeginsWith}
-use Rattle.fast_path.specs.Turns.{IsUnlocked, Looks}
+use Rattle.fast_path.specs.Rows.{ReadsSlots, ListsSlots, ListsSession, BeginsWith}
+use Rattle.fast_path.specs.Turns.{IsUnlocked}
 use Rattle.fast_path.specs.Transfers.{IsAfterScan}
-use Rattle.fast_path.proofs.Passing.{slots-looked, looked-loads, after-put}
+use Rattle.fast_path.proofs.Passing.{remembered_then, remembered-no_more, after-from}
+use Rattle.fast_path.proofs.Reading.{Reads, slots-shared, reads-slots, its_loads, read-unshared}
+use Rattle.fast_path.proofs.Reading.{remembered-own, remembered-other}
 
 -- Rows of what sessions' slots show.
 
@@ -108,45 +110,55 @@ behind-cut xs ys zs n behind is cut = cut ∙ ap (take n) behind.1 ∙ take_at x
 -- ---- one session
 
 pub lists-session :
-    (own number : ℕ) (a b v c : Account) (owner shown database : ℕ) (words : List ℕ) (old new : List SlotRow)
+    (own : ℕ) (a b v c : Account) (owner shown database : ℕ) (words : List ℕ) (old new : List SlotRow)
     (result : Result (Unit {0}) NoMemory)
-    → IsUnlocked a → (looked : Looks a owner shown b) → HasInHand own a owner shown looked.slots.word → v ≡ account_loading b owner
-    (slots_here (b.fast.slots owner)).word slot_count
-    → AreWords words (slots_here (b.fast.slots owner)).word → c ≡ account_putting_fast number v owner
+    → IsUnlocked a → (read : Reads own a owner shown b)
+    → v ≡ account_loading b owner (slots_here (b.fast.shared_slots owner)).word slot_count
+    → AreWords words (slots_here (b.fast.shared_slots owner)).word → c ≡ account_unsharing_fast v owner
     → database ≡ database_in shown
     → OnOk result (new ≡ old ++ rows_of_session owner database (word_of words)) → ListsSession own a owner old result new c
-lists-session own number a b v c owner shown database words old new result unlocked looked has loaded are put same listed =
+lists-session own a b v c owner shown database words old new result unlocked read loaded are put same listed =
     record {
       shown = shown;
-      word = looked.slots.word;
-      in_hand = has;
+      word = read.slots.word;
+      shared = reads-slots own a b owner shown read;
+      own = λ its. remembered ∙ remembered-own own a owner read.slots its;
+      of_another = λ other. remembered ∙ remembered-other own a owner read.slots other;
       listed = at result listed;
       no_more = after.no_more;
       account = after.account;
     } where
-      after : IsAfterScan a a.fast.counted (Loaded (Database owner) shown ∷ slot_loads owner looked.slots.word slot_count) c
-      after = after-put number a v c owner looked.slots looked.remembered
-          (Loaded (Database owner) shown ∷ slot_loads owner looked.slots.word slot_count)
-          unlocked looked.no_more (looked-loads a b v owner shown looked loaded) put
+      is : c ≡ record a {
+        fast = record (a.fast) { remembered = remembered_then own a owner read.slots };
+        trace = a.trace ++ its_loads own a b owner shown read;
+      }
+      is = read-unshared own a b owner shown read v loaded c unlocked.no_shared_slots put
 
-      rows : rows_of_session owner database (word_of words) ≡ rows_of_session owner (database_in shown) looked.slots.word
+      remembered : c.fast.remembered ≡ remembered_then own a owner read.slots
+      remembered = ap (λ (x : Account). x.fast.remembered) is
+
+      after : IsAfterScan a a.fast.counted (its_loads own a b owner shown read) c
+      after = after-from a c (remembered_then own a owner read.slots) a.fast.counted
+          (its_loads own a b owner shown read) (remembered-no_more own a owner read.slots read.knows) is
+
+      rows : rows_of_session owner database (word_of words) ≡ rows_of_session owner (database_in shown) read.slots.word
       rows = rows_below-same slot_count (λ place. rows_of_slot owner database place (word_of words place))
-          (λ place. rows_of_slot owner (database_in shown) place (looked.slots.word place))
+          (λ place. rows_of_slot owner (database_in shown) place (read.slots.word place))
           (λ place within. (λ i. rows_of_slot owner (same i) place
-          ((are place within ∙ (λ j. (slots_here (slots-looked a b owner shown looked j)).word place)) i)))
+          ((are place within ∙ (λ j. (slots_here (slots-shared own a b owner shown read j)).word place)) i)))
 
       at : (r : Result (Unit {0}) NoMemory) → OnOk r (new ≡ old ++ rows_of_session owner database (word_of words))
-          → OnOk r (new ≡ old ++ rows_of_session owner (database_in shown) looked.slots.word)
+          → OnOk r (new ≡ old ++ rows_of_session owner (database_in shown) read.slots.word)
       at (Ok done) is = is ∙ (λ i. old ++ rows i)
       at (Err refusal) is = tt
 
 -- ---- one session after another
 
--- What it has in hand by an account with more steps, it has by the earlier one.
+-- What it reads by an account with more steps, it reads by the earlier one.
 has-before :
     (own : ℕ) (a b : Account) (session database : ℕ) (word : ℕ → ℕ) → b.own ≡ a.own → b.fast.database ≡ a.fast.database
-    → ShowsNoMore b.fast.remembered a.fast.remembered → HasInHand own b session database word
-    → HasInHand own a session database word
+    → ShowsNoMore b.fast.remembered a.fast.remembered → ReadsSlots own b session database word
+    → ReadsSlots own a session database word
 has-before own a b session database word same_own same_database no_more has = record {
   slots = has.slots;
   knows = record {
@@ -161,25 +173,26 @@ has-before own a b session database word same_own same_database no_more has = re
   };
   words = has.words;
   holds = has.holds;
+  own_database = λ its. has.own_database its ∙ same_database;
 }
 
 -- With one session more.
 has-next :
     (own : ℕ) (a : Account) (limit : ℕ) (database : ℕ → ℕ) (word : ℕ → ℕ → ℕ) (shown : ℕ) (its : ℕ → ℕ)
-    → ((session : ℕ) → session < limit → HasInHand own a session (database session) (word session))
-    → HasInHand own a limit shown its
+    → ((session : ℕ) → session < limit → ReadsSlots own a session (database session) (word session))
+    → ReadsSlots own a limit shown its
     → (session : ℕ) → session < limit + 1
-    → HasInHand own a session (set_at database limit shown session) (set_at word limit its session)
+    → ReadsSlots own a session (set_at database limit shown session) (set_at word limit its session)
 has-next own a limit database word shown its so_far has session below = elim (cases_eq session limit) [
   | inl same ↦
-      subst (λ (d : ℕ). HasInHand own a session d (set_at word limit its session))
+      subst (λ (d : ℕ). ReadsSlots own a session d (set_at word limit its session))
       (sym (set_at-here database limit shown session same))
-      (subst (λ (w : ℕ → ℕ). HasInHand own a session shown w) (sym (set_at-here word limit its session same))
-      (subst (λ (k : ℕ). HasInHand own a k shown its) (sym same) has))
+      (subst (λ (w : ℕ → ℕ). ReadsSlots own a session shown w) (sym (set_at-here word limit its session same))
+      (subst (λ (k : ℕ). ReadsSlots own a k shown its) (sym same) has))
   | inr other ↦
-      subst (λ (d : ℕ). HasInHand own a session d (set_at word limit its session))
+      subst (λ (d : ℕ). ReadsSlots own a session d (set_at word limit its session))
       (sym (set_at-else database limit shown session other))
-      (subst (λ (w : ℕ → ℕ). HasInHand own a session (database session) w) (sym (set_at-else word limit its session other))
+      (subst (λ (w : ℕ → ℕ). ReadsSlots own a session (database session) w) (sym (set_at-else word limit its session other))
       (so_far session (omega (arith, below, other))))
 ]
 
@@ -193,20 +206,32 @@ listing-begun own a old = record {
   loaded = 0;
   within = omega arith;
   all_loaded = refl;
-  in_hand = λ session below. absurd (omega (arith, below));
+  shared = λ session below. absurd (omega (arith, below));
+  own = λ below. absurd (omega (arith, below));
   no_more = λ place relation mode within shown. shown;
   account = (λ i. record a { trace = sym (append-nil a.trace) i });
 }
 
 module _ (own k : ℕ) (a b c : Account) (old mid new : List SlotRow) (so_far : ListsSlots own k a old (Ok tt) mid b) where
   has-so_far :
-      (shown : ℕ) (its : ℕ → ℕ) → HasInHand own b k shown its → (session : ℕ) → session < k + 1
-      → HasInHand own a session (set_at so_far.database k shown session) (set_at so_far.word k its session)
+      (shown : ℕ) (its : ℕ → ℕ) → ReadsSlots own b k shown its → (session : ℕ) → session < k + 1
+      → ReadsSlots own a session (set_at so_far.database k shown session) (set_at so_far.word k its session)
   has-so_far shown its has =
       has-next own a k so_far.database so_far.word shown its
-      (λ session below. so_far.in_hand session (omega (arith, below, so_far.all_loaded)))
+      (λ session below. so_far.shared session (omega (arith, below, so_far.all_loaded)))
       (has-before own a b k shown its (ap (λ (x : Account). x.own) so_far.account)
       (ap (λ (x : Account). x.fast.database) so_far.account) so_far.no_more has)
+
+  -- What it remembers of its own slots, once their turn has come.
+  own-so_far :
+      (its : ℕ → ℕ) → (k ≡ own → c.fast.remembered ≡ its) → (k ≢ own → c.fast.remembered ≡ b.fast.remembered)
+      → own < k + 1 → c.fast.remembered ≡ set_at so_far.word k its own
+  own-so_far its here another below = elim (cases_eq k own) [
+    | inl same ↦ here same ∙ sym (set_at-here so_far.word k its own (sym same))
+    | inr other ↦
+        another other ∙ so_far.own (omega (arith, below, other, so_far.all_loaded))
+        ∙ sym (set_at-else so_far.word k its own (λ same. other (sym same)))
+  ]
 
   -- the account with one session more
   account-next :
@@ -261,7 +286,8 @@ module _ (own k : ℕ) (a b c : Account) (old mid new : List SlotRow) (so_far : 
         loaded = k + 1;
         within = omega arith;
         all_loaded = refl;
-        in_hand = has-so_far session.shown session.word session.in_hand;
+        shared = has-so_far session.shown session.word session.shared;
+        own = own-so_far session.word session.own session.of_another;
         no_more = λ place relation mode within shown.
             so_far.no_more place relation mode within (session.no_more place relation mode within shown);
         account = account-next session.shown session.word session.account;
@@ -279,7 +305,8 @@ module _ (own k : ℕ) (a b c : Account) (old mid new : List SlotRow) (so_far : 
     loaded = k + 1;
     within = omega (arith, exists);
     all_loaded = tt;
-    in_hand = has-so_far session.shown session.word session.in_hand;
+    shared = has-so_far session.shown session.word session.shared;
+    own = own-so_far session.word session.own session.of_another;
     no_more = λ place relation mode within shown.
         so_far.no_more place relation mode within (session.no_more place relation mode within shown);
     account = account-next session.shown session.word session.account;
@@ -289,5 +316,6 @@ module _ (own k : ℕ) (a b c : Account) (old mid new : List SlotRow) (so_far : 
   listing-unlocked unlocked = subst (λ (x : Account). IsUnlocked x) (sym so_far.account) (record {
     no_content = unlocked.no_content;
     no_slots = unlocked.no_slots;
+    no_shared_slots = unlocked.no_shared_slots;
     no_zero = unlocked.no_zero;
   })

@@ -66,6 +66,7 @@ transferring-unlocked position a b tag mode so_far unlocked =
     subst (λ (x : Account). IsUnlocked x) (sym so_far.after.account) (record {
       no_content = unlocked.no_content;
       no_slots = unlocked.no_slots;
+      no_shared_slots = unlocked.no_shared_slots;
       no_zero = unlocked.no_zero;
     })
 

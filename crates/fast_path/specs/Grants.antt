@@ -50,6 +50,7 @@ pub record FindsFull (a : Account) (uses : ℕ) (b : Account) (left : ℕ) : Typ
 pub record HasOwnSlots (number : ℕ) (a : Account) (uses : ℕ) : Type 0 where
   pub slots : SlotsInHand
   pub in_hand : a.fast.slots ≡ set_at (λ _. None) number (Some slots)
+  pub no_shared_slots : a.fast.shared_slots ≡ (λ _. None)
   pub as_shown : a.fast.remembered ≡ slots.word
   pub one_each : OneSlotEach slots.word
   pub no_zero : a.fast.zero ≡ None

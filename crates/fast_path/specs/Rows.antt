@@ -1,4 +1,4 @@
-use Rattle.std.specs.Prelude.{◌≡◌, ℕ, ◌<◌, ◌≤◌, ◌%◌, ◌^◌, zero, suc, List, [], ◌∷◌, ◌++◌, Result, OnOk, OnErr, if◌then◌else◌}
+use Rattle.std.specs.Prelude.{◌≡◌, ◌≢◌, ℕ, ◌<◌, ◌≤◌, ◌%◌, ◌^◌, zero, suc, List, [], ◌∷◌, ◌++◌, Result, OnOk, OnErr, if◌then◌else◌}
 use Rattle.modes_core.specs.declared.modes.Mode.{Mode}
 use Rattle.modes_core.specs.declared.modes.Mode.TheVariants.{AccessShare, RowShare, RowExclusive}
 use Rattle.modes_core.specs.declared.tags.Tag.TheVariants.{Relation}
@@ -53,18 +53,19 @@ loads_of_all (suc session) database word =
     loads_of_all session database word
     ++ Loaded (Database session) (database session) ∷ slot_loads session (word session) slot_count
 
--- A session's slots as the session of this number has them in hand, by their lock: these are their words, and with this
--- database they show what is held by them.
-pub record HasInHand (number : ℕ) (a : Account) (session database : ℕ) (word : ℕ → ℕ) : Type 0 where
+-- A session's slots as the session of this number, which shares their lock, loads them: these are their words, and with
+-- this database, which of its own slots is its own, they show what is held by them.
+pub record ReadsSlots (number : ℕ) (a : Account) (session database : ℕ) (word : ℕ → ℕ) : Type 0 where
   pub slots : SlotsInHand
   pub knows : KnowsSlots number a session slots
   pub words : slots.word ≡ word
   pub holds : slots.holds ≡ slot_holds database word
+  pub own_database : session ≡ number → database ≡ a.fast.database
 
 -- The rows of all sessions stand behind what the list had, and nothing else has changed but the trace, which has the loads
--- that they tell of, and what the session remembers of its own slots, which is no more than before. Each session's slots
--- are loaded with their lock in hand. Where memory was wanting the list is as before, and sessions were loaded up to some
--- number.
+-- that they tell of, and what the session remembers of its own slots: from its own turn on that is what it loaded there, which
+-- is no more than before. The lock of each session's slots is shared while they are loaded. Where memory was wanting the list
+-- is as before, and sessions were loaded up to some number.
 pub record ListsSlots (number limit : ℕ) (a : Account) (before : List SlotRow) (result : Result (Unit {0}) NoMemory)
     (after : List SlotRow) (b : Account) : Type 0 where
   pub database : ℕ → ℕ
@@ -74,7 +75,8 @@ pub record ListsSlots (number limit : ℕ) (a : Account) (before : List SlotRow)
   pub loaded : ℕ
   pub within : loaded ≤ limit
   pub all_loaded : OnOk result (loaded ≡ limit)
-  pub in_hand : (session : ℕ) → session < loaded → HasInHand number a session (database session) (word session)
+  pub shared : (session : ℕ) → session < loaded → ReadsSlots number a session (database session) (word session)
+  pub own : number < loaded → b.fast.remembered ≡ word number
   pub no_more : ShowsNoMore b.fast.remembered a.fast.remembered
   pub account : b ≡ record a {
     fast = record (a.fast) { remembered = b.fast.remembered };
@@ -86,7 +88,9 @@ pub record ListsSession (number : ℕ) (a : Account) (owner : ℕ) (before : Lis
     (after : List SlotRow) (b : Account) : Type 0 where
   pub shown : ℕ
   pub word : ℕ → ℕ
-  pub in_hand : HasInHand number a owner shown word
+  pub shared : ReadsSlots number a owner shown word
+  pub own : owner ≡ number → b.fast.remembered ≡ word
+  pub of_another : owner ≢ number → b.fast.remembered ≡ a.fast.remembered
   pub listed : OnOk result (after ≡ before ++ rows_of_session owner (database_in shown) word)
   pub no_more : ShowsNoMore b.fast.remembered a.fast.remembered
   pub account : b ≡ record a {

@@ -55,10 +55,11 @@ slot_loads owner word (suc place) = slot_loads owner word place ++ Loaded (Slot 
 abbrev pub account_loading : Account → ℕ → (ℕ → ℕ) → ℕ → Account
 account_loading a owner word count = record a { trace = a.trace ++ slot_loads owner word count }
 
--- Between two calls on the fast path the session has the lock of nobody's slots, and its use count is not below the number
--- of its slots in use (FastPathLocalUseCount in lock.c).
+-- Between two calls on the fast path the session has the lock of nobody's slots, nor shares it, and its use count is not
+-- below the number of its slots in use (FastPathLocalUseCount in lock.c).
 pub record IsReady (a : Account) (uses : ℕ) : Type 0 where
   pub no_slots : a.fast.slots ≡ (λ _. None)
+  pub no_shared_slots : a.fast.shared_slots ≡ (λ _. None)
   pub no_zero : a.fast.zero ≡ None
   pub enough : used a.fast.remembered ≤ uses
   pub within : uses ≤ slot_count

@@ -19,10 +19,11 @@ use Rattle.fast_path.specs.Transfers.{database_of, adopting}
 
 -- What stands within one turn of a transfer.
 
--- The session has no lightweight lock in hand, nor read a counter as 0.
+-- The session has no lightweight lock in hand, shares none of slots, and has read no counter as 0.
 pub record IsUnlocked (a : Account) : Type 0 where
   pub no_content : a.hand ≡ (λ _. None)
   pub no_slots : a.fast.slots ≡ (λ _. None)
+  pub no_shared_slots : a.fast.shared_slots ≡ (λ _. None)
   pub no_zero : a.fast.zero ≡ None
 
 -- the account with the lock of a session's slots in hand, and what it remembers of its own slots since, after these steps

@@ -14,9 +14,9 @@ use modes_core::{Mode, SessionId, Tag};
 use shared_rule::board::Board;
 use std::sync::Wait;
 
-/// Appends a row for each mode that a slot of any session shows: by session, by slot, by mode. Each session's slots are
-/// read with their lock in hand, one session after another, so the rows are not of one moment. Only the list takes
-/// memory; where that is wanting it has what it had.
+/// Appends a row for each mode that a slot of any session shows: by session, by slot, by mode. The lock of each session's
+/// slots is shared while they are read, one session after another, so that other readers don't wait, and the rows are not of
+/// one moment. Only the list takes memory; where that is wanting it has what it had.
 pub fn slot_rows<T: PartTable, B: Board<T>, R: Wait>(
     rt: &R,
     board: &mut B,
@@ -60,10 +60,10 @@ fn session_rows<T: PartTable, B: Board<T>, R: Wait>(
     ensures stack { B.stack board.new ≡ B.stack board.old }
     ensures seat { B.seat board.new ≡ B.seat board.old }
 {
-    board.take_fast(rt, owner);
+    board.share_fast(rt, owner);
     let shown = board.load_database(owner);
     let words = load_slots(board, owner);
-    board.put_fast(owner);
+    board.unshare_fast(owner);
     append_session(owner, database_in(shown), &words, rows)
 }
 

@@ -1,4 +1,4 @@
-//! The words of a session's sixteen slots, as one who has their lock in hand loads them.
+//! The words of a session's sixteen slots, as one who has their lock in hand, or shares it, loads them.
 
 ghost use Rattle.std.specs.Prelude.{◌≡◌, ◌<◌, Some};
 ghost use Rattle.lock_world.specs.SlotHolds.{slot_count};
@@ -14,15 +14,15 @@ use shared_rule::board::Board;
 /// How many fast-path slots a session has (`FP_LOCK_SLOTS_PER_BACKEND` in proc.h).
 pub const SLOTS: u8 = 16;
 
-/// Loads the words of a session's slots, whose lock is in hand.
+/// Loads the words of a session's slots, whose lock is shared.
 pub(crate) fn load_slots<T: PartTable, B: Board<T>>(
     board: &mut B,
     owner: SessionId,
 ) -> [SlotWord; 16]
-    requires in_hand { (slots : SlotsInHand) × ((B.view board.old).fast.slots owner ≡ Some slots) }
-    ensures loaded { B.view board.new ≡
-        account_loading (B.view board.old) owner (slots_here ((B.view board.old).fast.slots owner)).word slot_count }
-    ensures words { AreWords result (slots_here ((B.view board.old).fast.slots owner)).word }
+    requires shared { (slots : SlotsInHand) × ((B.view board.old).fast.shared_slots owner ≡ Some slots) }
+    ensures loaded { B.view board.new ≡ account_loading (B.view board.old) owner
+        (slots_here ((B.view board.old).fast.shared_slots owner)).word slot_count }
+    ensures words { AreWords result (slots_here ((B.view board.old).fast.shared_slots owner)).word }
     ensures seat { B.seat board.new ≡ B.seat board.old }
     ensures stack { B.stack board.new ≡ B.stack board.old }
 {

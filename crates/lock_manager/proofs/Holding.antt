@@ -30,6 +30,7 @@ rest-idle limit database uses a stack entries rest = record {
   no_wait = ap (λ (x : Account). x.awaited) rest.account;
   no_content = ap (λ (x : Account). x.hand) rest.account;
   no_slots = ap (λ (x : Account). x.fast.slots) rest.account;
+  no_shared_slots = ap (λ (x : Account). x.fast.shared_slots) rest.account;
   no_zero = ap (λ (x : Account). x.fast.zero) rest.account;
   nothing_left = rest.nothing_left;
 }

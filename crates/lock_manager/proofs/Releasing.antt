@@ -223,6 +223,7 @@ module _ (number : ℕ) (a : Account) (uses : ℕ) (tag : Tag) (mode : Mode) (b 
     no_wait = ap (λ (x : Account). x.awaited) looked.account ∙ idle.no_wait;
     no_content = ap (λ (x : Account). x.hand) looked.account ∙ idle.no_content;
     no_slots = ap (λ (x : Account). x.fast.slots) looked.account ∙ idle.no_slots;
+    no_shared_slots = ap (λ (x : Account). x.fast.shared_slots) looked.account ∙ idle.no_shared_slots;
     no_zero = ap (λ (x : Account). x.fast.zero) looked.account ∙ idle.no_zero;
     nothing_left = same ∙ idle.nothing_left;
   }

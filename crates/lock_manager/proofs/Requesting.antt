@@ -134,6 +134,7 @@ module _ (limit : ℕ) (a : Account) (uses : ℕ) (tag : Tag) (mode : Mode) (cou
     no_wait = ap (λ (x : Account). x.awaited) led.account ∙ idle.no_wait;
     no_content = ap (λ (x : Account). x.hand) led.account ∙ idle.no_content;
     no_slots = ap (λ (x : Account). x.fast.slots) led.account ∙ idle.no_slots;
+    no_shared_slots = ap (λ (x : Account). x.fast.shared_slots) led.account ∙ idle.no_shared_slots;
     no_zero = ap (λ (x : Account). x.fast.zero) led.account ∙ idle.no_zero;
     nothing_left = same ∙ idle.nothing_left;
   }

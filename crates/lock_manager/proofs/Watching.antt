@@ -91,6 +91,7 @@ just_looked limit database uses number a stack entries tag mode shown before wai
       waits = ap (λ (x : Account). x.awaited) waiting.account;
       no_partition = ap (λ (x : Account). x.hand) waiting.account;
       no_slots = ap (λ (x : Account). x.fast.slots) waiting.account;
+      no_shared_slots = ap (λ (x : Account). x.fast.shared_slots) waiting.account;
       before = before;
       looked = looked;
       not_granted = λ two. false≢true (sym neither.0 ∙ eq-eqb (wait_state shown) 2 two);

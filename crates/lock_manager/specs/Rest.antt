@@ -50,11 +50,12 @@ pub record IsAtRest (limit database uses : ℕ) (a : Account) (stack : Stack) (e
   pub use_count : IsUseCount a uses
   pub nothing_left : stack ≡ nothing_due
 
--- What of it a step in the middle of a call may count on: it has no word in hand, owes nobody a wake, has read no
--- counter as 0, and has no wait.
+-- What of it a step in the middle of a call may count on: it has no word in hand, shares none of slots, owes nobody a
+-- wake, has read no counter as 0, and has no wait.
 pub record IsIdle (a : Account) (stack : Stack) : Type 0 where
   pub no_wait : a.awaited ≡ None
   pub no_content : a.hand ≡ (λ _. None)
   pub no_slots : a.fast.slots ≡ (λ _. None)
+  pub no_shared_slots : a.fast.shared_slots ≡ (λ _. None)
   pub no_zero : a.fast.zero ≡ None
   pub nothing_left : stack ≡ nothing_due

@@ -34,7 +34,7 @@ as_before w u v e same k = inl ((λ i. (e i).sessions.remembered k) ∙ (λ i. s
 after : (w u v : World) → v ≡ u → Follows w u → Follows w v
 after w u v e follows = subst (Follows w) (sym e) follows
 
--- with the lock of a session's slots taken
+-- with the lock of a session's slots taken, or shared
 taking_own : (remembered slot : ℕ → ℕ → ℕ) (s o k : ℕ)
     → (remembered_after_taking remembered slot s o k ≡ remembered k) ⊎ (remembered_after_taking remembered slot s o k ≡ slot k)
 taking_own remembered slot s o k =
@@ -96,7 +96,7 @@ putting w s (Sleep o) done v h = absurd h
 
 sharing : (w : World) (s : ℕ) (word : Word) (v : World) → HappensSharing w s word v → Follows w v
 sharing w s (Partition p) v h = as_before w _ v h.2 refl
-sharing w s (Fast o) v h = as_before w _ v h.2 refl
+sharing w s (Fast o) v h = after w _ v h.2 (taking_fast w s o)
 sharing w s (Database o) v h = absurd h
 sharing w s (Slot o i) v h = absurd h
 sharing w s (Wait o) v h = absurd h

@@ -69,7 +69,14 @@ pub record MayLeaveBy (limit number : ℕ) (a : Account) (wait : OwnWait) (mine 
 pub record MayPutFastBy (a : Account) (owner : ℕ) (slots : SlotsInHand) : Type 0 where
   pub in_hand : a.fast.slots owner ≡ Some slots
 
--- Going past it: no slot shows the object in any mode.
+-- Sharing it, and giving it back.
+pub record MayShareFastBy (a : Account) (owner : ℕ) : Type 0 where
+  pub not_shared : a.fast.shared_slots owner ≡ None
+
+pub record MayUnshareFastBy (a : Account) (owner : ℕ) (slots : SlotsInHand) : Type 0 where
+  pub shared : a.fast.shared_slots owner ≡ Some slots
+
+-- Going past one that is held: no slot shows the object in any mode.
 pub record MayPassBy (a : Account) (owner : ℕ) (slots : SlotsInHand) (tag : Tag) (mode : Mode) : Type 0 where
   pub in_hand : a.fast.slots owner ≡ Some slots
   pub next : is_at owner a.fast.counted tag mode ≡ true

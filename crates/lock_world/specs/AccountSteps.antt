@@ -110,6 +110,18 @@ account_putting_fast number a owner = record a {
   };
 }
 
+-- sharing it, and giving it back
+abbrev pub account_sharing_fast : ℕ → Account → ℕ → SlotsInHand → Account
+account_sharing_fast number a owner slots = record a {
+  fast = record (a.fast) {
+    shared_slots = set_at a.fast.shared_slots owner (Some slots);
+    remembered = if owner == number then slots.word else a.fast.remembered;
+  };
+}
+
+abbrev pub account_unsharing_fast : Account → ℕ → Account
+account_unsharing_fast a owner = record a { fast = record (a.fast) { shared_slots = set_at a.fast.shared_slots owner None } }
+
 -- going past the owner, as its lock is put
 abbrev pub account_passing : ℕ → Account → ℕ → Tag → Mode → Account
 account_passing number a owner tag mode = record a {

@@ -2,12 +2,12 @@ use Rattle.std.proofs.Common.{◌≡◌, ℕ, List, ◌∷◌, refl, sym, ap, �
 use Rattle.lock_table.specs.Content.{Content}
 use Rattle.shared_rule.specs.declared.history.History.{History}
 use Rattle.shared_rule.specs.declared.history.Mark.{Mark}
-use Rattle.shared_rule.specs.declared.history.Mark.TheVariants.{TookFast}
+use Rattle.shared_rule.specs.declared.history.Mark.TheVariants.{TookFast, SharedFast}
 use Rattle.shared_rule.specs.declared.history.View.{View}
 use Rattle.shared_rule.specs.History.{first_account, first_number, lone, noted, noting, noting_first, slots_shown}
 use Rattle.shared_rule.specs.Boards.{first_marks, StaysLone}
-use Rattle.shared_rule.specs.Slots.{TakesFast}
-use Rattle.shared_rule.specs.Plays.{Side, HasSession, TookSlots}
+use Rattle.shared_rule.specs.Slots.{TakesFast, SharesFast}
+use Rattle.shared_rule.specs.Plays.{Side, HasSession, SeesSlots, TookSlots, SharedSlots}
 
 -- What a step that is noted makes of the view and of the account.
 
@@ -53,8 +53,27 @@ module _ {T : Type 0} (content : T → Content) where
         ∙ account-noted before.0 (TookFast owner took.database took.words) has;
   }
 
+  -- Whoever shares it knows them as well.
+  pub shares-fast : (owner : ℕ) (before after : Side T) → HasSession before.0 → SharedSlots content owner before after
+      → SharesFast (first_number before.0.sessions) (first_account content before.0.sessions) owner
+      (first_account content after.0.sessions)
+  shares-fast owner before after has sees = record {
+    slots = slots_shown sees.database sees.words;
+    knows = sees.knows;
+    account = ap (λ (side : Side T). first_account content side.0.sessions) sees.side
+        ∙ account-noted before.0 (SharedFast owner sees.database sees.words) has;
+  }
+
+  sees-lone : (mark : ℕ → ℕ → List ℕ → Mark T) (owner : ℕ) (before after : Side T)
+      → SeesSlots content mark owner before after → StaysLone before.0 after.0
+  sees-lone mark owner before after sees =
+      subst (λ (view : View T). StaysLone before.0 view) (sym (ap (λ (side : Side T). side.0) sees.side))
+      (lone-noted before.0 (mark owner sees.database sees.words))
+
   pub takes-lone : (owner : ℕ) (before after : Side T) → TookSlots content owner before after
       → StaysLone before.0 after.0
-  takes-lone owner before after took =
-      subst (λ (view : View T). StaysLone before.0 view) (sym (ap (λ (side : Side T). side.0) took.side))
-      (lone-noted before.0 (TookFast owner took.database took.words))
+  takes-lone = sees-lone TookFast
+
+  pub shares-lone : (owner : ℕ) (before after : Side T) → SharedSlots content owner before after
+      → StaysLone before.0 after.0
+  shares-lone = sees-lone SharedFast

@@ -14,12 +14,14 @@ use Rattle.lock_world.specs.World.{Loaded, AskedToCancel}
 use Rattle.lock_world.specs.Happens.Waits.{unmarked_but}
 use Rattle.lock_world.specs.Account.{Account, InHand, SlotsInHand}
 use Rattle.lock_world.specs.AccountSteps.{account_taking, account_putting, account_taking_fast, account_putting_fast}
+use Rattle.lock_world.specs.AccountSteps.{account_sharing_fast, account_unsharing_fast}
 use Rattle.lock_world.specs.AccountSteps.{account_passing, account_counting, account_uncounting, account_tracing}
 use Rattle.lock_world.specs.AccountSteps.{account_waiting, account_marking, account_clearing, account_leaving}
 use Rattle.lock_world.specs.AccountSteps.{account_reading, account_setting, account_unsetting, account_transferring}
 use Rattle.lock_world.specs.AccountSteps.{account_storing}
 use Rattle.shared_rule.specs.declared.history.Mark.{Mark}
 use Rattle.shared_rule.specs.declared.history.Mark.TheVariants.{TookPart, PutPart, TookFast, PutFast, Passed}
+use Rattle.shared_rule.specs.declared.history.Mark.TheVariants.{SharedFast, UnsharedFast}
 use Rattle.shared_rule.specs.declared.history.Mark.TheVariants.{Counted, Uncounted, LoadedDatabase}
 use Rattle.shared_rule.specs.declared.history.Mark.TheVariants.{SetWaiting, MarkedGranted, LoadedWait, Asked}
 use Rattle.shared_rule.specs.declared.history.Mark.TheVariants.{ClearedWait, LeftQueue}
@@ -116,6 +118,8 @@ module _ {T : Type 0} (content : T → Content) where
   noted number a (PutPart part done put) = account_putting a part (taken_of (a.hand part)) (content put) done
   noted number a (TookFast owner database words) = account_taking_fast number a owner (slots_shown database words)
   noted number a (PutFast owner) = account_putting_fast number a owner
+  noted number a (SharedFast owner database words) = account_sharing_fast number a owner (slots_shown database words)
+  noted number a (UnsharedFast owner) = account_unsharing_fast a owner
   noted number a (Passed owner tag mode) = account_passing number a owner tag mode
   noted number a (Counted tag mode) = account_counting a tag mode
   noted number a (Uncounted tag mode) = account_uncounting a tag mode

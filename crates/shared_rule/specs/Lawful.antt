@@ -53,6 +53,7 @@ pub record HasJustLooked (number : ℕ) (a : Account) (shown : ℕ) : Type 0 whe
   pub waits : a.awaited ≡ Some wait
   pub no_partition : a.hand ≡ (λ _. None)
   pub no_slots : a.fast.slots ≡ (λ _. None)
+  pub no_shared_slots : a.fast.shared_slots ≡ (λ _. None)
   pub before : List TraceEntry
   pub looked : a.trace ≡ before ++ Loaded (word.Wait number) shown ∷ []
   pub not_granted : wait_state shown ≢ 2

@@ -10,7 +10,7 @@ use Rattle.lock_world.specs.AccountFacts.{KnowsContent, KnowsSlots}
 use Rattle.atomic_table.specs.declared.shared.Seat.{Seat}
 use Rattle.shared_rule.specs.declared.history.History.{History}
 use Rattle.shared_rule.specs.declared.history.Mark.{Mark}
-use Rattle.shared_rule.specs.declared.history.Mark.TheVariants.{TookPart, TookFast, LoadedFast}
+use Rattle.shared_rule.specs.declared.history.Mark.TheVariants.{TookPart, TookFast, SharedFast, LoadedFast}
 use Rattle.shared_rule.specs.declared.history.View.{View}
 use Rattle.shared_rule.specs.declared.layout.TheConstants.{TABLE_WORDS, CONTENT_SLOTS}
 use Rattle.shared_rule.specs.Layout.{index_of_word, content_slot_of, IsInTable}
@@ -67,22 +67,35 @@ module _ {T : Type 0} (content : T → Content) where
       × ((word : Word) → IsInTable word → step.word ≡ index_of_word word
       → KnowsWord (first_number before.0.sessions) (first_account content before.0.sessions) word found)
 
-  -- The lock of a session's slots came into hand, what they show was noted, and the session knows of it what its
-  -- account tells.
-  pub record TookSlots (owner : ℕ) (before after : Side T) : Type 0 where
+  -- The lock of a session's slots came into hand, or is shared: what they show was noted by this mark, and the session
+  -- knows of it what its account tells.
+  pub record SeesSlots (mark : ℕ → ℕ → List ℕ → Mark T) (owner : ℕ) (before after : Side T) : Type 0 where
     pub database : ℕ
     pub words : List ℕ
-    pub side : after ≡ (noting before.0 (TookFast owner database words), before.1)
+    pub side : after ≡ (noting before.0 (mark owner database words), before.1)
     pub knows :
         KnowsSlots (first_number before.0.sessions) (first_account content before.0.sessions) owner
         (slots_shown database words)
 
-  -- An exchange takes it where it finds the number that it expects, and else leaves the view so.
-  abbrev pub TookSlotsOr : (ℕ → View T → View T) → Step (Option T) → Side T → ℕ → Side T → Type 0
-  TookSlotsOr lost step before found after =
+  abbrev pub TookSlots : ℕ → Side T → Side T → Type 0
+  TookSlots = SeesSlots TookFast
+
+  abbrev pub SharedSlots : ℕ → Side T → Side T → Type 0
+  SharedSlots = SeesSlots SharedFast
+
+  -- An exchange does so where it finds the number that it expects, and else leaves the view so.
+  abbrev pub SeesSlotsOr :
+      (ℕ → ℕ → List ℕ → Mark T) → (ℕ → View T → View T) → Step (Option T) → Side T → ℕ → Side T → Type 0
+  SeesSlotsOr mark lost step before found after =
       (found ≡ step.first → (owner : ℕ) → owner < 64 → step.word ≡ index_of_word (Fast owner)
-      → TookSlots owner before after)
+      → SeesSlots mark owner before after)
       × (found ≢ step.first → after ≡ (lost found before.0, before.1))
+
+  abbrev pub TookSlotsOr : (ℕ → View T → View T) → Step (Option T) → Side T → ℕ → Side T → Type 0
+  TookSlotsOr = SeesSlotsOr TookFast
+
+  abbrev pub SharedSlotsOr : (ℕ → View T → View T) → Step (Option T) → Side T → ℕ → Side T → Type 0
+  SharedSlotsOr = SeesSlotsOr SharedFast
 
 module _ {T : Type 0} where
   -- A lost exchange is not noted, or is noted as a load of the own word.

@@ -7,7 +7,7 @@ use Rattle.lock_world.specs.SlotHolds.{slot_holds}
 use Rattle.lock_world.specs.WaitWord.{wait_state}
 use Rattle.lock_world.specs.World.{Loaded}
 use Rattle.lock_world.specs.Account.{Account, SlotsInHand}
-use Rattle.lock_world.specs.AccountSteps.{account_tracing, account_taking_fast}
+use Rattle.lock_world.specs.AccountSteps.{account_tracing, account_taking_fast, account_sharing_fast}
 use Rattle.lock_world.specs.AccountFacts.{KnowsSlots}
 
 -- What steps on slots tell the session of this number, whose account is `a` before them and `b` after them.
@@ -17,6 +17,12 @@ pub record TakesFast (number : ℕ) (a : Account) (owner : ℕ) (b : Account) : 
   pub slots : SlotsInHand
   pub knows : KnowsSlots number a owner slots
   pub account : b ≡ account_taking_fast number a owner slots
+
+-- It shares that lock: the same of slots that nobody changes while it does, and others may read too.
+pub record SharesFast (number : ℕ) (a : Account) (owner : ℕ) (b : Account) : Type 0 where
+  pub slots : SlotsInHand
+  pub knows : KnowsSlots number a owner slots
+  pub account : b ≡ account_sharing_fast number a owner slots
 
 -- An attempt to take the lock of its own slots, which first loads the lock's word:
 
@@ -44,16 +50,19 @@ abbrev pub TriesFast : {T E : Type 0} → ℕ → Account → Result T E → Acc
 TriesFast number a result b =
     MatchResult result (λ _. TookItFree number a b) (λ _. FoundItHeld number a b ⊎ FoundItChanged number a b)
 
--- What it knows of a number that it finds in a word: its slots in hand show it, its database is its own, and its own wait
--- word shows no wait where it has none.
+-- What it knows of a number that it finds in a word: the slots that it has in hand or shares show it, its database is its own,
+-- and its own wait word shows no wait where it has none.
+abbrev pub HasOrShares : Account → ℕ → SlotsInHand → Type 0
+HasOrShares a owner slots = (a.fast.slots owner ≡ Some slots) ⊎ (a.fast.shared_slots owner ≡ Some slots)
+
 abbrev pub KnowsWord : ℕ → Account → Word → ℕ → Type 0
 KnowsWord number a (Partition p) found = Unit {0}
 KnowsWord number a (Fast owner) found = Unit {0}
 KnowsWord number a (Database owner) found =
-    ((slots : SlotsInHand) → a.fast.slots owner ≡ Some slots → slots.holds ≡ slot_holds found slots.word)
+    ((slots : SlotsInHand) → HasOrShares a owner slots → slots.holds ≡ slot_holds found slots.word)
     × (owner ≡ number → found ≡ a.fast.database)
 KnowsWord number a (Slot owner place) found =
-    (slots : SlotsInHand) → a.fast.slots owner ≡ Some slots → found ≡ slots.word place
+    (slots : SlotsInHand) → HasOrShares a owner slots → found ≡ slots.word place
 KnowsWord number a (Wait owner) found = owner ≡ number → a.awaited ≡ None → wait_state found ≡ 0
 KnowsWord number a (Strong index) found = Unit {0}
 KnowsWord number a (Sleep owner) found = Unit {0}

@@ -15,16 +15,18 @@ ghost use Rattle.lock_world.specs.World.{Loaded, AskedToCancel};
 ghost use Rattle.lock_world.specs.Account.{Account, InHand, SlotsInHand};
 ghost use Rattle.lock_world.specs.SlotHolds.{slot_holds};
 ghost use Rattle.lock_world.specs.AccountSteps.{account_taking, account_putting};
-ghost use Rattle.lock_world.specs.AccountSteps.{account_putting_fast, account_passing, account_counting};
+ghost use Rattle.lock_world.specs.AccountSteps.{account_putting_fast, account_unsharing_fast};
+ghost use Rattle.lock_world.specs.AccountSteps.{account_passing, account_counting};
 ghost use Rattle.lock_world.specs.AccountSteps.{account_uncounting, account_tracing, account_waiting};
 ghost use Rattle.lock_world.specs.AccountSteps.{account_reading, account_storing, account_setting};
 ghost use Rattle.lock_world.specs.AccountSteps.{account_unsetting, account_transferring};
 ghost use Rattle.lock_world.specs.AccountFacts.{KnowsContent};
-ghost use Rattle.lock_world.specs.AccountLaw.{MayMoveBy, MayLeaveBy, MayPutFastBy, MayPassBy, MayCountBy, MayUncountBy};
+ghost use Rattle.lock_world.specs.AccountLaw.{MayMoveBy, MayLeaveBy, MayPutFastBy, MayUnshareFastBy};
+ghost use Rattle.lock_world.specs.AccountLaw.{MayPassBy, MayCountBy, MayUncountBy};
 ghost use Rattle.lock_world.specs.AccountLaw.{MaySetSlotBy, MayClearSlotBy, MayTransferBy};
 ghost use Rattle.shared_rule.specs.History.{taken_of, slots_here, in_hand, sessions_told};
 ghost use Rattle.shared_rule.specs.History.{account_granting, account_cleared, account_left};
-ghost use Rattle.shared_rule.specs.Slots.{TakesFast, TriesFast};
+ghost use Rattle.shared_rule.specs.Slots.{TakesFast, SharesFast, TriesFast};
 ghost use Rattle.shared_rule.specs.Boards.{Seated, Stack, nothing_due, stack_taking, stack_putting};
 ghost use Rattle.shared_rule.specs.Boards.{stack_owing, stack_asking, stack_waking};
 ghost use Rattle.shared_rule.specs.Lawful.{MayPutPart, IsGrantingIn, MayMarkBy, MayClearBy, HasJustLooked};
@@ -90,6 +92,7 @@ pub trait Board<T: PartTable> {
         requires exists { owner < (seat self.old).limit }
         requires nothing_due { stack self.old ≡ nothing_due }
         requires no_slots { (view self.old).fast.slots ≡ (λ _. None) }
+        requires no_shared_slots { (view self.old).fast.shared_slots ≡ (λ _. None) }
         ensures seat { seat self.new ≡ seat self.old }
         ensures taken { TakesFast (seat self.old).number (view self.old) owner (view self.new) }
         ensures stack { stack self.new ≡ stack self.old };
@@ -100,6 +103,7 @@ pub trait Board<T: PartTable> {
     fn try_take_fast(&mut self) -> Result<(), Busy>
         requires nothing_due { stack self.old ≡ nothing_due }
         requires no_slots { (view self.old).fast.slots ≡ (λ _. None) }
+        requires no_shared_slots { (view self.old).fast.shared_slots ≡ (λ _. None) }
         ensures seat { seat self.new ≡ seat self.old }
         ensures tried { TriesFast (seat self.old).number (view self.old) result (view self.new) }
         ensures stack { stack self.new ≡ stack self.old };
@@ -112,7 +116,27 @@ pub trait Board<T: PartTable> {
         ensures view { view self.new ≡ account_putting_fast (seat self.old).number (view self.old) owner }
         ensures stack { stack self.new ≡ stack self.old };
 
-    /// Puts that lock, and goes past its session with a strong lock that is counted (the end of a turn of the loop in
+    /// Shares the lock of a session's fast-path slots, whether its number is issued or not, so that nobody changes them
+    /// while others may read them too (`fpInfoLock` in `LW_SHARED`, as `GetLockStatusData` in lock.c takes it). It waits
+    /// until nobody holds the lock exclusively.
+    fn share_fast<R: Wait>(&mut self, rt: &R, owner: SessionId)
+        requires exists { owner < (seat self.old).limit }
+        requires nothing_due { stack self.old ≡ nothing_due }
+        requires no_slots { (view self.old).fast.slots ≡ (λ _. None) }
+        requires no_shared_slots { (view self.old).fast.shared_slots ≡ (λ _. None) }
+        ensures seat { seat self.new ≡ seat self.old }
+        ensures shared { SharesFast (seat self.old).number (view self.old) owner (view self.new) }
+        ensures stack { stack self.new ≡ stack self.old };
+
+    /// Shares that lock no more.
+    fn unshare_fast(&mut self, owner: SessionId)
+        requires exists { owner < (seat self.old).limit }
+        requires lawful { (slots : SlotsInHand) × MayUnshareFastBy (view self.old) owner slots }
+        ensures seat { seat self.new ≡ seat self.old }
+        ensures view { view self.new ≡ account_unsharing_fast (view self.old) owner }
+        ensures stack { stack self.new ≡ stack self.old };
+
+    /// Puts a lock that it holds exclusively, and goes past its session with a strong lock that is counted (the end of a turn of the loop in
     /// `FastPathTransferRelationLocks` in lock.c).
     fn pass_fast(&mut self, owner: SessionId, tag: &Tag, mode: Mode)
         requires exists { owner < (seat self.old).limit }
@@ -142,6 +166,8 @@ pub trait Board<T: PartTable> {
         ensures stack { stack self.new ≡ stack self.old }
         ensures of_slots { (slots : SlotsInHand) → (view self.old).fast.slots owner ≡ Some slots
             → slots.holds ≡ slot_holds result slots.word }
+        ensures of_shared_slots { (slots : SlotsInHand) → (view self.old).fast.shared_slots owner ≡ Some slots
+            → slots.holds ≡ slot_holds result slots.word }
         ensures own { owner ≡ (seat self.old).number → result ≡ (view self.old).fast.database };
 
     /// Stores the own database, once (`InitPostgres` in postinit.c).
@@ -158,6 +184,8 @@ pub trait Board<T: PartTable> {
         ensures view { view self.new ≡ account_tracing (view self.old) (Loaded (Slot owner place) result) }
         ensures stack { stack self.new ≡ stack self.old }
         ensures of_slots { (slots : SlotsInHand) → (view self.old).fast.slots owner ≡ Some slots
+            → result ≡ slots.word place }
+        ensures of_shared_slots { (slots : SlotsInHand) → (view self.old).fast.shared_slots owner ≡ Some slots
             → result ≡ slots.word place };
 
     /// Loads a strong lock counter. Where it is 0, and the own slots are in hand, slots may be set for objects of its

@@ -29,7 +29,17 @@ pub enum Mark<T> {
     PutFast {
         owner: u8,
     },
-    /// It put that lock, and its strong lock, which it has counted, is past the session.
+    /// It shares the lock of a session's fast-path slots, which show these numbers with this database.
+    SharedFast {
+        owner: u8,
+        database: u64,
+        words: [u64; 0],
+    },
+    /// It gave that back.
+    UnsharedFast {
+        owner: u8,
+    },
+    /// It put the lock of a session's slots, and its strong lock, which it has counted, is past the session.
     Passed {
         owner: u8,
         tag: Tag,

@@ -17,6 +17,7 @@ mod plays;
 pub mod rule;
 pub mod seat_board;
 mod seats;
+mod sharing;
 mod slots;
 pub mod table;
 mod waits;

@@ -12,7 +12,7 @@ use crate::layout::wait_word;
 use crate::owed::{Change, Owed};
 use crate::rule::Place;
 use crate::table::{SharedTable, open};
-use crate::{counters, locks, partitions, slots, waits};
+use crate::{counters, locks, partitions, sharing, slots, waits};
 use atomic_table::Refused;
 use lock_table::{Move, PartTable, Woken};
 use lw_word::SlotWord;
@@ -106,6 +106,16 @@ impl<T: PartTable> Board<T> for OneThread<T> {
     fn put_fast(&mut self, owner: SessionId) {
         let table = &self.table;
         locks::put_fast::<T, Brand>(&table.shared, &mut self.place, owner);
+    }
+
+    fn share_fast<R: Wait>(&mut self, rt: &R, owner: SessionId) {
+        let table = &self.table;
+        sharing::share_fast(rt, &table.shared, &mut self.place, owner);
+    }
+
+    fn unshare_fast(&mut self, owner: SessionId) {
+        let table = &self.table;
+        sharing::unshare_fast::<T, Brand>(&table.shared, &mut self.place, owner);
     }
 
     fn pass_fast(&mut self, owner: SessionId, tag: &Tag, mode: Mode) {

@@ -71,7 +71,17 @@ impl<T: PartTable> Play<Option<T>, View<T>> for TakesSlots {
     ghost then = { TookSlotsOr T.content unnoted };
 }
 
-/// The same of the own slots, where a lost exchange is noted as a load of the word.
+/// An exchange that shares the lock of a session's slots where it finds the number that it expects, and else changes
+/// nothing.
+pub struct SharesSlots;
+
+impl<T: PartTable> Play<Option<T>, View<T>> for SharesSlots {
+    ghost use Rattle.shared_rule.specs.Plays.{SharedSlotsOr, unnoted};
+
+    ghost then = { SharedSlotsOr T.content unnoted };
+}
+
+/// The same as `TakesSlots` of the own slots, where a lost exchange is noted as a load of the word.
 pub struct TriesSlots;
 
 impl<T: PartTable> Play<Option<T>, View<T>> for TriesSlots {

@@ -12,7 +12,7 @@ use crate::busy::Busy;
 use crate::layout::wait_word;
 use crate::owed::{Change, Owed};
 use crate::rule::{Place, Top};
-use crate::{counters, locks, partitions, seats, slots, waits};
+use crate::{counters, locks, partitions, seats, sharing, slots, waits};
 use lock_table::{Move, PartTable, Woken};
 use lw_word::SlotWord;
 use modes_core::{Mode, SessionId, Tag};
@@ -151,6 +151,14 @@ impl<'a, T: PartTable> Board<T> for SeatBoard<'a, T> {
 
     fn put_fast(&mut self, owner: SessionId) {
         locks::put_fast::<T, Brand>(self.table, &mut self.place, owner);
+    }
+
+    fn share_fast<R: Wait>(&mut self, rt: &R, owner: SessionId) {
+        sharing::share_fast(rt, self.table, &mut self.place, owner);
+    }
+
+    fn unshare_fast(&mut self, owner: SessionId) {
+        sharing::unshare_fast::<T, Brand>(self.table, &mut self.place, owner);
     }
 
     fn pass_fast(&mut self, owner: SessionId, tag: &Tag, mode: Mode) {

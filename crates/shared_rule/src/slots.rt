@@ -33,6 +33,9 @@ pub(crate) fn load_database<T: PartTable, M: Marking<T>>(
     ensures side { place.new.me ≡ (noting place.old.me.0 (LoadedDatabase owner result), place.old.me.1) }
     ensures of_slots { (slots : SlotsInHand) → (account_at T.content place.old).fast.slots owner ≡ Some slots
         → slots.holds ≡ slot_holds result slots.word }
+    ensures of_shared_slots { (slots : SlotsInHand)
+        → (account_at T.content place.old).fast.shared_slots owner ≡ Some slots
+        → slots.holds ≡ slot_holds result slots.word }
     ensures own { owner ≡ number_at place.old → result ≡ (account_at T.content place.old).fast.database }
 {
     look_as::<T, M>(top, place, database_word(owner))
@@ -53,6 +56,8 @@ pub(crate) fn load_slot<T: PartTable, M: Marking<T>>(
     ensures side { place.new.me ≡ (noting place.old.me.0 (LoadedSlot owner slot result), place.old.me.1) }
     ensures of_slots { (slots : SlotsInHand) → (account_at T.content place.old).fast.slots owner ≡ Some slots
         → result ≡ slots.word slot }
+    ensures of_shared_slots { (slots : SlotsInHand)
+        → (account_at T.content place.old).fast.shared_slots owner ≡ Some slots → result ≡ slots.word slot }
 {
     SlotWord::from_number(look_as::<T, M>(top, place, slot_word(owner, slot)))
 }

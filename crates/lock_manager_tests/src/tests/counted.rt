@@ -105,6 +105,16 @@ impl<'a, T: PartTable, B: Board<T>> Board<T> for CountingBoard<'a, B> {
         self.board.put_fast(owner);
     }
 
+    fn share_fast<R: Wait>(&mut self, rt: &R, owner: SessionId) {
+        self.steps.count();
+        self.board.share_fast(rt, owner);
+    }
+
+    fn unshare_fast(&mut self, owner: SessionId) {
+        self.steps.count();
+        self.board.unshare_fast(owner);
+    }
+
     fn pass_fast(&mut self, owner: SessionId, tag: &Tag, mode: Mode) {
         self.steps.count();
         self.board.pass_fast(owner, tag, mode);

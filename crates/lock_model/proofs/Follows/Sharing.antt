@@ -9,6 +9,7 @@ use Rattle.lw_word.specs.declared.words.LwMode.TheVariants.{Shared}
 use Rattle.lock_world.specs.World.{World}
 use Rattle.lock_world.specs.Happens.{Next}
 use Rattle.lock_world.specs.Happens.Sharing.{MayShare, MayUnshare, after_sharing_partition, after_unsharing_partition, after_sharing_fast, after_unsharing_fast}
+use Rattle.lock_world.specs.Happens.Slots.{remembered_after_taking}
 use Rattle.lock_world.specs.Safe.{ShowsHolders}
 use Rattle.lock_world.specs.SafeWorld.{SafeWorld}
 use Rattle.lock_table.specs.Put.{set_at}
@@ -103,14 +104,17 @@ module _ (m : Machine) (w : World) (safe : SafeWorld w) (shows : Shows m w) wher
         shown_partition s p _ word false below exists in_words (made_shown word _ is (put_shown its _ says Shared held)),
       )
 
-  -- The word of a session's fast-path slots.
-  shown_fast : (s o number : ℕ) (word : LockState) (b : Bool) → s < 64 → o < 64 → ShowsLock word number
+  -- The word of a session's fast-path slots. What sessions remember of their slots the machine does not show.
+  shown_fast : (s o number : ℕ) (word : LockState) (b : Bool) (remembered : ℕ → ℕ → ℕ) → s < 64 → o < 64 → ShowsLock word number
       → Shows (with_fast_sharer m s o word b)
       (record w {
         words = record (w.words) { fast = set_at w.words.fast o number };
-        sessions = record (w.sessions) { shares_fast = set_at w.sessions.shares_fast s (set_at (w.sessions.shares_fast s) o b) };
+        sessions = record (w.sessions) {
+          shares_fast = set_at w.sessions.shares_fast s (set_at (w.sessions.shares_fast s) o b);
+          remembered = remembered;
+        };
       })
-  shown_fast s o number word b below exists says = record {
+  shown_fast s o number word b remembered below exists says = record {
     numbers = shows.numbers;
     words = fast_word-set m.words w.words o word number shows.words exists says;
     fast_path = shows.fast_path;
@@ -131,7 +135,7 @@ module _ (m : Machine) (w : World) (safe : SafeWorld w) (shows : Shows m w) wher
   shared_fast s o its word steps below exists says answer new = (
     after_sharing_fast w s o,
     inl (subst (λ n. o < n) (sym shows.numbers.limit) exists, may_share s o _ its m.locks.fast_sharers 64 w.sessions.shares_fast shows.locks.fast_sharers says steps answer.0.0 new, refl),
-    shown_fast s o _ word true below exists (made_shown word _ answer.1 (taken_shown its _ says Shared (omega (arith, answer.0.1)) answer.0.0)),
+    shown_fast s o _ word true (remembered_after_taking w.sessions.remembered w.words.slot s o) below exists (made_shown word _ answer.1 (taken_shown its _ says Shared (omega (arith, answer.0.1)) answer.0.0)),
   )
 
   pub not_shared_fast : (s o : ℕ) (its : LockState) → ShowsLock its (w.words.fast o) → (IsFreeFor Shared its × (its.shared ≤ 64) → ⊥)
@@ -147,5 +151,5 @@ module _ (m : Machine) (w : World) (safe : SafeWorld w) (shows : Shows m w) wher
       let held = sharer_shown w.numbers.limit (w.words.fast o) _ _ (safe.but_slots.locks.fast_words o) s may.sharing in (
         after_unsharing_fast w s o,
         inl (may, refl),
-        shown_fast s o _ word false below exists (made_shown word _ is (put_shown its _ says Shared held)),
+        shown_fast s o _ word false w.sessions.remembered below exists (made_shown word _ is (put_shown its _ says Shared held)),
       )

@@ -14,9 +14,11 @@ use Rattle.lw_word.specs.SlotWord.{shows}
 use Rattle.lock_world.specs.SlotHolds.{slot_count, slot_holds, relation_of, any_below, IsSlotToGrant}
 use Rattle.lock_world.specs.World.{World, Hand, MakesSteps, recorded_in, is_unmarked}
 use Rattle.lock_world.specs.Account.{InHand, SlotsInHand, own_hand, known_slots, account}
-use Rattle.lock_world.specs.AccountLaw.{MayMoveBy, MayPutBy, MayPutRecordedBy, MayClearSeenBy, MayClearInHandBy, MayLeaveBy, MayPutFastBy, MayPassBy, MaySetSlotBy, MayClearSlotBy, MayTransferBy, MayCountBy, MayUncountBy}
+use Rattle.lock_world.specs.AccountLaw.{MayMoveBy, MayPutBy, MayPutRecordedBy, MayClearSeenBy, MayClearInHandBy, MayLeaveBy, MayPutFastBy, MayShareFastBy, MayUnshareFastBy, MayPassBy, MaySetSlotBy, MayClearSlotBy, MayTransferBy, MayCountBy, MayUncountBy}
 use Rattle.lock_world.specs.Happens.Partitions.{MayMove, MayPutPartition, MayPutRecorded}
 use Rattle.lock_world.specs.Happens.Waits.{MayClearSeen, MayClearInHand, MayLeave}
+use Rattle.lw_word.specs.LightweightWord.{IsFreeToShare}
+use Rattle.lock_world.specs.Happens.Sharing.{MayShare, MayUnshare}
 use Rattle.lock_world.specs.Happens.Slots.{MayPutFast, MaySetSlot, MayClearSlot}
 use Rattle.lock_world.specs.Happens.Transfers.{MayAdopt, MayTransfer}
 use Rattle.lock_world.specs.Happens.Counters.{MayCount, MayUncount, MayPass}
@@ -46,6 +48,11 @@ hand-known (Some h) now s its known =
 pub slots-known : (has : Bool) (database : ℕ) (slot : ℕ → ℕ) (its : SlotsInHand) → known_slots has database slot ≡ Some its → (has ≡ true) × (its ≡ record { word = slot; holds = slot_holds database slot })
 slots-known true database slot its known = (refl, cc)
 slots-known false database slot its known = absurd (cc)
+
+-- Where none are known, the lock is not had.
+pub slots-not_known : (has : Bool) (database : ℕ) (slot : ℕ → ℕ) → known_slots has database slot ≡ None → has ≡ false
+slots-not_known true database slot none = absurd (cc)
+slots-not_known false database slot none = refl
 
 -- What a session must have for a move is asked of its own holds alone.
 fits-own : (own : Holds) (awaited : Option OwnWait) (s : ℕ) (done : Move) → FitsOwn (λ _. own s) awaited s done → FitsOwn own awaited s done
@@ -112,6 +119,19 @@ module _ (w : World) (safe : SafeWorld w) (s : ℕ) (steps : MakesSteps w.number
 
   pub put_fast-lawful : (o : ℕ) (its : SlotsInHand) → MayPutFastBy (account w s) o its → MayPutFast w s o
   put_fast-lawful o its may = record { steps = steps; holding = (known o its may.in_hand).0 }
+
+  pub share_fast-lawful : (o : ℕ) → IsFreeToShare (w.words.fast o) → MayShareFastBy (account w s) o → MayShare w.numbers (w.words.fast o) w.sessions.shares_fast s o
+  share_fast-lawful o free may = record {
+    steps = steps;
+    free = free;
+    new = slots-not_known (w.sessions.shares_fast s o) (w.words.database o) (w.words.slot o) may.not_shared;
+  }
+
+  pub unshare_fast-lawful : (o : ℕ) (its : SlotsInHand) → MayUnshareFastBy (account w s) o its → MayUnshare w.numbers w.sessions.shares_fast s o
+  unshare_fast-lawful o its may = record {
+    steps = steps;
+    sharing = (slots-known (w.sessions.shares_fast s o) (w.words.database o) (w.words.slot o) its may.shared).0;
+  }
 
   pub pass-lawful : (o : ℕ) (its : SlotsInHand) (t : Tag) (m : Mode) → o < w.numbers.limit → MayPassBy (account w s) o its t m → MayPass w s o t m
   pass-lawful o its t m exists may = record {

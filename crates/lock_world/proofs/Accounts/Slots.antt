@@ -15,8 +15,9 @@ use Rattle.lock_world.specs.SlotHolds.{slot_holds, relation_of}
 use Rattle.lock_world.specs.Counted.{counting, uncounting, passing}
 use Rattle.lock_world.specs.World.{World, Hand, Loaded, is_unmarked}
 use Rattle.lock_world.specs.Account.{FastAccount, SlotsInHand, Account, known_slots, slots_in_hand, own_hands, fast_account, account}
-use Rattle.lock_world.specs.AccountSteps.{account_tracing, account_taking_fast, account_putting_fast, account_passing, account_counting, account_uncounting, account_storing, account_reading, account_setting, account_unsetting, account_transferring}
+use Rattle.lock_world.specs.AccountSteps.{account_tracing, account_taking_fast, account_putting_fast, account_sharing_fast, account_unsharing_fast, account_passing, account_counting, account_uncounting, account_storing, account_reading, account_setting, account_unsetting, account_transferring}
 use Rattle.lock_world.specs.Happens.Slots.{remembered_after_taking, after_taking_fast, zero_after_putting, after_putting_fast, after_loading, after_reading_counter, MaySetSlot, after_setting_slot, MayClearSlot, after_clearing_slot, MayStoreDatabase, after_storing_database}
+use Rattle.lock_world.specs.Happens.Sharing.{after_sharing_fast, after_unsharing_fast}
 use Rattle.lock_world.specs.Happens.Counters.{after_counting, after_uncounting, after_passing}
 use Rattle.lock_world.specs.Happens.Waits.{recording}
 use Rattle.lock_world.specs.Happens.Transfers.{MayTransfer, after_transferring}
@@ -68,6 +69,15 @@ holds-had w s o b =
     ap (λ has. slots_in_hand has w.words.database w.words.slot) (set_at-here w.sessions.holds_fast s (set_at (w.sessions.holds_fast s) o b) s refl)
     ∙ slots-had (w.sessions.holds_fast s) w.words.database w.words.slot o b
 
+-- the same of those that are shared
+shares-had :
+    (w : World) (s o : ℕ) (b : Bool)
+    → slots_in_hand (set_at w.sessions.shares_fast s (set_at (w.sessions.shares_fast s) o b) s) w.words.database w.words.slot
+    ≡ set_at (slots_in_hand (w.sessions.shares_fast s) w.words.database w.words.slot) o (known_slots b (w.words.database o) (w.words.slot o))
+shares-had w s o b =
+    ap (λ has. slots_in_hand has w.words.database w.words.slot) (set_at-here w.sessions.shares_fast s (set_at (w.sessions.shares_fast s) o b) s refl)
+    ∙ slots-had (w.sessions.shares_fast s) w.words.database w.words.slot o b
+
 -- Taking the lock of a session's slots, and putting it: its own the session remembers as they show.
 remembered-taken :
     (remembered slot : ℕ → ℕ → ℕ) (s o : ℕ)
@@ -98,6 +108,23 @@ pub account-putting_fast : (w : World) (s o : ℕ) → account (after_putting_fa
 account-putting_fast w s o =
     account-by (after_putting_fast w s o) s (account_putting_fast s (account w s) o) refl refl refl refl refl refl
     (fast-by (after_putting_fast w s o) s (account_putting_fast s (account w s) o).fast (holds-had w s o false) refl refl refl (zero-put w.sessions.zero s o) refl) refl
+
+-- Sharing it, and giving it back.
+pub account-sharing_fast :
+    (w : World) (s o : ℕ)
+    → account (after_sharing_fast w s o) s
+    ≡ account_sharing_fast s (account w s) o (record { word = w.words.slot o; holds = slot_holds (w.words.database o) (w.words.slot o) })
+account-sharing_fast w s o =
+    account-by (after_sharing_fast w s o) s (account_sharing_fast s (account w s) o slots) refl refl refl refl refl refl
+    (fast-by (after_sharing_fast w s o) s (account_sharing_fast s (account w s) o slots).fast refl (shares-had w s o true)
+    refl (remembered-taken w.sessions.remembered w.words.slot s o) refl refl) refl where
+      slots : SlotsInHand
+      slots = record { word = w.words.slot o; holds = slot_holds (w.words.database o) (w.words.slot o) }
+
+pub account-unsharing_fast : (w : World) (s o : ℕ) → account (after_unsharing_fast w s o) s ≡ account_unsharing_fast (account w s) o
+account-unsharing_fast w s o =
+    account-by (after_unsharing_fast w s o) s (account_unsharing_fast (account w s) o) refl refl refl refl refl refl
+    (fast-by (after_unsharing_fast w s o) s (account_unsharing_fast (account w s) o).fast refl (shares-had w s o false) refl refl refl refl) refl
 
 -- Counting, counting no more, and going past a session.
 pub account-counting : (w : World) (s : ℕ) (t : Tag) (m : Mode) → account (after_counting w s t m) s ≡ account_counting (account w s) t m

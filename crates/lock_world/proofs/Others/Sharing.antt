@@ -4,6 +4,7 @@ use Rattle.lock_world.specs.Account.{slots_in_hand, IsLeftAlone}
 use Rattle.lock_world.specs.Happens.Sharing.{HappensSharingPartition, HappensUnsharingPartition, HappensSharingFast, after_sharing_fast, HappensUnsharingFast, after_unsharing_fast}
 use Rattle.lock_table.specs.Put.{set_at}
 use Rattle.lock_table.proofs.PutLemmas.{set_at-else}
+use Rattle.lock_world.proofs.Others.Slots.{remembered-taken_others}
 use Rattle.lock_world.proofs.Others.Hands.{IsLeftAlone-same, IsLeftAlone-by, fast_account-by}
 
 pub sharing_partition-others : (w : World) (s p : ℕ) (v : World) (k : ℕ) → k ≢ s → HappensSharingPartition w s p v → IsLeftAlone w v k
@@ -19,7 +20,8 @@ unsharing_partition-others w s p v k other h =
 pub sharing_fast-others : (w : World) (s o : ℕ) (v : World) (k : ℕ) → k ≢ s → HappensSharingFast w s o v → IsLeftAlone w v k
 sharing_fast-others w s o v k other h =
     IsLeftAlone-same k w _ v h.2
-    (IsLeftAlone-by w (after_sharing_fast w s o) k refl refl refl refl refl refl (fast_account-by w (after_sharing_fast w s o) k refl (ap (λ has. slots_in_hand has w.words.database w.words.slot) (set_at-else w.sessions.shares_fast s (set_at (w.sessions.shares_fast s) o true) k other)) refl refl refl refl) refl refl refl)
+    (IsLeftAlone-by w (after_sharing_fast w s o) k refl refl refl refl refl refl (fast_account-by w (after_sharing_fast w s o) k refl (ap (λ has. slots_in_hand has w.words.database w.words.slot) (set_at-else w.sessions.shares_fast s (set_at (w.sessions.shares_fast s) o true) k other)) refl
+    (remembered-taken_others w.sessions.remembered w.words.slot s o k other) refl refl) refl refl refl)
 
 pub unsharing_fast-others : (w : World) (s o : ℕ) (v : World) (k : ℕ) → k ≢ s → HappensUnsharingFast w s o v → IsLeftAlone w v k
 unsharing_fast-others w s o v k other h =

@@ -34,7 +34,7 @@ zero-read_others zero holds_fast s index shown k other = go ((shown == 0) && hol
   go false = refl
 
 -- What another session remembers of its slots is as it was.
-remembered-taken_others :
+pub remembered-taken_others :
     (remembered slot : ℕ → ℕ → ℕ) (s o k : ℕ) → k ≢ s → remembered_after_taking remembered slot s o k ≡ remembered k
 remembered-taken_others remembered slot s o k other = go (o == s) where
   go : (b : Bool) → (if b then set_at remembered s (slot o) else remembered) k ≡ remembered k

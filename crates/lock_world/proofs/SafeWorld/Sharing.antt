@@ -6,6 +6,7 @@ use Rattle.lw_word.specs.LightweightWord.{shared_word, unshared_word}
 use Rattle.lw_word.proofs.WordLemmas.{shared_word-flags, unshared_word-flags}
 use Rattle.lock_world.specs.Happens.Lists.{sleepers}
 use Rattle.lock_world.proofs.ListWords.{flags-partition, flags-fast}
+use Rattle.lock_world.proofs.Slots.Remembered.{remembered-seen}
 use Rattle.lock_world.proofs.Words.Holders.{shared-room, shared-some}
 use Rattle.lock_world.proofs.Safe.Sharing.{live-within, sharing_partition-safe, unsharing_partition-safe, sharing_fast-safe, unsharing_fast-safe}
 
@@ -53,7 +54,7 @@ sharing_fast-safe_world w s o safe may = record {
   past = safe.past;
   done = safe.done;
   zero = safe.zero;
-  remembered = safe.remembered;
+  remembered = remembered-seen w.words.slot w.sessions.remembered s o safe.remembered;
 }
 
 pub unsharing_fast-safe_world : (w : World) (s o : ℕ) → SafeWorld w → MayUnshare w.numbers w.sessions.shares_fast s o → SafeWorld (after_unsharing_fast w s o)

@@ -2,6 +2,7 @@ use Rattle.std.specs.Prelude.{◌≡◌, ℕ, ◌<◌, Bool, true, false}
 use Rattle.lw_word.specs.LightweightWord.{IsFreeToShare, shared_word, unshared_word}
 use Rattle.lock_table.specs.Put.{set_at}
 use Rattle.lock_world.specs.World.{World, Numbers, MakesSteps}
+use Rattle.lock_world.specs.Happens.Slots.{remembered_after_taking}
 
 -- Sharing: a session holds a lightweight lock beside others (LW_SHARED in lwlock.h).
 
@@ -47,13 +48,15 @@ HappensUnsharingPartition w session partition v =
     MayUnshare w.numbers w.sessions.shares_partition session partition
     × (v ≡ after_unsharing_partition w session partition)
 
--- The word of the lock of a session's fast-path slots.
+-- The word of the lock of a session's fast-path slots. While it is shared the slots stay as they show, so whoever shares its own
+-- remembers them from then on so, as by taking it.
 abbrev pub after_sharing_fast : World → ℕ → ℕ → World
 after_sharing_fast w session owner = record {
   words = record (w.words) { fast = set_at w.words.fast owner (shared_word (w.words.fast owner)) };
   contents = w.contents;
   sessions = record (w.sessions) {
     shares_fast = set_at w.sessions.shares_fast session (set_at (w.sessions.shares_fast session) owner true);
+    remembered = remembered_after_taking w.sessions.remembered w.words.slot session owner;
   };
   numbers = w.numbers;
 }

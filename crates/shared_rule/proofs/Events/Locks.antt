@@ -8,43 +8,53 @@ use Rattle.atomic_table.specs.Table.{State, step, Act, keeps, Allows, Valid, ste
 use Rattle.atomic_table.proofs.Lists.{exchanged}
 use Rattle.modes_core.specs.declared.modes.Mode.{Mode}
 use Rattle.modes_core.specs.declared.tags.Tag.{Tag}
-use Rattle.lw_word.specs.LightweightWord.{IsHeldByNobody, IsHeldExclusively, taken_word, put_word}
+use Rattle.lw_word.specs.LightweightWord.{IsHeldByNobody, IsHeldExclusively, IsFreeToShare, taken_word, put_word}
+use Rattle.lw_word.specs.LightweightWord.{shared_count, shared_word, unshared_word}
 use Rattle.lock_table.specs.declared.request.Request.{Request}
 use Rattle.lock_table.specs.declared.moves.Move.TheVariants.{Keep}
 use Rattle.lock_table.specs.Content.{Content}
 use Rattle.lock_table.proofs.PutLemmas.{set_at-here}
 use Rattle.lock_world.specs.declared.events.Word.TheVariants.{Fast}
-use Rattle.lock_world.specs.declared.events.Step.TheVariants.{TakeExclusive, PutExclusive, PutPassing}
+use Rattle.lock_world.specs.declared.events.Step.TheVariants.{TakeExclusive, PutExclusive, TakeShared, PutShared, PutPassing}
 use Rattle.lock_world.specs.SlotHolds.{slot_count, slot_holds}
 use Rattle.lock_world.specs.World.{World}
 use Rattle.lock_world.specs.Counted.{passing, passed}
 use Rattle.lock_world.specs.Happens.Slots.{after_taking_fast, after_putting_fast}
+use Rattle.lock_world.specs.Happens.Sharing.{after_sharing_fast, after_unsharing_fast}
 use Rattle.lock_world.specs.Happens.Counters.{most_counted, after_passing}
 use Rattle.lock_world.specs.Account.{SlotsInHand, account}
 use Rattle.lock_world.specs.AccountSteps.{account_taking_fast, account_putting_fast, account_passing}
-use Rattle.lock_world.specs.AccountLaw.{MayPutFastBy, MayPassBy}
+use Rattle.lock_world.specs.AccountSteps.{account_sharing_fast, account_unsharing_fast}
+use Rattle.lock_world.specs.AccountLaw.{MayPutFastBy, MayPassBy, MayShareFastBy, MayUnshareFastBy}
 use Rattle.lock_world.proofs.Accounts.Lawful.{put_fast-lawful, pass-lawful, slots-known}
+use Rattle.lock_world.proofs.Accounts.Lawful.{share_fast-lawful, unshare_fast-lawful}
+use Rattle.lock_world.proofs.Words.Holders.{shared-some}
 use Rattle.lock_world.specs.AccountFacts.{KnowsSlots}
 use Rattle.lock_world.proofs.Accounts.Facts.{slots-told}
 use Rattle.lock_world.proofs.Accounts.Slots.{account-taking_fast, account-putting_fast, account-passing}
+use Rattle.lock_world.proofs.Accounts.Slots.{account-sharing_fast, account-unsharing_fast}
+use Rattle.shared_rule.specs.declared.history.Mark.{Mark}
 use Rattle.shared_rule.specs.declared.history.Mark.TheVariants as mark
 use Rattle.shared_rule.specs.declared.history.History.{History}
 use Rattle.shared_rule.specs.declared.history.View.{View}
 use Rattle.shared_rule.specs.Layout.{index_of_word}
 use Rattle.shared_rule.specs.Shown.{WordsAreShown, set_word}
 use Rattle.shared_rule.specs.History.{told, noting, first_account, first_number, slots_shown}
-use Rattle.shared_rule.specs.Ruled.{Ruled}
-use Rattle.shared_rule.specs.Plays.{Side, TookSlots, TookSlotsOr, unnoted, noted_load}
+use Rattle.shared_rule.specs.Ruled.{ContentsAreHome, Ruled}
+use Rattle.shared_rule.specs.Plays.{Side, SeesSlots, SeesSlotsOr, TookSlotsOr, SharedSlotsOr, unnoted, noted_load}
 use Rattle.shared_rule.proofs.Shown.{words-set}
 use Rattle.shared_rule.proofs.Frame.{Stepper, IsNoted, ruled-steps, ruled-noted}
 use Rattle.shared_rule.proofs.Events.Words.{IsAlwaysLawful, rule-after, nothing-changes}
 use Rattle.shared_rule.proofs.Events.Loads.{loading_fast-lawful}
 
--- Taking the lock of a session's fast-path slots, and putting it, with that session passed or not.
+-- Taking the lock of a session's fast-path slots, and putting it, with that session passed or not; and sharing it.
 
 -- What the fetch-and-subtract of an exclusive holder makes of a word.
 pub put_word-wraps : (n : ℕ) → n < 2 ^ 64 → IsHeldExclusively n → put_word n ≡ (n + (2 ^ 64 - 2 ^ 24)) % 2 ^ 64
 put_word-wraps n below held = omega (arith, below, held)
+
+unshared_word-wraps : (n : ℕ) → n < 2 ^ 64 → 0 < shared_count n → unshared_word n ≡ (n + (2 ^ 64 - 1)) % 2 ^ 64
+unshared_word-wraps n below many = omega (arith, below, many)
 
 -- The first words of a session's slots, as a list.
 abbrev pub listed : ℕ → (ℕ → ℕ) → List ℕ
@@ -86,6 +96,38 @@ taking_fast-noted content limit x owner w steps exists free = record {
   few_counted = steps.few_counted x.number;
 }
 
+-- So is sharing it.
+abbrev sharing_fast-noted :
+    {T : Type 0} (content : T → Content) (limit : ℕ) (x : History T) (owner : ℕ) (w : World)
+    → Stepper limit w x.number (told content x.number x.marks) → owner < w.numbers.limit
+    → IsFreeToShare (w.words.fast owner) → MayShareFastBy (told content x.number x.marks) owner
+    → IsNoted content w x.number (told content x.number x.marks) (mark.SharedFast owner (w.words.database owner)
+    (listed slot_count (w.words.slot owner))) (set_word w.words (Fast owner) (shared_word (w.words.fast owner)))
+sharing_fast-noted content limit x owner w steps exists free may = record {
+  step = TakeShared (Fast owner);
+  after = after_sharing_fast w x.number owner;
+  happens = (
+    exists,
+    share_fast-lawful w steps.safe x.number steps.makes owner free (subst (λ a. MayShareFastBy a owner) steps.account may),
+    refl,
+  );
+  numbers = refl;
+  account = (λ i. account_sharing_fast x.number (steps.account i) owner (slots-listed (w.words.database owner)
+      (w.words.slot owner) (steps.none_beyond owner) i))
+      ∙ sym (account-sharing_fast w x.number owner);
+  words = refl;
+  none_beyond = steps.none_beyond;
+  few_counted = steps.few_counted x.number;
+}
+
+-- Whatever is so noted, with the word next, leaves the contents as they are.
+record Sees {T : Type 0} (content : T → Content) (x : History T) (owner : ℕ) (w : World)
+    (mark : ℕ → ℕ → List ℕ → Mark T) (next : ℕ) : Type 0 where
+  noted :
+      IsNoted content w x.number (told content x.number x.marks) (mark owner (w.words.database owner)
+      (listed slot_count (w.words.slot owner))) (set_word w.words (Fast owner) next)
+  contents : noted.after.contents ≡ w.contents
+
 module _ {T : Type 0} (content : T → Content) (begun : T → Option Request) (limit slots id : ℕ) (me : Side T)
     (x : History T) (others : List (History T)) (is : me.0.sessions ≡ x ∷ others)
     (owner : ℕ) (inside : owner < 64) where
@@ -93,11 +135,12 @@ module _ {T : Type 0} (content : T → Content) (begun : T → Option Request) (
   abbrev at_word : ℕ
   at_word = index_of_word (Fast owner)
 
-  -- The exchange takes it where it finds the number of a free word. A lost one is a step that keeps the rule.
-  takes_fast_or :
-      (lost : ℕ → View T → View T) (old new : ℕ)
-      → ((w : World) → Stepper limit w x.number (told content x.number x.marks) → owner < w.numbers.limit)
-      → IsHeldByNobody old → new ≡ taken_word old
+  -- The exchange takes it, or shares it, where it finds the number that it expects, and makes this mark. A lost one is a
+  -- step that keeps the rule.
+  sees_slots_or :
+      (mark : ℕ → ℕ → List ℕ → Mark T) (lost : ℕ → View T → View T) (old new : ℕ)
+      → ((w : World) → Stepper limit w x.number (told content x.number x.marks) → w.words.fast owner ≡ old
+      → Sees content x owner w mark new)
       → ((s : State (Option T) (View T)) → Ruled content begun limit s → get_elem? s.views id ≡ some me.0
       → slice_index s.words at_word < 2 ^ 64
       → Ruled content begun limit (record {
@@ -108,41 +151,36 @@ module _ {T : Type 0} (content : T → Content) (begun : T → Option Request) (
       }))
       → (i : ℕ) → i ≡ at_word
       → Allows (Ruled content begun limit) slots id me i (λ n. either (n == old) new n)
-      (TookSlotsOr content lost (step slots i old new none) me)
-  takes_fast_or lost old new there free is_new stays i at =
+      (SeesSlotsOr content mark lost (step slots i old new none) me)
+  sees_slots_or mark lost old new makes stays i at =
       subst (λ k. Allows (Ruled content begun limit) slots id me k (λ n. either (n == old) new n)
-      (TookSlotsOr content lost (step slots k old new none) me)) (sym at) here where
+      (SeesSlotsOr content mark lost (step slots k old new none) me)) (sym at) here where
         here : Allows (Ruled content begun limit) slots id me at_word (λ n. either (n == old) new n)
-            (TookSlotsOr content lost (step slots at_word old new none) me)
+            (SeesSlotsOr content mark lost (step slots at_word old new none) me)
         here s r many at_view below =
             exchanged (slice_index s.words at_word) old new (λ m. (view : View T) × (act : Act (Option T))
             × Valid s.homes me.1 act
             × Ruled content begun limit (stepped s at_word m id me.1 view act)
-            × TookSlotsOr content lost (step slots at_word old new none) me (slice_index s.words at_word)
+            × SeesSlotsOr content mark lost (step slots at_word old new none) me (slice_index s.words at_word)
             (view, carried_after me.1 act))
             (λ hit.
             let w : World = r.world in
             let shown : w.words.fast owner ≡ old = sym (r.words.word (Fast owner) (tt, inside)) ∙ hit in
             let steps = ruled-steps content begun limit s r id me.0 x others at_view is in
-            let noted = taking_fast-noted content limit x owner w steps (there w steps)
-            (subst IsHeldByNobody (sym shown) free) in
-            let next : taken_word (w.words.fast owner) ≡ new = ap taken_word shown ∙ sym is_new in
+            let sees = makes w steps shown in
             let database : ℕ = w.words.database owner in
             let words : List ℕ = listed slot_count (w.words.slot owner) in (
-              noting me.0 (mark.TookFast owner database words),
+              noting me.0 (mark owner database words),
               keeps,
               tt,
-              ruled-noted content begun limit s r id me.0 x others at_view is (mark.TookFast owner database words)
-                  (set_word w.words (Fast owner) (taken_word (w.words.fast owner))) (slice_set s.words at_word new)
-                  s.homes noted
-                  (subst (λ k. WordsAreShown (slice_set s.words at_word k)
-                  (set_word w.words (Fast owner) (taken_word (w.words.fast owner)))) next
-                  (words-set s.words w.words (Fast owner) (taken_word (w.words.fast owner)) r.words (tt, inside)))
-                  r.contents,
+              ruled-noted content begun limit s r id me.0 x others at_view is (mark owner database words)
+                  (set_word w.words (Fast owner) new) (slice_set s.words at_word new) s.homes sees.noted
+                  (words-set s.words w.words (Fast owner) new r.words (tt, inside))
+                  (subst (ContentsAreHome content begun s.homes) (sym sees.contents) r.contents),
               (
                 (λ _ k within same.
                     let one : owner ≡ k = omega (arith, same) in
-                    subst (λ k. TookSlots content k me (noting me.0 (mark.TookFast owner database words), me.1)) one
+                    subst (λ k. SeesSlots content mark k me (noting me.0 (mark owner database words), me.1)) one
                     (record {
                       database = database;
                       words = words;
@@ -165,12 +203,26 @@ module _ {T : Type 0} (content : T → Content) (begun : T → Option Request) (
               ((λ hit. absurd (miss hit)), λ _. refl),
             ))
 
+  -- Taking it,
+  taking-sees :
+      (old new : ℕ) → ((w : World) → Stepper limit w x.number (told content x.number x.marks) → owner < w.numbers.limit)
+      → IsHeldByNobody old → new ≡ taken_word old
+      → (w : World) → Stepper limit w x.number (told content x.number x.marks) → w.words.fast owner ≡ old
+      → Sees content x owner w mark.TookFast new
+  taking-sees old new there free is_new w steps shown =
+      subst (Sees content x owner w mark.TookFast) (ap taken_word shown ∙ sym is_new)
+      (record {
+        noted = taking_fast-noted content limit x owner w steps (there w steps) (subst IsHeldByNobody (sym shown) free);
+        contents = refl;
+      })
+
   -- of a session that there can be
   pub takes_fast_at : (old new : ℕ) → owner < limit → IsHeldByNobody old → new ≡ taken_word old → (i : ℕ) → i ≡ at_word
       → Allows (Ruled content begun limit) slots id me i (λ n. either (n == old) new n)
       (TookSlotsOr content unnoted (step slots i old new none) me)
   takes_fast_at old new exists free is_new =
-      takes_fast_or unnoted old new (λ w steps. subst (λ n. owner < n) (sym steps.is_limit) exists) free is_new
+      sees_slots_or mark.TookFast unnoted old new
+      (taking-sees old new (λ w steps. subst (λ n. owner < n) (sym steps.is_limit) exists) free is_new)
       (λ s r at_view below. nothing-changes content begun limit id at_word me.0 s r at_view)
 
   -- of the own session
@@ -179,18 +231,36 @@ module _ {T : Type 0} (content : T → Content) (begun : T → Option Request) (
       → Allows (Ruled content begun limit) slots id me i (λ n. either (n == old) new n)
       (TookSlotsOr content noted_load (step slots i old new none) me)
   tries_fast_at old new own free is_new =
-      takes_fast_or noted_load old new
+      sees_slots_or mark.TookFast noted_load old new
+      (taking-sees old new
       (λ w steps.
       let numbers = steps.safe.but_slots.table.carriers.numbers in
       let issued = numbers.live_is_issued x.number steps.makes.live in
       let all = numbers.within in
       omega (arith, issued, all, own))
-      free is_new
+      free is_new)
       (λ s r at_view below. rule-after content begun limit slots id me x others is (Fast owner) (tt, inside) (λ n. n)
       mark.LoadedFast (λ _. Unit {0})
       (subst (λ k. IsAlwaysLawful content limit x (Fast k) (λ _. Unit {0}) (λ n. n) mark.LoadedFast) (sym own)
       (loading_fast-lawful content limit x (λ _. Unit {0})))
       s r at_view (slice_index s.words at_word) below refl tt)
+
+  -- and sharing it.
+  pub shares_fast_at :
+      (old new : ℕ) → owner < limit → IsFreeToShare old → new ≡ shared_word old
+      → MayShareFastBy (told content x.number x.marks) owner → (i : ℕ) → i ≡ at_word
+      → Allows (Ruled content begun limit) slots id me i (λ n. either (n == old) new n)
+      (SharedSlotsOr content unnoted (step slots i old new none) me)
+  shares_fast_at old new exists free is_new may =
+      sees_slots_or mark.SharedFast unnoted old new
+      (λ w steps shown.
+      subst (Sees content x owner w mark.SharedFast) (ap shared_word shown ∙ sym is_new)
+      (record {
+        noted = sharing_fast-noted content limit x owner w steps (subst (λ n. owner < n) (sym steps.is_limit) exists)
+            (subst IsFreeToShare (sym shown) free) may;
+        contents = refl;
+      }))
+      (λ s r at_view below. nothing-changes content begun limit id at_word me.0 s r at_view)
 
 module _ {T : Type 0} (content : T → Content) (limit : ℕ) (x : History T) (owner : ℕ) (exists : owner < limit) where
   there : (w : World) → Stepper limit w x.number (told content x.number x.marks) → owner < w.numbers.limit
@@ -216,6 +286,31 @@ module _ {T : Type 0} (content : T → Content) (limit : ℕ) (x : History T) (o
           numbers = refl;
           account = ap (λ a. account_putting_fast x.number a owner) steps.account ∙ sym (account-putting_fast w x.number owner);
           words = ap (λ k. set_word w.words (Fast owner) (put_word k)) (sym shown) ∙ ap (set_word w.words (Fast owner)) (put_word-wraps n below held);
+          none_beyond = steps.none_beyond;
+          few_counted = steps.few_counted x.number;
+        };
+        home = λ p none. (none, refl);
+      }
+
+  -- Whoever knows slots that it shares is counted in the word.
+  pub unsharing_fast-lawful : (slots : SlotsInHand) → MayUnshareFastBy (told content x.number x.marks) owner slots
+      → IsAlwaysLawful content limit x (Fast owner) (λ _. Unit {0}) (λ n. (n + (2 ^ 64 - 1)) % 2 ^ 64) (λ _. mark.UnsharedFast owner)
+  unsharing_fast-lawful slots may w steps n below shown _ =
+      let may' = unshare_fast-lawful w steps.safe x.number steps.makes owner slots
+      (subst (λ a. MayUnshareFastBy a owner slots) steps.account may) in
+      let some : 0 < shared_count (w.words.fast owner) =
+      shared-some w.numbers.limit (w.words.fast owner) (λ k. w.sessions.holds_fast k owner)
+      (λ k. w.sessions.shares_fast k owner) x.number (steps.safe.but_slots.locks.fast_words owner) may'.sharing in
+      let some_shown : 0 < shared_count n = subst (λ k. 0 < shared_count k) (sym shown) some in
+      record {
+        noted = record {
+          step = PutShared (Fast owner);
+          after = after_unsharing_fast w x.number owner;
+          happens = (may', refl);
+          numbers = refl;
+          account = ap (λ a. account_unsharing_fast a owner) steps.account ∙ sym (account-unsharing_fast w x.number owner);
+          words = ap (λ k. set_word w.words (Fast owner) (unshared_word k)) (sym shown)
+              ∙ ap (set_word w.words (Fast owner)) (unshared_word-wraps n below some_shown);
           none_beyond = steps.none_beyond;
           few_counted = steps.few_counted x.number;
         };

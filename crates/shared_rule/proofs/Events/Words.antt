@@ -1,4 +1,4 @@
-use Rattle.std.proofs.Common.{◌≡◌, ℕ, ◌<◌, ◌^◌, List, ◌∷◌, Option, Some, None, refl, sym, ap, ◌∙◌, subst}
+use Rattle.std.proofs.Common.{◌≡◌, ℕ, ◌<◌, ◌^◌, List, ◌∷◌, Option, Some, None, refl, sym, ap, ◌∙◌, subst, inl, inr}
 use Rattle.std.specs.Prelude.{slice_set, slice_index}
 use mathlib.Core.Option.{some, none}
 use lib.ListN.{get_elem?}
@@ -14,6 +14,7 @@ use Rattle.lock_world.specs.WaitWord.{wait_state}
 use Rattle.lock_world.specs.SafeWorld.{SafeWorld}
 use Rattle.lock_world.specs.Account.{SlotsInHand, account}
 use Rattle.lock_world.proofs.Accounts.Lawful.{slots-known}
+use Rattle.lock_world.proofs.Accounts.Slots.{slots_now}
 use mathlib.Core.Option as maybe
 use Rattle.lock_world.specs.World.{World, Contents, Hand, word_in}
 use Rattle.shared_rule.specs.declared.history.Mark.{Mark}
@@ -23,7 +24,7 @@ use Rattle.shared_rule.specs.Layout.{index_of_word, content_slot_of, IsInTable}
 use Rattle.shared_rule.specs.Shown.{set_word}
 use Rattle.shared_rule.specs.History.{told, noting, first_account, first_number}
 use Rattle.shared_rule.specs.Ruled.{IsHomeUnlessInHand, ContentsAreHome, Ruled}
-use Rattle.shared_rule.specs.Slots.{KnowsWord}
+use Rattle.shared_rule.specs.Slots.{HasOrShares, KnowsWord}
 use Rattle.shared_rule.specs.Plays.{Side, Marked, Looked}
 use Rattle.shared_rule.proofs.Shown.{words-set}
 use Rattle.shared_rule.proofs.Frame.{Stepper, IsNoted, ruled-steps, ruled-noted}
@@ -45,19 +46,24 @@ home-kept {T} content begun homes before after kept home p within = go (after.ha
       (subst (λ h. IsHomeUnlessInHand content begun h (before.now p) (get_elem? homes (content_slot_of p))) was.0 (home p within))
   go (Some hand) away = tt
 
+-- Slots that a session has in hand, or shares, are what the words show.
+slots-here : (w : World) (s k : ℕ) (slots : SlotsInHand) → HasOrShares (account w s) k slots → slots ≡ slots_now w k
+slots-here w s k slots (inl has) = (slots-known (w.sessions.holds_fast s k) (w.words.database k) (w.words.slot k) slots has).1
+slots-here w s k slots (inr shares) = (slots-known (w.sessions.shares_fast s k) (w.words.database k) (w.words.slot k) slots shares).1
+
 -- What a session knows of a word is so.
 word-known : (w : World) → SafeWorld w → (s : ℕ) (word : Word) → KnowsWord s (account w s) word (word_in w.words word)
 word-known w safe s (Partition p) = tt
 word-known w safe s (Fast k) = tt
 word-known w safe s (Database k) = (
   λ slots known.
-      let is = (slots-known (w.sessions.holds_fast s k) (w.words.database k) (w.words.slot k) slots known).1 in
+      let is = slots-here w s k slots known in
       ap (λ (its : SlotsInHand). its.holds) is
       ∙ ap (slot_holds (w.words.database k)) (sym (ap (λ (its : SlotsInHand). its.word) is)),
   λ own. ap w.words.database own,
 )
 word-known w safe s (Slot k place) = λ slots known.
-    let is = (slots-known (w.sessions.holds_fast s k) (w.words.database k) (w.words.slot k) slots known).1 in
+    let is = slots-here w s k slots known in
     sym (ap (λ (its : SlotsInHand). its.word place) is)
 word-known w safe s (Wait k) = λ own no_wait.
     ap (λ session. wait_state (w.words.wait session)) own ∙ safe.but_slots.table.promise.wait_words.idle s no_wait

@@ -1,6 +1,6 @@
 //! Slots, strong lock counters and the lock of the own slots, on a board for tests.
 
-ghost use Rattle.std.specs.Prelude.{◌≡◌, ◌<◌};
+ghost use Rattle.std.specs.Prelude.{◌≡◌, ◌<◌, None};
 ghost use Rattle.shared_rule.specs.Boards.{nothing_due};
 ghost use Rattle.shared_rule.specs.History.{blank_account};
 
@@ -37,6 +37,25 @@ fn set_twice<T: PartTable, B: Board<T>, R: Wait>(rt: &R, board: &mut B) -> Optio
     Some(board.load_slot(own, 0).number())
 }
 
+// What the lock of its own slots lets a session that has nothing see while it is shared: its database, and the number of its
+// last slot. The lock is given back.
+fn read_shared<T: PartTable, B: Board<T>, R: Wait>(rt: &R, board: &mut B) -> (u64, u64)
+    requires blank { B.view board.old ≡ blank_account }
+    requires stack { B.stack board.old ≡ nothing_due }
+    requires exists { (B.seat board.old).number < (B.seat board.old).limit }
+    ensures none_in_hand { (B.view board.new).fast.slots ≡ (λ _. None) }
+    ensures none_shared { (B.view board.new).fast.shared_slots ≡ (λ _. None) }
+    ensures stack { B.stack board.new ≡ nothing_due }
+{
+    let own = board.number();
+    board.store_database(5);
+    board.share_fast(rt, own);
+    let database = board.load_database(own);
+    let shown = board.load_slot(own, 15);
+    board.unshare_fast(own);
+    (database, shown.number())
+}
+
 // What the counter of a relation shows once a session that has nothing has counted a strong lock on it.
 fn count_once<T: PartTable, B: Board<T>>(board: &mut B) -> u64
     requires blank { B.view board.old ≡ blank_account }
@@ -63,6 +82,16 @@ fn a_counter_shows_what_is_counted(rt: HostRuntime) -> Result<(), Fail> {
     let mut board = one_thread(rt.alloc())?;
     let shown = count_once(&mut board);
     assert_eq!(rt; shown, 1);
+    Ok(())
+}
+
+// After a lock is shared no more it can be taken exclusively: its word shows nobody.
+#[test]
+fn a_lock_that_was_shared_is_free_again(rt: HostRuntime) -> Result<(), Fail> {
+    let mut board = one_thread(rt.alloc())?;
+    let read = read_shared(&rt, &mut board);
+    assert_eq!(rt; read, (5, 0));
+    assert!(rt; board.try_take_fast().is_ok());
     Ok(())
 }
 

@@ -17,5 +17,5 @@ grant_with_slots-requires-clause-in_hand g c =
     (has_own_slots number (account_tracing (g.B.Board.view c.args.board.now) (Loaded (Fast number) tried.shown))
     (g.B.Board.view c.try_take_fast.new.self)
     c.args.uses.now number refl
-    (record { no_slots = ready.no_slots; no_zero = ready.no_zero; enough = ready.enough; within = ready.within })
+    (record { no_slots = ready.no_slots; no_shared_slots = ready.no_shared_slots; no_zero = ready.no_zero; enough = ready.enough; within = ready.within })
     tried.takes)

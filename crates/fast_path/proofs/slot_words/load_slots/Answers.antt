@@ -1,7 +1,7 @@
 use Rattle.std.proofs.Common.{◌≡◌, ℕ, ◌+◌, ◌<◌, slice_set, sym, subst, ◌∙◌, arith, rules}
 use Rattle.shared_rule.specs.History.{slots_here}
 use Rattle.fast_path.specs.Slots.{word_of}
-use Rattle.fast_path.proofs.Loading.{loading-begun, loading-next, loading-shows}
+use Rattle.fast_path.proofs.Loading.{loading-begun, loading-next, loading-shows_shared}
 use Rattle.fast_path.proofs.Words.{words-next}
 use Rattle.fast_path.proofs.slot_words.load_slots.Goals as goal
 
@@ -9,7 +9,7 @@ pub loop-place-init : goal.loop-place-init
 loop-place-init g c =
     let a = g.B.Board.view c.args.board.now in
     record {
-      loaded = loading-begun a c.args.owner (slots_here (a.fast.slots c.args.owner)).word;
+      loaded = loading-begun a c.args.owner (slots_here (a.fast.shared_slots c.args.owner)).word;
       words = search rules;
       seat = search rules;
       stack = search rules;
@@ -18,11 +18,11 @@ loop-place-init g c =
 pub loop-place-preserved : goal.loop-place-preserved
 loop-place-preserved g c =
     let a = g.B.Board.view c.args.board.now in
-    let word = (slots_here (a.fast.slots c.args.owner)).word in
-    let shown = loading-shows a (g.B.Board.view c.loop-place.board) c.args.owner word c.loop-place.place
+    let word = (slots_here (a.fast.shared_slots c.args.owner)).word in
+    let shown = loading-shows_shared a (g.B.Board.view c.loop-place.board) c.args.owner word c.loop-place.place
     c.loop-place.place
-    c.load_slot.result c.requires.in_hand.0 c.loop-place.invariant.loaded c.requires.in_hand.1
-    c.load_slot.ensures.of_slots in
+    c.load_slot.result c.requires.shared.0 c.loop-place.invariant.loaded c.requires.shared.1
+    c.load_slot.ensures.of_shared_slots in
     record {
       loaded = loading-next a (g.B.Board.view c.loop-place.board) _ c.args.owner word c.loop-place.place
           c.load_slot.result

@@ -7,9 +7,9 @@ abbrev pub invariant-loop-place : goal.invariant-loop-place
 invariant-loop-place g l = record {
   loaded : g.B.Board.view l.board
       ≡ account_loading (g.B.Board.view l.fn.board) l.owner
-      (slots_here ((g.B.Board.view l.fn.board).fast.slots l.owner)).word l.place;
+      (slots_here ((g.B.Board.view l.fn.board).fast.shared_slots l.owner)).word l.place;
   words : (k : ℕ) → k < l.place
-      → word_of l.words k ≡ (slots_here ((g.B.Board.view l.fn.board).fast.slots l.owner)).word k;
+      → word_of l.words k ≡ (slots_here ((g.B.Board.view l.fn.board).fast.shared_slots l.owner)).word k;
   seat : g.B.Board.seat l.board ≡ g.B.Board.seat l.fn.board;
   stack : g.B.Board.stack l.board ≡ g.B.Board.stack l.fn.board;
 }

@@ -1,4 +1,4 @@
-use Rattle.std.proofs.Common.{rules, sym, subst}
+use Rattle.std.proofs.Common.{rules, sym, subst, inl, inr}
 use Rattle.lock_world.specs.declared.events.Word.TheVariants.{Database}
 use Rattle.shared_rule.proofs.Events.Words.{IsAlwaysLawful, looks_at}
 use Rattle.shared_rule.proofs.Events.Loads.{loading_database-lawful}
@@ -18,8 +18,12 @@ look_as-requires-clause-allowed g c =
     (loading_database-lawful content c.args.top.now.key session.history c.args.owner))
 
 pub returns-clause-of_slots : goal.returns-clause-of_slots
-returns-clause-of_slots g c = (c.look_as.ensures.knows (Database c.args.owner) (tt, search rules)
-    c.database_word.ensures.index).0
+returns-clause-of_slots g c = λ slots has. (c.look_as.ensures.knows (Database c.args.owner) (tt, search rules)
+    c.database_word.ensures.index).0 slots (inl has)
+
+pub returns-clause-of_shared_slots : goal.returns-clause-of_shared_slots
+returns-clause-of_shared_slots g c = λ slots shares. (c.look_as.ensures.knows (Database c.args.owner) (tt, search rules)
+    c.database_word.ensures.index).0 slots (inr shares)
 
 pub returns-clause-own : goal.returns-clause-own
 returns-clause-own g c = (c.look_as.ensures.knows (Database c.args.owner) (tt, search rules)

@@ -1,4 +1,4 @@
-use Rattle.std.proofs.Common.{rules, sym, ◌∙◌, subst}
+use Rattle.std.proofs.Common.{rules, sym, ◌∙◌, subst, inl, inr}
 use Rattle.lock_world.specs.declared.events.Word.TheVariants.{Slot}
 use Rattle.shared_rule.proofs.Events.Words.{IsAlwaysLawful, looks_at}
 use Rattle.shared_rule.proofs.Events.Loads.{loading_slot-lawful}
@@ -18,6 +18,11 @@ look_as-requires-clause-allowed g c =
     (loading_slot-lawful content c.args.top.now.key session.history c.args.owner c.args.slot c.requires.within))
 
 pub returns-clause-of_slots : goal.returns-clause-of_slots
-returns-clause-of_slots g c = λ slots known.
+returns-clause-of_slots g c = λ slots has.
     c.from_number.ensures ∙ c.look_as.ensures.knows (Slot c.args.owner c.args.slot) (c.requires.within, search rules)
-    c.slot_word.ensures.index slots known
+    c.slot_word.ensures.index slots (inl has)
+
+pub returns-clause-of_shared_slots : goal.returns-clause-of_shared_slots
+returns-clause-of_shared_slots g c = λ slots shares.
+    c.from_number.ensures ∙ c.look_as.ensures.knows (Slot c.args.owner c.args.slot) (c.requires.within, search rules)
+    c.slot_word.ensures.index slots (inr shares)

@@ -1,0 +1,20 @@
+use Rattle.std.proofs.Common.{rules, List, subst}
+use Rattle.lock_world.specs.AccountLaw.{MayShareFastBy}
+use Rattle.shared_rule.specs.declared.history.History.{History}
+use Rattle.shared_rule.specs.History.{first_account}
+use Rattle.shared_rule.proofs.Events.Locks.{shares_fast_at}
+use Rattle.shared_rule.proofs.sharing.attempt_share.Goals as goal
+
+pub compare_exchange-requires : goal.compare_exchange-requires
+compare_exchange-requires g c =
+    let place = c.args.place.now in
+    let session = c.requires.session in (
+      c.requires.table.at,
+      search rules,
+      shares_fast_at g.T.PartTable.content g.T.PartTable.begun c.args.top.now.key c.args.top.now.table_id.slots
+          place.id place.me session.history session.others session.sessions
+          c.args.owner (search rules) c.args.shown c.args.shared c.requires.exists c.requires.free.0 c.requires.free.1
+          (subst (λ (sessions : List (History g.row.T.Denot)). MayShareFastBy (first_account g.T.PartTable.content sessions) c.args.owner)
+          session.sessions c.requires.lawful)
+          c.fast_word.result c.fast_word.ensures.index,
+    )
