@@ -5,7 +5,7 @@ use Rattle.std.proofs.lemmas.Bool.{cases_Bool, eqb-true}
 use Rattle.modes_core.specs.declared.modes.Mode.{Mode}
 use Rattle.modes_core.specs.declared.tags.Tag.{Tag}
 use Rattle.modes_core.specs.Mode.{number_of}
-use Rattle.modes_core.specs.Tag.{partition_of, is_strong_on}
+use Rattle.modes_core.specs.Tag.{database_of, partition_of, is_strong_on}
 use Rattle.lock_table.specs.Content.{Content}
 use Rattle.lock_table.specs.Put.{set_at}
 use Rattle.lock_table.proofs.PutLemmas.{set_at-here, set_at-same, set_at-twice}
@@ -22,7 +22,7 @@ use Rattle.shared_rule.specs.Slots.{TakesFast}
 use Rattle.fast_path.specs.declared.slot_words.SeenSlot.{SeenSlot}
 use Rattle.fast_path.specs.declared.slot_words.Sighting.{Sighting}
 use Rattle.fast_path.specs.Slots.{slot_loads, account_loading, IsSeenOf, Sights}
-use Rattle.fast_path.specs.Transfers.{database_of, adopting, finding, Adopts}
+use Rattle.fast_path.specs.Transfers.{adopting, finding, Adopts}
 use Rattle.fast_path.specs.Transfers.{IsAfterScan, Passes, StopsAt}
 use Rattle.fast_path.specs.Turns.{account_holding, IsUnlocked, Looks, BeginsTurn, HasRelation, AdoptsBelow, AdoptsSome}
 use Rattle.fast_path.proofs.Showing.{elsewhere-none, no_slot-none, not_weak-none}

@@ -8,14 +8,13 @@ use Rattle.modes_core.specs.declared.modes.Mode.TheVariants.{AccessShare, RowSha
 use Rattle.modes_core.specs.declared.modes.Mode.TheVariants.{ShareUpdateExclusive, Share, ShareRowExclusive}
 use Rattle.modes_core.specs.declared.modes.Mode.TheVariants.{Exclusive, AccessExclusive}
 use Rattle.modes_core.specs.declared.tags.Tag.{Tag}
-use Rattle.modes_core.specs.declared.tags.Tag.TheVariants.{Relation, Object}
+use Rattle.modes_core.specs.declared.tags.Tag.TheVariants.{Relation, Object, Advisory}
 use Rattle.modes_core.specs.Mode.{number_of}
-use Rattle.modes_core.specs.Tag.{is_eligible_for, is_strong_on}
+use Rattle.modes_core.specs.Tag.{database_of, is_eligible_for, is_strong_on}
 use Rattle.lw_word.specs.SlotWord.{relation_in, in_use, has_mode, shows}
 use Rattle.lock_world.specs.SlotHolds.{slot_count, relation_of, slot_holds, is_slot_of}
 use Rattle.lock_world.specs.Account.{SlotsInHand}
 use Rattle.lock_world.proofs.Slots.Eligible.{eligible-is, held-is_in, is_in-held, shown-in_use, slot_holds-none}
-use Rattle.fast_path.specs.Transfers.{database_of}
 use Rattle.fast_path.specs.Turns.{HasRelation}
 
 -- What slots show of an object.
@@ -57,6 +56,7 @@ eligible-weak (Relation d r) mode strong is weak =
     and_from (nat_eq d d) (not (nat_eq d 0) && nat_le (number_of mode) 3) (eq-eqb d d refl)
     (and_from (not (nat_eq d 0)) (nat_le (number_of mode) 3) some (le-leb (number_of mode) 3 weak))
 eligible-weak (Object s d c o) mode strong is weak = absurd (false≢true is)
+eligible-weak (Advisory s d k l) mode strong is weak = absurd (false≢true is)
 
 -- and in another's slots it is not.
 pub elsewhere-none :
@@ -70,6 +70,7 @@ elsewhere-none (Relation d r) strong database slot mode is other =
     found.1.eligible).0 in
     other (sym same))
 elsewhere-none (Object s d c o) strong database slot mode is other = absurd (false≢true is)
+elsewhere-none (Advisory s d k l) strong database slot mode is other = absurd (false≢true is)
 
 -- Where no slot is in use for its relation no mode is held by one.
 pub no_slot-none :

@@ -2,9 +2,8 @@ use Rattle.std.specs.Prelude.{◌≡◌, ◌≢◌, ◌⊎◌, ℕ, ◌<◌, nat
 use Rattle.std.specs.Prelude.{List, [], ◌∷◌, ◌++◌, Result, Ok, Err}
 use Rattle.modes_core.specs.declared.modes.Mode.{Mode}
 use Rattle.modes_core.specs.declared.tags.Tag.{Tag}
-use Rattle.modes_core.specs.declared.tags.Tag.TheVariants.{Relation, Object}
 use Rattle.modes_core.specs.Mode.{number_of}
-use Rattle.modes_core.specs.Tag.{tag_eq, partition_of}
+use Rattle.modes_core.specs.Tag.{tag_eq, database_of, partition_of}
 use Rattle.lw_word.specs.SlotWord.{has_mode}
 use Rattle.lock_table.specs.declared.no_memory.NoMemory.{NoMemory}
 use Rattle.lock_table.specs.Content.{Content}
@@ -16,11 +15,6 @@ use Rattle.lock_world.specs.Account.{Account}
 use Rattle.fast_path.specs.Slots.{slot_loads}
 
 -- The transfer of fast-path locks into the lock table, as the trace of the session that makes it has it.
-
--- the database of a relation's tag; other objects are in no slot
-abbrev pub database_of : Tag → ℕ
-database_of (Relation database relation) = database
-database_of (Object sub_object database class object) = 0
 
 -- the content with the owner's modes of a slot's word as holds on the object, those with numbers below this one
 abbrev pub adopting : Content → ℕ → Tag → ℕ → ℕ → Content

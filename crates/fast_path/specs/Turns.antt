@@ -3,7 +3,7 @@ use Rattle.std.specs.Prelude.{Option, Some, None, Result, Ok, Err}
 use Rattle.modes_core.specs.declared.modes.Mode.{Mode}
 use Rattle.modes_core.specs.declared.tags.Tag.{Tag}
 use Rattle.modes_core.specs.Mode.{number_of}
-use Rattle.modes_core.specs.Tag.{partition_of}
+use Rattle.modes_core.specs.Tag.{database_of, partition_of}
 use Rattle.lw_word.specs.SlotWord.{has_mode}
 use Rattle.lock_table.specs.declared.moves.Move.{Move}
 use Rattle.lock_table.specs.declared.no_memory.NoMemory.{NoMemory}
@@ -15,7 +15,7 @@ use Rattle.lock_world.specs.SlotHolds.{slot_count, relation_of, slot_holds, is_s
 use Rattle.lock_world.specs.World.{TraceEntry, Took, Episode, Loaded}
 use Rattle.lock_world.specs.Account.{Account, InHand, SlotsInHand}
 use Rattle.lock_world.specs.Happens.Transfers.{MayAdopt}
-use Rattle.fast_path.specs.Transfers.{database_of, adopting}
+use Rattle.fast_path.specs.Transfers.{adopting}
 
 -- What stands within one turn of a transfer.
 

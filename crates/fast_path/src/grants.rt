@@ -8,7 +8,6 @@ ghost use Rattle.fast_path.specs.Grants.{Grants, TriesGrant, GrantsHeld, HasOwnS
 
 use crate::slot_words::{SLOTS, Sighting, look_through};
 use lock_table::PartTable;
-use lock_world::relation_of;
 use modes_core::{Mode, Refusal, Tag};
 use shared_rule::board::Board;
 use std::sync::Wait;
@@ -92,7 +91,7 @@ fn grant_with_slots<T: PartTable, B: Board<T>>(
         of_relation,
         highest_unused,
         ..
-    } = look_through(board, own, relation_of(*tag));
+    } = look_through(board, own, tag.relation_number());
     if let Some(slot) = of_relation {
         board.set_slot(slot.place, slot.word, tag, mode);
         board.put_fast(own);

@@ -9,7 +9,6 @@ ghost use Rattle.fast_path.specs.Releases.{Ungrants};
 
 use crate::slot_words::{Sighting, look_through};
 use lock_table::PartTable;
-use lock_world::relation_of;
 use modes_core::{Mode, Tag};
 use shared_rule::board::Board;
 use std::sync::Wait;
@@ -44,7 +43,7 @@ pub fn ungrant<T: PartTable, B: Board<T>, R: Wait>(
         of_relation,
         used_count,
         ..
-    } = look_through(board, own, relation_of(*tag));
+    } = look_through(board, own, tag.relation_number());
     if let Some(slot) = of_relation {
         if slot.word.has(mode) {
             board.clear_slot(slot.place, slot.word, tag, mode);

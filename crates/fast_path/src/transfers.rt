@@ -7,33 +7,14 @@ ghost use Rattle.lock_world.specs.Counted.{is_counted, is_at};
 ghost use Rattle.lock_world.specs.Happens.Counters.{most_counted};
 ghost use Rattle.shared_rule.specs.Boards.{nothing_due};
 ghost use Rattle.fast_path.specs.Turns.{IsUnlocked, BeginsTurn, HasSlots, HasSlotsAndPart, MovesOrNot, AdoptsOrNot};
-ghost use Rattle.fast_path.specs.Transfers.{database_of, TransfersOrNot, PassesOrNot};
+ghost use Rattle.fast_path.specs.Transfers.{TransfersOrNot, PassesOrNot};
 
 use crate::slot_words::{Sighting, look_through};
 use lock_table::{Move, NoMemory, PartTable};
-use lock_world::relation_of;
 use lw_word::SlotWord;
 use modes_core::{Mode, SessionId, Tag};
 use shared_rule::board::Board;
 use std::sync::Wait;
-
-/// The database of a relation's tag, and 0 of any other object's, which no slot has.
-fn database_of(tag: &Tag) -> u32
-    ensures { result ≡ database_of tag.now }
-{
-    match *tag {
-        Tag::Relation {
-            database,
-            relation: _,
-        } => database,
-        Tag::Object {
-            database: _,
-            class: _,
-            object: _,
-            sub_object: _,
-        } => 0,
-    }
-}
 
 /// Counts a strong lock, and goes past every session there can be, issued or not and the own one too, once its locks on
 /// the object are out of its slots and in the lock table (`BeginStrongLockAcquire` and `FastPathTransferRelationLocks` in
@@ -91,7 +72,7 @@ fn pass<T: PartTable, B: Board<T>, R: Wait>(
     ensures seat { B.seat board.new ≡ B.seat board.old }
 {
     board.take_fast(rt, owner);
-    if board.load_database(owner) != u64::from(database_of(tag)) {
+    if board.load_database(owner) != u64::from(tag.database()) {
         board.pass_fast(owner, tag, mode);
         return Ok(());
     }
@@ -118,7 +99,7 @@ fn pass_in_database<T: PartTable, B: Board<T>, R: Wait>(
     ensures stack { B.stack board.new ≡ B.stack board.old }
     ensures seat { B.seat board.new ≡ B.seat board.old }
 {
-    let Sighting { of_relation, .. } = look_through(board, owner, relation_of(*tag));
+    let Sighting { of_relation, .. } = look_through(board, owner, tag.relation_number());
     let Some(slot) = of_relation else {
         board.pass_fast(owner, tag, mode);
         return Ok(());

@@ -1,27 +1,44 @@
-use Rattle.std.proofs.Common.{◌≡◌, ◌≢◌, ℕ, ◌+◌, ◌-◌, ◌<◌, true, false, not, cond, List, [], ◌∷◌, length, suc, zero, refl, sym, ap, ◌∙◌, inl, inr, arith}
+use Rattle.std.proofs.Common.{◌≡◌, ◌≢◌, ℕ, ◌+◌, ◌-◌, ◌<◌, ◌≤◌, true, false, not, cond, ◌==◌, List, [], ◌∷◌, length, suc, zero, refl, sym, ap, ◌∙◌, inl, inr, arith}
 use Rattle.std.specs.Prelude.{Option, Some, None, IfSome, map, filter, find}
 use Rattle.std.specs.Option.{option_map}
 use Rattle.std.specs.List.{cons_option}
 use Rattle.std.proofs.lemmas.Bool.{false≢true, cases_Bool, ne_eqb}
 use Rattle.modes_core.specs.declared.sessions.Owner.{Owner}
 use Rattle.modes_core.specs.declared.sessions.Owner.TheVariants.{Session, Transaction}
+use Rattle.modes_core.specs.declared.tags.LockMethod.{LockMethod}
+use Rattle.modes_core.specs.declared.tags.LockMethod.TheVariants.{Default, User}
+use Rattle.modes_core.specs.Tag.{method_of}
 use Rattle.local_locks.specs.declared.records.Entry.{Entry}
 use Rattle.local_locks.specs.declared.ends.End.{End}
 use Rattle.local_locks.specs.declared.ends.End.TheVariants.{Commit, Abort, Close}
-use Rattle.local_locks.specs.Owned.{count_for, count_in_all, lowered, raised, is_ended, after_end, ended_by, left_by, with_next_ended}
+use Rattle.local_locks.specs.Owned.{count_for, count_in_all, lowered, raised, kept_by_abort, is_ended, after_end, ended_by, left_by, with_next_ended}
 use Rattle.local_locks.specs.Slots.{Slots, slot_at, present}
 
 -- ---- what an end does to one entry
 
+kept_by_abort-twice : (method : LockMethod) (n : ℕ) → kept_by_abort method (kept_by_abort method n) ≡ kept_by_abort method n
+kept_by_abort-twice Default n = refl
+kept_by_abort-twice User n = refl
+
+-- nothing is added
+pub kept_by_abort-fewer : (method : LockMethod) (n : ℕ) → kept_by_abort method n ≤ n
+kept_by_abort-fewer Default n = omega arith
+kept_by_abort-fewer User n = omega arith
+
+-- a method that keeps some count keeps any
+kept_by_abort-any : (method : LockMethod) (some count : ℕ) → 0 < some → kept_by_abort method some ≡ some → kept_by_abort method count ≡ count
+kept_by_abort-any Default some count above kept = absurd (omega arith)
+kept_by_abort-any User some count above kept = refl
+
 -- done once more, it changes nothing
 pub after_end-after_end : (end : End) (e : Entry) → after_end end (after_end end e) ≡ after_end end e
 after_end-after_end Commit e = refl
-after_end-after_end Abort e = refl
+after_end-after_end Abort e = ap (λ n. record e { transaction = 0; session = n }) (kept_by_abort-twice (method_of e.tag) e.session)
 after_end-after_end Close e = refl
 
 pub is_ended-after_end : (end : End) (e : Entry) → is_ended end (after_end end e) ≡ is_ended end e
 is_ended-after_end Commit e = refl
-is_ended-after_end Abort e = refl
+is_ended-after_end Abort e = ap (λ n. 0 + n == 0) (kept_by_abort-twice (method_of e.tag) e.session)
 is_ended-after_end Close e = refl
 
 -- The end keeps the entry with its counts.
@@ -36,7 +53,14 @@ Keeps-lowered Commit Session e keeps some more =
 Keeps-lowered Commit Transaction e keeps some more =
     let none : 0 ≡ e.transaction = ap (λ x. x.transaction) keeps.1 in
     absurd (omega arith)
-Keeps-lowered Abort owner e keeps some more = absurd (false≢true (sym keeps.0))
+Keeps-lowered Abort Session e keeps some more =
+    let none : 0 ≡ e.transaction = ap (λ x. x.transaction) keeps.1 in
+    let all : kept_by_abort (method_of e.tag) e.session ≡ e.session = ap (λ x. x.session) keeps.1 in
+    let here = kept_by_abort-any (method_of e.tag) e.session (e.session - 1) some all in
+    (ne_eqb (0 + kept_by_abort (method_of e.tag) (e.session - 1)) 0 (λ q. more (omega (arith, here))), λ i. record e { transaction = none i; session = here i })
+Keeps-lowered Abort Transaction e keeps some more =
+    let none : 0 ≡ e.transaction = ap (λ x. x.transaction) keeps.1 in
+    absurd (omega arith)
 Keeps-lowered Close owner e keeps some more = absurd (false≢true (sym keeps.0))
 
 -- and after one more acquire by an owner that has it
@@ -45,7 +69,14 @@ Keeps-raised Commit Session e keeps some = (ne_eqb (0 + (e.session + 1)) 0 (λ q
 Keeps-raised Commit Transaction e keeps some =
     let none : 0 ≡ e.transaction = ap (λ x. x.transaction) keeps.1 in
     absurd (omega arith)
-Keeps-raised Abort owner e keeps some = absurd (false≢true (sym keeps.0))
+Keeps-raised Abort Session e keeps some =
+    let none : 0 ≡ e.transaction = ap (λ x. x.transaction) keeps.1 in
+    let all : kept_by_abort (method_of e.tag) e.session ≡ e.session = ap (λ x. x.session) keeps.1 in
+    let here = kept_by_abort-any (method_of e.tag) e.session (e.session + 1) some all in
+    (ne_eqb (0 + kept_by_abort (method_of e.tag) (e.session + 1)) 0 (λ q. omega (arith, here)), λ i. record e { transaction = none i; session = here i })
+Keeps-raised Abort Transaction e keeps some =
+    let none : 0 ≡ e.transaction = ap (λ x. x.transaction) keeps.1 in
+    absurd (omega arith)
 Keeps-raised Close owner e keeps some = absurd (false≢true (sym keeps.0))
 
 -- ---- what one step of an end does to a list of entries

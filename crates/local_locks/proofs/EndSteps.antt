@@ -6,15 +6,16 @@ use Rattle.std.proofs.lemmas.Bool.{false≢true, cases_eq, cases_lt, eqb-false}
 use Rattle.std.proofs.lemmas.List.{length-set}
 use Rattle.modes_core.specs.declared.modes.Mode.{Mode}
 use Rattle.modes_core.specs.declared.tags.Tag.{Tag}
+use Rattle.modes_core.specs.Tag.{method_of}
 use Rattle.place_index.specs.Notes.{Notes, HasSameNotes, times}
 use Rattle.local_locks.specs.declared.records.Entry.{Entry}
 use Rattle.local_locks.specs.declared.ends.End.{End}
 use Rattle.local_locks.specs.declared.ends.End.TheVariants.{Commit, Abort, Close}
 use Rattle.local_locks.specs.declared.ends.Progress.{Progress}
-use Rattle.local_locks.specs.Owned.{IsCounted, is_ended, after_end, with_next_ended}
+use Rattle.local_locks.specs.Owned.{IsCounted, kept_by_abort, is_ended, after_end, with_next_ended}
 use Rattle.local_locks.specs.Slots.{Slots, opened, entry_at, slot_at, present, key_at, IsIndexed, IsPast, IsKept, IsTable, reached, came_to, at_start}
 use Rattle.local_locks.proofs.SlotLaws.{and_some, slot_at-set, slot_at-set_other, slot_at-within}
-use Rattle.local_locks.proofs.EndLaws.{Stopped, Passed, present-same, present-stopped, find-stopped}
+use Rattle.local_locks.proofs.EndLaws.{kept_by_abort-fewer, Stopped, Passed, present-same, present-stopped, find-stopped}
 use Rattle.local_locks.proofs.IndexLaws.{indexed-nil, indexed-alike}
 use Rattle.local_locks.proofs.OpenLaws.{length-opened, opened_some}
 use Rattle.std.proofs.lemmas.List.{get_or_default}
@@ -80,7 +81,11 @@ IsCounted-after_end : (end : End) (x : Entry) → is_ended end x ≡ false → I
 IsCounted-after_end Commit x stays counted =
     let some : 0 + x.session ≡ 0 → ⊥ = eqb-false (0 + x.session) 0 stays in
     record { some = omega arith; transaction = omega arith; session = counted.session }
-IsCounted-after_end Abort x stays counted = absurd (false≢true (sym stays))
+IsCounted-after_end Abort x stays counted =
+    let kept = kept_by_abort (method_of x.tag) x.session in
+    let some : 0 + kept ≡ 0 → ⊥ = eqb-false (0 + kept) 0 stays in
+    let fewer = kept_by_abort-fewer (method_of x.tag) x.session in
+    record { some = omega arith; transaction = omega arith; session = omega (arith, fewer, counted.session) }
 IsCounted-after_end Close x stays counted = absurd (false≢true (sym stays))
 
 module _ (end : End) (old new : Slots) (place : ℕ) (walked : Walked end old new place) where

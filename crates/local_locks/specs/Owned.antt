@@ -6,7 +6,9 @@ use Rattle.modes_core.specs.declared.tags.Tag.{Tag}
 use Rattle.modes_core.specs.declared.sessions.Owner.{Owner}
 use Rattle.modes_core.specs.declared.sessions.Owner.TheVariants.{Session, Transaction}
 use Rattle.modes_core.specs.Mode.{mode_eq}
-use Rattle.modes_core.specs.Tag.{tag_eq}
+use Rattle.modes_core.specs.declared.tags.LockMethod.{LockMethod}
+use Rattle.modes_core.specs.declared.tags.LockMethod.TheVariants.{Default, User}
+use Rattle.modes_core.specs.Tag.{tag_eq, method_of}
 use Rattle.local_locks.specs.declared.answers.Acquired.{Acquired}
 use Rattle.local_locks.specs.declared.answers.Acquired.TheVariants.{Granted, AlreadyHeld}
 use Rattle.local_locks.specs.declared.ends.End.{End}
@@ -98,10 +100,16 @@ acquired_as entries tag mode = if has_entry entries tag mode then AlreadyHeld el
 
 -- ---- the end of a transaction or of the session
 
+-- What an abort leaves of the session's count: all of it in the user method, that of advisory locks, and nothing in the
+-- default method.
+abbrev pub kept_by_abort : LockMethod → ℕ → ℕ
+kept_by_abort Default count = 0
+kept_by_abort User count = count
+
 -- what the end leaves of an entry's counts
 abbrev pub after_end : End → Entry → Entry
 after_end Commit entry = record entry { transaction = 0 }
-after_end Abort entry = record entry { transaction = 0; session = 0 }
+after_end Abort entry = record entry { transaction = 0; session = kept_by_abort (method_of entry.tag) entry.session }
 after_end Close entry = record entry { transaction = 0; session = 0 }
 
 -- whether the end takes the entry's total to 0

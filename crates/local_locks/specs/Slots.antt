@@ -2,7 +2,7 @@ use Rattle.std.specs.Prelude.{◌≡◌, ◌≢◌, ℕ, ◌+◌, ◌-◌, ◌*�
 use Rattle.std.specs.Option.{option_map}
 use Rattle.modes_core.specs.declared.modes.Mode.{Mode}
 use Rattle.modes_core.specs.declared.tags.Tag.{Tag}
-use Rattle.modes_core.specs.declared.tags.Tag.TheVariants.{Relation, Object}
+use Rattle.modes_core.specs.declared.tags.Tag.TheVariants.{Relation, Object, Advisory}
 use Rattle.modes_core.specs.declared.modes.Mode.TheVariants.{AccessShare}
 use Rattle.modes_core.specs.Mode.{number_of, mode_eq}
 use Rattle.modes_core.specs.Tag.{tag_eq}
@@ -52,6 +52,8 @@ abbrev pub object_bits : Tag → ℕ
 object_bits (Relation database relation) = pair_bits database relation
 object_bits (Object sub_object database class object) =
     ((class * 2 ^ 16 + sub_object) * multiplier % 2 ^ 64 + pair_bits database object) % 2 ^ 64
+object_bits (Advisory sub database key1 key2) =
+    ((key1 * 2 ^ 16 + sub) * multiplier % 2 ^ 64 + pair_bits database key2) % 2 ^ 64
 
 -- the hash of an object in 64 bits and a mode: the upper half of a product
 unfoldable pub hash_of : ℕ → Mode → ℕ

@@ -1,13 +1,15 @@
 ghost use Rattle.std.specs.Prelude.{◌≡◌};
 
 use crate::Entry;
+use modes_core::LockMethod;
 
 /// What ends (the arguments of `LockReleaseAll` in lock.c).
 #[derive(Clone, Copy, Debug, PartialEq, Eq)]
 pub enum End {
     /// A commit drops the transaction's counts and keeps the session's.
     Commit,
-    /// An abort drops both, in the default lock method.
+    /// An abort drops the transaction's counts, and in the default lock method the session's too. In the user method it keeps
+    /// the session's: an advisory lock that the session owns survives a failed transaction.
     Abort,
     /// The close of the session drops both.
     Close,
@@ -30,15 +32,12 @@ impl End {
         ensures { result ≡ after_end self entry }
     {
         match self {
-            End::Commit => Entry {
-                transaction: 0,
-                ..entry
+            End::Commit => entry.without_transaction(),
+            End::Abort => match entry.tag.method() {
+                LockMethod::Default => entry.without_counts(),
+                LockMethod::User => entry.without_transaction(),
             },
-            End::Abort | End::Close => Entry {
-                transaction: 0,
-                session: 0,
-                ..entry
-            },
+            End::Close => entry.without_counts(),
         }
     }
 }

@@ -59,6 +59,16 @@ fn object_bits(tag: &Tag) -> u64
             part.wrapping_mul(MULTIPLIER)
                 .wrapping_add(pair_bits(database, object))
         }
+        Tag::Advisory {
+            database,
+            key1,
+            key2,
+            sub,
+        } => {
+            let part = (u64::from(key1) << 16) + u64::from(sub);
+            part.wrapping_mul(MULTIPLIER)
+                .wrapping_add(pair_bits(database, key2))
+        }
     }
 }
 
@@ -111,7 +121,7 @@ pub(crate) fn look_up(slots: &[Entry], index: &PlaceIndex, tag: &Tag, mode: Mode
         Tag::Relation { database, relation } => {
             look_up_relation(slots, index, database, relation, mode)
         }
-        Tag::Object { .. } => look_up_object(slots, index, tag, mode),
+        Tag::Object { .. } | Tag::Advisory { .. } => look_up_object(slots, index, tag, mode),
     }
 }
 

@@ -19,7 +19,7 @@ impl Entry {
     ghost use Rattle.local_locks.specs.Owned.{count_for, count_in_all, is_of, raised, lowered, new_entry, max_count, after_end};
     ghost use Rattle.local_locks.specs.Slots.{is_held_as};
     ghost use Rattle.modes_core.specs.declared.tags.Tag.TheVariants.{Relation};
-    ghost use Rattle.local_locks.specs.declared.ends.End.TheVariants.{Close};
+    ghost use Rattle.local_locks.specs.declared.ends.End.TheVariants.{Commit, Close};
 
     /// The entry of a first acquire.
     pub(crate) fn new(tag: Tag, mode: Mode, owner: Owner) -> Self
@@ -85,7 +85,7 @@ impl Entry {
                 is_same_pair(own_database, own_relation, database, relation)
                     && self.mode.is_same(mode)
             }
-            Tag::Object { .. } => false,
+            Tag::Object { .. } | Tag::Advisory { .. } => false,
         }
     }
 
@@ -160,6 +160,27 @@ impl Entry {
         match owner {
             Owner::Session => self.session -= 1,
             Owner::Transaction => self.transaction -= 1,
+        }
+    }
+
+    /// The same without the transaction's count.
+    pub(crate) fn without_transaction(self) -> Entry
+        ensures { result ≡ after_end Commit self }
+    {
+        Entry {
+            transaction: 0,
+            ..self
+        }
+    }
+
+    /// The same with no count.
+    pub(crate) fn without_counts(self) -> Entry
+        ensures { result ≡ after_end Close self }
+    {
+        Entry {
+            transaction: 0,
+            session: 0,
+            ..self
         }
     }
 

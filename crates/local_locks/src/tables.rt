@@ -374,7 +374,7 @@ impl LocalTable {
                 let hash = hash_of(pair_bits(database, relation), mode);
                 self.enter(Tag::Relation { database, relation }, hash, mode, owner);
             }
-            Tag::Object { .. } => self.add_new_object(tag, mode, owner),
+            Tag::Object { .. } | Tag::Advisory { .. } => self.add_new_object(tag, mode, owner),
         }
     }
 

@@ -5,7 +5,7 @@ use Rattle.std.proofs.lemmas.Bool.{false≢true, and_right, lt-leb}
 use Rattle.modes_core.specs.declared.modes.Mode.{Mode}
 use Rattle.modes_core.specs.declared.tags.Tag.{Tag}
 use Rattle.modes_core.specs.declared.refusals.Refusal.{Refusal}
-use Rattle.modes_core.specs.declared.refusals.Refusal.TheVariants.{Conflict, NoMemory, LocalFull, CountFull, SimpleDeadlock, Cancelled, NotHeld, Busy, SlotsFull, StrongCounted, NotEligible, NoMoreSessions, BadConfig}
+use Rattle.modes_core.specs.declared.refusals.Refusal.TheVariants.{Conflict, NoMemory, LocalFull, CountFull, SimpleDeadlock, Cancelled, NotHeld, Busy, SlotsFull, StrongCounted, NotEligible, NoMoreSessions, BadConfig, TooDeep, NoNested}
 use Rattle.modes_core.specs.Mode.{number_of}
 use Rattle.modes_core.specs.Tag.{partition_of, index_of, is_strong_on, is_eligible_for}
 use Rattle.wait_queue.specs.declared.requests.Kind.{Kind}
@@ -114,6 +114,8 @@ led-refused number limit a b uses left tag mode Busy eligible none = absurd none
 led-refused number limit a b uses left tag mode NotEligible eligible none = absurd none
 led-refused number limit a b uses left tag mode NoMoreSessions eligible none = absurd none
 led-refused number limit a b uses left tag mode BadConfig eligible none = absurd none
+led-refused number limit a b uses left tag mode TooDeep eligible none = absurd none
+led-refused number limit a b uses left tag mode NoNested eligible none = absurd none
 
 -- and a strong one once it is past every session.
 pub led-transferred :
@@ -370,6 +372,8 @@ requests-decided kind seat a b uses left tag mode (Err StrongCounted) decides = 
 requests-decided kind seat a b uses left tag mode (Err NotEligible) decides = decides
 requests-decided kind seat a b uses left tag mode (Err NoMoreSessions) decides = decides
 requests-decided kind seat a b uses left tag mode (Err BadConfig) decides = decides
+requests-decided kind seat a b uses left tag mode (Err TooDeep) decides = decides
+requests-decided kind seat a b uses left tag mode (Err NoNested) decides = decides
 
 -- Its own refusals are others than those of its limits.
 not_of_limits-decided :

@@ -2,7 +2,7 @@ use Rattle.std.proofs.Common.{◌≡◌, ℕ, true, List, Err, sym, ap, ◌∙�
 use Rattle.modes_core.specs.declared.modes.Mode.{Mode}
 use Rattle.modes_core.specs.declared.tags.Tag.{Tag}
 use Rattle.modes_core.specs.declared.refusals.Refusal.{Refusal}
-use Rattle.modes_core.specs.declared.refusals.Refusal.TheVariants.{Conflict, NoMemory, LocalFull, CountFull, SimpleDeadlock, Cancelled, NotHeld, Busy, SlotsFull, StrongCounted, NotEligible, NoMoreSessions, BadConfig}
+use Rattle.modes_core.specs.declared.refusals.Refusal.TheVariants.{Conflict, NoMemory, LocalFull, CountFull, SimpleDeadlock, Cancelled, NotHeld, Busy, SlotsFull, StrongCounted, NotEligible, NoMoreSessions, BadConfig, TooDeep, NoNested}
 use Rattle.modes_core.specs.Tag.{is_eligible_for}
 use Rattle.local_locks.specs.declared.records.Entry.{Entry}
 use Rattle.local_locks.specs.Owned.{Owned}
@@ -58,6 +58,8 @@ by_slot-refused number a b uses left tag mode NotHeld none = absurd none
 by_slot-refused number a b uses left tag mode NotEligible none = absurd none
 by_slot-refused number a b uses left tag mode NoMoreSessions none = absurd none
 by_slot-refused number a b uses left tag mode BadConfig none = absurd none
+by_slot-refused number a b uses left tag mode TooDeep none = absurd none
+by_slot-refused number a b uses left tag mode NoNested none = absurd none
 
 pub rest-tried :
     (limit database uses left : ℕ) (a b : Account) (stack its : Stack) (old new : List Entry) → b ≡ account_tried a b.fast.remembered b.trace
@@ -98,3 +100,5 @@ by_slot-steps number owned a b uses left tag mode NotHeld none = absurd none
 by_slot-steps number owned a b uses left tag mode NotEligible none = absurd none
 by_slot-steps number owned a b uses left tag mode NoMoreSessions none = absurd none
 by_slot-steps number owned a b uses left tag mode BadConfig none = absurd none
+by_slot-steps number owned a b uses left tag mode TooDeep none = absurd none
+by_slot-steps number owned a b uses left tag mode NoNested none = absurd none

@@ -226,6 +226,8 @@ fn refusals(session: SessionId) -> [(Refusal, u8, &'static str); 14] {
         (Refusal::NotEligible, 11, "not eligible for the fast path"),
         (Refusal::NoMoreSessions, 12, "no more sessions"),
         (Refusal::BadConfig, 13, "the configuration is out of range"),
+        (Refusal::TooDeep, 15, "transactions are nested too deep"),
+        (Refusal::NoNested, 16, "there is no nested transaction"),
     ]
 }
 

@@ -52,6 +52,8 @@ fn a_refusal_has_its_number_and_text(rt: HostRuntime) -> Result<(), Fail> {
         (Refusal::NotEligible, "a: refused 11 not eligible\n"),
         (Refusal::NoMoreSessions, "a: refused 12 no more sessions\n"),
         (Refusal::BadConfig, "a: refused 13 bad config\n"),
+        (Refusal::TooDeep, "a: refused 15 too deep\n"),
+        (Refusal::NoNested, "a: refused 16 no nested transaction\n"),
     ] {
         let mut printed = Vec::new(rt.alloc());
         let mut output = Output::new(&mut printed);

@@ -40,6 +40,8 @@ fn refusal_text(refusal: Refusal) -> &'static str {
         Refusal::NotEligible => "not eligible",
         Refusal::NoMoreSessions => "no more sessions",
         Refusal::BadConfig => "bad config",
+        Refusal::TooDeep => "too deep",
+        Refusal::NoNested => "no nested transaction",
     }
 }
 

@@ -2,7 +2,7 @@ use Rattle.std.proofs.Common.{◌≡◌, ℕ, ◌<◌, true, false, not, ◌&&�
 use Rattle.std.proofs.lemmas.Bool.{false≢true, both_ways, false_from_ne_true, and_parts, and_from}
 use Rattle.modes_core.specs.declared.modes.Mode.{Mode}
 use Rattle.modes_core.specs.declared.tags.Tag.{Tag}
-use Rattle.modes_core.specs.declared.tags.Tag.TheVariants.{Relation, Object}
+use Rattle.modes_core.specs.declared.tags.Tag.TheVariants.{Relation, Object, Advisory}
 use Rattle.modes_core.specs.Mode.{number_of}
 use Rattle.modes_core.specs.Conflict.{conflict}
 use Rattle.modes_core.specs.Tag.{is_eligible_for, is_strong_on}
@@ -23,6 +23,7 @@ conflict-strong database (Relation d r) mode its eligible clash =
     let rest = and_parts (not (nat_eq d 0)) (nat_le (number_of mode) 3) both.1 in
     and_from (not (nat_eq d 0)) (nat_le 5 (number_of its)) rest.0 (weak-conflict mode its rest.1 clash)
 conflict-strong database (Object s d c o) mode its eligible clash = absurd (false≢true eligible)
+conflict-strong database (Advisory s d k l) mode its eligible clash = absurd (false≢true eligible)
 
 -- A mode that is done where it is strong conflicts with no hold in a slot: its session is past whoever has the slot.
 slot-no_conflict :

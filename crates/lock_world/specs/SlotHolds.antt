@@ -1,8 +1,8 @@
 use Rattle.std.specs.Prelude.{◌≡◌, ◌≢◌, ◌⊎◌, ℕ, ◌<◌, Bool, true, false, ◌==◌, ◌&&◌, ◌||◌, zero, suc}
 use Rattle.modes_core.specs.declared.modes.Mode.{Mode}
 use Rattle.modes_core.specs.declared.tags.Tag.{Tag}
-use Rattle.modes_core.specs.declared.tags.Tag.TheVariants.{Relation, Object}
 use Rattle.modes_core.specs.Tag.{is_eligible_for}
+pub use Rattle.modes_core.specs.Tag.{relation_of}
 use Rattle.lw_word.specs.SlotWord.{relation_in, in_use, shows}
 use Rattle.lock_table.specs.Total.{how_many}
 
@@ -21,11 +21,6 @@ may_use relation place = true
 unfoldable pub any_below : ℕ → (ℕ → Bool) → Bool
 any_below zero test = false
 any_below (suc limit) test = any_below limit test || test limit
-
--- the relation of a relation's tag; no other object has a slot
-abbrev pub relation_of : Tag → ℕ
-relation_of (Relation database relation) = relation
-relation_of (Object sub_object database class object) = 0
 
 -- the holds that a session with this database and these slots has by the fast path
 abbrev pub slot_holds : ℕ → (ℕ → ℕ) → Tag → Mode → Bool

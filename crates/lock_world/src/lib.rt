@@ -4,7 +4,5 @@
 
 pub mod events;
 pub mod laws;
-pub mod slot_holds;
 
 pub use events::{Event, Step, Word};
-pub use slot_holds::relation_of;

@@ -5,7 +5,7 @@ use Rattle.std.proofs.lemmas.Bool.Decides.{nat_tests}
 use Rattle.modes_core.specs.declared.modes.Mode.{Mode}
 use Rattle.modes_core.specs.declared.modes.Mode.TheVariants.{AccessShare, RowShare, RowExclusive, ShareUpdateExclusive, Share, ShareRowExclusive, Exclusive, AccessExclusive}
 use Rattle.modes_core.specs.declared.tags.Tag.{Tag}
-use Rattle.modes_core.specs.declared.tags.Tag.TheVariants.{Relation, Object}
+use Rattle.modes_core.specs.declared.tags.Tag.TheVariants.{Relation, Object, Advisory}
 use Rattle.modes_core.specs.Mode.{number_of, mode_eq}
 use Rattle.modes_core.specs.ModeSet.{all_modes}
 use Rattle.modes_core.specs.Conflict.{conflict}
@@ -81,6 +81,7 @@ both_true false b e = absurd (false≢true e)
 pub tag_eq-refl : (x : Tag) → tag_eq x x ≡ true
 tag_eq-refl (Relation d r) = grind (arith, nat_tests)
 tag_eq-refl (Object s d c o) = grind (arith, nat_tests)
+tag_eq-refl (Advisory s d k l) = grind (arith, nat_tests)
 
 pub tag_eq-same : (x y : Tag) → tag_eq x y ≡ true → x ≡ y
 tag_eq-same (Relation d r) (Relation d' r') e =
@@ -97,5 +98,18 @@ tag_eq-same (Object s d c o) (Object s' d' c' o') e =
     let third : c ≡ c' = eqb-true c c' f.0 in
     let fourth : o ≡ o' = eqb-true o o' f.1 in
     λ i. Object (first i) (second i) (third i) (fourth i)
+tag_eq-same (Advisory s d k l) (Advisory s' d' k' l') e =
+    let a = both_true _ _ e in
+    let b = both_true _ _ a.1 in
+    let f = both_true _ _ b.1 in
+    let first : s ≡ s' = eqb-true s s' a.0 in
+    let second : d ≡ d' = eqb-true d d' b.0 in
+    let third : k ≡ k' = eqb-true k k' f.0 in
+    let fourth : l ≡ l' = eqb-true l l' f.1 in
+    λ i. Advisory (first i) (second i) (third i) (fourth i)
 tag_eq-same (Relation d r) (Object s' d' c' o') e = absurd (false≢true e)
 tag_eq-same (Object s d c o) (Relation d' r') e = absurd (false≢true e)
+tag_eq-same (Relation d r) (Advisory s' d' k' l') e = absurd (false≢true e)
+tag_eq-same (Advisory s d k l) (Relation d' r') e = absurd (false≢true e)
+tag_eq-same (Object s d c o) (Advisory s' d' k' l') e = absurd (false≢true e)
+tag_eq-same (Advisory s d k l) (Object s' d' c' o') e = absurd (false≢true e)

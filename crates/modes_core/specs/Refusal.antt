@@ -2,7 +2,7 @@ use Rattle.std.specs.Prelude.{ℕ, List, codes}
 use Rattle.modes_core.specs.declared.refusals.How.{How}
 use Rattle.modes_core.specs.declared.refusals.How.TheVariants.{Held, Awaited}
 use Rattle.modes_core.specs.declared.refusals.Refusal.{Refusal}
-use Rattle.modes_core.specs.declared.refusals.Refusal.TheVariants.{Conflict, NoMemory, LocalFull, CountFull, SimpleDeadlock, Cancelled, NotHeld, Busy, SlotsFull, StrongCounted, NotEligible, NoMoreSessions, BadConfig}
+use Rattle.modes_core.specs.declared.refusals.Refusal.TheVariants.{Conflict, NoMemory, LocalFull, CountFull, SimpleDeadlock, Cancelled, NotHeld, Busy, SlotsFull, StrongCounted, NotEligible, NoMoreSessions, BadConfig, TooDeep, NoNested}
 
 -- the number of a refusal in the output of scripts
 abbrev pub refusal_number : Refusal → ℕ
@@ -19,6 +19,8 @@ refusal_number StrongCounted = 10
 refusal_number NotEligible = 11
 refusal_number NoMoreSessions = 12
 refusal_number BadConfig = 13
+refusal_number TooDeep = 15
+refusal_number NoNested = 16
 
 -- what a session does with the mode that stands in the way, as texts say it
 abbrev pub verb_of : How → List ℕ

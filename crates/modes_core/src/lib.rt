@@ -12,4 +12,4 @@ pub use mode_sets::{ModeSet, conflicts};
 pub use modes::Mode;
 pub use refusals::{How, Refusal};
 pub use sessions::{Owner, SessionId};
-pub use tags::{Tag, is_eligible, is_strong};
+pub use tags::{LockMethod, Tag, is_eligible, is_strong};

@@ -77,10 +77,16 @@ pub enum Refusal {
     /// A number of the configuration is out of its range.
     #[error("the configuration is out of range")]
     BadConfig,
+    /// As many transactions are nested in one another as can be.
+    #[error("transactions are nested too deep")]
+    TooDeep,
+    /// No transaction is nested in another.
+    #[error("there is no nested transaction")]
+    NoNested,
 }
 
 impl Refusal {
-    /// The refusal's number, 1 to 13, as scripts print it.
+    /// The refusal's number, as scripts print it: 1 to 13, 15 or 16. A bad line of a script is 14.
     pub fn number(self) -> u8
         ensures { result ≡ refusal_number self }
     {
@@ -98,6 +104,8 @@ impl Refusal {
             Refusal::NotEligible => 11,
             Refusal::NoMoreSessions => 12,
             Refusal::BadConfig => 13,
+            Refusal::TooDeep => 15,
+            Refusal::NoNested => 16,
         }
     }
 }

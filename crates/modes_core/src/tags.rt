@@ -4,7 +4,7 @@ ghost use Rattle.std.specs.Cmp.{partial_order_from_agreeing_total};
 ghost use Rattle.std.specs.Cmp.Rules.{comparing};
 ghost use Rattle.std.specs.Ordering.{nat_cmp, on, as_partial_cmp};
 ghost use Rattle.std.specs.Cmp.Lexicographic.{slice_cmp, on_texts};
-ghost use Rattle.modes_core.specs.Tag.{numbers_of, hash_of, partition_of, index_of, is_eligible_for, is_strong_on, tag_eq};
+ghost use Rattle.modes_core.specs.Tag.{numbers_of, database_of, relation_of, method_of, hash_of, partition_of, index_of, is_eligible_for, is_strong_on, tag_eq};
 ghost use Rattle.modes_core.specs.TagOrder.{same_tag-by_numbers};
 
 use crate::Mode;
@@ -17,8 +17,18 @@ pub const PARTITIONS: u32 = 16;
 /// How many strong lock counters there are (`FAST_PATH_STRONG_LOCK_HASH_PARTITIONS` in lock.c).
 pub const STRONG_COUNTERS: u32 = 1024;
 
-/// What a lock is on (`LOCKTAG` in lock.h). The variants have the default lock method. The smallest field stands first, beside the
-/// number of the variant, so that a tag takes 16 bytes.
+/// Whose rules a lock follows (`LOCKMETHODID` in lock.h): the server's own locks have the default method, those that applications
+/// name have the user method. Both have the same modes and conflicts; they differ in what an abort leaves to the session.
+#[derive(Clone, Copy, Debug, PartialEq, Eq)]
+pub enum LockMethod {
+    /// `DEFAULT_LOCKMETHOD`.
+    Default,
+    /// `USER_LOCKMETHOD`.
+    User,
+}
+
+/// What a lock is on (`LOCKTAG` in lock.h). Relations and objects have the default lock method, advisory locks the user method. The
+/// smallest field stands first, beside the number of the variant, so that a tag takes 16 bytes.
 #[derive(Clone, Copy, Debug, PartialEq, Eq, Hash)]
 pub enum Tag {
     /// A table or an index (`LOCKTAG_RELATION`).
@@ -32,6 +42,13 @@ pub enum Tag {
         database: u32,
         class: u32,
         object: u32,
+    },
+    /// What only the application knows, named by numbers of its own (`LOCKTAG_ADVISORY`, of `USER_LOCKMETHOD`).
+    Advisory {
+        sub: u16,
+        database: u32,
+        key1: u32,
+        key2: u32,
     },
 }
 
@@ -52,6 +69,51 @@ impl Tag {
             class,
             object,
             sub_object,
+        }
+    }
+
+    /// The tag of an advisory lock (`SET_LOCKTAG_ADVISORY` in lock.h): two numbers of the application's own in a database, and a
+    /// third one, by which PostgreSQL's functions tell one key of 64 bits (1) from two of 32 (2).
+    pub fn advisory(database: u32, key1: u32, key2: u32, sub: u16) -> Self
+        ensures { result ≡ Tag.Advisory sub database key1 key2 }
+    {
+        Tag::Advisory {
+            database,
+            key1,
+            key2,
+            sub,
+        }
+    }
+
+    /// The database that the object is in (`locktag_field1` in lock.h, which has it for each type here).
+    pub fn database(self) -> u32
+        ensures { result ≡ database_of self }
+    {
+        match self {
+            Tag::Relation { database, .. }
+            | Tag::Object { database, .. }
+            | Tag::Advisory { database, .. } => database,
+        }
+    }
+
+    /// The relation of a relation's tag, and 0 of any other object's, which has no fast-path slot (`relid` in
+    /// `FastPathGrantRelationLock` of lock.c).
+    pub fn relation_number(self) -> u32
+        ensures { result ≡ relation_of self }
+    {
+        match self {
+            Tag::Relation { relation, .. } => relation,
+            Tag::Object { .. } | Tag::Advisory { .. } => 0,
+        }
+    }
+
+    /// The lock method (`locktag_lockmethodid` in lock.h).
+    pub fn method(self) -> LockMethod
+        ensures { result ≡ method_of self }
+    {
+        match self {
+            Tag::Relation { .. } | Tag::Object { .. } => LockMethod::Default,
+            Tag::Advisory { .. } => LockMethod::User,
         }
     }
 
@@ -87,6 +149,22 @@ impl Tag {
                     && database == its_database
                     && sub_object == its_sub_object
             }
+            (
+                Tag::Advisory {
+                    sub,
+                    database,
+                    key1,
+                    key2,
+                },
+                Tag::Advisory {
+                    sub: its_sub,
+                    database: its_database,
+                    key1: its_key1,
+                    key2: its_key2,
+                },
+            ) => {
+                key2 == its_key2 && key1 == its_key1 && database == its_database && sub == its_sub
+            }
             _ => false,
         }
     }
@@ -103,6 +181,12 @@ impl Tag {
                 object,
                 sub_object,
             } => [database, class, object, u32::from(sub_object), 8, 1],
+            Tag::Advisory {
+                database,
+                key1,
+                key2,
+                sub,
+            } => [database, key1, key2, u32::from(sub), 10, 2],
         }
     }
 
@@ -126,6 +210,18 @@ impl Tag {
                     + u64::from(object) * 29_791
                     + u64::from(sub_object) * 961
                     + (8 * 31 + 1)
+            }
+            Tag::Advisory {
+                database,
+                key1,
+                key2,
+                sub,
+            } => {
+                u64::from(database) * 28_629_151
+                    + u64::from(key1) * 923_521
+                    + u64::from(key2) * 29_791
+                    + u64::from(sub) * 961
+                    + (10 * 31 + 2)
             }
         };
         (sum % (1 << 32)) as u32
@@ -157,7 +253,8 @@ impl Ord for Tag {
     ghost matches_partial_cmp = { Prim.search (comparing, rules) };
 
     ghost matches_eq = { same_tag-by_numbers _ (λ _ _ _ _. refl) (λ _ _ _ _ _ _ _ _. refl)
-        (λ _ _ _ _ _ _. refl) (λ _ _ _ _ _ _. refl) };
+        (λ _ _ _ _ _ _ _ _. refl) (λ _ _ _ _ _ _. refl) (λ _ _ _ _ _ _. refl) (λ _ _ _ _ _ _. refl)
+        (λ _ _ _ _ _ _. refl) (λ _ _ _ _ _ _ _ _. refl) (λ _ _ _ _ _ _ _ _. refl) };
 
     fn cmp(&self, other: &Tag) -> Ordering {
         self.numbers().cmp(&other.numbers())
@@ -170,14 +267,15 @@ impl PartialOrd for Tag {
     ghost laws = { partial_order_from_agreeing_total (on numbers_of (slice_cmp nat_cmp)) (on_texts numbers_of)
         (λ _ _. refl)
         (same_tag-by_numbers _ (λ _ _ _ _. refl) (λ _ _ _ _ _ _ _ _. refl)
-        (λ _ _ _ _ _ _. refl) (λ _ _ _ _ _ _. refl)) };
+        (λ _ _ _ _ _ _ _ _. refl) (λ _ _ _ _ _ _. refl) (λ _ _ _ _ _ _. refl) (λ _ _ _ _ _ _. refl)
+        (λ _ _ _ _ _ _. refl) (λ _ _ _ _ _ _ _ _. refl) (λ _ _ _ _ _ _ _ _. refl)) };
 
     fn partial_cmp(&self, other: &Tag) -> Option<Ordering> {
         Some(self.cmp(other))
     }
 }
 
-/// A tag is written as scripts write it: `DB/REL`, or `DB/CLASS/OBJ/SUB`.
+/// A tag is written as scripts write it: `DB/REL`, `DB/CLASS/OBJ/SUB`, or `adv/DB/K1/K2/SUB`.
 impl fmt::Display for Tag {
     fn fmt<W: fmt::Write>(&self, f: &mut fmt::Formatter<W>) -> fmt::Result {
         match self {
@@ -188,6 +286,12 @@ impl fmt::Display for Tag {
                 object,
                 sub_object,
             } => write!(f, "{database}/{class}/{object}/{sub_object}"),
+            Tag::Advisory {
+                database,
+                key1,
+                key2,
+                sub,
+            } => write!(f, "adv/{database}/{key1}/{key2}/{sub}"),
         }
     }
 }
@@ -200,7 +304,7 @@ pub fn is_eligible(database: u32, tag: Tag, mode: Mode) -> bool
 {
     match tag {
         Tag::Relation { database: own, .. } => own == database && own != 0 && mode.number() <= 3,
-        Tag::Object { .. } => false,
+        Tag::Object { .. } | Tag::Advisory { .. } => false,
     }
 }
 
@@ -212,6 +316,6 @@ pub fn is_strong(tag: Tag, mode: Mode) -> bool
 {
     match tag {
         Tag::Relation { database, .. } => database != 0 && mode.number() >= 5,
-        Tag::Object { .. } => false,
+        Tag::Object { .. } | Tag::Advisory { .. } => false,
     }
 }

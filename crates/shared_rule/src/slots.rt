@@ -16,7 +16,6 @@ use crate::plays::Marking;
 use crate::rule::{Place, Top};
 use crate::words::{look_as, store_as};
 use lock_table::PartTable;
-use lock_world::relation_of;
 use lw_word::SlotWord;
 use modes_core::{Mode, SessionId, Tag};
 
@@ -81,7 +80,7 @@ pub(crate) fn set_slot<T: PartTable, M: Marking<T>>(
     ensures seat { IsSameSeat place.old place.new }
     ensures side { place.new.me ≡ (noting place.old.me.0 (SetSlot slot tag.now mode), place.old.me.1) }
 {
-    let word = shown.with(relation_of(*tag), mode);
+    let word = shown.with(tag.relation_number(), mode);
     store_as::<T, M>(top, place, slot_word(number, slot), word.number());
 }
 

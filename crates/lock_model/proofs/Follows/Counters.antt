@@ -8,7 +8,7 @@ use Rattle.std.proofs.lemmas.List.Elements.{All-append, All-filter, All-map}
 use Rattle.modes_core.specs.declared.modes.Mode.{Mode}
 use Rattle.modes_core.specs.declared.modes.Mode.TheVariants.{AccessShare, RowShare, RowExclusive, ShareUpdateExclusive, Share, ShareRowExclusive, Exclusive, AccessExclusive}
 use Rattle.modes_core.specs.declared.tags.Tag.{Tag}
-use Rattle.modes_core.specs.declared.tags.Tag.TheVariants.{Relation, Object}
+use Rattle.modes_core.specs.declared.tags.Tag.TheVariants.{Relation, Object, Advisory}
 use Rattle.modes_core.specs.Mode.{number_of}
 use Rattle.modes_core.specs.Tag.{is_eligible_for, is_strong_on, partition_of}
 use Rattle.lw_word.specs.declared.words.LwMode.TheVariants as lw_mode
@@ -124,6 +124,7 @@ weak_only : (database : ℕ) (slot : ℕ → ℕ) (t : Tag) (n : Mode) → nat_l
 weak_only database slot (Relation own relation) n strong =
     and_left (is_eligible_for database (Relation own relation) n) _ (and_right (nat_eq own database) _ (and_right (not (nat_eq own 0)) (nat_le (number_of n) 3) strong))
 weak_only database slot (Object sub_object own class object) n strong = refl
+weak_only database slot (Advisory sub own key1 key2) n strong = refl
 
 nothing_listed : {X : Type 0} (xs : List X) → length xs ≡ 0 → xs ≡ []
 nothing_listed [] none = refl

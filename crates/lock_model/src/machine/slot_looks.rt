@@ -5,7 +5,6 @@ ghost use Rattle.std.specs.List.{list_any};
 ghost use Rattle.lw_word.specs.SlotWord.{shows};
 
 use super::state::Machine;
-use lock_world::relation_of;
 use lw_word::SlotWord;
 use modes_core::{Mode, SessionId, Tag, is_eligible};
 
@@ -30,6 +29,6 @@ impl Machine {
         let index = usize::from(session.number());
         let slots = self.fast_path.slots[index];
         is_eligible(self.fast_path.databases[index], tag, mode)
-            && some_slot_shows(slots.as_slice(), relation_of(tag), mode)
+            && some_slot_shows(slots.as_slice(), tag.relation_number(), mode)
     }
 }

@@ -9,7 +9,7 @@ ghost use Rattle.lock_model.specs.SlotLooks.{is_slot_to_grant};
 use super::lw_words::put;
 use super::state::{Machine, has_a_mark};
 use lock_table::Move;
-use lock_world::{Word, relation_of};
+use lock_world::Word;
 use lw_word::{LwMode, SlotWord};
 use modes_core::{Mode, SessionId, Tag, is_eligible};
 
@@ -111,7 +111,7 @@ impl Machine {
         let place = usize::from(slot);
         if self.may_set_slot(session, place, tag, mode) {
             let word = self.fast_path.slots[index][place];
-            self.fast_path.slots[index][place] = word.with(relation_of(tag), mode);
+            self.fast_path.slots[index][place] = word.with(tag.relation_number(), mode);
         }
     }
 
@@ -173,7 +173,7 @@ impl Machine {
             && is_eligible(self.fast_path.databases[index], tag, mode)
             && self.has_read_zero(session, tag)
             && self.may_ask(session, tag, mode)
-            && is_slot_to_grant(slots.as_slice(), relation_of(tag), place)
+            && is_slot_to_grant(slots.as_slice(), tag.relation_number(), place)
     }
 
     /// Whether the session may clear the mode in the slot.
@@ -184,7 +184,7 @@ impl Machine {
         place < 16
             && self.has_own_slots(session)
             && is_eligible(self.fast_path.databases[index], tag, mode)
-            && self.fast_path.slots[index][place].shows(relation_of(tag), mode)
+            && self.fast_path.slots[index][place].shows(tag.relation_number(), mode)
     }
 
     /// Whether the session may store its database.

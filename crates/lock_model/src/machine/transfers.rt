@@ -2,7 +2,6 @@
 
 use super::state::Machine;
 use lock_table::{Move, NoMemory, PartTable};
-use lock_world::relation_of;
 use modes_core::{Mode, SessionId, Tag, is_eligible};
 
 impl Machine {
@@ -82,6 +81,6 @@ impl Machine {
         let index = usize::from(owner.number());
         place < 16
             && is_eligible(self.fast_path.databases[index], tag, mode)
-            && self.fast_path.slots[index][place].shows(relation_of(tag), mode)
+            && self.fast_path.slots[index][place].shows(tag.relation_number(), mode)
     }
 }

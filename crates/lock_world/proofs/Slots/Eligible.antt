@@ -2,7 +2,7 @@ use Rattle.std.proofs.Common.{◌≡◌, ◌≢◌, ℕ, ◌<◌, ◌≤◌, tru
 use Rattle.std.proofs.lemmas.Bool.{cases_Bool, false≢true, both_ways, false_from_ne_true, and_parts, and_from, and_left, eqb-true, eq-eqb, leb-true, not-true}
 use Rattle.modes_core.specs.declared.modes.Mode.{Mode}
 use Rattle.modes_core.specs.declared.tags.Tag.{Tag}
-use Rattle.modes_core.specs.declared.tags.Tag.TheVariants.{Relation, Object}
+use Rattle.modes_core.specs.declared.tags.Tag.TheVariants.{Relation, Object, Advisory}
 use Rattle.modes_core.specs.Mode.{number_of}
 use Rattle.modes_core.specs.Tag.{is_eligible_for}
 use Rattle.lw_word.specs.SlotWord.{relation_in, in_use, has_mode, shows}
@@ -19,6 +19,7 @@ eligible-is database (Relation d r) mode eligible =
     let weak : number_of mode ≤ 3 = leb-true (number_of mode) 3 rest.1 in
     (λ i. Relation (same i) r, λ none. both_ways (nat_eq d 0) (not-true (nat_eq d 0) rest.0) (eq-eqb d 0 (same ∙ none)), weak)
 eligible-is database (Object s d c o) mode eligible = absurd (false≢true eligible)
+eligible-is database (Advisory s d k l) mode eligible = absurd (false≢true eligible)
 
 -- Eligible objects of one relation are the same.
 pub eligible-same :

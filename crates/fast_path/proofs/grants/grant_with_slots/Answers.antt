@@ -19,7 +19,7 @@ pub returns-in-Some : goal.returns-in-Some
 returns-in-Some g c =
     let seat = g.B.Board.seat c.args.board.now in
     let reads = c.load_strong in
-    let relation = c.relation_of in
+    let relation = c.relation_number in
     let looks = c.look_through-of_relation in
     let set = c.set_slot in
     let both = done-its seat.number (g.B.Board.view c.args.board.now) c.args.uses.now c.args.tag.now c.args.mode
@@ -42,7 +42,7 @@ unwrap-slot-requires g c =
     let sights = looked-sights seat.number (g.B.Board.view c.args.board.now) c.args.tag.now has.slots has.in_hand
     (g.B.Board.view reads.new.self)
     c.number-own.result c.strong_index.result reads.result c.number-own.ensures.value c.strong_index.ensures.value
-    c.if-load_strong-ne0.false reads.ensures.view c.relation_of.result looks.result c.relation_of.ensures
+    c.if-load_strong-ne0.false reads.ensures.view c.relation_number.result looks.result c.relation_number.ensures
     looks.ensures.sighted in
     some-unused has.slots.word c.args.uses.now looks.result.highest_unused has.enough c.requires.not_full sights.full
 
@@ -63,7 +63,7 @@ pub returns : goal.returns
 returns g c =
     let seat = g.B.Board.seat c.args.board.now in
     let reads = c.load_strong in
-    let relation = c.relation_of in
+    let relation = c.relation_number in
     let looks = c.look_through-of_relation in
     let set = c.set_slot-2 in
     let both = done-unused seat.number (g.B.Board.view c.args.board.now) c.args.uses.now c.args.tag.now c.args.mode

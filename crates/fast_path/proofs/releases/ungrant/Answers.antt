@@ -19,8 +19,8 @@ put_fast-requires-clause-lawful g c =
     let cleared = c.clear_slot in
     may_put-cleared (g.B.Board.seat c.args.board.now).number (g.B.Board.view c.args.board.now) c.args.uses.now
     c.number-own.result c.requires.ready c.number-own.ensures.value (g.B.Board.view took.new.self) took.ensures.taken
-    (g.B.Board.view looks.new.board) looks.ensures.loaded c.args.tag.now c.args.mode c.relation_of.result
-    c.relation_of.ensures looks.result looks.ensures.sighted (g.B.Board.view cleared.new.self) _ c.in-Some.slot
+    (g.B.Board.view looks.new.board) looks.ensures.loaded c.args.tag.now c.args.mode c.relation_number.result
+    c.relation_number.ensures looks.result looks.ensures.sighted (g.B.Board.view cleared.new.self) _ c.in-Some.slot
     (ap (λ (s : Seated). s.number) (looks.ensures.seat ∙ took.ensures.seat)) cleared.ensures.view
 
 pub overflow_sub-uses : goal.overflow_sub-uses
@@ -29,8 +29,8 @@ overflow_sub-uses g c =
     let looks = c.look_through-used_count in
     some-used (g.B.Board.seat c.args.board.now).number (g.B.Board.view c.args.board.now) c.args.uses.now
     c.number-own.result c.requires.ready c.number-own.ensures.value (g.B.Board.view took.new.self) took.ensures.taken
-    (g.B.Board.view looks.new.board) looks.ensures.loaded c.args.tag.now c.args.mode c.relation_of.result
-    c.relation_of.ensures looks.result looks.ensures.sighted c.in-Some.slot c.in-Some.is
+    (g.B.Board.view looks.new.board) looks.ensures.loaded c.args.tag.now c.args.mode c.relation_number.result
+    c.relation_number.ensures looks.result looks.ensures.sighted c.in-Some.slot c.in-Some.is
 
 pub returns-then-in_use : goal.returns-then-in_use
 returns-then-in_use g c =
@@ -42,12 +42,12 @@ returns-then-in_use g c =
     let same = ap (λ (s : Seated). s.number) (looks.ensures.seat ∙ took.ensures.seat) in
     let counted = recounted-kept number a c.args.uses.now c.number-own.result c.requires.ready
     c.number-own.ensures.value (g.B.Board.view took.new.self) took.ensures.taken (g.B.Board.view looks.new.board)
-    looks.ensures.loaded c.args.tag.now c.args.mode c.relation_of.result c.relation_of.ensures looks.result
+    looks.ensures.loaded c.args.tag.now c.args.mode c.relation_number.result c.relation_number.ensures looks.result
     looks.ensures.sighted (g.B.Board.view cleared.new.self) _ c.in-Some.slot same cleared.ensures.view c.in-Some.is
     (ap in_use (sym c.without.ensures.number) ∙ sym c.in_use.ensures ∙ c.if-in_use.true) in
     let both = clears number a c.args.uses.now c.number-own.result c.requires.ready c.number-own.ensures.value
     (g.B.Board.view took.new.self) took.ensures.taken (g.B.Board.view looks.new.board) looks.ensures.loaded
-    c.args.tag.now c.args.mode c.relation_of.result c.relation_of.ensures looks.result looks.ensures.sighted
+    c.args.tag.now c.args.mode c.relation_number.result c.relation_number.ensures looks.result looks.ensures.sighted
     (g.B.Board.view cleared.new.self) _ c.in-Some.slot same cleared.ensures.view (g.B.Board.view c.put_fast.new.self) _
     (ap (λ (s : Seated). s.number) cleared.ensures.seat) c.put_fast.ensures.view looks.result.used_count
     c.requires.eligible c.in-Some.is (sym c.has.ensures ∙ c.if-has.true) counted in
@@ -69,12 +69,12 @@ returns-else-in_use g c =
     let same = ap (λ (s : Seated). s.number) (looks.ensures.seat ∙ took.ensures.seat) in
     let counted = recounted-less number a c.args.uses.now c.number-own.result c.requires.ready
     c.number-own.ensures.value (g.B.Board.view took.new.self) took.ensures.taken (g.B.Board.view looks.new.board)
-    looks.ensures.loaded c.args.tag.now c.args.mode c.relation_of.result c.relation_of.ensures looks.result
+    looks.ensures.loaded c.args.tag.now c.args.mode c.relation_number.result c.relation_number.ensures looks.result
     looks.ensures.sighted (g.B.Board.view cleared.new.self) _ c.in-Some.slot same cleared.ensures.view _ c.in-Some.is
     (ap in_use (sym c.without.ensures.number) ∙ sym c.in_use.ensures ∙ c.if-in_use.false) refl in
     let both = clears number a c.args.uses.now c.number-own.result c.requires.ready c.number-own.ensures.value
     (g.B.Board.view took.new.self) took.ensures.taken (g.B.Board.view looks.new.board) looks.ensures.loaded
-    c.args.tag.now c.args.mode c.relation_of.result c.relation_of.ensures looks.result looks.ensures.sighted
+    c.args.tag.now c.args.mode c.relation_number.result c.relation_number.ensures looks.result looks.ensures.sighted
     (g.B.Board.view cleared.new.self) _ c.in-Some.slot same cleared.ensures.view (g.B.Board.view c.put_fast.new.self) _
     (ap (λ (s : Seated). s.number) cleared.ensures.seat) c.put_fast.ensures.view _ c.requires.eligible c.in-Some.is
     (sym c.has.ensures ∙ c.if-has.true) counted in
@@ -97,17 +97,17 @@ returns g c =
       | in-Some+else-has w ↦
           no-mode number a c.args.uses.now c.number-own.result c.requires.ready c.number-own.ensures.value
           (g.B.Board.view took.new.self) took.ensures.taken (g.B.Board.view looks.new.board) looks.ensures.loaded
-          c.args.tag.now c.args.mode c.relation_of.result c.relation_of.ensures looks.result looks.ensures.sighted
+          c.args.tag.now c.args.mode c.relation_number.result c.relation_number.ensures looks.result looks.ensures.sighted
           w.in-Some.slot w.in-Some.is (sym w.has.ensures ∙ w.if-has.false)
       | in_default w ↦
           no-its number a c.args.uses.now c.number-own.result c.requires.ready c.number-own.ensures.value
           (g.B.Board.view took.new.self) took.ensures.taken (g.B.Board.view looks.new.board) looks.ensures.loaded
-          c.args.tag.now c.args.mode c.relation_of.result c.relation_of.ensures looks.result looks.ensures.sighted
+          c.args.tag.now c.args.mode c.relation_number.result c.relation_number.ensures looks.result looks.ensures.sighted
           w.in_default.is
     ] in
     let all = finds_none number a c.args.uses.now c.number-own.result c.requires.ready c.number-own.ensures.value
     (g.B.Board.view took.new.self) took.ensures.taken (g.B.Board.view looks.new.board) looks.ensures.loaded
-    c.args.tag.now c.args.mode c.relation_of.result c.relation_of.ensures looks.result looks.ensures.sighted
+    c.args.tag.now c.args.mode c.relation_number.result c.relation_number.ensures looks.result looks.ensures.sighted
     (g.B.Board.view c.put_fast-2.new.self) _
     (ap (λ (s : Seated). s.number) (looks.ensures.seat ∙ took.ensures.seat)) c.put_fast-2.ensures.view
     looks.result.used_count none refl in

@@ -10,5 +10,5 @@ pass_fast-requires-clause-lawful g c =
     c.load_database.result c.take_fast.ensures.taken c.load_database.ensures.of_slots c.load_database.ensures.view in
     may_pass-elsewhere a (g.B.Board.view c.load_database.new.self) c.args.owner c.load_database.result c.args.tag.now
     c.args.mode looked
-    (λ same. c.if-load_database-from.true (same ∙ sym c.database_of.ensures ∙ sym c.from.ensures)) c.requires.strong
+    (λ same. c.if-load_database-from.true (same ∙ sym c.database.ensures ∙ sym c.from.ensures)) c.requires.strong
     c.requires.next

@@ -9,8 +9,8 @@ pass_fast-requires-clause-lawful g c =
     let b = g.B.Board.view c.args.board.now in
     let looks = c.look_through-of_relation in
     let v = g.B.Board.view looks.new.board in
-    let found = finds a b v c.args.owner c.relation_of.result c.args.tag.now looks.result begun.looked
-    c.relation_of.ensures looks.ensures.loaded looks.ensures.sighted in
+    let found = finds a b v c.args.owner c.relation_number.result c.args.tag.now looks.result begun.looked
+    c.relation_number.ensures looks.ensures.loaded looks.ensures.sighted in
     may_pass-nothing a v c.args.owner c.args.tag.now c.args.mode looks.result found c.in_default.is
     (next-before a b c.args.owner c.args.tag.now c.args.mode begun c.requires.next)
 
@@ -18,8 +18,8 @@ pub returns-in_default-clause-passed : goal.returns-in_default-clause-passed
 returns-in_default-clause-passed g c = λ a begun.
     let looks = c.look_through-of_relation in
     let v = g.B.Board.view looks.new.board in
-    let found = finds a (g.B.Board.view c.args.board.now) v c.args.owner c.relation_of.result c.args.tag.now looks.result
-    begun.looked c.relation_of.ensures looks.ensures.loaded looks.ensures.sighted in
+    let found = finds a (g.B.Board.view c.args.board.now) v c.args.owner c.relation_number.result c.args.tag.now looks.result
+    begun.looked c.relation_number.ensures looks.ensures.loaded looks.ensures.sighted in
     passes-nothing (g.B.Board.seat looks.new.board).number a v (g.B.Board.view c.pass_fast.new.self) c.args.owner
     c.args.tag.now c.args.mode looks.result begun.unlocked found c.in_default.is c.pass_fast.ensures.view
 
@@ -30,8 +30,8 @@ pass_fast-requires-in-Ok-clause-lawful g c =
     let b = g.B.Board.view c.args.board.now in
     let looks = c.look_through-of_relation in
     let v = g.B.Board.view looks.new.board in
-    let found = finds a b v c.args.owner c.relation_of.result c.args.tag.now looks.result begun.looked
-    c.relation_of.ensures looks.ensures.loaded looks.ensures.sighted in
+    let found = finds a b v c.args.owner c.relation_number.result c.args.tag.now looks.result begun.looked
+    c.relation_number.ensures looks.ensures.loaded looks.ensures.sighted in
     let has = relation-found a v c.args.owner c.args.tag.now looks.result c.in-Some.slot found
     c.in-Some.is in
     may_pass-adopted a v (g.B.Board.view c.adopt.new.board) c.args.owner _ _ c.args.tag.now c.args.mode looks.result
@@ -41,8 +41,8 @@ pub returns-in-Ok-clause-passed : goal.returns-in-Ok-clause-passed
 returns-in-Ok-clause-passed g c = λ a begun.
     let looks = c.look_through-of_relation in
     let v = g.B.Board.view looks.new.board in
-    let found = finds a (g.B.Board.view c.args.board.now) v c.args.owner c.relation_of.result c.args.tag.now looks.result
-    begun.looked c.relation_of.ensures looks.ensures.loaded looks.ensures.sighted in
+    let found = finds a (g.B.Board.view c.args.board.now) v c.args.owner c.relation_number.result c.args.tag.now looks.result
+    begun.looked c.relation_number.ensures looks.ensures.loaded looks.ensures.sighted in
     let has = relation-found a v c.args.owner c.args.tag.now looks.result c.in-Some.slot found
     c.in-Some.is in
     passes-adopting (g.B.Board.seat c.adopt.new.board).number a v (g.B.Board.view c.adopt.new.board)
@@ -53,8 +53,8 @@ pub returns-in-Err-clause-passed : goal.returns-in-Err-clause-passed
 returns-in-Err-clause-passed g c = λ a begun.
     let looks = c.look_through-of_relation in
     let v = g.B.Board.view looks.new.board in
-    let found = finds a (g.B.Board.view c.args.board.now) v c.args.owner c.relation_of.result c.args.tag.now looks.result
-    begun.looked c.relation_of.ensures looks.ensures.loaded looks.ensures.sighted in
+    let found = finds a (g.B.Board.view c.args.board.now) v c.args.owner c.relation_number.result c.args.tag.now looks.result
+    begun.looked c.relation_number.ensures looks.ensures.loaded looks.ensures.sighted in
     let has = relation-found a v c.args.owner c.args.tag.now looks.result c.in-Some.slot found
     c.in-Some.is in
     stops-adopting (g.B.Board.seat c.adopt.new.board).number a v (g.B.Board.view c.adopt.new.board)

@@ -2,7 +2,7 @@ use Rattle.std.proofs.Common.{◌≡◌, ◌≢◌, ℕ, ◌≤◌, true, false,
 use Rattle.std.proofs.lemmas.Bool.{both_ways, and_parts, leb-true, false≢true}
 use Rattle.modes_core.specs.declared.modes.Mode.{Mode}
 use Rattle.modes_core.specs.declared.tags.Tag.{Tag}
-use Rattle.modes_core.specs.declared.tags.Tag.TheVariants.{Relation, Object}
+use Rattle.modes_core.specs.declared.tags.Tag.TheVariants.{Relation, Object, Advisory}
 use Rattle.modes_core.specs.Mode.{number_of}
 use Rattle.modes_core.specs.Tag.{is_eligible_for, is_strong_on}
 use Rattle.lw_word.specs.SlotWord.{word_with}
@@ -31,6 +31,7 @@ eligible-not_strong database (Relation d r) m eligible strong =
     let least : 5 ≤ number_of m = leb-true 5 (number_of m) (and_parts (not (nat_eq d 0)) (nat_le 5 (number_of m)) strong).1 in
     omega (arith, weak, least)
 eligible-not_strong database (Object s d c o) m eligible strong = false≢true strong
+eligible-not_strong database (Advisory s d k l) m eligible strong = false≢true strong
 
 -- Setting a mode in an own slot is safe: nobody who has counted an object of its index is past the session.
 module _ (w : World) (s i : ℕ) (t : Tag) (m : Mode) (safe : SafeWorld w) (may : MaySetSlot w s i t m) where

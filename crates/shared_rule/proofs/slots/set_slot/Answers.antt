@@ -21,7 +21,7 @@ pub with-word-requires-clause-its_slot : goal.with-word-requires-clause-its_slot
 with-word-requires-clause-its_slot g c = λ used.
     let lawful = c.requires.lawful in
     its-slot lawful.0.word (relation_of c.args.tag.now) c.args.slot c.args.shown lawful.1.takes lawful.2 used
-    ∙ sym c.relation_of.ensures
+    ∙ sym c.relation_number.ensures
 
 pub store_as-requires-clause-allowed : goal.store_as-requires-clause-allowed
 store_as-requires-clause-allowed g c =
@@ -37,7 +37,7 @@ store_as-requires-clause-allowed g c =
     × MaySetSlotBy (first_number sessions) (first_account content sessions) mine c.args.slot c.args.tag.now
     c.args.mode × (c.args.shown ≡ mine.word c.args.slot)) session.sessions c.requires.lawful in
     let new : word_with c.args.shown (relation_of c.args.tag.now) c.args.mode ≡ c.number.result =
-    ap (λ r. word_with c.args.shown r c.args.mode) (sym c.relation_of.ensures) ∙ sym c.with-word.ensures.number
+    ap (λ r. word_with c.args.shown r c.args.mode) (sym c.relation_number.ensures) ∙ sym c.with-word.ensures.number
     ∙ sym c.number.ensures in
     stores_at content g.T.PartTable.begun key c.args.top.now.table_id.slots place.id place.me session.history
     session.others session.sessions

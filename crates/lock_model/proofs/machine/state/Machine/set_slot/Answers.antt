@@ -21,7 +21,7 @@ with-requires-clause-its_slot c =
     let within : c.args.slot < length (slots_at now c.args.session) =
     subst (λ n. c.args.slot < n) (sym (c.requires.shown.2.fast_path.sixteen c.args.session below)) (set_within now c.args.session c.args.slot c.args.tag c.args.mode may) in
     let read = slot_read now.fast_path.slots c.from-index.result c.args.session c.from-place.result c.args.slot c.index-self-index.result whose place within in
-    λ used. ap relation_in read ∙ set_takes now c.args.session c.args.slot c.args.tag c.args.mode may (sym (ap in_use read) ∙ used) ∙ sym c.relation_of.ensures
+    λ used. ap relation_in read ∙ set_takes now c.args.session c.args.slot c.args.tag c.args.mode may (sym (ap in_use read) ∙ used) ∙ sym c.relation_number.ensures
 
 pub returns-then-may_set_slot : goal.returns-then-may_set_slot
 returns-then-may_set_slot c = λ w safe shows.
@@ -33,9 +33,9 @@ returns-then-may_set_slot c = λ w safe shows.
     let within : c.args.slot < length (slots_at now c.args.session) =
     subst (λ n. c.args.slot < n) (sym (shows.fast_path.sixteen c.args.session below)) (set_within now c.args.session c.args.slot c.args.tag c.args.mode may) in
     let read = slot_read now.fast_path.slots c.from-index.result c.args.session c.from-place.result c.args.slot c.index-self-index.result whose place within in
-    let fits : relation_of c.args.tag < 2 ^ 32 = subst (λ r. r < 2 ^ 32) c.relation_of.ensures c.relation_of.type_inv in
+    let fits : relation_of c.args.tag < 2 ^ 32 = subst (λ r. r < 2 ^ 32) c.relation_number.ensures c.relation_number.type_inv in
     let word : c.with.result ≡ word_with (get_or (slots_at now c.args.session) c.args.slot 0) (relation_of c.args.tag) c.args.mode =
-    c.with.ensures.number ∙ ap (λ x. word_with x c.relation_of.result c.args.mode) read ∙ ap (λ r. word_with (get_or (slots_at now c.args.session) c.args.slot 0) r c.args.mode) c.relation_of.ensures in
+    c.with.ensures.number ∙ ap (λ x. word_with x c.relation_number.result c.args.mode) read ∙ ap (λ r. word_with (get_or (slots_at now c.args.session) c.args.slot 0) r c.args.mode) c.relation_number.ensures in
     rw (word, place, whose) (slot_was_set now w safe shows c.args.session c.args.slot c.args.tag c.args.mode below fits may)
 
 pub returns-else-may_set_slot : goal.returns-else-may_set_slot
