@@ -279,7 +279,8 @@ impl<T: PartTable, B: Board<T>> OwnSession<T, B> {
         end_all(rt, &mut self.board, &mut self.own, End::Commit);
     }
 
-    /// Ends a transaction that failed: all that it and the session own goes (`LockReleaseAll` in lock.c with `allLocks`).
+    /// Ends a transaction that failed: all that it and the session own goes, but for the session's advisory locks, which stay
+    /// (`LockReleaseAll` in lock.c, with `allLocks` for the default lock method and without for the user method).
     pub fn abort<R: Wait>(&mut self, rt: &R)
         ensures entries { self.new.owned.entries ≡ left_by End.Abort self.old.owned.entries }
         ensures released { ReleasesAll (B.seat self.old.board).number (B.view self.old.board) self.old.uses

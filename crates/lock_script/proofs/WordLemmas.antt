@@ -11,7 +11,7 @@ use Rattle.std.proofs.lemmas.List.Sums.{fails_before_first}
 use Rattle.std.proofs.lemmas.Bool.Decides.{nat_tests}
 use Rattle.std.proofs.lemmas.List.Quantifiers.{position-Some}
 use Rattle.std.proofs.lemmas.Grind.{common_steps}
-use Rattle.lock_script.specs.Words.{number_in, is_slash, is_blank, is_word, words_of, tag_of_numbers}
+use Rattle.lock_script.specs.Words.{number_in, is_slash, is_blank, is_word, words_of, tag_of_numbers, advisory_of_numbers}
 
 -- a word of digits is a numeral
 pub numerals : IsNumeralModel (λ word. list_all is_ascii_digit word ≡ true) (digits_value 10)
@@ -32,6 +32,18 @@ no_tag-five (Some a) (Some b) (Some c) (Some d) e others = refl
 pub no_tag-more : (a b c d : Option ℕ) (parts : List (List ℕ)) → 0 < length parts → tag_of_numbers (a ∷ b ∷ c ∷ d ∷ map number_in parts) ≡ None
 no_tag-more a b c d [] h = absurd (omega arith)
 no_tag-more a b c d (e ∷ parts) h = no_tag-five a b c d (number_in e) (map number_in parts)
+
+-- nor are they an advisory lock
+no_advisory-five : (a b c d e : Option ℕ) (others : List (Option ℕ)) → advisory_of_numbers (a ∷ b ∷ c ∷ d ∷ e ∷ others) ≡ None
+no_advisory-five None b c d e others = refl
+no_advisory-five (Some a) None c d e others = refl
+no_advisory-five (Some a) (Some b) None d e others = refl
+no_advisory-five (Some a) (Some b) (Some c) None e others = refl
+no_advisory-five (Some a) (Some b) (Some c) (Some d) e others = refl
+
+pub no_advisory-more : (a b c d : Option ℕ) (parts : List (List ℕ)) → 0 < length parts → advisory_of_numbers (a ∷ b ∷ c ∷ d ∷ map number_in parts) ≡ None
+no_advisory-more a b c d [] h = absurd (omega arith)
+no_advisory-more a b c d (e ∷ parts) h = no_advisory-five a b c d (number_in e) (map number_in parts)
 
 -- there is at least one part
 pub some_part : (word : List ℕ) → 0 < length (slice_split is_slash word)

@@ -6,7 +6,7 @@ use Rattle.std.specs.Str.Parse.{digits_value}
 use Rattle.modes_core.specs.declared.sessions.Owner.{Owner}
 use Rattle.modes_core.specs.declared.sessions.Owner.TheVariants.{Session}
 use Rattle.modes_core.specs.declared.tags.Tag.{Tag}
-use Rattle.modes_core.specs.declared.tags.Tag.TheVariants.{Relation, Object}
+use Rattle.modes_core.specs.declared.tags.Tag.TheVariants.{Relation, Object, Advisory}
 
 -- a space or a tab
 abbrev pub is_blank : ℕ → Bool
@@ -57,9 +57,22 @@ tag_of_numbers (Some database ∷ Some class ∷ Some object ∷ Some sub_object
     if nat_le sub_object 65535 then Some (Object sub_object database class object) else None
 tag_of_numbers _ = None
 
--- the tag that a word is, by the numbers between its slashes
+-- Four numbers, of which the last one is at most 65535, are what an advisory lock is on.
+abbrev pub advisory_of_numbers : List (Option ℕ) → Option Tag
+advisory_of_numbers (Some database ∷ Some key1 ∷ Some key2 ∷ Some sub ∷ []) =
+    if nat_le sub 65535 then Some (Advisory sub database key1 key2) else None
+advisory_of_numbers _ = None
+
+-- the tag that is written by these parts: behind the word `adv` an advisory lock's, else a relation's or an object's
+abbrev pub tag_of_parts : List (List ℕ) → Option Tag
+tag_of_parts [] = None
+tag_of_parts (first ∷ others) =
+    if bytes_eq first (codes "adv") then advisory_of_numbers (map number_in others)
+    else tag_of_numbers (map number_in (first ∷ others))
+
+-- the tag that a word is, by what stands between its slashes
 abbrev pub tag_of : List ℕ → Option Tag
-tag_of word = tag_of_numbers (map number_in (slice_split is_slash word))
+tag_of word = tag_of_parts (slice_split is_slash word)
 
 -- the owner that a word names
 abbrev pub owner_of : List ℕ → Option Owner

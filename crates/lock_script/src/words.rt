@@ -2,7 +2,7 @@
 ghost use Rattle.std.specs.Prelude.{◌≡◌, ◌<◌, [], ◌∷◌, ◌++◌, length, take, map, filter, position, IfSome, MatchOption, is_some, IsUtf8};
 ghost use Rattle.std.specs.List.{list_all, slice_split};
 ghost use Rattle.std.specs.Char.{is_ascii_digit};
-ghost use Rattle.lock_script.specs.Words.{is_blank, is_word, words_of, is_name_byte, is_name, number_in, is_slash, strong_index_in, tag_of_numbers, tag_of, owner_of};
+ghost use Rattle.lock_script.specs.Words.{is_blank, is_word, words_of, is_name_byte, is_name, number_in, is_slash, strong_index_in, tag_of_numbers, advisory_of_numbers, tag_of, owner_of};
 
 use crate::names::Name;
 use arrayvec::ArrayVec;
@@ -113,13 +113,49 @@ fn has_digits(word: &str) -> bool
     word.as_bytes().iter().all(|byte| byte.is_ascii_digit())
 }
 
-/// A tag: `DB/REL` is a relation, `DB/CLASS/OBJ/SUB` an object, whose sub-object is at most 65535.
+/// A tag: `DB/REL` is a relation, `DB/CLASS/OBJ/SUB` an object and `adv/DB/K1/K2/SUB` what an advisory lock is on. SUB is at
+/// most 65535.
 pub fn parse_tag(word: &str) -> Option<Tag>
     ensures { result ≡ tag_of word.now }
 {
-    let Some((database, rest)) = cut_at_slash(word) else {
+    let Some((first, rest)) = cut_at_slash(word) else {
         return None;
     };
+    if first == "adv" {
+        parse_advisory(rest)
+    } else {
+        parse_catalogued(first, rest)
+    }
+}
+
+/// What an advisory lock is on, by its four numbers.
+fn parse_advisory(numbers: &str) -> Option<Tag>
+    ensures { result ≡ advisory_of_numbers (map number_in (slice_split is_slash numbers.now)) }
+{
+    let Some((database, rest)) = cut_at_slash(numbers) else {
+        return None;
+    };
+    let Some((key1, rest)) = cut_at_slash(rest) else {
+        return None;
+    };
+    let Some((key2, sub)) = cut_at_slash(rest) else {
+        return None;
+    };
+    if let Some(_) = cut_at_slash(sub) {
+        return None;
+    }
+    advisory_tag(
+        parse_number(database),
+        parse_number(key1),
+        parse_number(key2),
+        parse_number(sub),
+    )
+}
+
+/// A relation or another object, by its database and the numbers behind it.
+fn parse_catalogued(database: &str, rest: &str) -> Option<Tag>
+    ensures { result ≡ tag_of_numbers (number_in database.now ∷ map number_in (slice_split is_slash rest.now)) }
+{
     let Some((class, rest)) = cut_at_slash(rest) else {
         return relation_tag(parse_number(database), parse_number(rest));
     };
@@ -162,6 +198,24 @@ fn relation_tag(database: Option<u32>, relation: Option<u32>) -> Option<Tag>
 {
     match (database, relation) {
         (Some(database), Some(relation)) => Some(Tag::relation(database, relation)),
+        _ => None,
+    }
+}
+
+/// The advisory lock that four numbers are.
+fn advisory_tag(
+    database: Option<u32>,
+    key1: Option<u32>,
+    key2: Option<u32>,
+    sub: Option<u32>,
+) -> Option<Tag>
+    ensures { result ≡ advisory_of_numbers (database ∷ key1 ∷ key2 ∷ sub ∷ []) }
+{
+    match (database, key1, key2, sub) {
+        (Some(database), Some(key1), Some(key2), Some(sub)) => match u16::try_from(sub) {
+            Ok(sub) => Some(Tag::advisory(database, key1, key2, sub)),
+            Err(_) => None,
+        },
         _ => None,
     }
 }

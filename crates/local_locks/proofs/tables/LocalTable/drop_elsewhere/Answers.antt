@@ -2,9 +2,10 @@ use Rattle.std.proofs.Common.{◌≡◌, ◌≢◌, ◌<◌, List, refl, sym, ap
 use Rattle.std.proofs.lemmas.List.{get_or_default}
 use Rattle.local_locks.specs.declared.answers.Unlocked.TheVariants.{Released, StillHeld}
 use Rattle.local_locks.specs.Owned.{IsWellOwned, count_for, count_in_all, total_of, with_one_less}
-use Rattle.local_locks.specs.Slots.{Slots, IsKept, IsPlaceOf, opened, entry_at, present}
+use Rattle.local_locks.specs.Slots.{Slots, IsKept, IsPlaceOf, key_hash, opened, entry_at, present}
 use Rattle.local_locks.specs.declared.records.Entry.{Entry}
 use Rattle.local_locks.proofs.KeptLaws.{well_owned}
+use Rattle.local_locks.proofs.SlotLaws.{is_of-same}
 use Rattle.local_locks.proofs.TableSteps.{kept-lowered, kept-taken, entries-lowered, entries-taken, total-lowered, IsCounted-lowered}
 use Rattle.local_locks.proofs.tables.LocalTable.drop_elsewhere.Goals as goal
 
@@ -15,6 +16,12 @@ pub returns-then-count_for-eq0-clause-well_owned : goal.returns-then-count_for-e
 returns-then-count_for-eq0-clause-well_owned c = subst IsWellOwned c.self.view_is (well_owned _ _ _ _ _ _ _ c.self.invariant.kept)
 
 -- ---- the last count goes
+
+pub take_out-requires-clause-hashed : goal.take_out-requires-clause-hashed
+take_out-requires-clause-hashed c =
+    let at = subst (λ (l : List Entry). IsPlaceOf l c.args.tag.now c.args.mode c.in-Some.place) c.deref.ensures.value (c.in-Some.ensures {u = tt}) in
+    let same = is_of-same c.args.tag.now c.args.mode (entry_at c.self.inside.slots.items c.in-Some.place) at.own in
+    c.key_hash-hash.ensures ∙ (λ i. key_hash (sym same.0 i) (sym same.1 i))
 
 pub returns-then-total-eq1-clause-well_owned : goal.returns-then-total-eq1-clause-well_owned
 returns-then-total-eq1-clause-well_owned c =
