@@ -24,6 +24,12 @@ relation_of (Relation database relation) = relation
 relation_of (Object sub_object database class object) = 0
 relation_of (Advisory sub database key1 key2) = 0
 
+-- the number that tells objects of one kind apart most often
+abbrev pub own_number_of : Tag → ℕ
+own_number_of (Relation database relation) = relation
+own_number_of (Object sub_object database class object) = object
+own_number_of (Advisory sub database key1 key2) = key2
+
 -- the lock method of an object
 abbrev pub method_of : Tag → LockMethod
 method_of (Relation database relation) = Default
