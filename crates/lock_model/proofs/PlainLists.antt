@@ -179,7 +179,8 @@ tags_tie :
 tags_tie x y =
     ap (λ r. not (is_lt (on numbers_of (slice_cmp nat_cmp) x y)) && not (is_lt r)) (tag_order.antisymm y x)
     ∙ ties_by (on numbers_of (slice_cmp nat_cmp) x y)
-    ∙ sym (same_tag-by_numbers tag_eq (λ _ _ _ _. refl) (λ _ _ _ _ _ _ _ _. refl) (λ _ _ _ _ _ _. refl) (λ _ _ _ _ _ _. refl) x y)
+    ∙ sym (same_tag-by_numbers tag_eq (λ _ _ _ _. refl) (λ _ _ _ _ _ _ _ _. refl) (λ _ _ _ _ _ _ _ _. refl) (λ _ _ _ _ _ _. refl)
+    (λ _ _ _ _ _ _. refl) (λ _ _ _ _ _ _. refl) (λ _ _ _ _ _ _. refl) (λ _ _ _ _ _ _ _ _. refl) (λ _ _ _ _ _ _ _ _. refl) x y)
     ∙ tag_eq_comm x y
 
 filter-same : {X : Type 0} (p q : X → Bool) (xs : List X) → ((x : X) → p x ≡ q x) → filter p xs ≡ filter q xs

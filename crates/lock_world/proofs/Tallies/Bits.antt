@@ -1,11 +1,11 @@
-use Rattle.std.proofs.Common.{◌≡◌, ℕ, ◌+◌, ◌≤◌, Bool, true, false, ◌&&◌, nat_eq, List, [], ◌∷◌, ◌++◌, length, refl, sym, ◌∙◌, arith}
+use Rattle.std.proofs.Common.{◌≡◌, ℕ, ◌+◌, ◌≤◌, Bool, true, false, ◌&&◌, nat_eq, List, [], ◌∷◌, ◌++◌, length, refl, sym, ap, ◌∙◌, arith}
 use Rattle.std.specs.Prelude.{count_by, if◌then◌else◌}
 use Rattle.std.proofs.lemmas.Bool.{false_from_ne_true, and_parts, cond-false}
 use Rattle.std.proofs.lemmas.List.{length-append}
 use Rattle.modes_core.specs.declared.modes.Mode.{Mode}
 use Rattle.modes_core.specs.declared.modes.Mode.TheVariants.{AccessShare, RowShare, RowExclusive, ShareUpdateExclusive, Share, ShareRowExclusive, Exclusive, AccessExclusive}
 use Rattle.modes_core.specs.declared.tags.Tag.{Tag}
-use Rattle.modes_core.specs.declared.tags.Tag.TheVariants.{Relation, Object}
+use Rattle.modes_core.specs.declared.tags.Tag.TheVariants.{Relation, Object, Advisory}
 use Rattle.modes_core.specs.Mode.{mode_eq, number_of}
 use Rattle.lw_word.specs.SlotWord.{relation_in, has_mode, shows}
 use Rattle.lock_table.specs.Total.{total}
@@ -48,6 +48,7 @@ held_in_all-long database slot =
 abbrev pub shows_tag : ℕ → ℕ → Tag → Mode → Bool
 shows_tag database word (Relation other relation) mode = nat_eq database other && shows word relation mode
 shows_tag database word (Object sub_object other class object) mode = false
+shows_tag database word (Advisory sub other key1 key2) mode = false
 
 one-counted : {X : Type 0} (test : X → Bool) (has : Bool) (x : X) → count_by test (if has then x ∷ [] else []) ≡ (if has && test x then 1 else 0)
 one-counted test true x = count_by-one test x
@@ -120,20 +121,23 @@ relation-counted database word other relation ShareRowExclusive = none-counted d
 relation-counted database word other relation Exclusive = none-counted database word other relation Exclusive (omega arith) refl refl refl
 relation-counted database word other relation AccessExclusive = none-counted database word other relation AccessExclusive (omega arith) refl refl refl
 
-object-counted : (database word s d c o : ℕ) (mode : Mode) → count_by (is_this (Object s d c o) mode) (held_in database word) ≡ 0
-object-counted database word s d c o mode =
-    let all = three-counted database word (is_this (Object s d c o) mode) in
-    let a : ◌≡◌ {A = ℕ} (if has_mode word AccessShare && false then 1 else 0) 0 = never (has_mode word AccessShare) in
-    let b : ◌≡◌ {A = ℕ} (if has_mode word RowShare && false then 1 else 0) 0 = never (has_mode word RowShare) in
-    let e : ◌≡◌ {A = ℕ} (if has_mode word RowExclusive && false then 1 else 0) 0 = never (has_mode word RowExclusive) in
+-- what no relation passes isn't shown
+never-counted : (database word : ℕ) (test : Held → Bool)
+    → ((m : Mode) → test (record { tag = Relation database (relation_in word); mode = m }) ≡ false) → count_by test (held_in database word) ≡ 0
+never-counted database word test fails =
+    let all = three-counted database word test in
+    let a = never (has_mode word AccessShare) _ (fails AccessShare) in
+    let b = never (has_mode word RowShare) _ (fails RowShare) in
+    let e = never (has_mode word RowExclusive) _ (fails RowExclusive) in
     omega (arith, all, a, b, e) where
-      never : (has : Bool) → ◌≡◌ {A = ℕ} (if has && false then 1 else 0) 0
-      never true = refl
-      never false = refl
+      never : (has passes : Bool) → passes ≡ false → ◌≡◌ {A = ℕ} (if has && passes then 1 else 0) 0
+      never true passes fails = ap (λ b. if b then 1 else 0) fails
+      never false passes fails = refl
 
 counted-in : (database word : ℕ) (tag : Tag) (mode : Mode) → count_by (is_this tag mode) (held_in database word) ≡ (if shows_tag database word tag mode then 1 else 0)
 counted-in database word (Relation other relation) mode = relation-counted database word other relation mode
-counted-in database word (Object s d c o) mode = object-counted database word s d c o mode
+counted-in database word (Object s d c o) mode = never-counted database word (is_this (Object s d c o) mode) (λ m. refl)
+counted-in database word (Advisory s d k l) mode = never-counted database word (is_this (Advisory s d k l) mode) (λ m. refl)
 
 pub counted-in_all : (database : ℕ) (slot : ℕ → ℕ) (tag : Tag) (mode : Mode)
     → count_by (is_this tag mode) (held_in_all database slot) ≡ total slot_count (λ place. if shows_tag database (slot place) tag mode then 1 else 0)

@@ -4,7 +4,7 @@ use Rattle.std.proofs.lemmas.Bool.{cases_Bool, false≢true, both_ways, false_fr
 use Rattle.std.proofs.lemmas.List.{length-append}
 use Rattle.modes_core.specs.declared.modes.Mode.{Mode}
 use Rattle.modes_core.specs.declared.tags.Tag.{Tag}
-use Rattle.modes_core.specs.declared.tags.Tag.TheVariants.{Relation, Object}
+use Rattle.modes_core.specs.declared.tags.Tag.TheVariants.{Relation, Object, Advisory}
 use Rattle.modes_core.specs.Mode.{mode_eq}
 use Rattle.modes_core.specs.Tag.{tag_eq, partition_of}
 use Rattle.modes_core.proofs.Laws.{mode_eq-refl, mode_eq-same, tag_eq-refl, tag_eq-same}
@@ -50,6 +50,7 @@ module _ (k : ℕ) (a : Account) (contents : ℕ → Content) (stand : OwnStand 
       let is = and_parts (shows (a.fast.remembered place) r mode) (is_left (Relation a.fast.database r) mode) (sym (left place within r mode) ∙ both.1) in
       (ap (λ x. is_left (Relation x r) mode) (sym same) ∙ is.1, is.0)
   shown-is_left place (Object s d c o) mode within shown = absurd (false≢true shown)
+  shown-is_left place (Advisory s d k l) mode within shown = absurd (false≢true shown)
 
   -- What is left is shown where the session remembers it.
   left-is_shown : (place : ℕ) (tag : Tag) (mode : Mode) → place < slot_count → tag ≡ Relation a.fast.database (relation_of tag) → is_left tag mode ≡ true
