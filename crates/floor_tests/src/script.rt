@@ -2,6 +2,6 @@
 //! bytes are there.
 
 mod commands;
-mod crews;
 mod faults;
 mod lines;
+mod sessions;

@@ -2,14 +2,14 @@
 ghost use Rattle.std.specs.Prelude.{◌≡◌, ◌≤◌, ◌<◌, [], true, length, Ok, IfOk};
 ghost use Rattle.lock_manager.specs.Managers.{IsOpenerOf};
 ghost use Rattle.lock_script.specs.Command.{Addresses, NamesCounter};
-ghost use Rattle.lock_script.specs.Crew.{IsThere, MayAct};
+ghost use Rattle.lock_script.specs.Sessions.{IsThere, MayAct};
 ghost use Rattle.scenario.specs.Stage.{SeatsAre};
 
 use crate::desk::{Desk, SharedDesk};
 use crate::output::Output;
 use crate::sessions::{Began, Looked, Stage};
 use lock_manager::{Config, Manager, Opener, OwnSession, Owner, Refusal};
-use lock_script::{Command, Fault, LineReader, Name, Opened, Speaker, Target, parse};
+use lock_script::{Caller, Command, Fault, LineReader, Name, Opened, Target, parse};
 use lock_table::PartTable;
 use shared_rule::board::Board;
 use std::alloc::{AllocError, Global};
@@ -107,8 +107,8 @@ impl<'a, T: PartTable, B: Board<T>, W: Write + Drop> Scene<'a, T, B, W> {
     ) -> Result<(), Fault>
         requires seats { SeatsAre B.seat D.seat }
         ensures manager { self.new.stage.manager.now ≡ self.old.stage.manager.now }
-        ensures none_waits { self.new.stage.crew.waiting ≡ [] }
-        ensures none_open { self.new.stage.crew.resting ≡ [] }
+        ensures none_waits { self.new.stage.sessions.waiting ≡ [] }
+        ensures none_open { self.new.stage.sessions.resting ≡ [] }
         ensures none_live { self.new.stage.opener.live ≡ 0 }
     {
         let ended = self.run_lines(desk, rt, reader);
@@ -131,10 +131,12 @@ impl<'a, T: PartTable, B: Board<T>, W: Write + Drop> Scene<'a, T, B, W> {
             let Some(line) = lines.next_line()? else {
                 break;
             };
-            let command = parse(line.as_str(), &self.stage.crew).map_err(|what| Fault::BadLine {
-                line: lines.number,
-                what,
-            })?;
+            let command = parse(line.as_str(), &self.stage.sessions).map_err(
+                |what| Fault::BadLine {
+                    line: lines.number,
+                    what,
+                },
+            )?;
             if let Some(command) = command {
                 self.run(desk, rt, command)?;
             }
@@ -150,7 +152,7 @@ impl<'a, T: PartTable, B: Board<T>, W: Write + Drop> Scene<'a, T, B, W> {
         command: Command,
     ) -> Result<(), Fault>
         requires seats { SeatsAre B.seat D.seat }
-        requires addressed { Addresses self.old.stage.crew command }
+        requires addressed { Addresses self.old.stage.sessions command }
         requires counter { NamesCounter command }
         ensures manager { self.new.stage.manager.now ≡ self.old.stage.manager.now }
     {
@@ -167,13 +169,13 @@ impl<'a, T: PartTable, B: Board<T>, W: Write + Drop> Scene<'a, T, B, W> {
         command: Command,
     ) -> Result<(), Fault>
         requires seats { SeatsAre B.seat D.seat }
-        requires addressed { Addresses self.old.stage.crew command }
+        requires addressed { Addresses self.old.stage.sessions command }
         requires counter { NamesCounter command }
         ensures manager { self.new.stage.manager.now ≡ self.old.stage.manager.now }
     {
         match command {
             Command::Session { name, database } => self.open(desk, name, database),
-            Command::Close(speaker) => self.close(desk, rt, speaker),
+            Command::Close(caller) => self.close(desk, rt, caller),
             _ => self.call(rt, command),
         }
     }
@@ -200,19 +202,19 @@ impl<'a, T: PartTable, B: Board<T>, W: Write + Drop> Scene<'a, T, B, W> {
         &mut self,
         desk: &D,
         rt: &H,
-        speaker: Speaker,
+        caller: Caller,
     ) -> Result<(), Fault>
         requires seats { SeatsAre B.seat D.seat }
-        requires place { MayAct self.old.stage.crew speaker.place }
+        requires place { MayAct self.old.stage.sessions caller.place }
         ensures manager { self.new.stage.manager.now ≡ self.old.stage.manager.now }
     {
-        self.stage.close(desk, rt, speaker.place);
-        self.output.closed(&speaker.name)
+        self.stage.close(desk, rt, caller.place);
+        self.output.closed(&caller.name)
     }
 
     /// Has a session make the call of a command. Those that open and close one are not made here (`act`).
     fn call<H: Wait>(&mut self, rt: &H, command: Command) -> Result<(), Fault>
-        requires addressed { Addresses self.old.stage.crew command }
+        requires addressed { Addresses self.old.stage.sessions command }
         requires counter { NamesCounter command }
         ensures manager { self.new.stage.manager.now ≡ self.old.stage.manager.now }
     {
@@ -221,13 +223,13 @@ impl<'a, T: PartTable, B: Board<T>, W: Write + Drop> Scene<'a, T, B, W> {
             Command::Fast(target, owner) => self.try_fast(target, owner),
             Command::Lock(target, owner) => self.lock(rt, target, owner),
             Command::Unlock(target, owner) => self.unlock(rt, target, owner),
-            Command::Commit(speaker) => self.commit(rt, speaker),
-            Command::Abort(speaker) => self.abort(rt, speaker),
+            Command::Commit(caller) => self.commit(rt, caller),
+            Command::Abort(caller) => self.abort(rt, caller),
             Command::Owned(target) => self.owned(target),
             Command::Waiters(target) => self.waiters(rt, target),
             Command::Cancel(by, other) => self.cancel(by, other),
-            Command::List(speaker) => self.list(rt, speaker),
-            Command::Count(speaker, index) => self.count(speaker, index),
+            Command::List(caller) => self.list(rt, caller),
+            Command::Count(caller, index) => self.count(caller, index),
             Command::Hash(tag) => self.output.hash(tag),
             Command::Session { .. } | Command::Close(_) => Ok(()),
         }
@@ -245,12 +247,12 @@ impl<'a, T: PartTable, B: Board<T>, W: Write + Drop> Scene<'a, T, B, W> {
     /// Polls each session that waits, in the byte order of their names, and answers whether one went on.
     fn poll_each<H: Wait>(&mut self, rt: &H) -> Result<bool, Fault>
         ensures fewer { result ≡ Ok true →
-            length self.new.stage.crew.waiting < length self.old.stage.crew.waiting }
+            length self.new.stage.sessions.waiting < length self.old.stage.sessions.waiting }
         ensures manager { self.new.stage.manager.now ≡ self.old.stage.manager.now }
     {
         let mut went_on = false;
         let mut place = 0;
-        'places: while place < self.stage.crew.waiting.len() {
+        'places: while place < self.stage.sessions.waiting.len() {
             if self.poll(rt, place)? {
                 went_on = true;
             } else {
@@ -263,10 +265,10 @@ impl<'a, T: PartTable, B: Board<T>, W: Write + Drop> Scene<'a, T, B, W> {
     /// Polls the session at this place of those that wait, carries a cancel out that was asked, and answers
     /// whether the session goes on.
     fn poll<H: Wait>(&mut self, rt: &H, place: usize) -> Result<bool, Fault>
-        requires { place < length self.old.stage.crew.waiting }
+        requires { place < length self.old.stage.sessions.waiting }
         ensures fewer { result ≡ Ok true →
-            length self.new.stage.crew.waiting < length self.old.stage.crew.waiting }
-        ensures no_more { length self.new.stage.crew.waiting ≤ length self.old.stage.crew.waiting }
+            length self.new.stage.sessions.waiting < length self.old.stage.sessions.waiting }
+        ensures no_more { length self.new.stage.sessions.waiting ≤ length self.old.stage.sessions.waiting }
         ensures manager { self.new.stage.manager.now ≡ self.old.stage.manager.now }
     {
         match self.stage.look(rt, place) {
@@ -291,10 +293,10 @@ impl<'a, T: PartTable, B: Board<T>, W: Write + Drop> Scene<'a, T, B, W> {
     }
 
     fn try_lock<H: Wait>(&mut self, rt: &H, target: Target, owner: Owner) -> Result<(), Fault>
-        requires { MayAct self.old.stage.crew target.speaker.place }
+        requires { MayAct self.old.stage.sessions target.caller.place }
         ensures manager { self.new.stage.manager.now ≡ self.old.stage.manager.now }
     {
-        let Speaker { name, place } = target.speaker;
+        let Caller { name, place } = target.caller;
         match self
             .stage
             .try_lock(rt, place, target.tag, target.mode, owner)
@@ -305,10 +307,10 @@ impl<'a, T: PartTable, B: Board<T>, W: Write + Drop> Scene<'a, T, B, W> {
     }
 
     fn try_fast(&mut self, target: Target, owner: Owner) -> Result<(), Fault>
-        requires { MayAct self.old.stage.crew target.speaker.place }
+        requires { MayAct self.old.stage.sessions target.caller.place }
         ensures manager { self.new.stage.manager.now ≡ self.old.stage.manager.now }
     {
-        let Speaker { name, place } = target.speaker;
+        let Caller { name, place } = target.caller;
         match self.stage.try_fast(place, target.tag, target.mode, owner) {
             Ok(acquired) => self.output.acquired(&name, acquired),
             Err(refusal) => self.refuse(&name, refusal),
@@ -316,10 +318,10 @@ impl<'a, T: PartTable, B: Board<T>, W: Write + Drop> Scene<'a, T, B, W> {
     }
 
     fn lock<H: Wait>(&mut self, rt: &H, target: Target, owner: Owner) -> Result<(), Fault>
-        requires { MayAct self.old.stage.crew target.speaker.place }
+        requires { MayAct self.old.stage.sessions target.caller.place }
         ensures manager { self.new.stage.manager.now ≡ self.old.stage.manager.now }
     {
-        let Speaker { name, place } = target.speaker;
+        let Caller { name, place } = target.caller;
         match self.stage.lock(rt, place, target.tag, target.mode, owner) {
             Ok(Began::Acquired(acquired)) => self.output.acquired(&name, acquired),
             Ok(Began::Waits) => self.output.waits(&name),
@@ -328,19 +330,19 @@ impl<'a, T: PartTable, B: Board<T>, W: Write + Drop> Scene<'a, T, B, W> {
     }
 
     fn waiters<H: Wait>(&mut self, rt: &H, target: Target) -> Result<(), Fault>
-        requires { MayAct self.old.stage.crew target.speaker.place }
+        requires { MayAct self.old.stage.sessions target.caller.place }
         ensures manager { self.new.stage.manager.now ≡ self.old.stage.manager.now }
     {
-        let Speaker { name, place } = target.speaker;
+        let Caller { name, place } = target.caller;
         match self.stage.has_waiters(rt, place, target.tag, target.mode) {
             Ok(is_awaited) => self.output.waiters(&name, is_awaited),
             Err(_) => self.output.not_owned(&name, target.mode),
         }
     }
 
-    fn cancel(&mut self, by: Speaker, other: Opened) -> Result<(), Fault>
-        requires by { MayAct self.old.stage.crew by.place }
-        requires other { IsThere self.old.stage.crew other.place }
+    fn cancel(&mut self, by: Caller, other: Opened) -> Result<(), Fault>
+        requires by { MayAct self.old.stage.sessions by.place }
+        requires other { IsThere self.old.stage.sessions other.place }
         ensures manager { self.new.stage.manager.now ≡ self.old.stage.manager.now }
     {
         let asked = self.stage.ask_cancel(by.place, other.place);
@@ -348,62 +350,62 @@ impl<'a, T: PartTable, B: Board<T>, W: Write + Drop> Scene<'a, T, B, W> {
     }
 
     fn unlock<H: Wait>(&mut self, rt: &H, target: Target, owner: Owner) -> Result<(), Fault>
-        requires { MayAct self.old.stage.crew target.speaker.place }
+        requires { MayAct self.old.stage.sessions target.caller.place }
         ensures manager { self.new.stage.manager.now ≡ self.old.stage.manager.now }
     {
-        let Speaker { name, place } = target.speaker;
+        let Caller { name, place } = target.caller;
         match self.stage.unlock(rt, place, target.tag, target.mode, owner) {
             Ok(unlocked) => self.output.unlocked(&name, unlocked),
             Err(_) => self.output.not_owned(&name, target.mode),
         }
     }
 
-    fn commit<H: Wait>(&mut self, rt: &H, speaker: Speaker) -> Result<(), Fault>
-        requires { MayAct self.old.stage.crew speaker.place }
+    fn commit<H: Wait>(&mut self, rt: &H, caller: Caller) -> Result<(), Fault>
+        requires { MayAct self.old.stage.sessions caller.place }
         ensures manager { self.new.stage.manager.now ≡ self.old.stage.manager.now }
     {
-        self.stage.commit(rt, speaker.place);
-        self.output.committed(&speaker.name)
+        self.stage.commit(rt, caller.place);
+        self.output.committed(&caller.name)
     }
 
-    fn abort<H: Wait>(&mut self, rt: &H, speaker: Speaker) -> Result<(), Fault>
-        requires { MayAct self.old.stage.crew speaker.place }
+    fn abort<H: Wait>(&mut self, rt: &H, caller: Caller) -> Result<(), Fault>
+        requires { MayAct self.old.stage.sessions caller.place }
         ensures manager { self.new.stage.manager.now ≡ self.old.stage.manager.now }
     {
-        self.stage.abort(rt, speaker.place);
-        self.output.aborted(&speaker.name)
+        self.stage.abort(rt, caller.place);
+        self.output.aborted(&caller.name)
     }
 
     fn owned(&mut self, target: Target) -> Result<(), Fault>
-        requires { MayAct self.old.stage.crew target.speaker.place }
+        requires { MayAct self.old.stage.sessions target.caller.place }
         ensures manager { self.new.stage.manager.now ≡ self.old.stage.manager.now }
     {
-        let Target { speaker, tag, mode } = target;
-        let Speaker { name, place } = speaker;
+        let Target { caller, tag, mode } = target;
+        let Caller { name, place } = caller;
         let of_transaction = self.stage.owner_count(place, tag, mode, Owner::Transaction);
         let of_session = self.stage.owner_count(place, tag, mode, Owner::Session);
         self.output.owned(&name, of_transaction, of_session)
     }
 
-    fn list<H: Wait>(&mut self, rt: &H, speaker: Speaker) -> Result<(), Fault>
-        requires { MayAct self.old.stage.crew speaker.place }
+    fn list<H: Wait>(&mut self, rt: &H, caller: Caller) -> Result<(), Fault>
+        requires { MayAct self.old.stage.sessions caller.place }
         ensures manager { self.new.stage.manager.now ≡ self.old.stage.manager.now }
     {
-        match self.stage.list(rt, speaker.place) {
+        match self.stage.list(rt, caller.place) {
             Ok(listing) => {
                 let stage = &self.stage;
                 self.output.listing(&stage.names, &listing)
             }
-            Err(refusal) => self.refuse(&speaker.name, refusal),
+            Err(refusal) => self.refuse(&caller.name, refusal),
         }
     }
 
-    fn count(&mut self, speaker: Speaker, index: u16) -> Result<(), Fault>
-        requires by { MayAct self.old.stage.crew speaker.place }
+    fn count(&mut self, caller: Caller, index: u16) -> Result<(), Fault>
+        requires by { MayAct self.old.stage.sessions caller.place }
         requires exists { index < 1024 }
         ensures manager { self.new.stage.manager.now ≡ self.old.stage.manager.now }
     {
-        let shown = self.stage.strong_count(speaker.place, index);
+        let shown = self.stage.strong_count(caller.place, index);
         self.output.strong(index, shown)
     }
 }

@@ -9,7 +9,7 @@ use lock_manager::{
     Acquired, Asked, Cancelled, Listing, Manager, Mode, Opener, OwnSession, OwnWaiting, Owner,
     Polled, Refusal, SessionId, Started, Tag, Unlocked,
 };
-use lock_script::{Crew, Name, Named, Names, Place};
+use lock_script::{Name, Named, Names, OpenSessions, Place};
 use lock_table::PartTable;
 use shared_rule::board::Board;
 use std::alloc::{AllocError, Global};
@@ -39,19 +39,19 @@ pub struct Stage<'a, T: PartTable, B: Board<T>> {
     pub manager: &'a Manager,
     pub opener: Opener,
     pub names: Names,
-    pub crew: Crew<OwnSession<T, B>, OwnWaiting<T, B>>,
+    pub sessions: OpenSessions<OwnSession<T, B>, OwnWaiting<T, B>>,
     ghost own: { opener.table ≡ manager.now.table },
     ghost size: { opener.limit ≡ manager.now.limit },
     ghost named: { length names ≡ opener.issued },
     ghost few: { opener.issued ≤ 64 },
     ghost within: { opener.live ≤ opener.issued },
-    ghost counted: { opener.live ≡ length crew.resting + length crew.waiting },
-    ghost resting: { All (λ one. (B.seat one.session.board).table ≡ opener.table) crew.resting },
-    ghost waiting: { All (λ one. (B.seat one.session.board).table ≡ opener.table) crew.waiting },
+    ghost counted: { opener.live ≡ length sessions.resting + length sessions.waiting },
+    ghost resting: { All (λ one. (B.seat one.session.board).table ≡ opener.table) sessions.resting },
+    ghost waiting: { All (λ one. (B.seat one.session.board).table ≡ opener.table) sessions.waiting },
 }
 
 impl<'a, T: PartTable, B: Board<T>> Stage<'a, T, B> {
-    ghost use Rattle.lock_script.specs.Crew.{IsThere, MayAct};
+    ghost use Rattle.lock_script.specs.Sessions.{IsThere, MayAct};
 
     /// A manager that has no session yet, with its opener.
     pub fn new(alloc: Global, manager: &'a Manager, opener: Opener) -> Result<Self, AllocError>
@@ -59,15 +59,15 @@ impl<'a, T: PartTable, B: Board<T>> Stage<'a, T, B> {
         requires none_issued { opener.issued ≡ 0 }
         requires none_live { opener.live ≡ 0 }
         ensures manager { IfOk result (λ stage. stage.manager.now ≡ manager.now) }
-        ensures none_waits { IfOk result (λ stage. stage.crew.waiting ≡ []) }
-        ensures none_open { IfOk result (λ stage. stage.crew.resting ≡ []) }
+        ensures none_waits { IfOk result (λ stage. stage.sessions.waiting ≡ []) }
+        ensures none_open { IfOk result (λ stage. stage.sessions.resting ≡ []) }
     {
-        let crew = Crew::new(alloc)?;
+        let sessions = OpenSessions::new(alloc)?;
         Ok(Stage {
             manager,
             opener,
             names: Names::new(),
-            crew,
+            sessions,
         })
     }
 
@@ -85,7 +85,7 @@ impl<'a, T: PartTable, B: Board<T>> Stage<'a, T, B> {
             Ok(session) => {
                 let number = session.id();
                 self.names.push(name);
-                self.crew.resting.put(name, session);
+                self.sessions.resting.put(name, session);
                 Ok(number)
             }
             Err(refusal) => Err(refusal),
@@ -95,11 +95,11 @@ impl<'a, T: PartTable, B: Board<T>> Stage<'a, T, B> {
     /// Has the desk close a session. Its name is free again, and its number is not.
     pub fn close<D: Desk<'a, OwnSession<T, B>>, H: Wait>(&mut self, desk: &D, rt: &H, place: usize)
         requires seats { SeatsAre B.seat D.seat }
-        requires place { MayAct self.old.crew place }
+        requires place { MayAct self.old.sessions place }
         ensures manager { self.new.manager.now ≡ self.old.manager.now }
         ensures live { self.new.opener.live + 1 ≡ self.old.opener.live }
     {
-        let Named { session, .. } = self.crew.resting.take(place);
+        let Named { session, .. } = self.sessions.resting.take(place);
         desk.close(rt, &mut self.opener, session);
     }
 
@@ -107,20 +107,20 @@ impl<'a, T: PartTable, B: Board<T>> Stage<'a, T, B> {
     pub fn close_all<D: Desk<'a, OwnSession<T, B>>, H: Wait>(&mut self, desk: &D, rt: &H)
         requires seats { SeatsAre B.seat D.seat }
         ensures manager { self.new.manager.now ≡ self.old.manager.now }
-        ensures none_waits { self.new.crew.waiting ≡ [] }
-        ensures none_open { self.new.crew.resting ≡ [] }
+        ensures none_waits { self.new.sessions.waiting ≡ [] }
+        ensures none_open { self.new.sessions.resting ≡ [] }
         ensures none_live { self.new.opener.live ≡ 0 }
     {
         self.cancel_all(rt);
-        'sessions: while let Some(first) = self.crew.resting.take_first() {
+        'sessions: while let Some(first) = self.sessions.resting.take_first() {
             desk.close(rt, &mut self.opener, first.session);
         }
     }
 
     /// The opener, where the scene is over and no session is open.
     pub fn into_opener(self) -> Opener
-        requires none_waits { self.crew.waiting ≡ [] }
-        requires none_open { self.crew.resting ≡ [] }
+        requires none_waits { self.sessions.waiting ≡ [] }
+        requires none_open { self.sessions.resting ≡ [] }
         ensures opener { result ≡ self.entry.opener }
         ensures own { IsOpenerOf result self.entry.manager.now }
     {
@@ -128,9 +128,9 @@ impl<'a, T: PartTable, B: Board<T>> Stage<'a, T, B> {
             manager: _,
             opener,
             names: _,
-            crew,
+            sessions,
         } = self;
-        crew.finish();
+        sessions.finish();
         opener
     }
 
@@ -143,10 +143,10 @@ impl<'a, T: PartTable, B: Board<T>> Stage<'a, T, B> {
         mode: Mode,
         owner: Owner,
     ) -> Result<Acquired, Refusal>
-        requires { MayAct self.old.crew place }
+        requires { MayAct self.old.sessions place }
         ensures manager { self.new.manager.now ≡ self.old.manager.now }
     {
-        self.crew
+        self.sessions
             .resting
             .session_mut(place)
             .try_lock(rt, tag, mode, owner)
@@ -160,10 +160,10 @@ impl<'a, T: PartTable, B: Board<T>> Stage<'a, T, B> {
         mode: Mode,
         owner: Owner,
     ) -> Result<Acquired, Refusal>
-        requires { MayAct self.old.crew place }
+        requires { MayAct self.old.sessions place }
         ensures manager { self.new.manager.now ≡ self.old.manager.now }
     {
-        self.crew
+        self.sessions
             .resting
             .session_mut(place)
             .try_fast(tag, mode, owner)
@@ -178,17 +178,17 @@ impl<'a, T: PartTable, B: Board<T>> Stage<'a, T, B> {
         mode: Mode,
         owner: Owner,
     ) -> Result<Began, Refusal>
-        requires { MayAct self.old.crew place }
+        requires { MayAct self.old.sessions place }
         ensures manager { self.new.manager.now ≡ self.old.manager.now }
     {
-        let Named { name, session } = self.crew.resting.take(place);
+        let Named { name, session } = self.sessions.resting.take(place);
         match begin(rt, session, tag, mode, owner) {
             Ok((session, answer)) => {
-                self.crew.resting.put(name, session);
+                self.sessions.resting.put(name, session);
                 answer.map(Began::Acquired)
             }
             Err(waiting) => {
-                self.crew.waiting.put(name, waiting);
+                self.sessions.waiting.put(name, waiting);
                 Ok(Began::Waits)
             }
         }
@@ -202,10 +202,10 @@ impl<'a, T: PartTable, B: Board<T>> Stage<'a, T, B> {
         tag: Tag,
         mode: Mode,
     ) -> Result<bool, Refusal>
-        requires { MayAct self.old.crew place }
+        requires { MayAct self.old.sessions place }
         ensures manager { self.new.manager.now ≡ self.old.manager.now }
     {
-        self.crew
+        self.sessions
             .resting
             .session_mut(place)
             .has_waiters(rt, tag, mode)
@@ -220,10 +220,10 @@ impl<'a, T: PartTable, B: Board<T>> Stage<'a, T, B> {
         mode: Mode,
         owner: Owner,
     ) -> Result<Unlocked, Refusal>
-        requires { MayAct self.old.crew place }
+        requires { MayAct self.old.sessions place }
         ensures manager { self.new.manager.now ≡ self.old.manager.now }
     {
-        self.crew
+        self.sessions
             .resting
             .session_mut(place)
             .unlock(rt, tag, mode, owner)
@@ -231,25 +231,25 @@ impl<'a, T: PartTable, B: Board<T>> Stage<'a, T, B> {
 
     /// Ends a transaction that succeeded.
     pub fn commit<H: Wait>(&mut self, rt: &H, place: usize)
-        requires { MayAct self.old.crew place }
+        requires { MayAct self.old.sessions place }
         ensures manager { self.new.manager.now ≡ self.old.manager.now }
     {
-        self.crew.resting.session_mut(place).commit(rt);
+        self.sessions.resting.session_mut(place).commit(rt);
     }
 
     /// Ends a transaction that failed.
     pub fn abort<H: Wait>(&mut self, rt: &H, place: usize)
-        requires { MayAct self.old.crew place }
+        requires { MayAct self.old.sessions place }
         ensures manager { self.new.manager.now ≡ self.old.manager.now }
     {
-        self.crew.resting.session_mut(place).abort(rt);
+        self.sessions.resting.session_mut(place).abort(rt);
     }
 
     /// How often the owner has the object in the mode.
     pub fn owner_count(&self, place: usize, tag: Tag, mode: Mode, owner: Owner) -> u16
-        requires { MayAct self.now.crew place }
+        requires { MayAct self.now.sessions place }
     {
-        self.crew
+        self.sessions
             .resting
             .at(place)
             .session
@@ -258,55 +258,55 @@ impl<'a, T: PartTable, B: Board<T>> Stage<'a, T, B> {
 
     /// All that is held and awaited.
     pub fn list<H: Wait>(&mut self, rt: &H, place: usize) -> Result<Listing, Refusal>
-        requires { MayAct self.old.crew place }
+        requires { MayAct self.old.sessions place }
         ensures manager { self.new.manager.now ≡ self.old.manager.now }
     {
-        self.crew.resting.session_mut(place).list(rt)
+        self.sessions.resting.session_mut(place).list(rt)
     }
 
     /// What the strong lock counter with this index shows.
     pub fn strong_count(&mut self, place: usize, index: u16) -> u64
-        requires by { MayAct self.old.crew place }
+        requires by { MayAct self.old.sessions place }
         requires exists { index < 1024 }
         ensures manager { self.new.manager.now ≡ self.old.manager.now }
     {
-        self.crew.resting.session_mut(place).strong_count(index)
+        self.sessions.resting.session_mut(place).strong_count(index)
     }
 
     /// One session asks another one to cancel its wait.
     pub fn ask_cancel(&mut self, place: usize, other: Place) -> Asked
-        requires by { MayAct self.old.crew place }
-        requires other { IsThere self.old.crew other }
+        requires by { MayAct self.old.sessions place }
+        requires other { IsThere self.old.sessions other }
         ensures manager { self.new.manager.now ≡ self.old.manager.now }
     {
         let number = self.number_at(other);
-        self.crew.resting.session_mut(place).ask_cancel(number)
+        self.sessions.resting.session_mut(place).ask_cancel(number)
     }
 
     /// The number of the session that stands there.
     fn number_at(&self, place: Place) -> SessionId
-        requires { IsThere self.now.crew place }
+        requires { IsThere self.now.sessions place }
     {
         match place {
-            Place::Resting(place) => self.crew.resting.at(place).session.id(),
-            Place::Waiting(place) => self.crew.waiting.at(place).session.id(),
+            Place::Resting(place) => self.sessions.resting.at(place).session.id(),
+            Place::Waiting(place) => self.sessions.waiting.at(place).session.id(),
         }
     }
 
     /// Looks at the wait of the session at this place of those that wait, and carries a cancel out that was asked.
     pub fn look<H: Wait>(&mut self, rt: &H, place: usize) -> Looked
-        requires { place < length self.old.crew.waiting }
-        ensures waiting { length self.new.crew.waiting + going_on result ≡ length self.old.crew.waiting }
+        requires { place < length self.old.sessions.waiting }
+        ensures waiting { length self.new.sessions.waiting + going_on result ≡ length self.old.sessions.waiting }
         ensures manager { self.new.manager.now ≡ self.old.manager.now }
     {
-        let Named { name, session } = self.crew.waiting.take(place);
+        let Named { name, session } = self.sessions.waiting.take(place);
         match look_at(rt, name, session) {
             Ok((session, looked)) => {
-                self.crew.resting.put(name, session);
+                self.sessions.resting.put(name, session);
                 looked
             }
             Err(waiting) => {
-                self.crew.waiting.put(name, waiting);
+                self.sessions.waiting.put(name, waiting);
                 Looked::Waits
             }
         }
@@ -315,12 +315,12 @@ impl<'a, T: PartTable, B: Board<T>> Stage<'a, T, B> {
     /// Cancels the waits of those that wait.
     fn cancel_all<H: Wait>(&mut self, rt: &H)
         ensures manager { self.new.manager.now ≡ self.old.manager.now }
-        ensures none_waits { self.new.crew.waiting ≡ [] }
+        ensures none_waits { self.new.sessions.waiting ≡ [] }
     {
-        'waits: while let Some(first) = self.crew.waiting.take_first() {
+        'waits: while let Some(first) = self.sessions.waiting.take_first() {
             let Named { name, session } = first;
             let (session, _) = cancel(rt, session);
-            self.crew.resting.put(name, session);
+            self.sessions.resting.put(name, session);
         }
     }
 }

@@ -1,22 +1,22 @@
 //! Each command with its line, and each defect of a line, once.
 
-use super::crews::{name, three};
-use lock_script::{Command, Crew, Defect, Opened, Place, Speaker, Target, parse};
+use super::sessions::{name, three};
+use lock_script::{Caller, Command, Defect, OpenSessions, Opened, Place, Target, parse};
 use modes_core::{Mode, Owner, Tag};
 use std::process::Abort;
 use std::test::Fail;
 
 /// The session `b` of three.
-fn speaker(rt: &impl Abort) -> Speaker {
+fn caller(rt: &impl Abort) -> Caller {
     let name = name(rt, "b");
-    Speaker { name, place: 1 }
+    Caller { name, place: 1 }
 }
 
 /// What `b` has on an object in RowShareLock.
 fn target(rt: &impl Abort, tag: Tag) -> Target {
-    let speaker = speaker(rt);
+    let caller = caller(rt);
     let mode = Mode::RowShare;
-    Target { speaker, tag, mode }
+    Target { caller, tag, mode }
 }
 
 const RELATION: Tag = Tag::Relation {
@@ -72,39 +72,39 @@ fn other_commands(rt: &impl Abort) -> [(&'static str, Command); 7] {
     let name = name(rt, "d");
     let place = Place::Waiting(0);
     [
-        ("commit b", Command::Commit(speaker(rt))),
-        ("abort b", Command::Abort(speaker(rt))),
+        ("commit b", Command::Commit(caller(rt))),
+        ("abort b", Command::Abort(caller(rt))),
         (
             "cancel b d",
-            Command::Cancel(speaker(rt), Opened { name, place }),
+            Command::Cancel(caller(rt), Opened { name, place }),
         ),
-        ("list b", Command::List(speaker(rt))),
-        ("count b 1023", Command::Count(speaker(rt), 1023)),
+        ("list b", Command::List(caller(rt))),
+        ("count b 1023", Command::Count(caller(rt), 1023)),
         ("hash 5/7", Command::Hash(RELATION)),
-        ("close b", Command::Close(speaker(rt))),
+        ("close b", Command::Close(caller(rt))),
     ]
 }
 
 /// Looks at the answer to each line.
-fn expect_commands(rt: &impl Abort, crew: &Crew<u32, u32>, rows: &[(&str, Command)]) {
+fn expect_commands(rt: &impl Abort, sessions: &OpenSessions<u32, u32>, rows: &[(&str, Command)]) {
     for (line, command) in rows {
-        assert!(rt; parse(line, crew) == Ok(Some(*command)), "{line}");
+        assert!(rt; parse(line, sessions) == Ok(Some(*command)), "{line}");
     }
 }
 
 /// Looks at lines that ask for nothing.
-fn expect_silence(rt: &impl Abort, crew: &Crew<u32, u32>) {
+fn expect_silence(rt: &impl Abort, sessions: &OpenSessions<u32, u32>) {
     for line in ["", " \t", "#", "#session a 5"] {
-        assert!(rt; parse(line, crew) == Ok(None), "{line}");
+        assert!(rt; parse(line, sessions) == Ok(None), "{line}");
     }
 }
 
 #[test]
 fn a_line_is_a_command(rt: HostRuntime) -> Result<(), Fail> {
-    let crew = three(&rt, rt.alloc())?;
-    expect_commands(&rt, &crew, commands_on_locks(&rt).as_slice());
-    expect_commands(&rt, &crew, other_commands(&rt).as_slice());
-    expect_silence(&rt, &crew);
+    let sessions = three(&rt, rt.alloc())?;
+    expect_commands(&rt, &sessions, commands_on_locks(&rt).as_slice());
+    expect_commands(&rt, &sessions, other_commands(&rt).as_slice());
+    expect_silence(&rt, &sessions);
     Ok(())
 }
 
@@ -128,15 +128,15 @@ const DEFECTS: [(&str, Defect); 12] = [
 ];
 
 /// Looks at the defect that is told of each line.
-fn expect_defects(rt: &impl Abort, crew: &Crew<u32, u32>, rows: &[(&str, Defect)]) {
+fn expect_defects(rt: &impl Abort, sessions: &OpenSessions<u32, u32>, rows: &[(&str, Defect)]) {
     for (line, defect) in rows {
-        assert!(rt; parse(line, crew) == Err(*defect), "{line}");
+        assert!(rt; parse(line, sessions) == Err(*defect), "{line}");
     }
 }
 
 #[test]
 fn a_line_is_refused_at_its_first_defect(rt: HostRuntime) -> Result<(), Fail> {
-    let crew = three(&rt, rt.alloc())?;
-    expect_defects(&rt, &crew, DEFECTS.as_slice());
+    let sessions = three(&rt, rt.alloc())?;
+    expect_defects(&rt, &sessions, DEFECTS.as_slice());
     Ok(())
 }

@@ -5,4 +5,4 @@ abbrev pub invariant-passes : goal.invariant-passes
 invariant-passes g l = l.self.stage.manager.now ≡ l.fn.self.stage.manager.now
 
 abbrev pub decreases-passes : goal.decreases-passes
-decreases-passes g l = length l.self.stage.crew.waiting
+decreases-passes g l = length l.self.stage.sessions.waiting

@@ -4,9 +4,9 @@ use Rattle.scenario.proofs.run.Scene.poll_each.Given as goal
 abbrev pub invariant-places : goal.invariant-places
 invariant-places g l = record {
   manager : l.self.stage.manager.now ≡ l.fn.self.stage.manager.now;
-  no_more : length l.self.stage.crew.waiting ≤ length l.fn.self.stage.crew.waiting;
-  fewer : l.went_on ≡ true → length l.self.stage.crew.waiting < length l.fn.self.stage.crew.waiting;
+  no_more : length l.self.stage.sessions.waiting ≤ length l.fn.self.stage.sessions.waiting;
+  fewer : l.went_on ≡ true → length l.self.stage.sessions.waiting < length l.fn.self.stage.sessions.waiting;
 }
 
 abbrev pub decreases-places : goal.decreases-places
-decreases-places g l = length l.self.stage.crew.waiting - l.place
+decreases-places g l = length l.self.stage.sessions.waiting - l.place

@@ -5,4 +5,4 @@ abbrev pub invariant-waits : goal.invariant-waits
 invariant-waits g l = l.self.manager.now ≡ l.fn.self.manager.now
 
 abbrev pub decreases-waits : goal.decreases-waits
-decreases-waits g l = length l.self.crew.waiting
+decreases-waits g l = length l.self.sessions.waiting

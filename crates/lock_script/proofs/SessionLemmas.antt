@@ -4,7 +4,7 @@ use Rattle.std.specs.Prelude.{All, insert, remove}
 use Rattle.std.specs.List.{HoldsAt}
 use Rattle.std.proofs.lemmas.Bool.{cases_eq, cases_lt}
 use Rattle.std.proofs.lemmas.List.Edits.{get_or-remove_below, get_or-remove_above, length-remove, length-insert, get_or-insert_below, get_or-insert_at, get_or-insert_above}
-use Rattle.lock_script.specs.declared.crew.Named.{Named}
+use Rattle.lock_script.specs.declared.sessions.Named.{Named}
 use Rattle.lock_script.specs.Names.{PutsIn}
 
 -- of those left where one is taken out

@@ -28,7 +28,7 @@ pub struct ByName<S> {
 
 impl<S> Model for ByName<S> {
     ghost use Rattle.std.specs.Prelude.{◌≤◌, List, vec_capacity};
-    ghost use Rattle.lock_script.specs.declared.crew.Named.{Named};
+    ghost use Rattle.lock_script.specs.declared.sessions.Named.{Named};
     ghost use Rattle.lock_script.specs.Names.{IsByName};
 
     ghost Value = { List (Named S) };
@@ -39,7 +39,7 @@ impl<S> Model for ByName<S> {
 }
 
 impl<S> ByName<S> {
-    ghost use Rattle.lock_script.specs.declared.crew.Named.{Named};
+    ghost use Rattle.lock_script.specs.declared.sessions.Named.{Named};
     ghost use Rattle.lock_script.specs.Lending.{LendsSession};
 
     /// No session. It is refused where memory is wanting.
@@ -148,7 +148,7 @@ impl<S> ByName<S> {
 
 /// The open sessions: those that don't wait, and those that do.
 #[derive(Drop)]
-pub struct Crew<S, W> {
+pub struct OpenSessions<S, W> {
     pub resting: ByName<S>,
     pub waiting: ByName<W>,
 }
@@ -164,7 +164,7 @@ pub enum Place {
 
 /// A session that doesn't wait: its name, and its place.
 #[derive(Clone, Copy, Debug, PartialEq, Eq)]
-pub struct Speaker {
+pub struct Caller {
     pub name: Name,
     pub place: usize,
 }
@@ -176,17 +176,17 @@ pub struct Opened {
     pub place: Place,
 }
 
-impl<S, W> Crew<S, W> {
-    ghost use Rattle.lock_script.specs.Crew.{IsAt, IsUnknown};
+impl<S, W> OpenSessions<S, W> {
+    ghost use Rattle.lock_script.specs.Sessions.{IsAt, IsUnknown};
 
     /// Nobody. It is refused where memory is wanting.
     pub fn new(alloc: Global) -> Result<Self, AllocError>
-        ensures resting { IfOk result (λ crew. crew.resting ≡ []) }
-        ensures waiting { IfOk result (λ crew. crew.waiting ≡ []) }
+        ensures resting { IfOk result (λ sessions. sessions.resting ≡ []) }
+        ensures waiting { IfOk result (λ sessions. sessions.waiting ≡ []) }
     {
         let resting = ByName::new(alloc)?;
         match ByName::new(alloc) {
-            Ok(waiting) => Ok(Crew { resting, waiting }),
+            Ok(waiting) => Ok(OpenSessions { resting, waiting }),
             Err(refused) => {
                 resting.finish();
                 Err(refused)
@@ -194,12 +194,12 @@ impl<S, W> Crew<S, W> {
         }
     }
 
-    /// The end of the crew, once nobody is in it.
+    /// The end, once no session is open.
     pub fn finish(self)
         requires resting { self.resting ≡ [] }
         requires waiting { self.waiting ≡ [] }
     {
-        let Crew { resting, waiting } = self;
+        let OpenSessions { resting, waiting } = self;
         resting.finish();
         waiting.finish();
     }

@@ -1,9 +1,9 @@
 use Rattle.std.proofs.Common.{◌≡◌, ◌≤◌, arith, rules}
 use Rattle.std.specs.Prelude.{insert, vec_capacity}
-use Rattle.lock_script.specs.declared.crew.Named.{Named}
+use Rattle.lock_script.specs.declared.sessions.Named.{Named}
 use Rattle.lock_script.specs.Names.{IsByName, NotAfter}
 use Rattle.lock_script.proofs.NameLemmas.{all_pairs_insert}
-use Rattle.lock_script.proofs.crew.ByName.put.Goals as goal
+use Rattle.lock_script.proofs.sessions.ByName.put.Goals as goal
 
 pub invariant_of-self : goal.invariant_of-self
 invariant_of-self g c =

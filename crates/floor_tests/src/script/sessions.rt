@@ -2,7 +2,7 @@
 
 ghost use Rattle.std.specs.Prelude.{◌≡◌, length, IfOk};
 
-use lock_script::{Crew, Name, Named, Names, Place};
+use lock_script::{Name, Named, Names, OpenSessions, Place};
 use modes_core::SessionId;
 use std::alloc::{AllocError, Global};
 use std::process::Abort;
@@ -13,24 +13,24 @@ pub fn name(rt: &impl Abort, text: &str) -> Name {
 }
 
 /// The sessions `b`, `a` and `d`, opened in this order, of which `d` waits.
-pub fn three(rt: &impl Abort, alloc: Global) -> Result<Crew<u32, u32>, AllocError>
-    ensures { IfOk result (λ crew. length crew.resting ≡ 2) }
+pub fn three(rt: &impl Abort, alloc: Global) -> Result<OpenSessions<u32, u32>, AllocError>
+    ensures { IfOk result (λ sessions. length sessions.resting ≡ 2) }
 {
-    let mut crew = Crew::new(alloc)?;
-    crew.resting.put(name(rt, "b"), 0);
-    crew.resting.put(name(rt, "a"), 1);
-    crew.waiting.put(name(rt, "d"), 2);
-    Ok(crew)
+    let mut sessions = OpenSessions::new(alloc)?;
+    sessions.resting.put(name(rt, "b"), 0);
+    sessions.resting.put(name(rt, "a"), 1);
+    sessions.waiting.put(name(rt, "d"), 2);
+    Ok(sessions)
 }
 
 /// The one that waits goes over to those that rest, and whether there was one.
-fn goes_on(crew: &mut Crew<u32, u32>) -> bool
-    requires { length crew.old.resting ≡ 2 }
+fn goes_on(sessions: &mut OpenSessions<u32, u32>) -> bool
+    requires { length sessions.old.resting ≡ 2 }
 {
-    let Some(last) = crew.waiting.take_first() else {
+    let Some(last) = sessions.waiting.take_first() else {
         return false;
     };
-    crew.resting.put(last.name, last.session);
+    sessions.resting.put(last.name, last.session);
     true
 }
 
@@ -44,15 +44,18 @@ fn is_one(session: Option<Named<u32>>, name: Name, number: u32) -> bool {
 
 #[test]
 fn sessions_stand_by_their_names(rt: HostRuntime) -> Result<(), Fail> {
-    let mut crew = three(&rt, rt.alloc())?;
-    assert!(rt; goes_on(&mut crew) && crew.resting.len() == 3);
+    let mut sessions = three(&rt, rt.alloc())?;
+    assert!(rt; goes_on(&mut sessions) && sessions.resting.len() == 3);
     for (text, number) in [("a", 1), ("b", 0), ("d", 2)] {
         let name = name(&rt, text);
         assert!(rt;
-            crew.place_called(&name) == Some(Place::Resting(0)),
+            sessions.place_called(&name) == Some(Place::Resting(0)),
             "{text}"
         );
-        assert!(rt; is_one(crew.resting.take_first(), name, number), "{text}");
+        assert!(rt;
+            is_one(sessions.resting.take_first(), name, number),
+            "{text}"
+        );
     }
     Ok(())
 }

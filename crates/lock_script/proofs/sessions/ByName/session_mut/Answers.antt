@@ -1,9 +1,9 @@
 use Rattle.std.proofs.Common.{◌≡◌, ◌<◌, ◌∙◌, refl, ap, sym, subst, List, length, get_or, set}
 use Rattle.std.proofs.lemmas.List.{get_or_default}
-use Rattle.lock_script.specs.declared.crew.Named.{Named}
+use Rattle.lock_script.specs.declared.sessions.Named.{Named}
 use Rattle.lock_script.specs.Lending.{with_session}
 use Rattle.lock_script.proofs.Lending.{set-session}
-use Rattle.lock_script.proofs.crew.ByName.session_mut.Goals as goal
+use Rattle.lock_script.proofs.sessions.ByName.session_mut.Goals as goal
 
 pub returns : goal.returns
 returns g c =
