@@ -5,9 +5,9 @@ ghost use Rattle.lock_manager.specs.Managers.{IsOpenerOf};
 
 use crate::pair::Pair;
 use crate::session_loops::lock_pairs;
-use bench_rows::keys::Key;
-use bench_rows::rounds::Spread;
-use bench_rows::shared_map::{SharedMap, map_pairs};
+use bench_base::keys::Key;
+use bench_base::rounds::Spread;
+use bench_base::shared_map::{SharedMap, map_pairs};
 use lock_manager::{Manager, Opener, OwnSession, Refusal};
 use lock_table::PlainPart;
 use modes_core::Owner;

@@ -5,7 +5,7 @@ ghost use Rattle.std.specs.Prelude.{◌≡◌};
 use crate::pair::Pair;
 use crate::turns::{Plan, pass_lock, pass_turn};
 use anyhow::{Result, bail};
-use bench_rows::rounds::{
+use bench_base::rounds::{
     ROUNDS, Spread, Times, WIDTH, print_header, print_ratio, print_time, wall_nanos,
 };
 use lock_manager::{Config, Manager};

@@ -14,7 +14,7 @@ mod session_page;
 mod threads_page;
 mod turns;
 
-use bench_rows::local_page;
+use bench_base::local_page;
 use clap::{Arg, ArgAction, Command};
 use modes_core::Owner;
 use std::alloc::Global;

@@ -8,12 +8,12 @@ use crate::session_loops::{
     count_refused, count_strong_counted, lock_all, lock_and_commit, lock_and_end, lock_pairs,
 };
 use anyhow::Result;
-use bench_rows::floors::Words;
-use bench_rows::keys::{Key, KeyList, Size};
-use bench_rows::loops::{double_passes, passes};
-use bench_rows::rounds::cpu_nanos;
-use bench_rows::rows::Line;
-use bench_rows::shared_map::{SharedMap, count_held, map_all, map_and_uncount, map_pairs};
+use bench_base::floors::Words;
+use bench_base::keys::{Key, KeyList, Size};
+use bench_base::loops::{double_passes, passes};
+use bench_base::rounds::cpu_nanos;
+use bench_base::rows::Line;
+use bench_base::shared_map::{SharedMap, count_held, map_all, map_and_uncount, map_pairs};
 use lock_manager::OwnSession;
 use lock_table::PartTable;
 use modes_core::{Owner, Refusal};

@@ -4,8 +4,8 @@ ghost use Rattle.std.specs.Prelude.{◌≡◌};
 
 use crate::session_doors::{commit, try_fast, try_lock, unlock};
 use anyhow::Result;
-use bench_rows::keys::Key;
-use bench_rows::rounds::cpu_nanos;
+use bench_base::keys::Key;
+use bench_base::rounds::cpu_nanos;
 use lock_manager::OwnSession;
 use lock_table::PartTable;
 use modes_core::{Owner, Refusal};

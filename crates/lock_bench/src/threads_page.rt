@@ -4,11 +4,11 @@ ghost use Rattle.std.specs.Prelude.{◌≡◌};
 
 use crate::crew::{Crew, Job, on_map};
 use anyhow::Result;
-use bench_rows::keys::{Key, Kind, keys, keys_of_partition};
-use bench_rows::rounds::{
+use bench_base::keys::{Key, Kind, keys, keys_of_partition};
+use bench_base::rounds::{
     ROUNDS, Spread, Times, WIDTH, print_header, print_ratio, print_time, wall_nanos,
 };
-use bench_rows::shared_map::SharedMap;
+use bench_base::shared_map::SharedMap;
 use lock_manager::{Config, Manager};
 use lock_table::PlainPart;
 use modes_core::{Mode, Owner};

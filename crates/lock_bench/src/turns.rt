@@ -3,7 +3,7 @@
 ghost use Rattle.std.specs.Prelude.{◌≡◌};
 
 use crate::pair::Pair;
-use bench_rows::keys::Key;
+use bench_base::keys::Key;
 use crossbeam_utils::Backoff;
 use lock_manager::OwnSession;
 use lock_table::{PartTable, PlainPart};

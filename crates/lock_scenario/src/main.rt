@@ -1,7 +1,7 @@
 //! `lock_scenario`: runs scripts against the lock manager.
 #![tactic(auto)]
 
-use lock_stage::{Source, run_program};
+use scenario::{Source, run_program};
 use std::io::IsTerminal;
 use std::process::ExitCode;
 use std::{env, io};

@@ -7,18 +7,18 @@ use Rattle.std.proofs.lemmas.Bool.Decides.{nat_tests}
 use Rattle.std.proofs.lemmas.List.{get_or_default}
 use Rattle.modes_core.specs.declared.sessions.Owner.{Owner}
 use Rattle.lock_script.specs.Command.{Addresses, IsBarred, IsUnnamed, NamesCounter}
-use Rattle.lock_script.specs.Crew.{IsAt, IsThere, MayAct}
+use Rattle.lock_script.specs.Sessions.{IsAt, IsThere, MayAct}
 use Rattle.lock_script.specs.Meaning.{IsCommandOf, NamesActor, NamesBoth, NamesCount, NamesLone, NamesOwned}
 use Rattle.lock_script.specs.Words.{number_in, strong_index}
 use Rattle.lock_script.specs.declared.command.Command.{Command}
 use Rattle.lock_script.specs.declared.command.Command.TheVariants.{Session, Try, Fast, Lock, Unlock, Commit, Abort, Owned, Waiters, Cancel, Count, Hash, Close}
 use Rattle.lock_script.specs.declared.command.Command.TheVariants as command
 use Rattle.lock_script.specs.declared.command.Target.{Target}
-use Rattle.lock_script.specs.declared.crew.Crew.{Crew}
-use Rattle.lock_script.specs.declared.crew.Opened.{Opened}
-use Rattle.lock_script.specs.declared.crew.Place.{Place}
-use Rattle.lock_script.specs.declared.crew.Place.TheVariants.{Resting, Waiting}
-use Rattle.lock_script.specs.declared.crew.Speaker.{Speaker}
+use Rattle.lock_script.specs.declared.sessions.OpenSessions.{OpenSessions}
+use Rattle.lock_script.specs.declared.sessions.Opened.{Opened}
+use Rattle.lock_script.specs.declared.sessions.Place.{Place}
+use Rattle.lock_script.specs.declared.sessions.Place.TheVariants.{Resting, Waiting}
+use Rattle.lock_script.specs.declared.sessions.Caller.{Caller}
 use Rattle.lock_script.specs.declared.faults.Defect.{Defect}
 use Rattle.lock_script.specs.declared.faults.Defect.TheVariants.{WrongNumberOfWords, BadNumber}
 
@@ -59,79 +59,79 @@ index-below (Some n) index e = go (nat_lt n 1024) refl e where
 
 module _ {S W : Type 0} where
   -- what bars a word is not the number of words
-  pub barred-other : (crew : Crew S W) (words : List (Bor (List ℕ))) (place : ℕ) (d : Bor (List ℕ)) (defect : Defect) → IsBarred crew (get_or words place d).now defect → defect ≢ WrongNumberOfWords
-  barred-other crew words place d defect barred e = subst (IsBarred crew (get_or words place d).now) e barred
+  pub barred-other : (sessions : OpenSessions S W) (words : List (Bor (List ℕ))) (place : ℕ) (d : Bor (List ℕ)) (defect : Defect) → IsBarred sessions (get_or words place d).now defect → defect ≢ WrongNumberOfWords
+  barred-other sessions words place d defect barred e = subst (IsBarred sessions (get_or words place d).now) e barred
 
-  pub unnamed-other : (crew : Crew S W) (words : List (Bor (List ℕ))) (place : ℕ) (d : Bor (List ℕ)) (defect : Defect) → IsUnnamed crew (get_or words place d).now defect → defect ≢ WrongNumberOfWords
-  unnamed-other crew words place d defect unnamed e = subst (IsUnnamed crew (get_or words place d).now) e unnamed
+  pub unnamed-other : (sessions : OpenSessions S W) (words : List (Bor (List ℕ))) (place : ℕ) (d : Bor (List ℕ)) (defect : Defect) → IsUnnamed sessions (get_or words place d).now defect → defect ≢ WrongNumberOfWords
+  unnamed-other sessions words place d defect unnamed e = subst (IsUnnamed sessions (get_or words place d).now) e unnamed
 
   -- who may act, and who is there
-  actor-may_act : (crew : Crew S W) (words : List (List ℕ)) (speaker : Speaker) → NamesActor crew words speaker → MayAct crew speaker.place
-  actor-may_act crew [] speaker h = absurd h
-  actor-may_act crew (name ∷ []) speaker h = h.0.0
-  actor-may_act crew (name ∷ other ∷ words) speaker h = absurd h
+  actor-may_act : (sessions : OpenSessions S W) (words : List (List ℕ)) (caller : Caller) → NamesActor sessions words caller → MayAct sessions caller.place
+  actor-may_act sessions [] caller h = absurd h
+  actor-may_act sessions (name ∷ []) caller h = h.0.0
+  actor-may_act sessions (name ∷ other ∷ words) caller h = absurd h
 
-  lone-may_act : (crew : Crew S W) (words : List (List ℕ)) (target : Target) → NamesLone crew words target → MayAct crew target.speaker.place
-  lone-may_act crew [] target h = absurd h
-  lone-may_act crew (name ∷ []) target h = absurd h
-  lone-may_act crew (name ∷ tag ∷ []) target h = absurd h
-  lone-may_act crew (name ∷ tag ∷ mode ∷ []) target h = h.0.0.0
-  lone-may_act crew (name ∷ tag ∷ mode ∷ other ∷ words) target h = absurd h
+  lone-may_act : (sessions : OpenSessions S W) (words : List (List ℕ)) (target : Target) → NamesLone sessions words target → MayAct sessions target.caller.place
+  lone-may_act sessions [] target h = absurd h
+  lone-may_act sessions (name ∷ []) target h = absurd h
+  lone-may_act sessions (name ∷ tag ∷ []) target h = absurd h
+  lone-may_act sessions (name ∷ tag ∷ mode ∷ []) target h = h.0.0.0
+  lone-may_act sessions (name ∷ tag ∷ mode ∷ other ∷ words) target h = absurd h
 
-  owned-may_act : (crew : Crew S W) (words : List (List ℕ)) (target : Target) (owner : Owner) → NamesOwned crew words target owner → MayAct crew target.speaker.place
-  owned-may_act crew [] target owner h = absurd h
-  owned-may_act crew (name ∷ []) target owner h = absurd h
-  owned-may_act crew (name ∷ tag ∷ []) target owner h = absurd h
-  owned-may_act crew (name ∷ tag ∷ mode ∷ []) target owner h = h.0.0.0.0
-  owned-may_act crew (name ∷ tag ∷ mode ∷ word ∷ []) target owner h = h.0.0.0.0
-  owned-may_act crew (name ∷ tag ∷ mode ∷ word ∷ other ∷ words) target owner h = absurd h
+  owned-may_act : (sessions : OpenSessions S W) (words : List (List ℕ)) (target : Target) (owner : Owner) → NamesOwned sessions words target owner → MayAct sessions target.caller.place
+  owned-may_act sessions [] target owner h = absurd h
+  owned-may_act sessions (name ∷ []) target owner h = absurd h
+  owned-may_act sessions (name ∷ tag ∷ []) target owner h = absurd h
+  owned-may_act sessions (name ∷ tag ∷ mode ∷ []) target owner h = h.0.0.0.0
+  owned-may_act sessions (name ∷ tag ∷ mode ∷ word ∷ []) target owner h = h.0.0.0.0
+  owned-may_act sessions (name ∷ tag ∷ mode ∷ word ∷ other ∷ words) target owner h = absurd h
 
-  is_there : (crew : Crew S W) (name : List ℕ) (place : Place) → IsAt crew name place → IsThere crew place
-  is_there crew name (Resting place) h = h.0
-  is_there crew name (Waiting place) h = h.0
+  is_there : (sessions : OpenSessions S W) (name : List ℕ) (place : Place) → IsAt sessions name place → IsThere sessions place
+  is_there sessions name (Resting place) h = h.0
+  is_there sessions name (Waiting place) h = h.0
 
-  both-there : (crew : Crew S W) (words : List (List ℕ)) (by : Speaker) (other : Opened) → NamesBoth crew words by other → MayAct crew by.place × IsThere crew other.place
-  both-there crew [] by other h = absurd h
-  both-there crew (name ∷ []) by other h = absurd h
-  both-there crew (name ∷ word ∷ []) by other h = (h.0.0.0, is_there crew word other.place h.1.0)
-  both-there crew (name ∷ word ∷ more ∷ words) by other h = absurd h
+  both-there : (sessions : OpenSessions S W) (words : List (List ℕ)) (by : Caller) (other : Opened) → NamesBoth sessions words by other → MayAct sessions by.place × IsThere sessions other.place
+  both-there sessions [] by other h = absurd h
+  both-there sessions (name ∷ []) by other h = absurd h
+  both-there sessions (name ∷ word ∷ []) by other h = (h.0.0.0, is_there sessions word other.place h.1.0)
+  both-there sessions (name ∷ word ∷ more ∷ words) by other h = absurd h
 
-  count-below : (crew : Crew S W) (words : List (List ℕ)) (speaker : Speaker) (index : ℕ) → NamesCount crew words speaker index → MayAct crew speaker.place × (index < 1024)
-  count-below crew [] speaker index h = absurd h
-  count-below crew (name ∷ []) speaker index h = absurd h
-  count-below crew (name ∷ number ∷ []) speaker index h = (h.0.0.0, index-below (number_in number) index h.1)
-  count-below crew (name ∷ number ∷ more ∷ words) speaker index h = absurd h
+  count-below : (sessions : OpenSessions S W) (words : List (List ℕ)) (caller : Caller) (index : ℕ) → NamesCount sessions words caller index → MayAct sessions caller.place × (index < 1024)
+  count-below sessions [] caller index h = absurd h
+  count-below sessions (name ∷ []) caller index h = absurd h
+  count-below sessions (name ∷ number ∷ []) caller index h = (h.0.0.0, index-below (number_in number) index h.1)
+  count-below sessions (name ∷ number ∷ more ∷ words) caller index h = absurd h
 
   -- a command of these words addresses who it may
-  pub command-Addresses : (crew : Crew S W) (verb : List ℕ) (words : List (List ℕ)) (its : Command) → IsCommandOf crew verb words its → Addresses crew its
-  command-Addresses crew verb words (Session name database) h = tt
-  command-Addresses crew verb words (Try target owner) h = owned-may_act crew words target owner h.1
-  command-Addresses crew verb words (Fast target owner) h = owned-may_act crew words target owner h.1
-  command-Addresses crew verb words (Lock target owner) h = owned-may_act crew words target owner h.1
-  command-Addresses crew verb words (Unlock target owner) h = owned-may_act crew words target owner h.1
-  command-Addresses crew verb words (Commit speaker) h = actor-may_act crew words speaker h.1
-  command-Addresses crew verb words (Abort speaker) h = actor-may_act crew words speaker h.1
-  command-Addresses crew verb words (Owned target) h = lone-may_act crew words target h.1
-  command-Addresses crew verb words (Waiters target) h = lone-may_act crew words target h.1
-  command-Addresses crew verb words (Cancel by other) h = both-there crew words by other h.1
-  command-Addresses crew verb words (command.List speaker) h = actor-may_act crew words speaker h.1
-  command-Addresses crew verb words (Count speaker index) h = (count-below crew words speaker index h.1).0
-  command-Addresses crew verb words (Hash tag) h = tt
-  command-Addresses crew verb words (Close speaker) h = actor-may_act crew words speaker h.1
+  pub command-Addresses : (sessions : OpenSessions S W) (verb : List ℕ) (words : List (List ℕ)) (its : Command) → IsCommandOf sessions verb words its → Addresses sessions its
+  command-Addresses sessions verb words (Session name database) h = tt
+  command-Addresses sessions verb words (Try target owner) h = owned-may_act sessions words target owner h.1
+  command-Addresses sessions verb words (Fast target owner) h = owned-may_act sessions words target owner h.1
+  command-Addresses sessions verb words (Lock target owner) h = owned-may_act sessions words target owner h.1
+  command-Addresses sessions verb words (Unlock target owner) h = owned-may_act sessions words target owner h.1
+  command-Addresses sessions verb words (Commit caller) h = actor-may_act sessions words caller h.1
+  command-Addresses sessions verb words (Abort caller) h = actor-may_act sessions words caller h.1
+  command-Addresses sessions verb words (Owned target) h = lone-may_act sessions words target h.1
+  command-Addresses sessions verb words (Waiters target) h = lone-may_act sessions words target h.1
+  command-Addresses sessions verb words (Cancel by other) h = both-there sessions words by other h.1
+  command-Addresses sessions verb words (command.List caller) h = actor-may_act sessions words caller h.1
+  command-Addresses sessions verb words (Count caller index) h = (count-below sessions words caller index h.1).0
+  command-Addresses sessions verb words (Hash tag) h = tt
+  command-Addresses sessions verb words (Close caller) h = actor-may_act sessions words caller h.1
 
   -- and names a counter that there is
-  pub command-NamesCounter : (crew : Crew S W) (verb : List ℕ) (words : List (List ℕ)) (its : Command) → IsCommandOf crew verb words its → NamesCounter its
-  command-NamesCounter crew verb words (Count speaker index) h = (count-below crew words speaker index h.1).1
-  command-NamesCounter crew verb words (Session name database) h = tt
-  command-NamesCounter crew verb words (Try target owner) h = tt
-  command-NamesCounter crew verb words (Fast target owner) h = tt
-  command-NamesCounter crew verb words (Lock target owner) h = tt
-  command-NamesCounter crew verb words (Unlock target owner) h = tt
-  command-NamesCounter crew verb words (Commit speaker) h = tt
-  command-NamesCounter crew verb words (Abort speaker) h = tt
-  command-NamesCounter crew verb words (Owned target) h = tt
-  command-NamesCounter crew verb words (Waiters target) h = tt
-  command-NamesCounter crew verb words (Cancel by other) h = tt
-  command-NamesCounter crew verb words (command.List speaker) h = tt
-  command-NamesCounter crew verb words (Hash tag) h = tt
-  command-NamesCounter crew verb words (Close speaker) h = tt
+  pub command-NamesCounter : (sessions : OpenSessions S W) (verb : List ℕ) (words : List (List ℕ)) (its : Command) → IsCommandOf sessions verb words its → NamesCounter its
+  command-NamesCounter sessions verb words (Count caller index) h = (count-below sessions words caller index h.1).1
+  command-NamesCounter sessions verb words (Session name database) h = tt
+  command-NamesCounter sessions verb words (Try target owner) h = tt
+  command-NamesCounter sessions verb words (Fast target owner) h = tt
+  command-NamesCounter sessions verb words (Lock target owner) h = tt
+  command-NamesCounter sessions verb words (Unlock target owner) h = tt
+  command-NamesCounter sessions verb words (Commit caller) h = tt
+  command-NamesCounter sessions verb words (Abort caller) h = tt
+  command-NamesCounter sessions verb words (Owned target) h = tt
+  command-NamesCounter sessions verb words (Waiters target) h = tt
+  command-NamesCounter sessions verb words (Cancel by other) h = tt
+  command-NamesCounter sessions verb words (command.List caller) h = tt
+  command-NamesCounter sessions verb words (Hash tag) h = tt
+  command-NamesCounter sessions verb words (Close caller) h = tt

@@ -2,7 +2,7 @@
 use Rattle.std.proofs.Common.{◌≡◌, ℕ, ◌<◌, refl, ap, sym, subst, arith, List, [], ◌∷◌, length, get_or, set, zero, suc}
 use Rattle.std.specs.Prelude.{All}
 use Rattle.std.specs.List.{HoldsAt}
-use Rattle.lock_script.specs.declared.crew.Named.{Named}
+use Rattle.lock_script.specs.declared.sessions.Named.{Named}
 use Rattle.lock_script.specs.Lending.{with_session}
 
 -- the one at a place is set to itself with the session that is left

@@ -1,4 +1,4 @@
-pub mod CrewLemmas
+pub mod SessionLemmas
 mod CommandLemmas
 mod Gathering
 mod Known

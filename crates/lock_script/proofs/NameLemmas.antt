@@ -4,7 +4,7 @@ use Rattle.std.specs.Prelude.{AllPairs, insert}
 use Rattle.std.proofs.lemmas.Bool.{cases_eq, cases_lt}
 use Rattle.std.proofs.lemmas.List.Edits.{length-insert, get_or-insert_below, get_or-insert_at, get_or-insert_above}
 use Rattle.std.proofs.lemmas.List.{get_or_default}
-use Rattle.lock_script.specs.declared.crew.Named.{Named}
+use Rattle.lock_script.specs.declared.sessions.Named.{Named}
 use Rattle.lock_script.specs.Names.{IsByName, NotAfter}
 use Rattle.lock_script.proofs.NameOrder.{NotAfter-trans}
 

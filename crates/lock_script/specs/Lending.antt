@@ -1,7 +1,7 @@
 use Rattle.std.specs.Prelude.{ℕ, zero, suc, List, [], ◌∷◌}
 use Rattle.std.specs.Borrow.{Lends, Fml, RattleType, MutBor}
-use Rattle.lock_script.specs.declared.crew.Named.{Named}
-use Rattle.lock_script.specs.contracts.crew.ByName.{the_row}
+use Rattle.lock_script.specs.declared.sessions.Named.{Named}
+use Rattle.lock_script.specs.contracts.sessions.ByName.{the_row}
 
 -- What sessions end as, where a `&mut` to one of them is returned.
 

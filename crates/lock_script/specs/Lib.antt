@@ -1,6 +1,6 @@
 pub mod Bytes
 pub mod Command
-pub mod Crew
+pub mod Sessions
 pub mod Fault
 pub mod Lines
 pub mod Meaning

@@ -3,7 +3,7 @@ use Rattle.std.specs.List.{HoldsAt}
 use Rattle.std.specs.declared.cmp.Ordering.TheVariants.{Greater}
 use Rattle.std.specs.Ordering.{nat_cmp}
 use Rattle.std.specs.Cmp.Lexicographic.{slice_cmp}
-use Rattle.lock_script.specs.declared.crew.Named.{Named}
+use Rattle.lock_script.specs.declared.sessions.Named.{Named}
 
 -- Sessions by their names.
 

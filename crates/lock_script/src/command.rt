@@ -2,13 +2,13 @@
 ghost use Rattle.std.specs.Prelude.{◌≡◌, ◌≢◌, ◌↔◌, ◌⊎◌, length, map, take, None, Some, IfOk, IfErr, IfSome, IsErrOf, MatchOption};
 ghost use Rattle.std.specs.List.{HoldsAt};
 ghost use Rattle.modes_core.specs.Mode.{name_of};
-ghost use Rattle.lock_script.specs.Command.{Addresses, IsBarred, IsNoTarget, IsUnnamed, NamesCounter, NamesOneThatMayAct, NamesOpen, NamesSpeaker};
+ghost use Rattle.lock_script.specs.Command.{Addresses, IsBarred, IsNoTarget, IsUnnamed, NamesCounter, NamesOneThatMayAct, NamesOpen, NamesCaller};
 ghost use Rattle.lock_script.specs.Meaning.{IsCommandOf, IsSilent, Means, NamesActor, NamesBoth, NamesCount, NamesLone, NamesNew, NamesOwned, NamesTag};
 ghost use Rattle.lock_script.specs.Words.{strong_index_in, tag_of, words_of};
 
-use crate::crew::{Crew, Opened, Place, Speaker};
 use crate::faults::Defect;
 use crate::names::Name;
+use crate::sessions::{Caller, OpenSessions, Opened, Place};
 use crate::words::{
     parse_name, parse_number, parse_owner, parse_strong_index, parse_tag, split_words,
 };
@@ -17,7 +17,7 @@ use modes_core::{Mode, Owner, Tag};
 /// Which lock a line is about, and whose.
 #[derive(Clone, Copy, Debug, PartialEq, Eq)]
 pub struct Target {
-    pub speaker: Speaker,
+    pub caller: Caller,
     pub tag: Tag,
     pub mode: Mode,
 }
@@ -36,32 +36,32 @@ pub enum Command {
     /// `unlock NAME TAG MODE OWNER`
     Unlock(Target, Owner),
     /// `commit NAME`
-    Commit(Speaker),
+    Commit(Caller),
     /// `abort NAME`
-    Abort(Speaker),
+    Abort(Caller),
     /// `owned NAME TAG MODE`
     Owned(Target),
     /// `waiters NAME TAG MODE`
     Waiters(Target),
     /// `cancel BY NAME`
-    Cancel(Speaker, Opened),
+    Cancel(Caller, Opened),
     /// `list NAME`
-    List(Speaker),
+    List(Caller),
     /// `count NAME INDEX`
-    Count(Speaker, u16),
+    Count(Caller, u16),
     /// `hash TAG`
     Hash(Tag),
     /// `close NAME`
-    Close(Speaker),
+    Close(Caller),
 }
 
 /// What the line asks for, or `None` of a line with no word and of a comment. The first six words say it, since no
 /// command has as many.
-pub fn parse<S, W>(line: &str, crew: &Crew<S, W>) -> Result<Option<Command>, Defect>
-    ensures addressed { IfOk result (λ command. IfSome command (Addresses crew.now)) }
+pub fn parse<S, W>(line: &str, sessions: &OpenSessions<S, W>) -> Result<Option<Command>, Defect>
+    ensures addressed { IfOk result (λ command. IfSome command (Addresses sessions.now)) }
     ensures counter { IfOk result (λ command. IfSome command NamesCounter) }
     ensures meaning { IfOk result (λ command. MatchOption command (IsSilent (take 6 (words_of line.now)))
-        (Means crew.now (take 6 (words_of line.now)))) }
+        (Means sessions.now (take 6 (words_of line.now)))) }
 {
     let words = split_words(line);
     let Some((verb, words)) = words.as_slice().split_first() else {
@@ -70,24 +70,28 @@ pub fn parse<S, W>(line: &str, crew: &Crew<S, W>) -> Result<Option<Command>, Def
     if verb.starts_with('#') {
         return Ok(None);
     }
-    let command = parse_command(*verb, words, crew)?;
+    let command = parse_command(*verb, words, sessions)?;
     Ok(Some(command))
 }
 
 /// The command of this first word and the words behind it. Here are those that open or close a session or end a
 /// transaction.
-fn parse_command<S, W>(verb: &str, words: &[&str], crew: &Crew<S, W>) -> Result<Command, Defect>
-    ensures { IfOk result (IsCommandOf crew.now verb.now (map (λ word. word.now) words.now)) }
+fn parse_command<S, W>(
+    verb: &str,
+    words: &[&str],
+    sessions: &OpenSessions<S, W>,
+) -> Result<Command, Defect>
+    ensures { IfOk result (IsCommandOf sessions.now verb.now (map (λ word. word.now) words.now)) }
 {
     match verb {
         "session" => {
-            let (name, database) = parse_session(words, crew)?;
+            let (name, database) = parse_session(words, sessions)?;
             Ok(Command::Session { name, database })
         }
-        "commit" => Ok(Command::Commit(parse_lone_speaker(words, crew)?)),
-        "abort" => Ok(Command::Abort(parse_lone_speaker(words, crew)?)),
-        "close" => Ok(Command::Close(parse_lone_speaker(words, crew)?)),
-        _ => parse_lock_command(verb, words, crew),
+        "commit" => Ok(Command::Commit(parse_lone_caller(words, sessions)?)),
+        "abort" => Ok(Command::Abort(parse_lone_caller(words, sessions)?)),
+        "close" => Ok(Command::Close(parse_lone_caller(words, sessions)?)),
+        _ => parse_lock_command(verb, words, sessions),
     }
 }
 
@@ -95,32 +99,32 @@ fn parse_command<S, W>(verb: &str, words: &[&str], crew: &Crew<S, W>) -> Result<
 fn parse_lock_command<S, W>(
     verb: &str,
     words: &[&str],
-    crew: &Crew<S, W>,
+    sessions: &OpenSessions<S, W>,
 ) -> Result<Command, Defect>
-    ensures { IfOk result (IsCommandOf crew.now verb.now (map (λ word. word.now) words.now)) }
+    ensures { IfOk result (IsCommandOf sessions.now verb.now (map (λ word. word.now) words.now)) }
 {
     match verb {
         "try" => {
-            let (target, owner) = parse_owned_target(words, crew)?;
+            let (target, owner) = parse_owned_target(words, sessions)?;
             Ok(Command::Try(target, owner))
         }
         "fast" => {
-            let (target, owner) = parse_owned_target(words, crew)?;
+            let (target, owner) = parse_owned_target(words, sessions)?;
             Ok(Command::Fast(target, owner))
         }
         "lock" => {
-            let (target, owner) = parse_owned_target(words, crew)?;
+            let (target, owner) = parse_owned_target(words, sessions)?;
             Ok(Command::Lock(target, owner))
         }
         "unlock" => {
-            let (target, owner) = parse_owned_target(words, crew)?;
+            let (target, owner) = parse_owned_target(words, sessions)?;
             Ok(Command::Unlock(target, owner))
         }
         "cancel" => {
-            let (by, other) = parse_cancel(words, crew)?;
+            let (by, other) = parse_cancel(words, sessions)?;
             Ok(Command::Cancel(by, other))
         }
-        _ => parse_look_command(verb, words, crew),
+        _ => parse_look_command(verb, words, sessions),
     }
 }
 
@@ -128,17 +132,17 @@ fn parse_lock_command<S, W>(
 fn parse_look_command<S, W>(
     verb: &str,
     words: &[&str],
-    crew: &Crew<S, W>,
+    sessions: &OpenSessions<S, W>,
 ) -> Result<Command, Defect>
-    ensures { IfOk result (IsCommandOf crew.now verb.now (map (λ word. word.now) words.now)) }
+    ensures { IfOk result (IsCommandOf sessions.now verb.now (map (λ word. word.now) words.now)) }
 {
     match verb {
-        "owned" => Ok(Command::Owned(parse_lone_target(words, crew)?)),
-        "waiters" => Ok(Command::Waiters(parse_lone_target(words, crew)?)),
-        "list" => Ok(Command::List(parse_lone_speaker(words, crew)?)),
+        "owned" => Ok(Command::Owned(parse_lone_target(words, sessions)?)),
+        "waiters" => Ok(Command::Waiters(parse_lone_target(words, sessions)?)),
+        "list" => Ok(Command::List(parse_lone_caller(words, sessions)?)),
         "count" => {
-            let (speaker, index) = parse_count(words, crew)?;
-            Ok(Command::Count(speaker, index))
+            let (caller, index) = parse_count(words, sessions)?;
+            Ok(Command::Count(caller, index))
         }
         "hash" => Ok(Command::Hash(parse_hash(words)?)),
         _ => Err(Defect::UnknownCommand),
@@ -146,15 +150,15 @@ fn parse_look_command<S, W>(
 }
 
 /// The words behind `session`: a name that no open session has, and a number.
-fn parse_session<S, W>(words: &[&str], crew: &Crew<S, W>) -> Result<(Name, u32), Defect>
+fn parse_session<S, W>(words: &[&str], sessions: &OpenSessions<S, W>) -> Result<(Name, u32), Defect>
     ensures named { IfOk result (λ parsed.
-        NamesNew crew.now (map (λ word. word.now) words.now) parsed.0 parsed.1) }
+        NamesNew sessions.now (map (λ word. word.now) words.now) parsed.0 parsed.1) }
 {
     let [name, database] = words else {
         return Err(Defect::WrongNumberOfWords);
     };
     let name = parse_name(name).ok_or(Defect::BadName)?;
-    if crew.place_called(&name).is_some() {
+    if sessions.place_called(&name).is_some() {
         return Err(Defect::SessionExists);
     }
     let database = parse_number(database).ok_or(Defect::BadNumber)?;
@@ -162,17 +166,20 @@ fn parse_session<S, W>(words: &[&str], crew: &Crew<S, W>) -> Result<(Name, u32),
 }
 
 /// The words behind `try`, `fast`, `lock` and `unlock`. Where there is no fourth one the owner is the transaction.
-fn parse_owned_target<S, W>(words: &[&str], crew: &Crew<S, W>) -> Result<(Target, Owner), Defect>
+fn parse_owned_target<S, W>(
+    words: &[&str],
+    sessions: &OpenSessions<S, W>,
+) -> Result<(Target, Owner), Defect>
     ensures named { IfOk result (λ parsed.
-        NamesOwned crew.now (map (λ word. word.now) words.now) parsed.0 parsed.1) }
+        NamesOwned sessions.now (map (λ word. word.now) words.now) parsed.0 parsed.1) }
 {
     match words {
         [name, tag, mode] => {
-            let target = parse_target(name, tag, mode, crew)?;
+            let target = parse_target(name, tag, mode, sessions)?;
             Ok((target, Owner::Transaction))
         }
         [name, tag, mode, owner] => {
-            let target = parse_target(name, tag, mode, crew)?;
+            let target = parse_target(name, tag, mode, sessions)?;
             let owner = parse_owner(owner).ok_or(Defect::BadOwner)?;
             Ok((target, owner))
         }
@@ -181,13 +188,13 @@ fn parse_owned_target<S, W>(words: &[&str], crew: &Crew<S, W>) -> Result<(Target
 }
 
 /// The words behind `owned` and `waiters`.
-fn parse_lone_target<S, W>(words: &[&str], crew: &Crew<S, W>) -> Result<Target, Defect>
-    ensures named { IfOk result (NamesLone crew.now (map (λ word. word.now) words.now)) }
+fn parse_lone_target<S, W>(words: &[&str], sessions: &OpenSessions<S, W>) -> Result<Target, Defect>
+    ensures named { IfOk result (NamesLone sessions.now (map (λ word. word.now) words.now)) }
 {
     let [name, tag, mode] = words else {
         return Err(Defect::WrongNumberOfWords);
     };
-    parse_target(name, tag, mode, crew)
+    parse_target(name, tag, mode, sessions)
 }
 
 /// Which lock three words are about, and whose.
@@ -195,27 +202,27 @@ fn parse_target<S, W>(
     name: &str,
     tag: &str,
     mode: &str,
-    crew: &Crew<S, W>,
+    sessions: &OpenSessions<S, W>,
 ) -> Result<Target, Defect>
-    ensures named { IfOk result (λ target. NamesSpeaker crew.now name.now target.speaker) }
+    ensures named { IfOk result (λ target. NamesCaller sessions.now name.now target.caller) }
     ensures tag { IfOk result (λ target. tag_of tag.now ≡ Some target.tag) }
     ensures mode { IfOk result (λ target. name_of target.mode ≡ mode.now) }
-    ensures refused { IfErr result (IsNoTarget crew.now name.now tag.now mode.now) }
+    ensures refused { IfErr result (IsNoTarget sessions.now name.now tag.now mode.now) }
 {
-    let speaker = parse_speaker(name, crew)?;
+    let caller = parse_caller(name, sessions)?;
     let tag = parse_tag(tag).ok_or(Defect::BadObject)?;
     let mode = Mode::from_name(mode).ok_or(Defect::BadMode)?;
-    Ok(Target { speaker, tag, mode })
+    Ok(Target { caller, tag, mode })
 }
 
 /// The word behind a command that takes a session's name alone.
-fn parse_lone_speaker<S, W>(words: &[&str], crew: &Crew<S, W>) -> Result<Speaker, Defect>
-    ensures named { IfOk result (NamesActor crew.now (map (λ word. word.now) words.now)) }
+fn parse_lone_caller<S, W>(words: &[&str], sessions: &OpenSessions<S, W>) -> Result<Caller, Defect>
+    ensures named { IfOk result (NamesActor sessions.now (map (λ word. word.now) words.now)) }
 {
     let [name] = words else {
         return Err(Defect::WrongNumberOfWords);
     };
-    parse_speaker(name, crew)
+    parse_caller(name, sessions)
 }
 
 /// The word behind `hash`.
@@ -229,61 +236,64 @@ fn parse_hash(words: &[&str]) -> Result<Tag, Defect>
 }
 
 /// The words behind `count`: who looks, and at which strong lock counter.
-fn parse_count<S, W>(words: &[&str], crew: &Crew<S, W>) -> Result<(Speaker, u16), Defect>
+fn parse_count<S, W>(words: &[&str], sessions: &OpenSessions<S, W>) -> Result<(Caller, u16), Defect>
     ensures named { IfOk result (λ parsed.
-        NamesCount crew.now (map (λ word. word.now) words.now) parsed.0 parsed.1) }
+        NamesCount sessions.now (map (λ word. word.now) words.now) parsed.0 parsed.1) }
     ensures wrong_number { IsErrOf result Defect.WrongNumberOfWords ↔ (length words.now ≢ 2) }
     ensures refused { IfErr result (λ defect. defect ≢ Defect.WrongNumberOfWords →
-        HoldsAt (λ word. IsBarred crew.now word.now defect) words.now 0
+        HoldsAt (λ word. IsBarred sessions.now word.now defect) words.now 0
         ⊎ ((defect ≡ Defect.BadNumber)
-        × HoldsAt (λ word. NamesOneThatMayAct crew.now word.now) words.now 0
+        × HoldsAt (λ word. NamesOneThatMayAct sessions.now word.now) words.now 0
         × HoldsAt (λ word. strong_index_in word.now ≡ None) words.now 1)) }
 {
     let [name, index] = words else {
         return Err(Defect::WrongNumberOfWords);
     };
-    let speaker = parse_speaker(name, crew)?;
+    let caller = parse_caller(name, sessions)?;
     let index = parse_strong_index(index).ok_or(Defect::BadNumber)?;
-    Ok((speaker, index))
+    Ok((caller, index))
 }
 
 /// The words behind `cancel`: who asks, and the session that is asked, which may wait.
-fn parse_cancel<S, W>(words: &[&str], crew: &Crew<S, W>) -> Result<(Speaker, Opened), Defect>
+fn parse_cancel<S, W>(
+    words: &[&str],
+    sessions: &OpenSessions<S, W>,
+) -> Result<(Caller, Opened), Defect>
     ensures named { IfOk result (λ parsed.
-        NamesBoth crew.now (map (λ word. word.now) words.now) parsed.0 parsed.1) }
+        NamesBoth sessions.now (map (λ word. word.now) words.now) parsed.0 parsed.1) }
     ensures wrong_number { IsErrOf result Defect.WrongNumberOfWords ↔ (length words.now ≢ 2) }
     ensures refused { IfErr result (λ defect. defect ≢ Defect.WrongNumberOfWords →
-        HoldsAt (λ word. IsBarred crew.now word.now defect) words.now 0
-        ⊎ (HoldsAt (λ word. NamesOneThatMayAct crew.now word.now) words.now 0
-        × HoldsAt (λ word. IsUnnamed crew.now word.now defect) words.now 1)) }
+        HoldsAt (λ word. IsBarred sessions.now word.now defect) words.now 0
+        ⊎ (HoldsAt (λ word. NamesOneThatMayAct sessions.now word.now) words.now 0
+        × HoldsAt (λ word. IsUnnamed sessions.now word.now defect) words.now 1)) }
 {
     let [by, other] = words else {
         return Err(Defect::WrongNumberOfWords);
     };
-    let by = parse_speaker(by, crew)?;
-    let other = parse_opened(other, crew)?;
+    let by = parse_caller(by, sessions)?;
+    let other = parse_opened(other, sessions)?;
     Ok((by, other))
 }
 
 /// The session that a word names. It may not wait.
-fn parse_speaker<S, W>(name: &str, crew: &Crew<S, W>) -> Result<Speaker, Defect>
-    ensures named { IfOk result (NamesSpeaker crew.now name.now) }
-    ensures refused { IfErr result (IsBarred crew.now name.now) }
+fn parse_caller<S, W>(name: &str, sessions: &OpenSessions<S, W>) -> Result<Caller, Defect>
+    ensures named { IfOk result (NamesCaller sessions.now name.now) }
+    ensures refused { IfErr result (IsBarred sessions.now name.now) }
 {
-    let Opened { name, place } = parse_opened(name, crew)?;
+    let Opened { name, place } = parse_opened(name, sessions)?;
     match place {
-        Place::Resting(place) => Ok(Speaker { name, place }),
+        Place::Resting(place) => Ok(Caller { name, place }),
         Place::Waiting(_) => Err(Defect::SessionWaits),
     }
 }
 
 /// The session that a word names, whether it waits or not.
-fn parse_opened<S, W>(name: &str, crew: &Crew<S, W>) -> Result<Opened, Defect>
-    ensures named { IfOk result (NamesOpen crew.now name.now) }
-    ensures refused { IfErr result (IsUnnamed crew.now name.now) }
+fn parse_opened<S, W>(name: &str, sessions: &OpenSessions<S, W>) -> Result<Opened, Defect>
+    ensures named { IfOk result (NamesOpen sessions.now name.now) }
+    ensures refused { IfErr result (IsUnnamed sessions.now name.now) }
 {
     let name = parse_name(name).ok_or(Defect::BadName)?;
-    match crew.place_called(&name) {
+    match sessions.place_called(&name) {
         Some(place) => Ok(Opened { name, place }),
         None => Err(Defect::NoSuchSession),
     }

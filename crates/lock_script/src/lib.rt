@@ -4,18 +4,18 @@
 
 pub mod bytes;
 pub mod command;
-pub mod crew;
 pub mod faults;
 pub mod lines;
 pub mod names;
+pub mod sessions;
 pub mod words;
 
 pub use bytes::ByteSource;
 pub use command::{Command, Target, parse};
-pub use crew::{ByName, Crew, Named, Opened, Place, Speaker};
 pub use faults::{Defect, Fault};
 pub use lines::{Line, LineReader};
 pub use names::{Name, Names};
+pub use sessions::{ByName, Caller, Named, OpenSessions, Opened, Place};
 pub use words::{
     parse_name, parse_number, parse_owner, parse_strong_index, parse_tag, split_words,
 };

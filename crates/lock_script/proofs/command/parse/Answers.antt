@@ -2,7 +2,7 @@ use Rattle.lock_script.proofs.CommandLemmas.{command-Addresses, command-NamesCou
 use Rattle.lock_script.proofs.command.parse.Goals as goal
 
 pub returns-clause-addressed : goal.returns-clause-addressed
-returns-clause-addressed g c = command-Addresses c.args.crew.now _ _ c.in_ok-command.command c.in_ok-command.ensures
+returns-clause-addressed g c = command-Addresses c.args.sessions.now _ _ c.in_ok-command.command c.in_ok-command.ensures
 
 pub returns-clause-counter : goal.returns-clause-counter
-returns-clause-counter g c = command-NamesCounter c.args.crew.now _ _ c.in_ok-command.command c.in_ok-command.ensures
+returns-clause-counter g c = command-NamesCounter c.args.sessions.now _ _ c.in_ok-command.command c.in_ok-command.ensures

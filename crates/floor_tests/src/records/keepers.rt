@@ -1,0 +1,152 @@
+//! One list of random calls over both keepers of a partition.
+
+ghost use Rattle.std.specs.Prelude.{◌≡◌, None};
+
+use super::calls::{are_same, hold, hold_beside, release, wait};
+use lock_records::RecordPart;
+use lock_table::{NoMemory, PartTable, PlainPart, TableRow};
+use modes_core::{Mode, SessionId, Tag};
+use std::alloc::Global;
+use std::process::Abort;
+use std::test::Fail;
+
+/// How many calls there are.
+const CALLS: u32 = 100_000;
+
+/// The next of a row of numbers that look random (xorshift).
+fn next(seed: u32) -> u32 {
+    let mut x = seed;
+    x ^= x << 13;
+    x ^= x >> 17;
+    x ^= x << 5;
+    x
+}
+
+/// One of twelve objects.
+fn object(number: u32) -> Tag {
+    if number % 3 == 0 {
+        Tag::relation(5, 16384 + number % 4)
+    } else {
+        Tag::object(5, 1259, 16384 + number % 4, 0)
+    }
+}
+
+/// A mode, from a number.
+fn mode_of(rt: &impl Abort, number: u32) -> Mode {
+    Mode::from_number((number % 8) as u8 + 1).expect(rt, "a mode")
+}
+
+/// A session, from a number.
+fn session_of(rt: &impl Abort, number: u32) -> SessionId {
+    SessionId::new((number % 16) as u8).expect(rt, "a session")
+}
+
+/// Makes a call of both keepers, whose answers are the same.
+fn call_both(
+    rt: &impl Abort,
+    plain: &mut PlainPart,
+    records: &mut RecordPart,
+    seed: u32,
+) -> Result<(), NoMemory>
+    requires plain { plain.old.begun ≡ None }
+    requires records { records.old.begun ≡ None }
+    ensures plain { plain.new.begun ≡ None }
+    ensures records { records.new.begun ≡ None }
+{
+    let tag = object(seed >> 8);
+    let session = session_of(rt, seed >> 16);
+    let mode = mode_of(rt, seed >> 24);
+    let place = (seed % 5) as usize;
+    match seed % 16 {
+        0..=4 => {
+            let one = hold_beside(plain, session, &tag, mode)?;
+            let other = hold_beside(records, session, &tag, mode)?;
+            assert!(rt; one == other, "a request");
+        }
+        5 => {
+            let one = hold(plain, session, &tag, mode)?;
+            let other = hold(records, session, &tag, mode)?;
+            assert!(rt; one == other, "a hold");
+        }
+        6..=8 => {
+            let one = release(plain, session, &tag, mode);
+            let other = release(records, session, &tag, mode);
+            assert!(rt; one == other, "a release");
+        }
+        9..=11 => {
+            let one = wait(plain, session, &tag, mode, place)?;
+            let other = wait(records, session, &tag, mode, place)?;
+            assert!(rt; one == other, "a wait");
+        }
+        12 => {
+            let one = plain.leave(session, &tag);
+            let other = records.leave(session, &tag);
+            assert!(rt; one == other, "who leaves");
+        }
+        13 => {
+            let one = plain.wake(&tag);
+            let other = records.wake(&tag);
+            let same = are_same(&one, &other);
+            assert!(rt; same, "a wakeup");
+        }
+        14 => {
+            let one = plain.waiter(&tag, place);
+            let other = records.waiter(&tag, place);
+            assert!(rt; one == other, "a waiter");
+        }
+        _ => {
+            let one = plain.held(session, &tag);
+            let other = records.held(session, &tag);
+            assert!(rt; one == other, "the modes held");
+        }
+    }
+    let one = plain.conflict_of(session, &tag, mode);
+    let other = records.conflict_of(session, &tag, mode);
+    assert!(rt; one == other, "a conflict");
+    Ok(())
+}
+
+/// Both list the same.
+fn list_both(
+    rt: &impl Abort,
+    alloc: Global,
+    plain: &PlainPart,
+    records: &RecordPart,
+) -> Result<(), NoMemory> {
+    let mut one: Vec<TableRow> = Vec::new(alloc);
+    let mut other: Vec<TableRow> = Vec::new(alloc);
+    plain.rows(&mut one)?;
+    records.rows(&mut other)?;
+    let same = one == other;
+    assert!(rt; same, "the rows");
+    Ok(())
+}
+
+/// Makes the calls, and lists both after each hundredth.
+fn call_in_turn(
+    rt: &impl Abort,
+    alloc: Global,
+    plain: &mut PlainPart,
+    records: &mut RecordPart,
+) -> Result<(), NoMemory>
+    requires plain { plain.old.begun ≡ None }
+    requires records { records.old.begun ≡ None }
+{
+    let mut seed = 20_261_126;
+    'calls: for number in 0..CALLS {
+        seed = next(seed);
+        call_both(rt, plain, records, seed)?;
+        if number % 100 == 99 {
+            list_both(rt, alloc, plain, records)?;
+        }
+    }
+    Ok(())
+}
+
+#[test]
+fn both_keepers_answer_the_same(rt: HostRuntime) -> Result<(), Fail> {
+    let mut plain = PlainPart::new(rt.alloc())?;
+    let mut records = RecordPart::new(rt.alloc())?;
+    call_in_turn(&rt, rt.alloc(), &mut plain, &mut records)?;
+    Ok(())
+}

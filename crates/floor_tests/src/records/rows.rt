@@ -1,0 +1,82 @@
+//! Two holders and one who waits, and what the records count of them.
+
+ghost use Rattle.std.specs.Prelude.{◌≡◌, None, IfOk};
+
+use super::calls::{OBJECT, hold, release, session, wait};
+use lock_records::{Counts, RecordPart};
+use lock_table::{NoMemory, PartTable};
+use modes_core::Mode;
+use modes_core::Mode::{AccessExclusive, AccessShare};
+use std::process::Abort;
+use std::test::Fail;
+
+/// What is counted of the object.
+fn counted(rt: &impl Abort, part: &RecordPart) -> Counts {
+    part.counts(&OBJECT).expect(rt, "a lock record")
+}
+
+/// At the number of the mode.
+fn at(numbers: [u16; 9], mode: Mode) -> u16 {
+    numbers[usize::from(mode.number())]
+}
+
+#[test]
+fn two_hold_and_one_waits(rt: HostRuntime) -> Result<(), Fail> {
+    let mut part = RecordPart::new(rt.alloc())?;
+    hold(&mut part, session(&rt, 0), &OBJECT, AccessShare)?;
+    hold(&mut part, session(&rt, 1), &OBJECT, AccessShare)?;
+    wait(&mut part, session(&rt, 2), &OBJECT, AccessExclusive, 0)?;
+    let counts = counted(&rt, &part);
+    assert_eq!(&rt; at(counts.granted, AccessShare), 2);
+    assert_eq!(&rt; at(counts.requested, AccessShare), 2);
+    assert_eq!(&rt; at(counts.requested, AccessExclusive), 1);
+    assert_eq!(&rt; counts.granted_total, 2);
+    assert_eq!(&rt; counts.requested_total, 3);
+    assert_eq!(&rt; counts.grant_mask.mask(), 0x2);
+    assert_eq!(&rt; counts.wait_mask.mask(), 0x100);
+    release(&mut part, session(&rt, 0), &OBJECT, AccessShare);
+    release(&mut part, session(&rt, 1), &OBJECT, AccessShare);
+    part.wake(&OBJECT);
+    let counts = counted(&rt, &part);
+    assert_eq!(&rt; at(counts.granted, AccessExclusive), 1);
+    assert_eq!(&rt; at(counts.requested, AccessExclusive), 1);
+    assert_eq!(&rt; at(counts.granted, AccessShare), 0);
+    assert_eq!(&rt; counts.grant_mask.mask(), 0x100);
+    assert_eq!(&rt; counts.wait_mask.mask(), 0);
+    release(&mut part, session(&rt, 2), &OBJECT, AccessExclusive);
+    assert!(&rt; part.counts(&OBJECT).is_none());
+    Ok(())
+}
+
+/// All sessions come to hold the object, and all but the first one to wait for it.
+fn crowd(rt: &impl Abort, part: &mut RecordPart) -> Result<(), NoMemory>
+    requires none_begun { part.old.begun ≡ None }
+    ensures none_begun { part.new.begun ≡ None }
+{
+    'sessions: for number in 0..64u8 {
+        let its = session(rt, number);
+        hold(part, its, &OBJECT, AccessShare)?;
+        if number > 0 {
+            wait(part, its, &OBJECT, AccessExclusive, usize::from(number) - 1)?;
+        }
+    }
+    Ok(())
+}
+
+#[test]
+fn all_sessions_hold_and_all_but_one_wait(rt: HostRuntime) -> Result<(), Fail> {
+    let mut part = RecordPart::new(rt.alloc())?;
+    crowd(&rt, &mut part)?;
+    let counts = counted(&rt, &part);
+    assert_eq!(&rt; counts.granted_total, 64);
+    assert_eq!(&rt; counts.requested_total, 127);
+    for number in 0..64u8 {
+        release(&mut part, session(&rt, number), &OBJECT, AccessShare);
+    }
+    part.wake(&OBJECT);
+    let counts = counted(&rt, &part);
+    assert_eq!(&rt; counts.granted_total, 1);
+    assert_eq!(&rt; counts.requested_total, 63);
+    assert_eq!(&rt; part.held(session(&rt, 1), &OBJECT).mask(), 0x100);
+    Ok(())
+}

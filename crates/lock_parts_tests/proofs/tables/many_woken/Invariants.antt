@@ -1,5 +1,0 @@
-use Rattle.std.specs.Prelude.{◌≡◌, None}
-use Rattle.lock_parts_tests.proofs.tables.many_woken.Given as goal
-
-abbrev pub invariant-waits : goal.invariant-waits
-invariant-waits g l = g.P.PartTable.begun l.part ≡ None

@@ -1,7 +1,0 @@
-//! The language of scripts. The tests are texts, and each part of the language once, since no clause says that memory and
-//! bytes are there.
-
-mod commands;
-mod crews;
-mod faults;
-mod lines;

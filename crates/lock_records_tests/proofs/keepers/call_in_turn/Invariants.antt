@@ -1,5 +1,0 @@
-use Rattle.std.specs.Prelude.{◌≡◌, None}
-use Rattle.lock_records_tests.proofs.keepers.call_in_turn.Given as goal
-
-abbrev pub invariant-calls : goal.invariant-calls
-invariant-calls g l = (l.plain.begun ≡ None) × (l.records.begun ≡ None)

@@ -1,6 +1,0 @@
-use Rattle.std.proofs.Common.{◌≢◌, ℕ, ◌<◌, get_or}
-use Rattle.lock_script.specs.declared.crew.Named.{Named}
-use Rattle.lock_script.proofs.crew.ByName.place_called.Given as goal
-
-abbrev pub invariant-loop-place : goal.invariant-loop-place
-invariant-loop-place g l = (k : ℕ) (d : Named g.row.S.Denot) → k < l.place → (get_or l.other-items k d).name.bytes ≢ l.name.bytes

@@ -1,0 +1,220 @@
+//! The open sessions of a script, by their names: those that wait, and those that don't.
+ghost use Rattle.std.specs.Prelude.{◌≡◌, ℕ, ◌<◌, ◌≤◌, [], ◌∷◌, length, remove, slice_index_or, IfOk, IfSome, IfNone, MatchOption};
+ghost use Rattle.std.specs.Borrow.{sem};
+ghost use Rattle.std.specs.List.{HoldsAt};
+ghost use Rattle.lock_script.specs.Names.{IsByName, IsCalled, IsFree, NotAfter, PutsIn};
+
+use crate::names::Name;
+use modes_core::sessions::SESSIONS;
+use std::alloc::{AllocError, Global};
+use std::marker::Model;
+
+/// How many sessions there are at most.
+const MOST: usize = SESSIONS as usize;
+
+/// A session under its name.
+#[derive(Drop)]
+pub struct Named<S> {
+    pub name: Name,
+    pub session: S,
+}
+
+/// Sessions in the byte order of their names. Contracts see them as a list. It has room for as many as there can be,
+/// so that only its making takes memory.
+#[derive(Drop)]
+pub struct ByName<S> {
+    sessions: Vec<Named<S>>,
+}
+
+impl<S> Model for ByName<S> {
+    ghost use Rattle.std.specs.Prelude.{◌≤◌, List, vec_capacity};
+    ghost use Rattle.lock_script.specs.declared.sessions.Named.{Named};
+    ghost use Rattle.lock_script.specs.Names.{IsByName};
+
+    ghost Value = { List (Named S) };
+
+    ghost view = { λ those. those.sessions.items };
+
+    ghost invariant = { λ those. IsByName those.sessions.items × (64 ≤ vec_capacity those.sessions) };
+}
+
+impl<S> ByName<S> {
+    ghost use Rattle.lock_script.specs.declared.sessions.Named.{Named};
+    ghost use Rattle.lock_script.specs.Lending.{LendsSession};
+
+    /// No session. It is refused where memory is wanting.
+    pub fn new(alloc: Global) -> Result<Self, AllocError>
+        ensures { IfOk result (λ made. made ≡ []) }
+    {
+        let sessions = Vec::with_capacity(alloc, MOST)?;
+        Ok(ByName { sessions })
+    }
+
+    /// How many there are.
+    pub fn len(&self) -> usize
+        ensures { result ≡ length self.now }
+    {
+        self.sessions.len()
+    }
+
+    /// Where the session of this name stands, if it is one of these.
+    pub fn place_called(&self, name: &Name) -> Option<usize>
+        ensures called { IfSome result (IsCalled self.now name.now.bytes) }
+        ensures free { IfNone result (IsFree self.now name.now.bytes) }
+    {
+        for (place, other) in self.sessions.iter().enumerate() {
+            if other.name.as_str() == name.as_str() {
+                return Some(place);
+            }
+        }
+        None
+    }
+
+    /// The one at this place.
+    pub fn at(&self, place: usize) -> &Named<S>
+        requires { place < length self.now }
+        ensures { HoldsAt (λ one. result.now ≡ one) self.now place }
+    {
+        &self.sessions[place]
+    }
+
+    /// The session at this place, to make a call. Its name and the others stay as they are.
+    pub fn session_mut(&mut self, place: usize) -> &mut S
+        requires { place < length self.old }
+        ensures* writes_back { sem 𝓛 (LendsSession S.row self.entry place result) }
+        ensures value { HoldsAt (λ one. result.now ≡ one.session) self.old place }
+    {
+        &mut self.sessions[place].session
+    }
+
+    /// Puts a session in at its place in the order of the names.
+    pub fn put(&mut self, name: Name, session: S)
+        requires { length self.old < 64 }
+        ensures { PutsIn self.old (record { name = name; session = session }) self.new }
+    {
+        let place = self.place_of(&name);
+        // There is room, so it takes no memory and is not refused.
+        match self.sessions.insert(place, Named { name, session }) {
+            Ok(()) => {}
+            Err(_) => unreachable!(),
+        }
+    }
+
+    /// How many have a name that does not come after this one.
+    fn place_of(&self, name: &Name) -> usize
+        ensures within { result ≤ length self.now }
+        ensures before { (k : ℕ) (d : Named S) → k < result →
+            NotAfter (slice_index_or self.now k d).name.bytes name.now.bytes }
+        ensures after { (k : ℕ) (d : Named S) → result ≤ k → k < length self.now →
+            NotAfter name.now.bytes (slice_index_or self.now k d).name.bytes }
+    {
+        for (place, other) in self.sessions.iter().enumerate() {
+            if *name < other.name {
+                return place;
+            }
+        }
+        self.sessions.len()
+    }
+
+    /// Takes the one at this place out.
+    pub fn take(&mut self, place: usize) -> Named<S>
+        requires { place < length self.old }
+        ensures taken { HoldsAt (λ one. result ≡ one) self.old place }
+        ensures left { self.new ≡ remove self.old place }
+    {
+        self.sessions.remove(place)
+    }
+
+    /// Takes the one out whose name comes first, if there is any.
+    pub fn take_first(&mut self) -> Option<Named<S>>
+        ensures first { MatchOption result (self.old ≡ []) (λ first. self.old ≡ first ∷ self.new) }
+        ensures none { IfNone result (self.new ≡ []) }
+        ensures in_order { IsByName self.old }
+    {
+        if self.sessions.is_empty() {
+            return None;
+        }
+        Some(self.sessions.remove(0))
+    }
+
+    /// The end of the list, once nobody is on it.
+    pub fn finish(self)
+        requires { self ≡ [] }
+    {
+        let ByName { sessions } = self;
+        sessions.destroy_empty();
+    }
+}
+
+/// The open sessions: those that don't wait, and those that do.
+#[derive(Drop)]
+pub struct OpenSessions<S, W> {
+    pub resting: ByName<S>,
+    pub waiting: ByName<W>,
+}
+
+/// Where an open session stands.
+#[derive(Clone, Copy, Debug, PartialEq, Eq)]
+pub enum Place {
+    /// At this place of those that don't wait.
+    Resting(usize),
+    /// At this place of those that wait.
+    Waiting(usize),
+}
+
+/// A session that doesn't wait: its name, and its place.
+#[derive(Clone, Copy, Debug, PartialEq, Eq)]
+pub struct Caller {
+    pub name: Name,
+    pub place: usize,
+}
+
+/// An open session: its name, and its place.
+#[derive(Clone, Copy, Debug, PartialEq, Eq)]
+pub struct Opened {
+    pub name: Name,
+    pub place: Place,
+}
+
+impl<S, W> OpenSessions<S, W> {
+    ghost use Rattle.lock_script.specs.Sessions.{IsAt, IsUnknown};
+
+    /// Nobody. It is refused where memory is wanting.
+    pub fn new(alloc: Global) -> Result<Self, AllocError>
+        ensures resting { IfOk result (λ sessions. sessions.resting ≡ []) }
+        ensures waiting { IfOk result (λ sessions. sessions.waiting ≡ []) }
+    {
+        let resting = ByName::new(alloc)?;
+        match ByName::new(alloc) {
+            Ok(waiting) => Ok(OpenSessions { resting, waiting }),
+            Err(refused) => {
+                resting.finish();
+                Err(refused)
+            }
+        }
+    }
+
+    /// The end, once no session is open.
+    pub fn finish(self)
+        requires resting { self.resting ≡ [] }
+        requires waiting { self.waiting ≡ [] }
+    {
+        let OpenSessions { resting, waiting } = self;
+        resting.finish();
+        waiting.finish();
+    }
+
+    /// Where the open session of this name stands, if there is one.
+    pub fn place_called(&self, name: &Name) -> Option<Place>
+        ensures called { IfSome result (IsAt self.now name.now.bytes) }
+        ensures free { IfNone result (IsUnknown self.now name.now.bytes) }
+    {
+        if let Some(place) = self.resting.place_called(name) {
+            return Some(Place::Resting(place));
+        }
+        match self.waiting.place_called(name) {
+            Some(place) => Some(Place::Waiting(place)),
+            None => None,
+        }
+    }
+}

@@ -1,5 +1,0 @@
-use Rattle.std.proofs.Common.{◌≡◌}
-use Rattle.lock_stage.proofs.script.Scene.run_lines.Given as goal
-
-abbrev pub invariant-lines : goal.invariant-lines
-invariant-lines g l = l.self.stage.manager.now ≡ l.fn.self.stage.manager.now

@@ -1,8 +1,0 @@
-use Rattle.std.proofs.Common.{◌≡◌, length}
-use Rattle.lock_stage.proofs.stage.Stage.cancel_all.Given as goal
-
-abbrev pub invariant-waits : goal.invariant-waits
-invariant-waits g l = l.self.manager.now ≡ l.fn.self.manager.now
-
-abbrev pub decreases-waits : goal.decreases-waits
-decreases-waits g l = length l.self.crew.waiting

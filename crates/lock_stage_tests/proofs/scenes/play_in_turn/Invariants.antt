@@ -1,8 +1,0 @@
-use Rattle.std.proofs.Common.{◌≡◌, []}
-use Rattle.lock_stage_tests.proofs.scenes.play_in_turn.Given as goal
-
-abbrev pub invariant-turns : goal.invariant-turns
-invariant-turns g l = record {
-  none_waits : l.scene.stage.crew.waiting ≡ [];
-  none_open : l.scene.stage.crew.resting ≡ [];
-}

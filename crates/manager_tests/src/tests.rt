@@ -1,0 +1,277 @@
+//! Each test makes a manager, tells a story of its sessions, and finishes it.
+
+ghost use Rattle.std.specs.Prelude.{◌≡◌, IfOk};
+ghost use Rattle.lock_manager.specs.Managers.{IsNew};
+ghost use Rattle.manager_tests.specs.Crews.{SeatsAre};
+
+mod answers;
+mod busy;
+mod conflicts;
+mod counted;
+mod deeds;
+mod desk;
+mod listings;
+mod memory;
+mod pair;
+mod queues;
+mod races;
+mod scenes;
+mod threads;
+mod turn_lists;
+mod turns;
+mod waits;
+mod wakes;
+
+use counted::Steps;
+use desk::{Desk, ManagerDesk};
+use lock_manager::{Config, Final, Manager, Mode, Opener, OwnSession, Refusal};
+use lock_table::PlainPart;
+use pair::Pair;
+use races::Race;
+use scenes::{Scene, perform};
+use shared_rule::board::Board;
+use std::alloc::Global;
+use std::process::Abort;
+use std::sync::Wait;
+use std::test::Fail;
+use std::thread::Threads;
+use threads::Plan;
+use turn_lists::LISTS;
+
+/// What the sessions of a manager do.
+#[derive(Clone, Copy)]
+enum Story<'a> {
+    OfTwo(Scene<'a>),
+    /// One takes many modes and gives them back, where memory may be wanting once.
+    GoesOn,
+    /// So many ask for the same objects, each in a thread of its own.
+    Asks(u32, Plan),
+    /// They sleep in one queue for this mode, each in a thread of its own.
+    Queue(Mode),
+    /// One sleeps in a queue until the wait ahead of it is cancelled.
+    LetGoByCancel,
+    /// One sleeps in a queue until it is asked to cancel.
+    WokenAsAsked,
+}
+
+/// Tells a story, with sessions from a desk.
+fn tell<
+    B: Board<PlainPart> + Send,
+    D: Desk<OwnSession<PlainPart, B>>,
+    R: Abort + Threads + Wait + Sync,
+>(rt: &R, alloc: Global, desk: &mut D, story: Story<'_>)
+    requires seats { SeatsAre B.seat D.seat }
+    ensures manager { D.manager desk.new ≡ D.manager desk.old }
+    ensures live { D.live desk.new ≡ D.live desk.old }
+{
+    match story {
+        Story::OfTwo(scene) => {
+            let pair = Pair::open(rt, desk);
+            assert_eq!(rt; desk.live(), 2);
+            let pair = perform(rt, pair, scene).meet(desk);
+            pair.close(rt, desk);
+        }
+        Story::GoesOn => memory::go_on(rt, desk),
+        Story::Asks(number, plan) => threads::ask_in_threads(rt, alloc, desk, number, plan),
+        Story::Queue(mode) => queues::wake_sleepers(rt, alloc, desk, mode),
+        Story::LetGoByCancel => wakes::let_go_by_a_cancel(rt, desk),
+        Story::WokenAsAsked => wakes::woken_as_asked(rt, desk),
+    }
+}
+
+/// A manager and its opener, at the second attempt where memory was wanting.
+fn make_at_last(alloc: Global, config: Config) -> Result<(Manager, Opener), Refusal>
+    ensures new { IfOk result (λ made. IsNew made.0 made.1 config) }
+{
+    match Manager::new(alloc, config) {
+        Ok(made) => Ok(made),
+        Err(_) => Manager::new(alloc, config),
+    }
+}
+
+/// Tells it at the desk of a manager.
+fn tell_at<R: Abort + Threads + Wait + Sync>(
+    rt: &R,
+    alloc: Global,
+    desk: &mut ManagerDesk<'_>,
+    story: Story<'_>,
+)
+    ensures manager { desk.new.manager.now ≡ desk.old.manager.now }
+    ensures live { desk.new.opener.live ≡ desk.old.opener.live }
+{
+    tell(rt, alloc, desk, story);
+}
+
+/// A story from the manager's beginning to its end.
+fn run<R: Abort + Threads + Wait + Sync>(
+    rt: &R,
+    alloc: Global,
+    config: Config,
+    story: Story<'_>,
+) -> Result<(), Fail> {
+    let (manager, opener) = make_at_last(alloc, config)?;
+    let mut desk = ManagerDesk::new(&manager, opener);
+    tell_at(rt, alloc, &mut desk, story);
+    let opener = desk.into_opener();
+    expect_nothing(rt, manager.finish(opener));
+    Ok(())
+}
+
+/// Nothing stood at the end.
+fn expect_nothing<R: Abort>(rt: &R, stood: Final) {
+    let nothing = Final {
+        fast: 0,
+        table: 0,
+        strong: 0,
+    };
+    assert_eq!(rt; stood, nothing);
+}
+
+/// How many sessions, with how many entries each, and whether a manager has a range for both.
+static CONFIGURATIONS: [(u32, u32, bool); 9] = [
+    (0, 8, false),
+    (65, 8, false),
+    (8, 0, false),
+    (8, 65_537, false),
+    (0, 0, false),
+    (1, 8, true),
+    (64, 8, true),
+    (8, 1, true),
+    (8, 65_536, true),
+];
+
+/// A manager was refused if a number of its configuration is out of its range, and else made.
+fn expect_made<R: Abort>(rt: &R, refusal: Option<Refusal>, config: Config, is_in_range: bool) {
+    let expected = if is_in_range {
+        None
+    } else {
+        Some(Refusal::BadConfig)
+    };
+    let Config {
+        sessions,
+        max_local,
+    } = config;
+    assert_eq!(rt; refusal, expected, "{sessions} and {max_local}");
+}
+
+#[test]
+fn a_manager_is_made_within_the_ranges_of_its_configuration_alone(
+    rt: HostRuntime,
+) -> Result<(), Fail> {
+    for (sessions, max_local, is_in_range) in &CONFIGURATIONS {
+        let config = Config {
+            sessions: *sessions,
+            max_local: *max_local,
+        };
+        let refusal = Manager::new(rt.alloc(), config).err();
+        expect_made(&rt, refusal, config, *is_in_range);
+    }
+    Ok(())
+}
+
+/// A manager for two sessions with so many entries each.
+fn two(max_local: u32) -> Config {
+    Config {
+        sessions: 2,
+        max_local,
+    }
+}
+
+#[test]
+fn turns_are_answered_as_the_lists_say(rt: HostRuntime) -> Result<(), Fail> {
+    for list in &LISTS {
+        println!(rt; "{}", list.name)?;
+        let config = Config {
+            sessions: list.sessions,
+            max_local: list.max_local,
+        };
+        let story = Story::OfTwo(Scene::Turns(list.turns, list.rounds));
+        run(&rt, rt.alloc(), config, story)?;
+    }
+    Ok(())
+}
+
+#[test]
+fn two_sessions_do_as_the_scenes_say(rt: HostRuntime) -> Result<(), Fail> {
+    for scene in [
+        Scene::EachModeBesideEach,
+        Scene::LeavesAsAsked,
+        Scene::CancelsTooLate,
+        Scene::LooksTooLate,
+        Scene::WaitsAsAsked,
+        Scene::WaitsForNothing,
+        Scene::AnsweredAtOnce,
+        Scene::SimpleDeadlock,
+        Scene::Sleeps { asks: false },
+        Scene::Sleeps { asks: true },
+        Scene::ListsMany,
+        Scene::FindsSlotsBusy,
+    ] {
+        let config = two(listings::MANY);
+        run(&rt, rt.alloc(), config, Story::OfTwo(scene))?;
+    }
+    Ok(())
+}
+
+#[test]
+fn a_thousand_races_end_as_one_of_the_two_had_won(rt: HostRuntime) -> Result<(), Fail> {
+    let rounds = 1_000;
+    for race in [
+        Race::WeakAgainstStrong(Mode::AccessShare, Mode::AccessExclusive),
+        Race::WeakAgainstStrong(Mode::RowExclusive, Mode::Share),
+        Race::StrongOverWeak(Mode::RowExclusive, Mode::Share),
+        Race::CancelAgainstRelease(Mode::AccessExclusive, Mode::AccessShare),
+        Race::CancelAgainstRelease(Mode::Share, Mode::AccessExclusive),
+        Race::AskAgainstSleep,
+    ] {
+        let story = Story::OfTwo(Scene::Races(race, rounds));
+        run(&rt, rt.alloc(), two(8), story)?;
+    }
+    Ok(())
+}
+
+#[test]
+fn many_sessions_do_as_the_stories_say(rt: HostRuntime) -> Result<(), Fail> {
+    for (sessions, story) in [
+        (4, Story::Asks(4, Plan::of(10_000, 4, false))),
+        (4, Story::Asks(4, Plan::of(10_000, 1, false))),
+        (4, Story::Asks(4, Plan::of(10_000, 1, true))),
+        (8, Story::Asks(8, Plan::of(3_000, 2, true))),
+        (queues::MANY + 1, Story::Queue(Mode::AccessExclusive)),
+        (queues::MANY + 1, Story::Queue(Mode::AccessShare)),
+        (3, Story::LetGoByCancel),
+        (2, Story::WokenAsAsked),
+    ] {
+        let config = Config {
+            sessions,
+            max_local: 8,
+        };
+        run(&rt, rt.alloc(), config, story)?;
+    }
+    Ok(())
+}
+
+/// Run it under `rt try --test --fail-alloc N` for an allocation that fails.
+#[test]
+fn sessions_go_on_where_memory_was_wanting_once(rt: HostRuntime) -> Result<(), Fail> {
+    let one = Config {
+        sessions: 1,
+        max_local: memory::MANY,
+    };
+    for (config, story) in [
+        (one, Story::GoesOn),
+        (two(memory::MOVED), Story::OfTwo(Scene::MovesAtLast)),
+    ] {
+        run(&rt, rt.alloc(), config, story)?;
+    }
+    Ok(())
+}
+
+#[test]
+fn what_makes_no_step_does_nothing_on_the_board(rt: HostRuntime) -> Result<(), Fail> {
+    let steps = Steps::none();
+    let mut session = counted::open(rt.alloc(), &steps)?;
+    counted::make_all(&rt, &mut session, &steps);
+    session.into_board(&rt);
+    Ok(())
+}

@@ -1,0 +1,254 @@
+//! Want of memory is an answer, after which nothing is lost.
+
+ghost use Rattle.std.specs.Prelude.{◌≡◌, ◌<◌};
+ghost use Rattle.manager_tests.specs.Crews.{SeatsAre};
+
+use super::answers::{Answer, expect_answer, expect_granted, expect_released};
+use super::desk::{Desk, open};
+use super::pair::Pair;
+use lock_manager::{
+    How, Listing, Mode, OwnSession, Owner, Refusal, SessionId, SlotRow, TableRow, Tag,
+};
+use lock_table::PartTable;
+use shared_rule::board::Board;
+use std::process::Abort;
+use std::sync::Wait;
+
+/// How many modes the one session takes.
+pub const MANY: u32 = 300;
+
+/// The object has its own mode, none of which is in the way of another.
+fn object(number: u32) -> (Tag, Mode) {
+    let mode = Mode::ALL[(number % 8) as usize];
+    (Tag::object(5, 1_259, number, 0), mode)
+}
+
+/// Whether memory was wanting.
+fn is_wanting(answer: &Answer) -> bool {
+    *answer == Err(Refusal::NoMemory)
+}
+
+/// Asks for the mode, and again where memory was wanting. A refusal for that leaves what the session had.
+fn try_at_last<T: PartTable, B: Board<T>, R: Abort + Wait>(
+    rt: &R,
+    session: &mut OwnSession<T, B>,
+    tag: Tag,
+    mode: Mode,
+) -> Answer
+    ensures seat { B.seat session.new.board ≡ B.seat session.old.board }
+{
+    let held = session.held(tag).mask();
+    let answer = session.try_lock(rt, tag, mode, Owner::Session);
+    if !is_wanting(&answer) {
+        return answer;
+    }
+    assert_eq!(rt; session.held(tag).mask(), held);
+    session.try_lock(rt, tag, mode, Owner::Session)
+}
+
+/// Takes it so.
+fn take_at_last<T: PartTable, B: Board<T>, R: Abort + Wait>(
+    rt: &R,
+    session: &mut OwnSession<T, B>,
+    tag: Tag,
+    mode: Mode,
+)
+    ensures seat { B.seat session.new.board ≡ B.seat session.old.board }
+{
+    let answer = try_at_last(rt, session, tag, mode);
+    expect_granted(rt, answer, tag, mode);
+}
+
+fn take_many<T: PartTable, B: Board<T>, R: Abort + Wait>(rt: &R, session: &mut OwnSession<T, B>)
+    ensures seat { B.seat session.new.board ≡ B.seat session.old.board }
+{
+    for number in 0..MANY {
+        let (tag, mode) = object(number);
+        take_at_last(rt, session, tag, mode);
+    }
+}
+
+/// A listing, at the second attempt where memory was wanting.
+fn list_at_last<T: PartTable, B: Board<T>, R: Abort + Wait>(
+    rt: &R,
+    session: &mut OwnSession<T, B>,
+) -> Listing
+    ensures seat { B.seat session.new.board ≡ B.seat session.old.board }
+{
+    let mut listing = session.list(rt);
+    if listing.is_err() {
+        listing = session.list(rt);
+    }
+    listing.expect(rt, "one want of memory at most")
+}
+
+/// Gives the mode back.
+fn give_back<T: PartTable, B: Board<T>, R: Abort + Wait>(
+    rt: &R,
+    session: &mut OwnSession<T, B>,
+    tag: Tag,
+    mode: Mode,
+)
+    ensures seat { B.seat session.new.board ≡ B.seat session.old.board }
+{
+    let released = session.unlock(rt, tag, mode, Owner::Session);
+    expect_released(rt, released, tag, mode);
+}
+
+/// All that were taken are held, each is listed, and each goes.
+fn give_many_back<T: PartTable, B: Board<T>, R: Abort + Wait>(
+    rt: &R,
+    session: &mut OwnSession<T, B>,
+)
+    ensures seat { B.seat session.new.board ≡ B.seat session.old.board }
+{
+    let rows = list_at_last(rt, session).table.len();
+    assert_eq!(rt; rows, MANY as usize);
+    for number in 0..MANY {
+        let (tag, mode) = object(number);
+        give_back(rt, session, tag, mode);
+    }
+}
+
+/// A session of a desk takes many modes and gives them back.
+pub fn go_on<T: PartTable, B: Board<T>, D: Desk<OwnSession<T, B>>, R: Abort + Wait>(
+    rt: &R,
+    desk: &mut D,
+)
+    requires seats { SeatsAre B.seat D.seat }
+    ensures manager { D.manager desk.new ≡ D.manager desk.old }
+    ensures live { D.live desk.new ≡ D.live desk.old }
+{
+    let mut session = open(rt, desk);
+    take_many(rt, &mut session);
+    give_many_back(rt, &mut session);
+    desk.close(rt, session);
+}
+
+const TABLE: Tag = Tag::Relation {
+    database: 5,
+    relation: 16_384,
+};
+
+/// How many times a strong mode is asked for.
+const TRANSFERS: u32 = 6;
+
+/// How many locks more are in its partition each time: so its list has to grow now for the first mode that is moved, now
+/// for the second one, now for the strong mode itself.
+const BESIDE: u32 = 3;
+
+/// How many entries the second session has at the end.
+pub const MOVED: u32 = TRANSFERS * BESIDE + 1;
+
+/// How many rows of slots show the table in this mode.
+fn count_in_slots(rows: &[SlotRow], mode: Mode) -> u32 {
+    let mut shown = 0u32;
+    for row in rows {
+        if row.tag == TABLE && row.mode == mode {
+            shown = shown.saturating_add(1);
+        }
+    }
+    shown
+}
+
+/// How many of the table's rows do.
+fn count_in_table(rows: &[TableRow], mode: Mode) -> u32 {
+    let mut shown = 0u32;
+    for row in rows {
+        if row.tag == TABLE && row.mode == mode {
+            shown = shown.saturating_add(1);
+        }
+    }
+    shown
+}
+
+/// Each weak mode of the table is listed once, in a slot or in the table.
+fn expect_once<R: Abort>(rt: &R, listing: &Listing, mode: Mode) {
+    let in_slots = count_in_slots(listing.fast.as_slice(), mode);
+    let in_table = count_in_table(listing.table.as_slice(), mode);
+    assert_eq!(rt; in_slots.saturating_add(in_table), 1, "{mode}");
+}
+
+/// Nothing of a strong mode is left that was refused, and the weak ones are where they may be.
+fn see_no_trace<T: PartTable, B: Board<T>, R: Abort + Wait>(rt: &R, session: &mut OwnSession<T, B>)
+    ensures seat { B.seat session.new.board ≡ B.seat session.old.board }
+{
+    assert_eq!(rt; session.strong_count(TABLE.strong_index()), 0);
+    let listing = list_at_last(rt, session);
+    expect_once(rt, &listing, Mode::AccessShare);
+    expect_once(rt, &listing, Mode::RowExclusive);
+}
+
+/// Asks for the strong mode, and again where memory was wanting.
+fn try_strong_at_last<T: PartTable, B: Board<T>, R: Abort + Wait>(
+    rt: &R,
+    session: &mut OwnSession<T, B>,
+) -> Answer
+    ensures seat { B.seat session.new.board ≡ B.seat session.old.board }
+{
+    let answer = session.try_lock(rt, TABLE, Mode::AccessExclusive, Owner::Session);
+    if !is_wanting(&answer) {
+        return answer;
+    }
+    see_no_trace(rt, session);
+    session.try_lock(rt, TABLE, Mode::AccessExclusive, Owner::Session)
+}
+
+/// Asks for it, which another session's weak ones are in the way of.
+fn ask_for_strong<T: PartTable, B: Board<T>, R: Abort + Wait>(
+    rt: &R,
+    session: &mut OwnSession<T, B>,
+    other: SessionId,
+)
+    ensures seat { B.seat session.new.board ≡ B.seat session.old.board }
+{
+    let answer = try_strong_at_last(rt, session);
+    let conflict = Refusal::Conflict {
+        session: other,
+        mode: Mode::AccessShare,
+        how: How::Held,
+    };
+    expect_answer(rt, answer, Err(conflict));
+    see_no_trace(rt, session);
+}
+
+/// The first session has two weak modes in a slot, the second one asks for a strong one, and the first one gives back.
+fn move_once<T: PartTable, B: Board<T>, R: Abort + Wait>(rt: &R, pair: &mut Pair<T, B>)
+    ensures first { B.seat pair.new.first.board ≡ B.seat pair.old.first.board }
+    ensures second { B.seat pair.new.second.board ≡ B.seat pair.old.second.board }
+{
+    let Pair { first, second } = pair;
+    take_at_last(rt, first, TABLE, Mode::AccessShare);
+    take_at_last(rt, first, TABLE, Mode::RowExclusive);
+    assert_eq!(rt; list_at_last(rt, first).fast.len(), 2);
+    ask_for_strong(rt, second, first.id());
+    give_back(rt, first, TABLE, Mode::AccessShare);
+    give_back(rt, first, TABLE, Mode::RowExclusive);
+}
+
+/// Takes further locks in the partition of the table.
+fn take_beside<T: PartTable, B: Board<T>, R: Abort + Wait>(
+    rt: &R,
+    session: &mut OwnSession<T, B>,
+    transfer: u32,
+)
+    ensures seat { B.seat session.new.board ≡ B.seat session.old.board }
+{
+    for place in 0..BESIDE {
+        let tag = Tag::relation(5, 32_768 | transfer << 6 | place << 4);
+        assert_eq!(rt; tag.partition(), TABLE.partition());
+        take_at_last(rt, session, tag, Mode::ShareUpdateExclusive);
+    }
+}
+
+/// Again and again, while the table's partition fills. At the end nobody has the table, and the second one takes it.
+pub fn move_often<T: PartTable, B: Board<T>, R: Abort + Wait>(rt: &R, pair: &mut Pair<T, B>)
+    ensures first { B.seat pair.new.first.board ≡ B.seat pair.old.first.board }
+    ensures second { B.seat pair.new.second.board ≡ B.seat pair.old.second.board }
+{
+    'transfers: for transfer in 0..TRANSFERS {
+        move_once(rt, pair);
+        take_beside(rt, &mut pair.second, transfer);
+    }
+    take_at_last(rt, &mut pair.second, TABLE, Mode::AccessExclusive);
+}

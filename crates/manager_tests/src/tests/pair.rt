@@ -1,0 +1,56 @@
+//! Two sessions of one manager.
+
+ghost use Rattle.std.specs.Prelude.{◌≡◌, ◌+◌, ◌-◌};
+ghost use Rattle.manager_tests.specs.Crews.{SeatsAre};
+
+use super::desk::{Desk, open};
+use lock_manager::OwnSession;
+use lock_table::PartTable;
+use shared_rule::board::Board;
+use std::process::Abort;
+use std::sync::Wait;
+
+pub struct Pair<T: PartTable, B: Board<T>> {
+    pub first: OwnSession<T, B>,
+    pub second: OwnSession<T, B>,
+}
+
+impl<T: PartTable, B: Board<T>> Pair<T, B> {
+    /// Two sessions from a desk.
+    pub fn open<D: Desk<OwnSession<T, B>>, R: Abort>(rt: &R, desk: &mut D) -> Self
+        requires seats { SeatsAre B.seat D.seat }
+        ensures manager { D.manager desk.new ≡ D.manager desk.old }
+        ensures first { (B.seat result.first.board).table ≡ (D.manager desk.old).table }
+        ensures second { (B.seat result.second.board).table ≡ (D.manager desk.old).table }
+        ensures live { D.live desk.new ≡ D.live desk.old + 2 }
+    {
+        let first = open(rt, desk);
+        let second = open(rt, desk);
+        Pair { first, second }
+    }
+
+    /// The two meet: none of their holds conflict.
+    pub fn meet<D: Desk<OwnSession<T, B>>>(self, desk: &D) -> Self
+        requires seats { SeatsAre B.seat D.seat }
+        requires same_manager { (B.seat self.second.board).table ≡ (B.seat self.first.board).table }
+        ensures first { B.seat result.first.board ≡ B.seat self.first.board }
+        ensures second { B.seat result.second.board ≡ B.seat self.second.board }
+    {
+        let Pair { mut first, second } = self;
+        let second = desk.meet(&mut first, second);
+        Pair { first, second }
+    }
+
+    /// Closes both.
+    pub fn close<D: Desk<OwnSession<T, B>>, R: Wait>(self, rt: &R, desk: &mut D)
+        requires seats { SeatsAre B.seat D.seat }
+        requires first { (B.seat self.first.board).table ≡ (D.manager desk.old).table }
+        requires second { (B.seat self.second.board).table ≡ (D.manager desk.old).table }
+        ensures manager { D.manager desk.new ≡ D.manager desk.old }
+        ensures live { D.live desk.new ≡ D.live desk.old - 2 }
+    {
+        let Pair { first, second } = self;
+        desk.close(rt, first);
+        desk.close(rt, second);
+    }
+}

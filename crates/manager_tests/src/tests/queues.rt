@@ -1,0 +1,164 @@
+//! Sessions in one queue, each asleep in a thread of its own, and each woken by the one before it, or all by one release.
+
+ghost use Rattle.std.specs.Prelude.{◌≡◌};
+ghost use Rattle.lock_manager.specs.Managers.{ManagerView};
+ghost use Rattle.manager_tests.specs.Crews.{AreOf, SeatsAre};
+
+use super::answers::expect_granted;
+use super::desk::{Desk, close_many, open_many};
+use super::waits::{OWNER, TABLE, give_back, see_wait, take};
+use super::wakes::pause;
+use lock_manager::{Mode, OwnSession, SessionId};
+use lock_table::{PartTable, PlainPart};
+use shared_rule::board::Board;
+use std::alloc::Global;
+use std::process::Abort;
+use std::sync::Wait;
+use std::sync::atomic::{AtomicBool, AtomicU64, Ordering};
+use std::thread;
+use std::thread::{Threads, for_each_mut};
+
+/// How many wait.
+pub const MANY: u32 = 32;
+
+/// The mode that all wait for, and how many of them were woken.
+#[derive(Drop)]
+struct Tally {
+    mode: Mode,
+    /// Whether the first session has the table.
+    held: AtomicBool,
+    woken: AtomicU64,
+}
+
+impl Tally {
+    /// One more was woken. Where each is woken by the one before it, so many were as its number says: the holder's is 0,
+    /// and those in the queue follow in its order.
+    fn wake<R: Abort>(&self, rt: &R, number: SessionId) {
+        let before = self.woken.fetch_add(1, Ordering::SeqCst);
+        if self.mode == Mode::AccessExclusive {
+            assert_eq!(rt; before.saturating_add(1), u64::from(number.number()));
+        }
+    }
+
+    /// Waits until the first session has the table.
+    fn wait_for_holder<R: Wait>(&self, rt: &R) {
+        for _ in rt.forever() {
+            if self.held.load(Ordering::SeqCst) {
+                break;
+            }
+            thread::yield_now();
+        }
+    }
+
+    /// So many were woken.
+    fn expect<R: Abort>(&self, rt: &R, number: u32) {
+        assert_eq!(rt; self.woken.load(Ordering::SeqCst), u64::from(number));
+    }
+}
+
+/// Lets those go before whose numbers are lower: it is time once the one before stands in the queue. The first of them stands
+/// behind the holder.
+fn see_turn<T: PartTable, B: Board<T>, R: Wait>(
+    rt: &R,
+    tally: &Tally,
+    session: &mut OwnSession<T, B>,
+)
+    ensures seat { B.seat session.new.board ≡ B.seat session.old.board }
+{
+    let number = session.id().number();
+    if number < 2 {
+        tally.wait_for_holder(rt);
+        return;
+    }
+    if let Some(before) = SessionId::new(number - 1) {
+        see_wait(rt, session, before);
+    }
+}
+
+/// Stands in the queue in its turn, sleeps until the wait is granted, and gives the mode back, to the next one if that waits
+/// still.
+fn sleep_and_pass_on<T: PartTable, B: Board<T>, R: Abort + Wait>(
+    rt: &R,
+    tally: &Tally,
+    session: &mut OwnSession<T, B>,
+)
+    ensures seat { B.seat session.new.board ≡ B.seat session.old.board }
+{
+    see_turn(rt, tally, session);
+    let answer = session.acquire(rt, TABLE, tally.mode, OWNER);
+    expect_granted(rt, answer, TABLE, tally.mode);
+    tally.wake(rt, session.id());
+    give_back(rt, session, tally.mode);
+}
+
+/// Takes the table first, and gives it back, which lets them go, once all sleep, none of whom is woken.
+fn release_once_asleep<T: PartTable, B: Board<T>, R: Abort + Wait>(
+    rt: &R,
+    tally: &Tally,
+    session: &mut OwnSession<T, B>,
+)
+    ensures seat { B.seat session.new.board ≡ B.seat session.old.board }
+{
+    take(rt, session, Mode::AccessExclusive);
+    tally.held.store(true, Ordering::SeqCst);
+    if let Some(last) = SessionId::new(MANY as u8) {
+        see_wait(rt, session, last);
+    }
+    pause();
+    tally.expect(rt, 0);
+    give_back(rt, session, Mode::AccessExclusive);
+}
+
+/// Plays the part of the holder, or of one that sleeps.
+fn play_part<T: PartTable, B: Board<T>, R: Abort + Wait>(
+    rt: &R,
+    tally: &Tally,
+    session: &mut OwnSession<T, B>,
+)
+    ensures seat { B.seat session.new.board ≡ B.seat session.old.board }
+{
+    if session.id().number() == 0 {
+        release_once_asleep(rt, tally, session);
+    } else {
+        sleep_and_pass_on(rt, tally, session);
+    }
+}
+
+/// Each does its part in a thread of its own.
+fn sleep_side_by_side<B: Board<PlainPart> + Send, R: Abort + Threads + Wait + Sync>(
+    rt: &R,
+    tally: &Tally,
+    sleepers: &mut [OwnSession<PlainPart, B>],
+)
+    ensures own { (manager : ManagerView) → AreOf B.seat manager sleepers.old → AreOf B.seat manager sleepers.new }
+{
+    let threads = sleepers.len().max(1);
+    for_each_mut(
+        rt,
+        sleepers,
+        threads,
+        &|_, session| play_part(rt, tally, session),
+    );
+}
+
+/// One session has the table and all others wait for it. Where they wait for `AccessExclusiveLock` they are woken one by
+/// one, in the order of their queue, and where for `AccessShareLock` all by one release.
+pub fn wake_sleepers<
+    B: Board<PlainPart> + Send,
+    D: Desk<OwnSession<PlainPart, B>>,
+    R: Abort + Threads + Wait + Sync,
+>(rt: &R, alloc: Global, desk: &mut D, mode: Mode)
+    requires seats { SeatsAre B.seat D.seat }
+    ensures manager { D.manager desk.new ≡ D.manager desk.old }
+    ensures live { D.live desk.new ≡ D.live desk.old }
+{
+    let mut sessions = open_many(rt, alloc, desk, MANY + 1);
+    let tally = Tally {
+        mode,
+        held: AtomicBool::new(false),
+        woken: AtomicU64::new(0),
+    };
+    sleep_side_by_side(rt, &tally, sessions.as_mut_slice());
+    tally.expect(rt, MANY);
+    close_many(rt, desk, sessions);
+}

@@ -1,0 +1,185 @@
+//! Sessions in threads of their own, each of which sees by a table of the test that no two conflicting grants stand
+//! at a time.
+
+ghost use Rattle.std.specs.Prelude.{◌≡◌, ◌<◌, ◌≤◌};
+ghost use Rattle.lock_manager.specs.Managers.{ManagerView};
+ghost use Rattle.manager_tests.specs.Crews.{AreOf, SeatsAre};
+
+use super::answers::{expect_granted, expect_released};
+use super::conflicts::conflicts;
+use super::desk::{Desk, close_many, open_many};
+use lock_manager::{How, Mode, OwnSession, Owner, Refusal, SessionId, Tag};
+use lock_table::{PartTable, PlainPart};
+use shared_rule::board::Board;
+use std::alloc::Global;
+use std::process::Abort;
+use std::sync::{Mutex, Wait};
+use std::thread;
+use std::thread::{Threads, for_each_mut};
+
+/// How many have an object in each mode.
+type Modes = [u32; 8];
+
+/// How many have each of four objects.
+type Holders = [Modes; 4];
+
+/// What each thread does.
+#[derive(Clone, Copy)]
+pub struct Plan {
+    rounds: u32,
+    /// How many objects, or relations, they ask for, 1 to 4.
+    objects: u32,
+    relations: bool,
+    ghost some: { 1 ≤ objects },
+    ghost few: { objects ≤ 4 },
+}
+
+impl Plan {
+    /// So many rounds on so many relations or other objects.
+    pub fn of(rounds: u32, objects: u32, relations: bool) -> Plan
+        requires some { 1 ≤ objects }
+        requires few { objects ≤ 4 }
+    {
+        Plan {
+            rounds,
+            objects,
+            relations,
+        }
+    }
+
+    fn tag(self, object: u32) -> Tag {
+        if self.relations {
+            Tag::relation(5, 16_384 | object)
+        } else {
+            Tag::object(5, 1_259, 16_384 | object, 0)
+        }
+    }
+}
+
+// Nobody has the object in a mode that conflicts with the one at this place.
+fn expect_free<R: Abort>(rt: &R, modes: &Modes, object: usize, place: usize)
+    requires place { place < 8 }
+{
+    for held in 0..8 {
+        let is_free = modes[held] == 0 || !conflicts(place, held);
+        assert!(rt; is_free, "two have object {object}, at {place} and {held}");
+    }
+}
+
+// Enters a grant once it is had.
+fn enter<R: Abort + Wait>(rt: &R, holders: &Mutex<Holders>, object: usize, place: usize)
+    requires object { object < 4 }
+    requires place { place < 8 }
+{
+    let mut all = holders.lock(rt);
+    expect_free(rt, &all[object], object, place);
+    all[object][place] = all[object][place].saturating_add(1);
+}
+
+// Takes it out before it is given back.
+fn take_out<R: Abort + Wait>(rt: &R, holders: &Mutex<Holders>, object: usize, place: usize)
+    requires object { object < 4 }
+    requires place { place < 8 }
+{
+    let mut all = holders.lock(rt);
+    assert_ne!(rt; all[object][place], 0);
+    all[object][place] = all[object][place].saturating_sub(1);
+}
+
+// The mode is one that conflicts with the one at this place.
+fn expect_in_the_way<R: Abort>(rt: &R, mode: Mode, place: usize)
+    requires place { place < 8 }
+{
+    for held in 0..8 {
+        let is_right = Mode::ALL[held] != mode || conflicts(place, held);
+        assert!(rt; is_right, "{mode} is not in the way");
+    }
+}
+
+// A refusal names another session, which holds a conflicting mode.
+fn expect_conflict<R: Abort>(rt: &R, refusal: Refusal, own: SessionId, place: usize)
+    requires place { place < 8 }
+{
+    let Refusal::Conflict { session, mode, how } = refusal else {
+        panic!(rt; "refused otherwise: {refusal}")
+    };
+    assert!(rt; session != own);
+    assert!(rt; how == How::Held);
+    expect_in_the_way(rt, mode, place);
+}
+
+/// Asks for a mode on an object, and gives it back where it is granted.
+fn ask<T: PartTable, B: Board<T>, R: Abort + Wait>(
+    rt: &R,
+    holders: &Mutex<Holders>,
+    plan: Plan,
+    session: &mut OwnSession<T, B>,
+    round: u32,
+)
+    ensures seat { B.seat session.new.board ≡ B.seat session.old.board }
+{
+    let place = (round % 8) as usize;
+    let object = round % plan.objects;
+    let tag = plan.tag(object);
+    let mode = Mode::ALL[place];
+    let answer = session.try_lock(rt, tag, mode, Owner::Transaction);
+    if let Err(refusal) = answer {
+        expect_conflict(rt, refusal, session.id(), place);
+        return;
+    }
+    expect_granted(rt, answer, tag, mode);
+    enter(rt, holders, object as usize, place);
+    thread::yield_now();
+    take_out(rt, holders, object as usize, place);
+    let released = session.unlock(rt, tag, mode, Owner::Transaction);
+    expect_released(rt, released, tag, mode);
+}
+
+/// Asks for one mode after another, on one object after another.
+fn ask_often<T: PartTable, B: Board<T>, R: Abort + Wait>(
+    rt: &R,
+    holders: &Mutex<Holders>,
+    plan: Plan,
+    session: &mut OwnSession<T, B>,
+)
+    ensures seat { B.seat session.new.board ≡ B.seat session.old.board }
+{
+    'rounds: for round in 0..plan.rounds {
+        ask(rt, holders, plan, session, round);
+    }
+}
+
+/// Each session does so in a thread of its own.
+fn ask_side_by_side<B: Board<PlainPart> + Send, R: Abort + Threads + Wait + Sync>(
+    rt: &R,
+    holders: &Mutex<Holders>,
+    plan: Plan,
+    sessions: &mut [OwnSession<PlainPart, B>],
+)
+    ensures own { (manager : ManagerView) → AreOf B.seat manager sessions.old → AreOf B.seat manager sessions.new }
+{
+    let threads = sessions.len().max(1);
+    for_each_mut(
+        rt,
+        sessions,
+        threads,
+        &|_, session| ask_often(rt, holders, plan, session),
+    );
+}
+
+/// So many sessions from a desk do as the plan says, and at the end nobody has anything.
+pub fn ask_in_threads<
+    B: Board<PlainPart> + Send,
+    D: Desk<OwnSession<PlainPart, B>>,
+    R: Abort + Threads + Wait + Sync,
+>(rt: &R, alloc: Global, desk: &mut D, number: u32, plan: Plan)
+    requires seats { SeatsAre B.seat D.seat }
+    ensures manager { D.manager desk.new ≡ D.manager desk.old }
+    ensures live { D.live desk.new ≡ D.live desk.old }
+{
+    let mut sessions = open_many(rt, alloc, desk, number);
+    let holders = Mutex::new([[0; 8]; 4]);
+    ask_side_by_side(rt, &holders, plan, sessions.as_mut_slice());
+    close_many(rt, desk, sessions);
+    assert!(rt; holders.into_inner() == [[0; 8]; 4]);
+}

@@ -1,0 +1,173 @@
+//! Sessions that sleep until another one lets them go or asks them to cancel, and wakes them.
+
+ghost use Rattle.std.specs.Prelude.{◌≡◌, IfSome, None};
+ghost use Rattle.manager_tests.specs.Crews.{SeatsAre};
+
+use super::answers::expect_answer;
+use super::desk::{Desk, open};
+use super::races::end_wait;
+use super::waits::{OWNER, TABLE, ask, give_back, leave, queue, see_wait, take};
+use lock_manager::{Acquired, Asked, Mode, OwnSession, OwnWaiting, Refusal, SessionId};
+use lock_table::{PartTable, PlainPart};
+use shared_rule::board::Board;
+use std::process::Abort;
+use std::sync::Wait;
+use std::thread;
+use std::thread::{Threads, join_mut};
+
+/// How often a processor is left to others in a pause.
+const PAUSE: u32 = 20_000;
+
+/// Leaves the processor to others, so that whoever was about to sleep does so.
+pub fn pause() {
+    for _ in 0..PAUSE {
+        thread::yield_now();
+    }
+}
+
+/// Sees that the session of this number waits, and gives it the time to sleep.
+fn see_asleep<T: PartTable, B: Board<T>, R: Wait>(
+    rt: &R,
+    session: &mut OwnSession<T, B>,
+    number: SessionId,
+)
+    ensures seat { B.seat session.new.board ≡ B.seat session.old.board }
+{
+    see_wait(rt, session, number);
+    pause();
+}
+
+/// Asks for the table, and sleeps until it has it.
+fn sleep_until_granted<T: PartTable, B: Board<T>, R: Abort + Wait>(
+    rt: &R,
+    session: &mut OwnSession<T, B>,
+)
+    ensures seat { B.seat session.new.board ≡ B.seat session.old.board }
+{
+    let answer = session.acquire(rt, TABLE, Mode::AccessShare, OWNER);
+    expect_answer(rt, answer, Ok(Acquired::Granted));
+}
+
+/// Asks for the table, and sleeps until it is asked to cancel.
+fn sleep_until_asked<T: PartTable, B: Board<T>, R: Abort + Wait>(
+    rt: &R,
+    session: &mut OwnSession<T, B>,
+)
+    ensures seat { B.seat session.new.board ≡ B.seat session.old.board }
+{
+    let answer = session.acquire(rt, TABLE, Mode::AccessShare, OWNER);
+    expect_answer(rt, answer, Err(Refusal::Cancelled));
+}
+
+/// Takes the wait that is lent out of the queue, once the session of this number sleeps behind it.
+fn leave_once_asleep<T: PartTable, B: Board<T>, R: Abort + Wait>(
+    rt: &R,
+    holder: &mut OwnSession<T, B>,
+    ahead: &mut Option<OwnWaiting<T, B>>,
+    number: SessionId,
+) -> OwnSession<T, B>
+    ensures seat { B.seat holder.new.board ≡ B.seat holder.old.board }
+    ensures gone { ahead.new ≡ None }
+    ensures its_seat { IfSome ahead.old (λ waiting. B.seat result.board ≡ B.seat waiting.board) }
+{
+    see_asleep(rt, holder, number);
+    match ahead.take() {
+        Some(waiting) => leave(rt, waiting),
+        None => panic!(rt; "no wait"),
+    }
+}
+
+/// The one ahead in the queue leaves it, and the one behind it, who sleeps in a thread of its own, is granted.
+fn leave_side_by_side<B: Board<PlainPart> + Send, R: Abort + Threads + Wait + Sync>(
+    rt: &R,
+    holder: &mut OwnSession<PlainPart, B>,
+    ahead: &mut Option<OwnWaiting<PlainPart, B>>,
+    behind: &mut OwnSession<PlainPart, B>,
+    number: &SessionId,
+) -> OwnSession<PlainPart, B>
+    ensures holder { B.seat holder.new.board ≡ B.seat holder.old.board }
+    ensures gone { ahead.new ≡ None }
+    ensures ahead { IfSome ahead.old (λ waiting. B.seat result.board ≡ B.seat waiting.board) }
+    ensures behind { B.seat behind.new.board ≡ B.seat behind.old.board }
+{
+    let (left, ()) = join_mut(
+        rt,
+        &mut || leave_once_asleep(rt, holder, ahead, *number),
+        &mut || sleep_until_granted(rt, behind),
+    );
+    left
+}
+
+/// A session has the table, one waits for it in a mode that conflicts, and one sleeps behind that, which only the wait
+/// ahead of it stops. That wait is cancelled, and lets it go.
+pub fn let_go_by_a_cancel<
+    B: Board<PlainPart> + Send,
+    D: Desk<OwnSession<PlainPart, B>>,
+    R: Abort + Threads + Wait + Sync,
+>(rt: &R, desk: &mut D)
+    requires seats { SeatsAre B.seat D.seat }
+    ensures manager { D.manager desk.new ≡ D.manager desk.old }
+    ensures live { D.live desk.new ≡ D.live desk.old }
+{
+    let mut holder = open(rt, desk);
+    take(rt, &mut holder, Mode::AccessShare);
+    let mut ahead = Some(queue(rt, open(rt, desk), Mode::AccessExclusive));
+    let mut behind = open(rt, desk);
+    let number = behind.id();
+    let left = leave_side_by_side(rt, &mut holder, &mut ahead, &mut behind, &number);
+    end_wait(ahead);
+    give_back(rt, &mut behind, Mode::AccessShare);
+    give_back(rt, &mut holder, Mode::AccessShare);
+    desk.close(rt, behind);
+    desk.close(rt, left);
+    desk.close(rt, holder);
+}
+
+/// Asks the session of this number to cancel once it sleeps.
+fn ask_once_asleep<T: PartTable, B: Board<T>, R: Abort + Wait>(
+    rt: &R,
+    session: &mut OwnSession<T, B>,
+    number: SessionId,
+)
+    ensures seat { B.seat session.new.board ≡ B.seat session.old.board }
+{
+    see_asleep(rt, session, number);
+    ask(rt, session, number, Asked::Waiting);
+}
+
+/// The one asks the other, who sleeps in a thread of its own, to cancel, and so its wait is over.
+fn ask_side_by_side<B: Board<PlainPart> + Send, R: Abort + Threads + Wait + Sync>(
+    rt: &R,
+    holder: &mut OwnSession<PlainPart, B>,
+    sleeper: &mut OwnSession<PlainPart, B>,
+    number: &SessionId,
+)
+    ensures holder { B.seat holder.new.board ≡ B.seat holder.old.board }
+    ensures sleeper { B.seat sleeper.new.board ≡ B.seat sleeper.old.board }
+{
+    join_mut(
+        rt,
+        &mut || ask_once_asleep(rt, holder, *number),
+        &mut || sleep_until_asked(rt, sleeper),
+    );
+}
+
+/// A session has the table, and one that sleeps in the queue for it is asked to cancel.
+pub fn woken_as_asked<
+    B: Board<PlainPart> + Send,
+    D: Desk<OwnSession<PlainPart, B>>,
+    R: Abort + Threads + Wait + Sync,
+>(rt: &R, desk: &mut D)
+    requires seats { SeatsAre B.seat D.seat }
+    ensures manager { D.manager desk.new ≡ D.manager desk.old }
+    ensures live { D.live desk.new ≡ D.live desk.old }
+{
+    let mut holder = open(rt, desk);
+    take(rt, &mut holder, Mode::AccessExclusive);
+    let mut sleeper = open(rt, desk);
+    let number = sleeper.id();
+    ask_side_by_side(rt, &mut holder, &mut sleeper, &number);
+    give_back(rt, &mut holder, Mode::AccessExclusive);
+    desk.close(rt, sleeper);
+    desk.close(rt, holder);
+}

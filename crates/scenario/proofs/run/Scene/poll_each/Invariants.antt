@@ -1,0 +1,12 @@
+use Rattle.std.proofs.Common.{◌≡◌, ◌≤◌, ◌<◌, ◌-◌, true, length}
+use Rattle.scenario.proofs.run.Scene.poll_each.Given as goal
+
+abbrev pub invariant-places : goal.invariant-places
+invariant-places g l = record {
+  manager : l.self.stage.manager.now ≡ l.fn.self.stage.manager.now;
+  no_more : length l.self.stage.sessions.waiting ≤ length l.fn.self.stage.sessions.waiting;
+  fewer : l.went_on ≡ true → length l.self.stage.sessions.waiting < length l.fn.self.stage.sessions.waiting;
+}
+
+abbrev pub decreases-places : goal.decreases-places
+decreases-places g l = length l.self.stage.sessions.waiting - l.place

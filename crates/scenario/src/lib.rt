@@ -1,0 +1,17 @@
+//! Scripts on the lock manager: the words of the command line, what each command of a script does to its sessions, what it prints,
+//! and the program that runs one.
+#![tactic(auto)]
+
+pub mod arguments;
+pub mod desk;
+pub mod output;
+pub mod program;
+pub mod run;
+pub mod sessions;
+
+pub use arguments::{Limits, NoRun, parse_arguments};
+pub use desk::{Desk, SharedDesk};
+pub use output::Output;
+pub use program::{Source, run_program};
+pub use run::{Scene, run_script};
+pub use sessions::{Began, Looked, Stage};

@@ -1,0 +1,120 @@
+//! The program as a function of its words and its streams.
+ghost use Rattle.std.specs.Prelude.{◌≤◌, IfOk};
+
+use crate::arguments::{NoRun, parse_arguments};
+use crate::run::run_script;
+use lock_manager::Config;
+use lock_script::Fault;
+use std::io::{self, BufWriter, Read, Write};
+use std::sync::Wait;
+
+/// The status of a script that ran to its end, and of a text that was asked for.
+const SUCCESS: u8 = 0;
+
+/// The status where the program's own words are refused.
+const REFUSED_WORDS: u8 = 2;
+
+/// Where a script comes from.
+#[derive(Drop)]
+pub struct Source<R: Drop> {
+    pub reader: R,
+    /// Whether somebody types it.
+    pub is_terminal: bool,
+}
+
+/// Runs the program. The words are those of the command line, or the error of reading them; the script
+/// comes from `input`, what it prints goes to `output`, as the texts do that are asked for, and why the
+/// program ends early to `errors`, with a word that it reads a terminal where it does. Answers the status: 0, 3 for a
+/// bad line of the script, 2 for refused words, and 1 for any other fault.
+pub fn run_program<H: AllocGlobal + Wait, R: Read + Drop, W: Write + Drop, E: Write>(
+    rt: &H,
+    words: io::Result<Vec<String>>,
+    input: Source<R>,
+    output: W,
+    errors: &mut E,
+) -> u8
+    ensures { result ≤ 3 }
+{
+    let ended = match words {
+        Ok(words) => run_words(rt, words.as_slice(), input, output, errors),
+        Err(error) if error.kind() == io::ErrorKind::OutOfMemory => Err(Fault::NoMemory),
+        Err(_) => Ok(refuse_words(errors)),
+    };
+    match ended {
+        Ok(status) => status,
+        Err(fault) => fail(errors, fault),
+    }
+}
+
+/// Runs the script, where the words ask for that.
+fn run_words<H: AllocGlobal + Wait, R: Read + Drop, W: Write + Drop, E: Write>(
+    rt: &H,
+    words: &[String],
+    input: Source<R>,
+    output: W,
+    errors: &mut E,
+) -> Result<u8, Fault>
+    ensures { IfOk result (λ status. status ≤ 2) }
+{
+    let alloc = rt.alloc();
+    match parse_arguments(alloc, words) {
+        Ok(limits) => {
+            let output = BufWriter::new(alloc, output).map_err(|_| Fault::NoMemory)?;
+            let config = Config {
+                sessions: limits.sessions,
+                max_local: limits.max_local,
+            };
+            if input.is_terminal {
+                invite(errors);
+            }
+            run_script(rt, input.reader, output, config)?;
+            Ok(SUCCESS)
+        }
+        Err(NoRun::Text(text)) => {
+            print_text(output, text.as_str())?;
+            Ok(SUCCESS)
+        }
+        Err(NoRun::Refused(text)) => {
+            // Where the errors can't be written, the status says it alone.
+            let _ = write!(errors, "{text}");
+            Ok(REFUSED_WORDS)
+        }
+        Err(NoRun::NoMemory) => Err(Fault::NoMemory),
+    }
+}
+
+/// Says to somebody at a terminal that the script is read from there.
+fn invite<E: Write>(errors: &mut E) {
+    // Where the errors can't be written, the script runs all the same.
+    let _ = writeln!(
+        errors,
+        "reading a script from the terminal; run --help shows its lines"
+    );
+}
+
+/// Prints a text that the words ask for.
+fn print_text<W: Write + Drop>(mut output: W, text: &str) -> Result<(), Fault> {
+    write!(output, "{text}").map_err(|_| Fault::WriteFailed)?;
+    output.flush().map_err(|_| Fault::WriteFailed)
+}
+
+/// Refuses words that are no text.
+fn refuse_words<E: Write>(errors: &mut E) -> u8
+    ensures { result ≤ 2 }
+{
+    // Where the errors can't be written, the status says it alone.
+    let _ = writeln!(
+        errors,
+        "error: invalid UTF-8 was detected in one or more arguments"
+    );
+    REFUSED_WORDS
+}
+
+/// Says what ended the program, and answers the status for it.
+fn fail<E: Write>(errors: &mut E, fault: Fault) -> u8
+    ensures { result ≤ 3 }
+{
+    // Where the errors can't be written, the status says it alone.
+    let _ = writeln!(errors, "{fault}");
+    fault.status()
+}

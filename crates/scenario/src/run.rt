@@ -1,0 +1,411 @@
+//! Scripts: a line is read, run and answered before the next one is read.
+ghost use Rattle.std.specs.Prelude.{◌≡◌, ◌≤◌, ◌<◌, [], true, length, Ok, IfOk};
+ghost use Rattle.lock_manager.specs.Managers.{IsOpenerOf};
+ghost use Rattle.lock_script.specs.Command.{Addresses, NamesCounter};
+ghost use Rattle.lock_script.specs.Sessions.{IsThere, MayAct};
+ghost use Rattle.scenario.specs.Stage.{SeatsAre};
+
+use crate::desk::{Desk, SharedDesk};
+use crate::output::Output;
+use crate::sessions::{Began, Looked, Stage};
+use lock_manager::{Config, Manager, Opener, OwnSession, Owner, Refusal};
+use lock_script::{Caller, Command, Fault, LineReader, Name, Opened, Target, parse};
+use lock_table::PartTable;
+use shared_rule::board::Board;
+use std::alloc::{AllocError, Global};
+use std::io::{Read, Write};
+use std::sync::Wait;
+
+/// Runs the script that the reader gives against a lock manager of its own, and writes what each line
+/// prints before the next line is read. It ends with the input, or with the first fault, and then the
+/// sessions that are open are closed in silence.
+pub fn run_script<H: AllocGlobal + Wait, R: Read + Drop, W: Write + Drop>(
+    rt: &H,
+    reader: R,
+    writer: W,
+    config: Config,
+) -> Result<(), Fault>
+    requires sessions { (1 ≤ config.sessions) × (config.sessions ≤ 64) }
+    requires max_local { (1 ≤ config.max_local) × (config.max_local ≤ 65536) }
+{
+    let alloc = rt.alloc();
+    let Ok((manager, opener)) = Manager::new(alloc, config) else {
+        return Err(Fault::NoMemory);
+    };
+    let played = play(rt, alloc, &SharedDesk, &manager, opener, reader, writer);
+    let Ok((opener, ended)) = played else {
+        return Err(Fault::NoMemory);
+    };
+    manager.finish(opener);
+    ended
+}
+
+/// Runs a script with the sessions that the desk opens for this manager, of which none is open after it. It is not begun
+/// where memory is wanting for the list of them.
+fn play<
+    'a,
+    T: PartTable,
+    B: Board<T>,
+    D: Desk<'a, OwnSession<T, B>>,
+    H: Wait,
+    R: Read + Drop,
+    W: Write + Drop,
+>(
+    rt: &H,
+    alloc: Global,
+    desk: &D,
+    manager: &'a Manager,
+    opener: Opener,
+    reader: R,
+    writer: W,
+) -> Result<(Opener, Result<(), Fault>), AllocError>
+    requires seats { SeatsAre B.seat D.seat }
+    requires own { IsOpenerOf opener manager.now }
+    requires none_issued { opener.issued ≡ 0 }
+    requires none_live { opener.live ≡ 0 }
+    ensures own { IfOk result (λ played. IsOpenerOf played.0 manager.now) }
+    ensures none_live { IfOk result (λ played. played.0.live ≡ 0) }
+{
+    let stage = Stage::new(alloc, manager, opener)?;
+    let mut scene = Scene::new(stage, writer);
+    let ended = scene.play(desk, rt, reader);
+    Ok((scene.into_stage().into_opener(), ended))
+}
+
+/// What the lines of a script act on: a lock manager with its sessions, and the output.
+pub struct Scene<'a, T: PartTable, B: Board<T>, W: Write + Drop> {
+    pub stage: Stage<'a, T, B>,
+    output: Output<W>,
+}
+
+impl<'a, T: PartTable, B: Board<T>, W: Write + Drop> Scene<'a, T, B, W> {
+    /// A scene whose answers go to this writer.
+    pub fn new(stage: Stage<'a, T, B>, writer: W) -> Self
+        ensures { result.stage ≡ stage.entry }
+    {
+        Scene {
+            stage,
+            output: Output::new(writer),
+        }
+    }
+
+    /// The stage, where the scene is over.
+    pub fn into_stage(self) -> Stage<'a, T, B>
+        ensures { result ≡ self.entry.stage }
+    {
+        let Scene { stage, output: _ } = self;
+        stage
+    }
+
+    /// Plays a script: runs its lines to their end or to the first fault, and then closes the sessions that
+    /// are open.
+    pub fn play<D: Desk<'a, OwnSession<T, B>>, H: Wait, R: Read + Drop>(
+        &mut self,
+        desk: &D,
+        rt: &H,
+        reader: R,
+    ) -> Result<(), Fault>
+        requires seats { SeatsAre B.seat D.seat }
+        ensures manager { self.new.stage.manager.now ≡ self.old.stage.manager.now }
+        ensures none_waits { self.new.stage.sessions.waiting ≡ [] }
+        ensures none_open { self.new.stage.sessions.resting ≡ [] }
+        ensures none_live { self.new.stage.opener.live ≡ 0 }
+    {
+        let ended = self.run_lines(desk, rt, reader);
+        self.stage.close_all(desk, rt);
+        ended
+    }
+
+    /// Runs the lines of the reader, to its end or to the first fault.
+    fn run_lines<D: Desk<'a, OwnSession<T, B>>, H: Wait, R: Read + Drop>(
+        &mut self,
+        desk: &D,
+        rt: &H,
+        reader: R,
+    ) -> Result<(), Fault>
+        requires seats { SeatsAre B.seat D.seat }
+        ensures manager { self.new.stage.manager.now ≡ self.old.stage.manager.now }
+    {
+        let mut lines = LineReader::new(reader);
+        'lines: for _ in 0..u64::MAX {
+            let Some(line) = lines.next_line()? else {
+                break;
+            };
+            let command = parse(line.as_str(), &self.stage.sessions).map_err(
+                |what| Fault::BadLine {
+                    line: lines.number,
+                    what,
+                },
+            )?;
+            if let Some(command) = command {
+                self.run(desk, rt, command)?;
+            }
+        }
+        Ok(())
+    }
+
+    /// Runs a command and then polls those who wait, and passes on what both print.
+    fn run<D: Desk<'a, OwnSession<T, B>>, H: Wait>(
+        &mut self,
+        desk: &D,
+        rt: &H,
+        command: Command,
+    ) -> Result<(), Fault>
+        requires seats { SeatsAre B.seat D.seat }
+        requires addressed { Addresses self.old.stage.sessions command }
+        requires counter { NamesCounter command }
+        ensures manager { self.new.stage.manager.now ≡ self.old.stage.manager.now }
+    {
+        self.act(desk, rt, command)?;
+        self.poll_all(rt)?;
+        self.output.flush()
+    }
+
+    /// Runs a command.
+    fn act<D: Desk<'a, OwnSession<T, B>>, H: Wait>(
+        &mut self,
+        desk: &D,
+        rt: &H,
+        command: Command,
+    ) -> Result<(), Fault>
+        requires seats { SeatsAre B.seat D.seat }
+        requires addressed { Addresses self.old.stage.sessions command }
+        requires counter { NamesCounter command }
+        ensures manager { self.new.stage.manager.now ≡ self.old.stage.manager.now }
+    {
+        match command {
+            Command::Session { name, database } => self.open(desk, name, database),
+            Command::Close(caller) => self.close(desk, rt, caller),
+            _ => self.call(rt, command),
+        }
+    }
+
+    fn open<D: Desk<'a, OwnSession<T, B>>>(
+        &mut self,
+        desk: &D,
+        name: Name,
+        database: u32,
+    ) -> Result<(), Fault>
+        requires seats { SeatsAre B.seat D.seat }
+        ensures manager { self.new.stage.manager.now ≡ self.old.stage.manager.now }
+    {
+        match self.stage.open(desk, name, database) {
+            Ok(session) => self.output.opened(&name, session, database),
+            Err(refusal) => {
+                let stage = &self.stage;
+                self.output.refused(&stage.names, &name, refusal)
+            }
+        }
+    }
+
+    fn close<D: Desk<'a, OwnSession<T, B>>, H: Wait>(
+        &mut self,
+        desk: &D,
+        rt: &H,
+        caller: Caller,
+    ) -> Result<(), Fault>
+        requires seats { SeatsAre B.seat D.seat }
+        requires place { MayAct self.old.stage.sessions caller.place }
+        ensures manager { self.new.stage.manager.now ≡ self.old.stage.manager.now }
+    {
+        self.stage.close(desk, rt, caller.place);
+        self.output.closed(&caller.name)
+    }
+
+    /// Has a session make the call of a command. Those that open and close one are not made here (`act`).
+    fn call<H: Wait>(&mut self, rt: &H, command: Command) -> Result<(), Fault>
+        requires addressed { Addresses self.old.stage.sessions command }
+        requires counter { NamesCounter command }
+        ensures manager { self.new.stage.manager.now ≡ self.old.stage.manager.now }
+    {
+        match command {
+            Command::Try(target, owner) => self.try_lock(rt, target, owner),
+            Command::Fast(target, owner) => self.try_fast(target, owner),
+            Command::Lock(target, owner) => self.lock(rt, target, owner),
+            Command::Unlock(target, owner) => self.unlock(rt, target, owner),
+            Command::Commit(caller) => self.commit(rt, caller),
+            Command::Abort(caller) => self.abort(rt, caller),
+            Command::Owned(target) => self.owned(target),
+            Command::Waiters(target) => self.waiters(rt, target),
+            Command::Cancel(by, other) => self.cancel(by, other),
+            Command::List(caller) => self.list(rt, caller),
+            Command::Count(caller, index) => self.count(caller, index),
+            Command::Hash(tag) => self.output.hash(tag),
+            Command::Session { .. } | Command::Close(_) => Ok(()),
+        }
+    }
+
+    /// Polls those who wait, pass by pass, until a pass finds none that goes on. A pass in which one goes on
+    /// leaves fewer who wait.
+    fn poll_all<H: Wait>(&mut self, rt: &H) -> Result<(), Fault>
+        ensures manager { self.new.stage.manager.now ≡ self.old.stage.manager.now }
+    {
+        'passes: while self.poll_each(rt)? {}
+        Ok(())
+    }
+
+    /// Polls each session that waits, in the byte order of their names, and answers whether one went on.
+    fn poll_each<H: Wait>(&mut self, rt: &H) -> Result<bool, Fault>
+        ensures fewer { result ≡ Ok true →
+            length self.new.stage.sessions.waiting < length self.old.stage.sessions.waiting }
+        ensures manager { self.new.stage.manager.now ≡ self.old.stage.manager.now }
+    {
+        let mut went_on = false;
+        let mut place = 0;
+        'places: while place < self.stage.sessions.waiting.len() {
+            if self.poll(rt, place)? {
+                went_on = true;
+            } else {
+                place += 1;
+            }
+        }
+        Ok(went_on)
+    }
+
+    /// Polls the session at this place of those that wait, carries a cancel out that was asked, and answers
+    /// whether the session goes on.
+    fn poll<H: Wait>(&mut self, rt: &H, place: usize) -> Result<bool, Fault>
+        requires { place < length self.old.stage.sessions.waiting }
+        ensures fewer { result ≡ Ok true →
+            length self.new.stage.sessions.waiting < length self.old.stage.sessions.waiting }
+        ensures no_more { length self.new.stage.sessions.waiting ≤ length self.old.stage.sessions.waiting }
+        ensures manager { self.new.stage.manager.now ≡ self.old.stage.manager.now }
+    {
+        match self.stage.look(rt, place) {
+            Looked::Waits => Ok(false),
+            Looked::Granted(name) => {
+                self.output.granted_after_waiting(&name)?;
+                Ok(true)
+            }
+            Looked::Cancelled(name) => {
+                self.output.cancelled(&name)?;
+                Ok(true)
+            }
+        }
+    }
+
+    /// Says that a call was refused, and why.
+    fn refuse(&mut self, name: &Name, refusal: Refusal) -> Result<(), Fault>
+        ensures manager { self.new.stage.manager.now ≡ self.old.stage.manager.now }
+    {
+        let stage = &self.stage;
+        self.output.refused(&stage.names, name, refusal)
+    }
+
+    fn try_lock<H: Wait>(&mut self, rt: &H, target: Target, owner: Owner) -> Result<(), Fault>
+        requires { MayAct self.old.stage.sessions target.caller.place }
+        ensures manager { self.new.stage.manager.now ≡ self.old.stage.manager.now }
+    {
+        let Caller { name, place } = target.caller;
+        match self
+            .stage
+            .try_lock(rt, place, target.tag, target.mode, owner)
+        {
+            Ok(acquired) => self.output.acquired(&name, acquired),
+            Err(refusal) => self.refuse(&name, refusal),
+        }
+    }
+
+    fn try_fast(&mut self, target: Target, owner: Owner) -> Result<(), Fault>
+        requires { MayAct self.old.stage.sessions target.caller.place }
+        ensures manager { self.new.stage.manager.now ≡ self.old.stage.manager.now }
+    {
+        let Caller { name, place } = target.caller;
+        match self.stage.try_fast(place, target.tag, target.mode, owner) {
+            Ok(acquired) => self.output.acquired(&name, acquired),
+            Err(refusal) => self.refuse(&name, refusal),
+        }
+    }
+
+    fn lock<H: Wait>(&mut self, rt: &H, target: Target, owner: Owner) -> Result<(), Fault>
+        requires { MayAct self.old.stage.sessions target.caller.place }
+        ensures manager { self.new.stage.manager.now ≡ self.old.stage.manager.now }
+    {
+        let Caller { name, place } = target.caller;
+        match self.stage.lock(rt, place, target.tag, target.mode, owner) {
+            Ok(Began::Acquired(acquired)) => self.output.acquired(&name, acquired),
+            Ok(Began::Waits) => self.output.waits(&name),
+            Err(refusal) => self.refuse(&name, refusal),
+        }
+    }
+
+    fn waiters<H: Wait>(&mut self, rt: &H, target: Target) -> Result<(), Fault>
+        requires { MayAct self.old.stage.sessions target.caller.place }
+        ensures manager { self.new.stage.manager.now ≡ self.old.stage.manager.now }
+    {
+        let Caller { name, place } = target.caller;
+        match self.stage.has_waiters(rt, place, target.tag, target.mode) {
+            Ok(is_awaited) => self.output.waiters(&name, is_awaited),
+            Err(_) => self.output.not_owned(&name, target.mode),
+        }
+    }
+
+    fn cancel(&mut self, by: Caller, other: Opened) -> Result<(), Fault>
+        requires by { MayAct self.old.stage.sessions by.place }
+        requires other { IsThere self.old.stage.sessions other.place }
+        ensures manager { self.new.stage.manager.now ≡ self.old.stage.manager.now }
+    {
+        let asked = self.stage.ask_cancel(by.place, other.place);
+        self.output.asked(&by.name, &other.name, asked)
+    }
+
+    fn unlock<H: Wait>(&mut self, rt: &H, target: Target, owner: Owner) -> Result<(), Fault>
+        requires { MayAct self.old.stage.sessions target.caller.place }
+        ensures manager { self.new.stage.manager.now ≡ self.old.stage.manager.now }
+    {
+        let Caller { name, place } = target.caller;
+        match self.stage.unlock(rt, place, target.tag, target.mode, owner) {
+            Ok(unlocked) => self.output.unlocked(&name, unlocked),
+            Err(_) => self.output.not_owned(&name, target.mode),
+        }
+    }
+
+    fn commit<H: Wait>(&mut self, rt: &H, caller: Caller) -> Result<(), Fault>
+        requires { MayAct self.old.stage.sessions caller.place }
+        ensures manager { self.new.stage.manager.now ≡ self.old.stage.manager.now }
+    {
+        self.stage.commit(rt, caller.place);
+        self.output.committed(&caller.name)
+    }
+
+    fn abort<H: Wait>(&mut self, rt: &H, caller: Caller) -> Result<(), Fault>
+        requires { MayAct self.old.stage.sessions caller.place }
+        ensures manager { self.new.stage.manager.now ≡ self.old.stage.manager.now }
+    {
+        self.stage.abort(rt, caller.place);
+        self.output.aborted(&caller.name)
+    }
+
+    fn owned(&mut self, target: Target) -> Result<(), Fault>
+        requires { MayAct self.old.stage.sessions target.caller.place }
+        ensures manager { self.new.stage.manager.now ≡ self.old.stage.manager.now }
+    {
+        let Target { caller, tag, mode } = target;
+        let Caller { name, place } = caller;
+        let of_transaction = self.stage.owner_count(place, tag, mode, Owner::Transaction);
+        let of_session = self.stage.owner_count(place, tag, mode, Owner::Session);
+        self.output.owned(&name, of_transaction, of_session)
+    }
+
+    fn list<H: Wait>(&mut self, rt: &H, caller: Caller) -> Result<(), Fault>
+        requires { MayAct self.old.stage.sessions caller.place }
+        ensures manager { self.new.stage.manager.now ≡ self.old.stage.manager.now }
+    {
+        match self.stage.list(rt, caller.place) {
+            Ok(listing) => {
+                let stage = &self.stage;
+                self.output.listing(&stage.names, &listing)
+            }
+            Err(refusal) => self.refuse(&caller.name, refusal),
+        }
+    }
+
+    fn count(&mut self, caller: Caller, index: u16) -> Result<(), Fault>
+        requires by { MayAct self.old.stage.sessions caller.place }
+        requires exists { index < 1024 }
+        ensures manager { self.new.stage.manager.now ≡ self.old.stage.manager.now }
+    {
+        let shown = self.stage.strong_count(caller.place, index);
+        self.output.strong(index, shown)
+    }
+}

@@ -1,0 +1,379 @@
+//! The lock manager of a script with its open sessions, which are called by their places. All is over any board: a desk
+//! opens and closes the sessions.
+ghost use Rattle.std.specs.Prelude.{◌≡◌, ◌≤◌, ◌<◌, ◌+◌, [], All, length, IfOk, IfErr};
+ghost use Rattle.lock_manager.specs.Managers.{IsOpenerOf};
+ghost use Rattle.scenario.specs.Stage.{SeatsAre, going_on};
+
+use crate::desk::Desk;
+use lock_manager::{
+    Acquired, Asked, Cancelled, Listing, Manager, Mode, Opener, OwnSession, OwnWaiting, Owner,
+    Polled, Refusal, SessionId, Started, Tag, Unlocked,
+};
+use lock_script::{Name, Named, Names, OpenSessions, Place};
+use lock_table::PartTable;
+use shared_rule::board::Board;
+use std::alloc::{AllocError, Global};
+use std::sync::Wait;
+
+/// How a request began that may wait, and was not refused.
+pub enum Began {
+    /// The session has the mode.
+    Acquired(Acquired),
+    /// It waits for it.
+    Waits,
+}
+
+/// What came of a look at a wait.
+pub enum Looked {
+    /// The session of this name waits still.
+    Waits,
+    /// It was granted, and has the mode.
+    Granted(Name),
+    /// It was asked to cancel, and is out of the queue.
+    Cancelled(Name),
+}
+
+/// A lock manager, its opener, the names of all sessions that were opened, and the open ones. Each of these is the
+/// manager's, and the opener counts them. It ends by `into_opener`, once no session is open.
+pub struct Stage<'a, T: PartTable, B: Board<T>> {
+    pub manager: &'a Manager,
+    pub opener: Opener,
+    pub names: Names,
+    pub sessions: OpenSessions<OwnSession<T, B>, OwnWaiting<T, B>>,
+    ghost own: { opener.table ≡ manager.now.table },
+    ghost size: { opener.limit ≡ manager.now.limit },
+    ghost named: { length names ≡ opener.issued },
+    ghost few: { opener.issued ≤ 64 },
+    ghost within: { opener.live ≤ opener.issued },
+    ghost counted: { opener.live ≡ length sessions.resting + length sessions.waiting },
+    ghost resting: { All (λ one. (B.seat one.session.board).table ≡ opener.table) sessions.resting },
+    ghost waiting: { All (λ one. (B.seat one.session.board).table ≡ opener.table) sessions.waiting },
+}
+
+impl<'a, T: PartTable, B: Board<T>> Stage<'a, T, B> {
+    ghost use Rattle.lock_script.specs.Sessions.{IsThere, MayAct};
+
+    /// A manager that has no session yet, with its opener.
+    pub fn new(alloc: Global, manager: &'a Manager, opener: Opener) -> Result<Self, AllocError>
+        requires own { IsOpenerOf opener manager.now }
+        requires none_issued { opener.issued ≡ 0 }
+        requires none_live { opener.live ≡ 0 }
+        ensures manager { IfOk result (λ stage. stage.manager.now ≡ manager.now) }
+        ensures none_waits { IfOk result (λ stage. stage.sessions.waiting ≡ []) }
+        ensures none_open { IfOk result (λ stage. stage.sessions.resting ≡ []) }
+    {
+        let sessions = OpenSessions::new(alloc)?;
+        Ok(Stage {
+            manager,
+            opener,
+            names: Names::new(),
+            sessions,
+        })
+    }
+
+    /// Has the desk open a session of this database under this name, and gives its number.
+    pub fn open<D: Desk<'a, OwnSession<T, B>>>(
+        &mut self,
+        desk: &D,
+        name: Name,
+        database: u32,
+    ) -> Result<SessionId, Refusal>
+        requires seats { SeatsAre B.seat D.seat }
+        ensures manager { self.new.manager.now ≡ self.old.manager.now }
+    {
+        match desk.open(self.manager, &mut self.opener, database) {
+            Ok(session) => {
+                let number = session.id();
+                self.names.push(name);
+                self.sessions.resting.put(name, session);
+                Ok(number)
+            }
+            Err(refusal) => Err(refusal),
+        }
+    }
+
+    /// Has the desk close a session. Its name is free again, and its number is not.
+    pub fn close<D: Desk<'a, OwnSession<T, B>>, H: Wait>(&mut self, desk: &D, rt: &H, place: usize)
+        requires seats { SeatsAre B.seat D.seat }
+        requires place { MayAct self.old.sessions place }
+        ensures manager { self.new.manager.now ≡ self.old.manager.now }
+        ensures live { self.new.opener.live + 1 ≡ self.old.opener.live }
+    {
+        let Named { session, .. } = self.sessions.resting.take(place);
+        desk.close(rt, &mut self.opener, session);
+    }
+
+    /// Cancels the waits of those that wait, and then closes all sessions, in the byte order of their names.
+    pub fn close_all<D: Desk<'a, OwnSession<T, B>>, H: Wait>(&mut self, desk: &D, rt: &H)
+        requires seats { SeatsAre B.seat D.seat }
+        ensures manager { self.new.manager.now ≡ self.old.manager.now }
+        ensures none_waits { self.new.sessions.waiting ≡ [] }
+        ensures none_open { self.new.sessions.resting ≡ [] }
+        ensures none_live { self.new.opener.live ≡ 0 }
+    {
+        self.cancel_all(rt);
+        'sessions: while let Some(first) = self.sessions.resting.take_first() {
+            desk.close(rt, &mut self.opener, first.session);
+        }
+    }
+
+    /// The opener, where the scene is over and no session is open.
+    pub fn into_opener(self) -> Opener
+        requires none_waits { self.sessions.waiting ≡ [] }
+        requires none_open { self.sessions.resting ≡ [] }
+        ensures opener { result ≡ self.entry.opener }
+        ensures own { IsOpenerOf result self.entry.manager.now }
+    {
+        let Stage {
+            manager: _,
+            opener,
+            names: _,
+            sessions,
+        } = self;
+        sessions.finish();
+        opener
+    }
+
+    /// Takes a mode on an object for an owner, or refuses at once.
+    pub fn try_lock<H: Wait>(
+        &mut self,
+        rt: &H,
+        place: usize,
+        tag: Tag,
+        mode: Mode,
+        owner: Owner,
+    ) -> Result<Acquired, Refusal>
+        requires { MayAct self.old.sessions place }
+        ensures manager { self.new.manager.now ≡ self.old.manager.now }
+    {
+        self.sessions
+            .resting
+            .session_mut(place)
+            .try_lock(rt, tag, mode, owner)
+    }
+
+    /// Takes a mode on an object for an owner in one of the session's slots, or refuses at once.
+    pub fn try_fast(
+        &mut self,
+        place: usize,
+        tag: Tag,
+        mode: Mode,
+        owner: Owner,
+    ) -> Result<Acquired, Refusal>
+        requires { MayAct self.old.sessions place }
+        ensures manager { self.new.manager.now ≡ self.old.manager.now }
+    {
+        self.sessions
+            .resting
+            .session_mut(place)
+            .try_fast(tag, mode, owner)
+    }
+
+    /// Takes a mode on an object for an owner, or begins to wait for it.
+    pub fn lock<H: Wait>(
+        &mut self,
+        rt: &H,
+        place: usize,
+        tag: Tag,
+        mode: Mode,
+        owner: Owner,
+    ) -> Result<Began, Refusal>
+        requires { MayAct self.old.sessions place }
+        ensures manager { self.new.manager.now ≡ self.old.manager.now }
+    {
+        let Named { name, session } = self.sessions.resting.take(place);
+        match begin(rt, session, tag, mode, owner) {
+            Ok((session, answer)) => {
+                self.sessions.resting.put(name, session);
+                answer.map(Began::Acquired)
+            }
+            Err(waiting) => {
+                self.sessions.waiting.put(name, waiting);
+                Ok(Began::Waits)
+            }
+        }
+    }
+
+    /// Whether somebody awaits the object in a mode that conflicts with this one, which the session has.
+    pub fn has_waiters<H: Wait>(
+        &mut self,
+        rt: &H,
+        place: usize,
+        tag: Tag,
+        mode: Mode,
+    ) -> Result<bool, Refusal>
+        requires { MayAct self.old.sessions place }
+        ensures manager { self.new.manager.now ≡ self.old.manager.now }
+    {
+        self.sessions
+            .resting
+            .session_mut(place)
+            .has_waiters(rt, tag, mode)
+    }
+
+    /// Gives one count of an owner back.
+    pub fn unlock<H: Wait>(
+        &mut self,
+        rt: &H,
+        place: usize,
+        tag: Tag,
+        mode: Mode,
+        owner: Owner,
+    ) -> Result<Unlocked, Refusal>
+        requires { MayAct self.old.sessions place }
+        ensures manager { self.new.manager.now ≡ self.old.manager.now }
+    {
+        self.sessions
+            .resting
+            .session_mut(place)
+            .unlock(rt, tag, mode, owner)
+    }
+
+    /// Ends a transaction that succeeded.
+    pub fn commit<H: Wait>(&mut self, rt: &H, place: usize)
+        requires { MayAct self.old.sessions place }
+        ensures manager { self.new.manager.now ≡ self.old.manager.now }
+    {
+        self.sessions.resting.session_mut(place).commit(rt);
+    }
+
+    /// Ends a transaction that failed.
+    pub fn abort<H: Wait>(&mut self, rt: &H, place: usize)
+        requires { MayAct self.old.sessions place }
+        ensures manager { self.new.manager.now ≡ self.old.manager.now }
+    {
+        self.sessions.resting.session_mut(place).abort(rt);
+    }
+
+    /// How often the owner has the object in the mode.
+    pub fn owner_count(&self, place: usize, tag: Tag, mode: Mode, owner: Owner) -> u16
+        requires { MayAct self.now.sessions place }
+    {
+        self.sessions
+            .resting
+            .at(place)
+            .session
+            .owner_count(tag, mode, owner)
+    }
+
+    /// All that is held and awaited.
+    pub fn list<H: Wait>(&mut self, rt: &H, place: usize) -> Result<Listing, Refusal>
+        requires { MayAct self.old.sessions place }
+        ensures manager { self.new.manager.now ≡ self.old.manager.now }
+    {
+        self.sessions.resting.session_mut(place).list(rt)
+    }
+
+    /// What the strong lock counter with this index shows.
+    pub fn strong_count(&mut self, place: usize, index: u16) -> u64
+        requires by { MayAct self.old.sessions place }
+        requires exists { index < 1024 }
+        ensures manager { self.new.manager.now ≡ self.old.manager.now }
+    {
+        self.sessions.resting.session_mut(place).strong_count(index)
+    }
+
+    /// One session asks another one to cancel its wait.
+    pub fn ask_cancel(&mut self, place: usize, other: Place) -> Asked
+        requires by { MayAct self.old.sessions place }
+        requires other { IsThere self.old.sessions other }
+        ensures manager { self.new.manager.now ≡ self.old.manager.now }
+    {
+        let number = self.number_at(other);
+        self.sessions.resting.session_mut(place).ask_cancel(number)
+    }
+
+    /// The number of the session that stands there.
+    fn number_at(&self, place: Place) -> SessionId
+        requires { IsThere self.now.sessions place }
+    {
+        match place {
+            Place::Resting(place) => self.sessions.resting.at(place).session.id(),
+            Place::Waiting(place) => self.sessions.waiting.at(place).session.id(),
+        }
+    }
+
+    /// Looks at the wait of the session at this place of those that wait, and carries a cancel out that was asked.
+    pub fn look<H: Wait>(&mut self, rt: &H, place: usize) -> Looked
+        requires { place < length self.old.sessions.waiting }
+        ensures waiting { length self.new.sessions.waiting + going_on result ≡ length self.old.sessions.waiting }
+        ensures manager { self.new.manager.now ≡ self.old.manager.now }
+    {
+        let Named { name, session } = self.sessions.waiting.take(place);
+        match look_at(rt, name, session) {
+            Ok((session, looked)) => {
+                self.sessions.resting.put(name, session);
+                looked
+            }
+            Err(waiting) => {
+                self.sessions.waiting.put(name, waiting);
+                Looked::Waits
+            }
+        }
+    }
+
+    /// Cancels the waits of those that wait.
+    fn cancel_all<H: Wait>(&mut self, rt: &H)
+        ensures manager { self.new.manager.now ≡ self.old.manager.now }
+        ensures none_waits { self.new.sessions.waiting ≡ [] }
+    {
+        'waits: while let Some(first) = self.sessions.waiting.take_first() {
+            let Named { name, session } = first;
+            let (session, _) = cancel(rt, session);
+            self.sessions.resting.put(name, session);
+        }
+    }
+}
+
+/// A request that may wait: the session with its answer, or what it is while it waits.
+fn begin<T: PartTable, B: Board<T>, H: Wait>(
+    rt: &H,
+    session: OwnSession<T, B>,
+    tag: Tag,
+    mode: Mode,
+    owner: Owner,
+) -> Result<(OwnSession<T, B>, Result<Acquired, Refusal>), OwnWaiting<T, B>>
+    ensures rests { IfOk result (λ begun. B.seat begun.0.board ≡ B.seat session.board) }
+    ensures waits { IfErr result (λ waiting. B.seat waiting.board ≡ B.seat session.board) }
+{
+    match session.start(rt, tag, mode, owner) {
+        Started::Granted(session) => Ok((session, Ok(Acquired::Granted))),
+        Started::AlreadyHeld(session) => Ok((session, Ok(Acquired::AlreadyHeld))),
+        Started::Queued(waiting) => Err(waiting),
+        Started::Refused(session, refusal) => Ok((session, Err(refusal))),
+    }
+}
+
+/// A look at a wait, which carries a cancel out that was asked: the session that waits no more with what came of it, or the
+/// wait that goes on.
+fn look_at<T: PartTable, B: Board<T>, H: Wait>(
+    rt: &H,
+    name: Name,
+    waiting: OwnWaiting<T, B>,
+) -> Result<(OwnSession<T, B>, Looked), OwnWaiting<T, B>>
+    ensures rests { IfOk result (λ seen. B.seat seen.0.board ≡ B.seat waiting.board) }
+    ensures goes_on { IfOk result (λ seen. going_on seen.1 ≡ 1) }
+    ensures waits { IfErr result (λ still. B.seat still.board ≡ B.seat waiting.board) }
+{
+    match waiting.poll() {
+        Polled::Still(waiting) => Err(waiting),
+        Polled::Granted(session) => Ok((session, Looked::Granted(name))),
+        Polled::CancelAsked(waiting) => match cancel(rt, waiting) {
+            (session, true) => Ok((session, Looked::Granted(name))),
+            (session, false) => Ok((session, Looked::Cancelled(name))),
+        },
+    }
+}
+
+/// The session of a wait that is given up, and whether it was granted before that.
+fn cancel<T: PartTable, B: Board<T>, H: Wait>(
+    rt: &H,
+    waiting: OwnWaiting<T, B>,
+) -> (OwnSession<T, B>, bool)
+    ensures seat { B.seat result.0.board ≡ B.seat waiting.board }
+{
+    match waiting.cancel(rt) {
+        Cancelled::Removed(session) => (session, false),
+        Cancelled::WasGranted(session) => (session, true),
+    }
+}

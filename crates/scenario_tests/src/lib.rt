@@ -1,0 +1,20 @@
+//! Tests of what scripts do to a lock manager and print, of each text, and of what the program does with its words and streams, in a
+//! crate of their own: `scenario` has none, so that it is proved once. Apart from its tests there is nothing here.
+#![tactic(auto)]
+
+#[cfg(test)]
+mod pipes;
+#[cfg(test)]
+mod programs;
+#[cfg(test)]
+mod rows;
+#[cfg(test)]
+mod scenarios;
+#[cfg(test)]
+mod scenes;
+#[cfg(test)]
+mod scripts;
+#[cfg(test)]
+mod texts;
+#[cfg(test)]
+mod waiting;

@@ -1,0 +1,329 @@
+//! The program's own words, its statuses, and what it writes to its output and its errors.
+use crate::pipes::Pipe;
+use scenario::{NoRun, Source, parse_arguments, run_program};
+use std::alloc::Global;
+use std::io::{self, ErrorKind, Read};
+use std::process::Abort;
+use std::sync::Wait;
+use std::test::Fail;
+
+/// A reader of a text, which fails where that ends if it is to.
+#[derive(Drop)]
+struct Input<'a> {
+    text: &'a [u8],
+    fails: bool,
+}
+
+impl Read for Input<'_> {
+    fn read(&mut self, buf: &mut [u8]) -> io::Result<usize> {
+        if self.text.is_empty() && self.fails {
+            return Err(io::Error::from(ErrorKind::Other));
+        }
+        self.text.read(buf)
+    }
+}
+
+fn words_of(alloc: Global, line: &str) -> Result<Vec<String>, Fail> {
+    let mut words = Vec::new(alloc);
+    for word in line.split(' ') {
+        words.push(String::from_str(alloc, word)?)?;
+    }
+    Ok(words)
+}
+
+/// Words, and how many sessions and local entries they ask for, where they aren't refused.
+static WORDS: [(&str, Option<(u32, u32)>); 15] = [
+    ("lock_scenario run", Some((8, 1024))),
+    ("lock_scenario run --sessions 1", Some((1, 1024))),
+    ("lock_scenario run --sessions=64", Some((64, 1024))),
+    ("lock_scenario run --max-local 1", Some((8, 1))),
+    (
+        "lock_scenario run --max-local 65536 --sessions 2",
+        Some((2, 65_536)),
+    ),
+    ("lock_scenario", None),
+    ("lock_scenario hammer", None),
+    ("lock_scenario run --sessions 0", None),
+    ("lock_scenario run --sessions 65", None),
+    ("lock_scenario run --sessions x", None),
+    ("lock_scenario run --sessions 1 --sessions 2", None),
+    ("lock_scenario run --max-local 0", None),
+    ("lock_scenario run --max-local 65537", None),
+    ("lock_scenario run --slot-groups 1", None),
+    ("lock_scenario run more", None),
+];
+
+#[test]
+fn reads_its_own_words(rt: HostRuntime) -> Result<(), Fail> {
+    let alloc = rt.alloc();
+    for row in &WORDS {
+        let (line, expected) = *row;
+        let words = words_of(alloc, line)?;
+        let limits = match parse_arguments(alloc, words.as_slice()) {
+            Ok(limits) => Some((limits.sessions, limits.max_local)),
+            Err(NoRun::Refused(_)) => None,
+            // A text, and want of memory: limits that no row has.
+            Err(_) => Some((0, 0)),
+        };
+        assert!(rt; limits == expected, "the limits of {line:?}");
+    }
+    Ok(())
+}
+
+/// The text of `--help`.
+const HELP: &str = "\
+Run scripts against PostgreSQL's lock manager
+
+Usage: lock_scenario <COMMAND>
+
+Commands:
+  run   Run the script on standard input
+  help  Print this message or the help of the given subcommand(s)
+
+Options:
+  -h, --help     Print help
+  -V, --version  Print version
+
+Lines of a script begin with:
+  session, try, fast, lock, unlock, commit, abort, owned, waiters, cancel, list, count, hash, close
+
+Example:
+  lock_scenario run --sessions 2 < scenarios/object_lock.scn
+";
+
+/// The text of `run --help`.
+const RUN_HELP: &str = "\
+Run the script on standard input
+
+Usage: lock_scenario run [OPTIONS]
+
+Options:
+      --sessions <N>   How many sessions the script may open [default: 8]
+      --max-local <M>  How many different locks a session may have [default: 1024]
+  -h, --help           Print help
+
+Lines of a script, after lock_scenario run < FILE:
+  session NAME DB                 open a session of a database
+  try NAME TAG MODE [session]     take a lock, if nothing is in the way
+  fast NAME TAG MODE [session]    take a lock by a fast-path slot, or not at all
+  lock NAME TAG MODE [session]    take a lock, and wait where something is in the way
+  unlock NAME TAG MODE [session]  give one count of a lock back
+  commit NAME                     drop what the transaction owns
+  abort NAME                      drop what the transaction and the session own
+  owned NAME TAG MODE             say how often each of the two owns a lock
+  waiters NAME TAG MODE           say whether somebody waits for a conflicting mode
+  cancel BY NAME                  ask a session to stop waiting
+  list NAME                       list all locks
+  count NAME INDEX                say how many strong locks are counted at a counter
+  hash TAG                        say a tag's hash, partition and counter
+  close NAME                      close a session
+  # TEXT                          a comment
+
+TAG is DB/REL for a relation, and DB/CLASS/OBJ/SUB for another object.
+MODE is AccessShareLock, RowShareLock, RowExclusiveLock, ShareUpdateExclusiveLock,
+  ShareLock, ShareRowExclusiveLock, ExclusiveLock or AccessExclusiveLock.
+A lock is the transaction's, and with the word session at the end of its line the session's.
+";
+
+/// What the errors take where the script is typed.
+const INVITATION: &str = "reading a script from the terminal; run --help shows its lines\n";
+
+/// A script, and whether reading it fails at its end; the status of the program on it, and what it writes to its
+/// output and to its errors.
+type Run = (&'static str, bool, u8, &'static str, &'static str);
+
+const RUN: &str = "lock_scenario run";
+
+const OPENED: &str = "a: session 0 database 5\n";
+
+/// Words with a run of the program on them.
+static RUNS: [(&str, Run); 10] = [
+    (RUN, ("session a 5\n", false, 0, OPENED, "")),
+    (
+        "lock_scenario run --sessions 1 --max-local 2",
+        (
+            "session a 5\nsession b 5\n",
+            false,
+            0,
+            "a: session 0 database 5\nb: refused 12 no more sessions\n",
+            "",
+        ),
+    ),
+    (
+        RUN,
+        (
+            "session a 5\nfrob\n",
+            false,
+            3,
+            OPENED,
+            "line 2: unknown command\n",
+        ),
+    ),
+    (RUN, ("session a 5\nses", true, 1, OPENED, "read failed\n")),
+    (
+        "lock_scenario --help",
+        ("session a 5\n", false, 0, HELP, ""),
+    ),
+    (
+        "lock_scenario run --help",
+        ("session a 5\n", false, 0, RUN_HELP, ""),
+    ),
+    (
+        "lock_scenario --version",
+        ("frob", false, 0, "lock_scenario 0.1.0\n", ""),
+    ),
+    (
+        "lock_scenario -V",
+        ("", false, 0, "lock_scenario 0.1.0\n", ""),
+    ),
+    (
+        "lock_scenario run --sessions 65",
+        (
+            "session a 5\n",
+            false,
+            2,
+            "",
+            "error: invalid value '65' for '--sessions <N>': 65 is not in 1..=64\n\n\
+             For more information, try '--help'.\n",
+        ),
+    ),
+    (
+        "lock_scenario hammer",
+        (
+            "",
+            false,
+            2,
+            "",
+            "error: unrecognized subcommand 'hammer'\n\nUsage: lock_scenario <COMMAND>\n\n\
+             For more information, try '--help'.\n",
+        ),
+    ),
+];
+
+/// Why words can't be read, with a run of the program then.
+static UNREAD: [(ErrorKind, Run); 2] = [
+    (
+        ErrorKind::InvalidData,
+        (
+            "session a 5\n",
+            false,
+            2,
+            "",
+            "error: invalid UTF-8 was detected in one or more arguments\n",
+        ),
+    ),
+    (
+        ErrorKind::OutOfMemory,
+        ("session a 5\n", false, 1, "", "no memory\n"),
+    ),
+];
+
+/// Words with a run of the program on them, where the script is typed.
+static TYPED: [(&str, Run); 3] = [
+    (RUN, ("session a 5\n", false, 0, OPENED, INVITATION)),
+    (
+        RUN,
+        (
+            "",
+            true,
+            1,
+            "",
+            "reading a script from the terminal; run --help shows its lines\nread failed\n",
+        ),
+    ),
+    (
+        "lock_scenario --version",
+        ("", false, 0, "lock_scenario 0.1.0\n", ""),
+    ),
+];
+
+/// Runs the program on these words, and checks its status and both its texts.
+fn expect_program(
+    rt: &(impl Abort + AllocGlobal + Wait),
+    words: io::Result<Vec<String>>,
+    is_terminal: bool,
+    run: Run,
+) {
+    let (script, fails, status, printed, said) = run;
+    let reader = Source {
+        reader: Input {
+            text: script.as_bytes(),
+            fails,
+        },
+        is_terminal,
+    };
+    let alloc: Global = rt.alloc();
+    let (mut output, mut errors) = (Vec::new(alloc), Vec::new(alloc));
+    let answer = run_program(rt, words, reader, &mut output, &mut errors);
+    assert_eq!(rt; answer, status, "the status of {script:?}");
+    assert_eq!(rt;
+        output.as_slice(),
+        printed.as_bytes(),
+        "the output of {script:?}"
+    );
+    assert_eq!(rt;
+        errors.as_slice(),
+        said.as_bytes(),
+        "the errors of {script:?}"
+    );
+}
+
+#[test]
+fn answers_its_words(rt: HostRuntime) -> Result<(), Fail> {
+    for row in &RUNS {
+        let (line, run) = *row;
+        expect_program(&rt, Ok(words_of(rt.alloc(), line)?), false, run);
+    }
+    for row in &TYPED {
+        let (line, run) = *row;
+        expect_program(&rt, Ok(words_of(rt.alloc(), line)?), true, run);
+    }
+    for row in &UNREAD {
+        let (kind, run) = *row;
+        expect_program(&rt, Err(io::Error::from(kind)), false, run);
+    }
+    Ok(())
+}
+
+/// The words, a script, how many lines the output takes and whether a flush, the status, and how many lines the errors
+/// take.
+type Closed = (&'static str, &'static str, u32, bool, u8, u32);
+
+/// Runs with writers that fail. A line that the errors don't take changes no status.
+static CLOSED: [Closed; 10] = [
+    (RUN, "session a 5\n", 0, true, 1, 1),
+    (RUN, "session a 5\n", 1000, false, 1, 1),
+    ("lock_scenario --help", "", 0, true, 1, 1),
+    ("lock_scenario --help", "", 1000, false, 1, 1),
+    ("lock_scenario --version", "", 0, true, 1, 1),
+    ("lock_scenario --version", "", 1000, false, 1, 1),
+    (RUN, "frob\n", 1000, true, 3, 0),
+    (RUN, "\u{e9}\n", 1000, true, 3, 0),
+    ("lock_scenario hammer", "", 1000, true, 2, 0),
+    ("lock_scenario run --sessions 65", "", 1000, true, 2, 0),
+];
+
+/// Runs the program with these writers, and checks its status, and that it writes what the errors take.
+fn expect_closed(rt: &(impl Abort + AllocGlobal + Wait), words: Vec<String>, run: Closed) {
+    let (line, script, lines, flushes, status, said) = run;
+    let output = Pipe { lines, flushes };
+    let mut errors = Pipe {
+        lines: said,
+        flushes: false,
+    };
+    let input = Source {
+        reader: script.as_bytes(),
+        is_terminal: false,
+    };
+    let answer = run_program(rt, Ok(words), input, output, &mut errors);
+    assert_eq!(rt; answer, status, "the status of {line:?}");
+    assert_eq!(rt; errors.lines, 0, "the errors of {line:?}");
+}
+
+#[test]
+fn tells_of_writers_that_fail(rt: HostRuntime) -> Result<(), Fail> {
+    for run in &CLOSED {
+        expect_closed(&rt, words_of(rt.alloc(), run.0)?, *run);
+    }
+    Ok(())
+}

@@ -1,0 +1,99 @@
+//! Scripts of as many sessions as there can be, and what is left when a script has ended.
+ghost use Rattle.std.specs.Prelude.{◌≡◌};
+ghost use Rattle.lock_manager.specs.Managers.{IsOpenerOf};
+ghost use Rattle.scenario.specs.Stage.{SeatsAre};
+
+use crate::scripts::{ALL_SESSIONS, expect_run};
+use lock_manager::{Manager, Opener, OwnSession};
+use lock_table::PartTable;
+use scenario::{Desk, Scene, SharedDesk, Stage};
+use shared_rule::board::Board;
+use std::alloc::Global;
+use std::process::Abort;
+use std::sync::Wait;
+use std::test::Fail;
+
+/// Lines that open sixty-four sessions, out of the order of their names, each of which takes a lock, and what they
+/// print.
+fn open_all(alloc: Global) -> Result<(String, String), Fail> {
+    let mut script = String::new(alloc);
+    let mut printed = String::new(alloc);
+    for number in 0..64u32 {
+        let name = format!(in alloc; "s{:02}", number.wrapping_mul(37) % 64)?;
+        let lines = format!(in alloc; "session {name} {number}\ntry {name} 5/1 AccessShareLock\n")?;
+        script.push_str(lines.as_str())?;
+        let lines = format!(in alloc;
+            "{name}: session {number} database {number}\n{name}: granted\n"
+        )?;
+        printed.push_str(lines.as_str())?;
+    }
+    Ok((script, printed))
+}
+
+#[test]
+fn opens_all_sessions_and_no_more(rt: HostRuntime) -> Result<(), Fail> {
+    let (mut script, mut printed) = open_all(rt.alloc())?;
+    script.push_str("session more 5\nclose s00\nsession s00 5\nwaiters s01 5/1 ShareLock\n")?;
+    printed.push_str(
+        "more: refused 12 no more sessions\ns00: closed\ns00: refused 12 no more sessions\n\
+         s01: you don't own a lock of type ShareLock\n",
+    )?;
+    expect_run(&rt, ALL_SESSIONS, script.as_str(), printed.as_str(), "")
+}
+
+/// Scripts on one stage, and whether they run to their end.
+static IN_TURN: [(&str, bool); 3] = [
+    (
+        "session b 5\nsession a 5\nsession c 5\ntry b 5/1 ExclusiveLock session\n\
+         try a 5/2 ShareLock\nlock a 5/1 ExclusiveLock\nlock c 5/1 AccessExclusiveLock\n",
+        true,
+    ),
+    (
+        "session a 6\ntry a 5/1 AccessExclusiveLock session\nfrob\n",
+        false,
+    ),
+    (
+        "session a 7\nlist a\nlock a 5/1 AccessExclusiveLock\n",
+        true,
+    ),
+];
+
+/// What they print.
+const PRINTED: &str = "b: session 0 database 5\na: session 1 database 5\nc: session 2 database 5\n\
+    b: granted\na: granted\na: waits\nc: waits\na: session 3 database 6\na: granted\n\
+    a: session 4 database 7\nrows 0\na: granted\n";
+
+/// Plays them on one stage, whose sessions the desk opens for this manager.
+fn play_in_turn<'a, T: PartTable, B: Board<T>, D: Desk<'a, OwnSession<T, B>>, R: Abort + Wait>(
+    rt: &R,
+    alloc: Global,
+    desk: &D,
+    manager: &'a Manager,
+    opener: Opener,
+    output: &mut Vec<u8>,
+) -> Result<(), Fail>
+    requires seats { SeatsAre B.seat D.seat }
+    requires own { IsOpenerOf opener manager.now }
+    requires none_issued { opener.issued ≡ 0 }
+    requires none_live { opener.live ≡ 0 }
+{
+    let stage = Stage::new(alloc, manager, opener)?;
+    let mut scene = Scene::new(stage, output);
+    'turns: for turn in &IN_TURN {
+        let (script, is_good) = *turn;
+        let ended = scene.play(desk, rt, script.as_bytes());
+        assert_eq!(rt; ended.is_ok(), is_good, "{script:?}");
+    }
+    scene.into_stage().into_opener();
+    Ok(())
+}
+
+#[test]
+fn an_end_closes_every_session(rt: HostRuntime) -> Result<(), Fail> {
+    let alloc = rt.alloc();
+    let mut output = Vec::new(alloc);
+    let (manager, opener) = Manager::new(alloc, ALL_SESSIONS)?;
+    play_in_turn(&rt, alloc, &SharedDesk, &manager, opener, &mut output)?;
+    assert_eq!(rt; output.as_slice(), PRINTED.as_bytes());
+    Ok(())
+}

@@ -1,0 +1,255 @@
+//! Scripts with what they print, as the language says. They are rows; what plays them is proved once.
+use crate::pipes::Pipe;
+use crate::rows::{self, BadRow, Copies, Row};
+use crate::scenarios::SCENARIOS;
+use crate::waiting;
+use lock_manager::{Config, MOST_LOCAL, MOST_SESSIONS};
+use lock_script::{Defect, Fault};
+use scenario::run_script;
+use std::alloc::Global;
+use std::io::{self, ErrorKind, Read};
+use std::process::Abort;
+use std::sync::Wait;
+use std::test::Fail;
+
+/// A reader of a text that gives so many bytes a read, and is interrupted before each.
+#[derive(Drop)]
+struct Script<'a> {
+    text: &'a [u8],
+    most: usize,
+    interrupted: bool,
+}
+
+impl Read for Script<'_> {
+    fn read(&mut self, buf: &mut [u8]) -> io::Result<usize> {
+        self.interrupted = !self.interrupted;
+        if self.interrupted {
+            return Err(io::Error::from(ErrorKind::Interrupted));
+        }
+        let most = self.most.min(buf.len());
+        self.text.read(&mut buf[..most])
+    }
+}
+
+const EIGHT: Config = Config {
+    sessions: 8,
+    max_local: 1024,
+};
+
+const TWO_LOCKS: Config = Config {
+    sessions: 8,
+    max_local: 2,
+};
+
+const ONE_SESSION: Config = Config {
+    sessions: 1,
+    max_local: 1024,
+};
+
+pub const ALL_SESSIONS: Config = Config {
+    sessions: 64,
+    max_local: 1024,
+};
+
+/// Runs a script that is read so many bytes at a time, and checks what it prints and the fault that ends it, both as
+/// text. The configuration is put in its range, where it isn't.
+fn expect_read(
+    rt: &(impl Abort + AllocGlobal + Wait),
+    config: Config,
+    most: usize,
+    script: &str,
+    printed: &str,
+    fault: &str,
+) -> Result<(), Fail> {
+    let alloc: Global = rt.alloc();
+    let reader = Script {
+        text: script.as_bytes(),
+        most,
+        interrupted: false,
+    };
+    let within = Config {
+        sessions: config.sessions.clamp(1, MOST_SESSIONS),
+        max_local: config.max_local.clamp(1, MOST_LOCAL),
+    };
+    let mut output = Vec::new(alloc);
+    let ended = match run_script(rt, reader, &mut output, within) {
+        Ok(()) => String::new(alloc),
+        Err(fault) => format!(in alloc; "{fault}")?,
+    };
+    assert_eq!(rt; ended.as_str(), fault, "the fault of {script:?}");
+    assert_eq!(rt;
+        output.as_slice(),
+        printed.as_bytes(),
+        "the output of {script:?}"
+    );
+    Ok(())
+}
+
+/// The same where it is read a byte, seven bytes and a page at a time.
+pub fn expect_run(
+    rt: &(impl Abort + AllocGlobal + Wait),
+    config: Config,
+    script: &str,
+    printed: &str,
+    fault: &str,
+) -> Result<(), Fail> {
+    for most in [1, 7, 4096] {
+        expect_read(rt, config, most, script, printed, fault)?;
+    }
+    Ok(())
+}
+
+/// Lines that open sessions, and what each prints.
+static OPENED: [(&str, &str); 5] = [
+    ("session a 5\n", "a: session 0 database 5\n"),
+    ("session b 5\n", "b: session 1 database 5\n"),
+    ("session c 5\n", "c: session 2 database 5\n"),
+    ("session d 5\n", "d: session 3 database 5\n"),
+    ("session e 5\n", "e: session 4 database 5\n"),
+];
+
+/// Opens so many sessions, `a` to `e`, runs the lines, and checks what they print and the fault that ends them.
+fn expect_row(
+    rt: &(impl Abort + AllocGlobal + Wait),
+    config: Config,
+    row: Row<'_>,
+) -> Result<(), Fail> {
+    let (sessions, lines, printed, fault) = row;
+    let alloc: Global = rt.alloc();
+    let mut script = String::new(alloc);
+    let mut output = String::new(alloc);
+    for opened in &OPENED[..sessions.min(OPENED.len())] {
+        script.push_str(opened.0)?;
+        output.push_str(opened.1)?;
+    }
+    script.push_str(lines)?;
+    output.push_str(printed)?;
+    expect_run(rt, config, script.as_str(), output.as_str(), fault)
+}
+
+/// Does so with each row.
+fn expect_rows(
+    rt: &(impl Abort + AllocGlobal + Wait),
+    config: Config,
+    rows: &[Row<'_>],
+) -> Result<(), Fail> {
+    for row in rows {
+        expect_row(rt, config, *row)?;
+    }
+    Ok(())
+}
+
+#[test]
+fn scripts_print_what_the_rows_say(rt: HostRuntime) -> Result<(), Fail> {
+    expect_rows(&rt, EIGHT, &SCENARIOS)?;
+    expect_rows(&rt, EIGHT, &rows::LINES)?;
+    expect_rows(&rt, EIGHT, &rows::ENDS)?;
+    expect_rows(&rt, EIGHT, &rows::LISTINGS)?;
+    expect_rows(&rt, TWO_LOCKS, &rows::TWO_LOCKS)?;
+    expect_rows(&rt, ONE_SESSION, &rows::ONE_SESSION)?;
+    expect_rows(&rt, EIGHT, &waiting::WAITS)?;
+    expect_rows(&rt, EIGHT, &waiting::PLACES)?;
+    expect_rows(&rt, EIGHT, &waiting::CANCELS)?;
+    expect_rows(&rt, ALL_SESSIONS, &waiting::PASSES)
+}
+
+/// Checks that each of these lines is a fault behind the others, and the end of the script.
+fn expect_bad_lines(
+    rt: &(impl Abort + AllocGlobal + Wait),
+    before: (usize, &str, &str),
+    rows: &[BadRow<'_>],
+) -> Result<(), Fail> {
+    let (sessions, lines, printed) = before;
+    for row in rows {
+        let (line, fault) = *row;
+        let lines = format!(in rt.alloc(); "{lines}{line}\nlist a\n")?;
+        expect_row(rt, EIGHT, (sessions, lines.as_str(), printed, fault))?;
+    }
+    Ok(())
+}
+
+#[test]
+fn a_bad_line_ends_a_script(rt: HostRuntime) -> Result<(), Fail> {
+    let closed = (1, "close a\n", "a: closed\n");
+    let waiting = (2, waiting::B_WAITS, waiting::B_IS_QUEUED);
+    expect_bad_lines(&rt, (1, "", ""), &rows::BAD_LINES)?;
+    expect_bad_lines(&rt, closed, &rows::CLOSED_LINES)?;
+    expect_bad_lines(&rt, waiting, &waiting::WAITING_LINES)
+}
+
+/// A text with copies of a piece.
+fn text_of(alloc: Global, copies: Copies<'_>) -> Result<String, Fail> {
+    let (before, count, piece, after) = copies;
+    let mut text = String::from_str(alloc, before)?;
+    for _ in 0..count {
+        text.push_str(piece)?;
+    }
+    text.push_str(after)?;
+    Ok(text)
+}
+
+#[test]
+fn bounds_lines(rt: HostRuntime) -> Result<(), Fail> {
+    for row in &rows::BOUNDS {
+        let (script, printed, fault) = *row;
+        let script = text_of(rt.alloc(), script)?;
+        let printed = text_of(rt.alloc(), printed)?;
+        expect_run(&rt, EIGHT, script.as_str(), printed.as_str(), fault)?;
+    }
+    Ok(())
+}
+
+// A byte a read, and an interruption before each: more than a million reads.
+#[test]
+fn bounds_an_owners_count(rt: HostRuntime) -> Result<(), Fail> {
+    let script = text_of(rt.alloc(), rows::COUNTS)?;
+    let printed = text_of(rt.alloc(), rows::COUNTED)?;
+    expect_read(&rt, EIGHT, 1, script.as_str(), printed.as_str(), "")
+}
+
+/// Runs a script whose output takes so many lines, and a flush only if it is to, and checks how it ends.
+fn expect_ended(
+    rt: &(impl Abort + AllocGlobal + Wait),
+    script: &str,
+    pipe: Pipe,
+    expected: Result<(), Fault>,
+) {
+    let ended = run_script(rt, script.as_bytes(), pipe, ALL_SESSIONS);
+    assert!(rt; ended == expected, "{script:?}");
+}
+
+#[test]
+fn bounds_the_number_of_lines(rt: HostRuntime) -> Result<(), Fail> {
+    let script = text_of(rt.alloc(), rows::TOO_MANY_LINES)?;
+    let too_many = Fault::BadLine {
+        line: 1_000_001,
+        what: Defect::TooManyLines,
+    };
+    let silent = Pipe {
+        lines: 0,
+        flushes: true,
+    };
+    expect_ended(&rt, script.as_str(), silent, Err(too_many));
+    Ok(())
+}
+
+#[test]
+fn a_line_that_cannot_be_written_ends_a_script(rt: HostRuntime) -> Result<(), Fail> {
+    let failed = Err(Fault::WriteFailed);
+    for (script, lines, flushes, expected) in [
+        (rows::CUT_SHORT, 0, true, failed),
+        (rows::CUT_SHORT, 1, true, failed),
+        (rows::CUT_SHORT, 1000, false, failed),
+        (rows::WAKES, 5, true, failed),
+        (rows::WAKES, 6, true, Ok(())),
+        (waiting::TWELVE_WAIT, 39, true, Ok(())),
+    ] {
+        expect_ended(&rt, script, Pipe { lines, flushes }, expected);
+    }
+    // Whichever of the lines of a pass can't be written.
+    for lines in 27..39 {
+        let flushes = true;
+        expect_ended(&rt, waiting::TWELVE_WAIT, Pipe { lines, flushes }, failed);
+    }
+    Ok(())
+}
