@@ -109,7 +109,8 @@ Lines of a script, after lock_scenario run < FILE:
   lock NAME TAG MODE [session]    take a lock, and wait where something is in the way
   unlock NAME TAG MODE [session]  give one count of a lock back
   commit NAME                     drop what the transaction owns
-  abort NAME                      drop what the transaction and the session own
+  abort NAME                      drop what the transaction and the session own,
+                                  but for the session's advisory locks
   owned NAME TAG MODE             say how often each of the two owns a lock
   waiters NAME TAG MODE           say whether somebody waits for a conflicting mode
   cancel BY NAME                  ask a session to stop waiting
@@ -119,7 +120,8 @@ Lines of a script, after lock_scenario run < FILE:
   close NAME                      close a session
   # TEXT                          a comment
 
-TAG is DB/REL for a relation, and DB/CLASS/OBJ/SUB for another object.
+TAG is DB/REL for a relation, DB/CLASS/OBJ/SUB for another object, and
+  adv/DB/K1/K2/SUB for an advisory lock.
 MODE is AccessShareLock, RowShareLock, RowExclusiveLock, ShareUpdateExclusiveLock,
   ShareLock, ShareRowExclusiveLock, ExclusiveLock or AccessExclusiveLock.
 A lock is the transaction's, and with the word session at the end of its line the session's.

@@ -480,8 +480,59 @@ rows 0
     "",
 );
 
+/// `two_workers_of_a_job_queue.scn`.
+const TWO_WORKERS_OF_A_JOB_QUEUE: Row<'static> = (
+    0,
+    "\
+# Two workers of a job queue. A worker takes the lock of a job without waiting, for its session, and goes on to
+# the next job where another worker has it.
+session anna 5
+session bert 5
+try anna adv/5/0/42/1 ExclusiveLock session
+try bert adv/5/0/42/1 ExclusiveLock session
+try bert adv/5/0/43/1 ExclusiveLock session
+
+# The transaction in which anna does the job fails: it gives back the table and the lock that was its own, and
+# keeps the job.
+lock anna 5/16384 RowExclusiveLock
+lock anna adv/5/0/7/1 ShareLock
+abort anna
+list bert
+
+# She does it again, and gives the job back at the end.
+lock anna 5/16384 RowExclusiveLock
+commit anna
+owned anna adv/5/0/42/1 ExclusiveLock
+unlock anna adv/5/0/42/1 ExclusiveLock session
+try bert adv/5/0/42/1 ExclusiveLock session
+close bert
+close anna
+",
+    "\
+anna: session 0 database 5
+bert: session 1 database 5
+anna: granted
+bert: refused 1 conflict anna ExclusiveLock held
+bert: granted
+anna: granted
+anna: granted
+anna: aborted
+table anna adv/5/0/42/1 ExclusiveLock granted
+table bert adv/5/0/43/1 ExclusiveLock granted
+rows 2
+anna: granted
+anna: committed
+anna: transaction 0 session 1
+anna: released
+bert: granted
+bert: closed
+anna: closed
+",
+    "",
+);
+
 /// All of them.
-pub static SCENARIOS: [Row<'static>; 9] = [
+pub static SCENARIOS: [Row<'static>; 10] = [
     A_DEADLOCK_OVER_TWO_TABLES,
     ALTER_BEHIND_A_LONG_READ,
     AN_ALTER_MOVES_SLOTS,
@@ -491,4 +542,5 @@ pub static SCENARIOS: [Row<'static>; 9] = [
     FAST_PATH_IN_A_LISTING,
     OBJECT_LOCK,
     SIXTEEN_SLOTS_AND_ONE_MORE,
+    TWO_WORKERS_OF_A_JOB_QUEUE,
 ];
