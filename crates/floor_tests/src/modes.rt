@@ -193,7 +193,7 @@ fn sessions_have_numbers(rt: HostRuntime) -> Result<(), Fail> {
 }
 
 /// Each refusal, with the last session where it names one.
-fn refusals(session: SessionId) -> [(Refusal, u8, &'static str); 14] {
+fn refusals(session: SessionId) -> [(Refusal, u8, &'static str); 16] {
     let conflict = |how| Refusal::Conflict {
         session,
         mode: Mode::Share,
