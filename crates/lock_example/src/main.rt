@@ -1,133 +1,18 @@
-//! Two threads of a server share a lock manager: one reads and writes a table, which the other wants to alter.
+//! What a server does with the lock manager: two sessions in turns, and a day of a small bank.
 #![tactic(auto)]
 
-ghost use Rattle.std.specs.Prelude.{◌≡◌};
-
-use lock_manager::{Acquired, Config, Final, Manager, Mode, Owner, Refusal, Session, Tag};
-use std::alloc::Global;
-use std::io;
-use std::sync::Wait;
-use std::thread::{Threads, join_mut};
-
-/// Two tables of database 5.
-const ACCOUNTS: Tag = Tag::Relation {
-    database: 5,
-    relation: 16_384,
-};
-
-const BRANCHES: Tag = Tag::Relation {
-    database: 5,
-    relation: 16_385,
-};
-
-/// What a request is answered.
-type Answer = Result<Acquired, Refusal>;
-
-/// What the two threads were answered, turn by turn, and what stood in the manager at its end.
-struct Story {
-    read: Answer,
-    index: Answer,
-    write: Answer,
-    alter: Answer,
-    alter_again: Answer,
-    stood: Final,
-}
+mod bank;
+mod connections;
+mod day;
+mod limits;
+mod pool;
+mod report;
+mod tellers;
+mod turns;
+mod watch;
 
 fn main(rt: HostRuntime) -> anyhow::Result<()> {
-    let Story {
-        read,
-        index,
-        write,
-        alter,
-        alter_again,
-        stood,
-    } = tell(&rt, rt.alloc())?;
-    print_answer(&rt, "worker: read accounts", read)?;
-    print_answer(&rt, "migration: index branches", index)?;
-    print_answer(&rt, "worker: write accounts", write)?;
-    print_answer(&rt, "migration: alter accounts", alter)?;
-    println!(rt; "both: commit")?;
-    print_answer(&rt, "migration: alter accounts", alter_again)?;
-    println!(rt; "finished, with {} holds left", stood.table)?;
+    turns::show(&rt, rt.alloc())?;
+    report::show(&rt, rt.alloc())?;
     Ok(())
-}
-
-/// Opens a session for each thread, lends the two out in three turns, and closes them.
-fn tell<R: Threads + Wait + Sync>(rt: &R, alloc: Global) -> Result<Story, Refusal> {
-    let config = Config {
-        sessions: 2,
-        max_local: 16,
-    };
-    let (manager, mut opener) = Manager::new(alloc, config)?;
-    let mut worker = opener.session(&manager, 5)?;
-    let mut migration = match opener.session(&manager, 5) {
-        Ok(session) => session,
-        Err(refusal) => {
-            // A session ends by its close alone: the compiler refuses a return before it.
-            worker.close(rt, &mut opener);
-            return Err(refusal);
-        }
-    };
-
-    // A turn runs in two threads, each of which borrows a session, and is over once both are joined. None of the
-    // requests of the first two turns stands in the way of the other, so the answers are the same in each run.
-    let (read, index) = join_mut(
-        rt,
-        &mut || ask(rt, &mut worker, ACCOUNTS, Mode::AccessShare),
-        &mut || ask(rt, &mut migration, BRANCHES, Mode::Share),
-    );
-    let (write, alter) = join_mut(
-        rt,
-        &mut || ask(rt, &mut worker, ACCOUNTS, Mode::RowExclusive),
-        &mut || ask(rt, &mut migration, ACCOUNTS, Mode::AccessExclusive),
-    );
-    // Once both have committed the table is free. Until the worker has, the migration waits in its thread.
-    let ((), alter_again) = join_mut(
-        rt,
-        &mut || commit(rt, &mut worker),
-        &mut || commit_and_wait(rt, &mut migration, ACCOUNTS, Mode::AccessExclusive),
-    );
-
-    // What a session still has is released as it is closed.
-    worker.close(rt, &mut opener);
-    migration.close(rt, &mut opener);
-    Ok(Story {
-        read,
-        index,
-        write,
-        alter,
-        alter_again,
-        stood: manager.finish(opener),
-    })
-}
-
-/// Asks for a table on behalf of the session's transaction. The session stays one of the same manager, as its close wants.
-fn ask<R: Wait>(rt: &R, session: &mut Session<'_>, table: Tag, mode: Mode) -> Answer
-    ensures same_manager { session.new.board.table.now.table_id ≡ session.old.board.table.now.table_id }
-{
-    session.try_lock(rt, table, mode, Owner::Transaction)
-}
-
-/// Ends the session's transaction.
-fn commit<R: Wait>(rt: &R, session: &mut Session<'_>)
-    ensures same_manager { session.new.board.table.now.table_id ≡ session.old.board.table.now.table_id }
-{
-    session.commit(rt);
-}
-
-/// Ends the session's transaction, and asks for a table on behalf of the next one. Where somebody is in the way it waits.
-fn commit_and_wait<R: Wait>(rt: &R, session: &mut Session<'_>, table: Tag, mode: Mode) -> Answer
-    ensures same_manager { session.new.board.table.now.table_id ≡ session.old.board.table.now.table_id }
-{
-    commit(rt, session);
-    session.acquire(rt, table, mode, Owner::Transaction)
-}
-
-/// Prints what a request was answered. A refusal says who stands in the way.
-fn print_answer<R: Print>(rt: &R, request: &str, answer: Answer) -> io::Result<()> {
-    match answer {
-        Ok(Acquired::Granted) => println!(rt; "{request}: granted"),
-        Ok(Acquired::AlreadyHeld) => println!(rt; "{request}: had it already"),
-        Err(refusal) => println!(rt; "{request}: refused, {refusal}"),
-    }
 }

@@ -6,3 +6,4 @@ pub mod Managers
 pub mod Listings
 pub mod Waiting
 pub mod Waits
+pub mod Crews

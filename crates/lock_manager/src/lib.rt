@@ -3,6 +3,7 @@
 
 mod any_board;
 mod config;
+mod desk;
 mod listing;
 mod manager;
 mod releases;
@@ -12,11 +13,13 @@ mod waiting;
 mod waits;
 
 pub use config::{Config, MOST_SESSIONS};
+pub use desk::{Desk, ManagerDesk};
 pub use listing::Listing;
 pub use local_locks::{Acquired, MOST_LOCAL, Unlocked};
-pub use lock_table::{SlotRow, TableRow};
+pub use lock_table::{PartTable, PlainPart as Part, SlotRow, TableRow};
 pub use manager::{Final, Manager, Opener};
 pub use modes_core::{How, Mode, ModeSet, Owner, Refusal, SessionId, Tag};
 pub use sessions::{OwnSession, Session};
+pub use shared_rule::board::Board;
 pub use waiting::Asked;
 pub use waits::{Cancelled, Locked, OwnWaiting, Polled, Started, Waited, Waiting};

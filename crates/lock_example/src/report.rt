@@ -1,0 +1,45 @@
+//! What is told of a day of the bank.
+
+use crate::day::live_through;
+use lock_manager::{Refusal, SessionId};
+use std::alloc::Global;
+use std::io;
+use std::sync::Wait;
+use std::thread::Threads;
+use std::time::Clock;
+
+/// What the accounts had, and what the connection met that was one too many.
+#[derive(Drop)]
+pub struct Report {
+    /// What the accounts had in all at first, and at the end.
+    pub opened_with: u64,
+    pub sum: u64,
+    /// What the connection was told that came when all sessions were out, and which session it had at last.
+    pub turned_away: Option<Refusal>,
+    pub handed_on: SessionId,
+    /// How many sessions were open when the bank closed.
+    pub live: u32,
+}
+
+/// Lives through a day, and prints how it went.
+pub fn show<R: Threads + Wait + Clock + Sync + Print>(rt: &R, alloc: Global) -> anyhow::Result<()> {
+    let report = live_through(rt, alloc)?;
+    print_report(rt, &report)?;
+    Ok(())
+}
+
+fn print_report<R: Print>(rt: &R, report: &Report) -> io::Result<()> {
+    println!(rt;
+        "bank: {} in all at first, {} at the end",
+        report.opened_with, report.sum
+    )?;
+    match report.turned_away {
+        Some(refusal) => println!(rt; "connection 65: refused, {refusal}")?,
+        None => println!(rt; "connection 65: has a session")?,
+    }
+    println!(rt;
+        "one ends, and connection 65 has session {}",
+        report.handed_on
+    )?;
+    println!(rt; "bank: closed, with {} sessions open", report.live)
+}

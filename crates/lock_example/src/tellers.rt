@@ -1,0 +1,185 @@
+//! What the bank's threads do: transfers, each a transaction of three locks, and now and then an alteration of the table.
+
+ghost use Rattle.std.specs.Prelude.{◌<◌};
+ghost use Rattle.lock_manager.specs.Crews.{KeepsSeat};
+
+use crate::bank::{ACCOUNTS, Bank, MANY, account};
+use crate::limits::take_in_time;
+use crate::watch::Watch;
+use lock_manager::{Board, Mode, OwnSession, Owner, Part, Refusal, Tag};
+use std::sync::Wait;
+use std::thread;
+use std::time::Clock;
+
+/// How many transfers a teller makes, and how many alterations the migration.
+const TRANSFERS: u32 = 200;
+
+const ALTERATIONS: u32 = 10;
+
+/// How often a transaction is tried that was refused a lock.
+const ATTEMPTS: u32 = 1_000;
+
+/// How often the migration looks at its wait before it gives up for this time.
+const LOOKS: u32 = 20;
+
+/// Between which accounts a transfer goes, and how much of it.
+#[derive(Clone, Copy)]
+struct Transfer {
+    from: usize,
+    to: usize,
+    amount: u64,
+    ghost from_exists: { from < 8 },
+    ghost to_exists: { to < 8 },
+}
+
+impl Transfer {
+    /// The one of a round. The two accounts differ, and those of two rounds may be the same the other way round.
+    fn of(round: u32) -> Transfer {
+        let from = (round % 8) as usize;
+        let step = 1 + (round / 8 % 7) as usize;
+        Transfer {
+            from,
+            to: (from + step) % MANY,
+            amount: u64::from(round % 90),
+        }
+    }
+}
+
+/// Makes one transfer after another.
+pub fn serve<B: Board<Part>, R: Wait>(
+    rt: &R,
+    bank: &Bank,
+    watch: &Watch,
+    session: &mut OwnSession<Part, B>,
+)
+    ensures seat { KeepsSeat B.seat session.old session.new }
+{
+    let first = u32::from(session.id().number()) * 5;
+    'rounds: for round in 0..TRANSFERS {
+        transfer_at_last(rt, bank, watch, session, Transfer::of(first + round));
+    }
+    watch.leave();
+}
+
+/// Makes a transfer, which is tried again where it was refused a lock.
+fn transfer_at_last<B: Board<Part>, R: Wait>(
+    rt: &R,
+    bank: &Bank,
+    watch: &Watch,
+    session: &mut OwnSession<Part, B>,
+    transfer: Transfer,
+)
+    ensures seat { KeepsSeat B.seat session.old session.new }
+{
+    'attempts: for _ in 0..ATTEMPTS {
+        if has_transferred(rt, bank, watch, session, transfer) {
+            return;
+        }
+        thread::yield_now();
+    }
+}
+
+/// One transaction: it commits where all locks were had, and else it aborts, and nothing was paid.
+fn has_transferred<B: Board<Part>, R: Wait>(
+    rt: &R,
+    bank: &Bank,
+    watch: &Watch,
+    session: &mut OwnSession<Part, B>,
+    transfer: Transfer,
+) -> bool
+    ensures seat { KeepsSeat B.seat session.old session.new }
+{
+    let locked = lock_for(rt, watch, session, transfer);
+    if locked.is_ok() {
+        bank.pay(transfer.from, transfer.to, transfer.amount);
+    }
+    end(rt, session, locked.is_ok());
+    locked.is_ok()
+}
+
+/// Takes the locks of a transfer: the table for writing, and both accounts. Two tellers may wait for one another, each at
+/// the account that the other one has. So each wait shows to the watchdog.
+fn lock_for<B: Board<Part>, R: Wait>(
+    rt: &R,
+    watch: &Watch,
+    session: &mut OwnSession<Part, B>,
+    transfer: Transfer,
+) -> Result<(), Refusal>
+    ensures seat { KeepsSeat B.seat session.old session.new }
+{
+    take(rt, watch, session, ACCOUNTS, Mode::RowExclusive)?;
+    take(rt, watch, session, account(transfer.from), Mode::Exclusive)?;
+    take(rt, watch, session, account(transfer.to), Mode::Exclusive)
+}
+
+/// Takes a mode for the transaction, and waits where something is in the way.
+fn take<B: Board<Part>, R: Wait>(
+    rt: &R,
+    watch: &Watch,
+    session: &mut OwnSession<Part, B>,
+    tag: Tag,
+    mode: Mode,
+) -> Result<(), Refusal>
+    ensures seat { KeepsSeat B.seat session.old session.new }
+{
+    let number = session.id();
+    watch.turn(number);
+    let answer = session.acquire(rt, tag, mode, Owner::Transaction);
+    watch.turn(number);
+    match answer {
+        Ok(_) => Ok(()),
+        Err(refusal) => Err(refusal),
+    }
+}
+
+/// Ends the session's transaction.
+fn end<B: Board<Part>, R: Wait>(rt: &R, session: &mut OwnSession<Part, B>, is_good: bool)
+    ensures seat { KeepsSeat B.seat session.old session.new }
+{
+    if is_good {
+        session.commit(rt);
+    } else {
+        session.abort(rt);
+    }
+}
+
+/// Alters the table so often. Whoever wants to read or write meanwhile waits behind it, so it doesn't insist: where the table
+/// isn't had in time it lets the others go on, and tries again.
+pub fn migrate<B: Board<Part>, R: Wait + Clock>(
+    rt: &R,
+    bank: &Bank,
+    session: OwnSession<Part, B>,
+) -> OwnSession<Part, B>
+    ensures seat { KeepsSeat B.seat session result }
+{
+    let mut session = session;
+    let mut left = ALTERATIONS;
+    'attempts: for _ in 0..ATTEMPTS {
+        if left == 0 {
+            break;
+        }
+        let (altered, is_done) = try_to_alter(rt, bank, session);
+        session = altered;
+        if is_done {
+            left -= 1;
+        }
+    }
+    session
+}
+
+/// Alters the table where it is had in time.
+fn try_to_alter<B: Board<Part>, R: Wait + Clock>(
+    rt: &R,
+    bank: &Bank,
+    session: OwnSession<Part, B>,
+) -> (OwnSession<Part, B>, bool)
+    ensures seat { KeepsSeat B.seat session result.0 }
+{
+    let (session, answer) = take_in_time(rt, session, ACCOUNTS, Mode::AccessExclusive, LOOKS);
+    let mut session = session;
+    if answer.is_ok() {
+        bank.rewrite();
+    }
+    end(rt, &mut session, answer.is_ok());
+    (session, answer.is_ok())
+}

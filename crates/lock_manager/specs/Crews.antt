@@ -1,0 +1,32 @@
+use Rattle.std.specs.Prelude.{◌≡◌, All, List}
+use Rattle.shared_rule.specs.Boards.{Seated}
+use Rattle.lock_manager.specs.Managers.{ManagerView}
+use Rattle.lock_manager.specs.Sessions.{SessionView}
+use Rattle.lock_manager.specs.Waits.{WaitingView}
+
+-- What a program says of the sessions that its functions take and lend, by the seats of their boards.
+
+module _ {B : Type 0} (seat : B → Seated) where
+  -- It is the same session of the same manager. A function that borrows a session ensures it, so that its caller can close it.
+  abbrev pub KeepsSeat : SessionView B → SessionView B → Type 0
+  KeepsSeat old new = seat new.board ≡ seat old.board
+
+  -- The session is this manager's.
+  abbrev pub IsOf : ManagerView → SessionView B → Type 0
+  IsOf manager session = (seat session.board).table ≡ manager.table
+
+  -- Each session of a list is.
+  abbrev pub AreOf : ManagerView → List (SessionView B) → Type 0
+  AreOf manager sessions = All (λ (session : SessionView B). (seat session.board).table ≡ manager.table) sessions
+
+  -- So is each one that waits.
+  abbrev pub WaitAt : ManagerView → List (WaitingView B) → Type 0
+  WaitAt manager waiting = All (λ (one : WaitingView B). (seat one.board).table ≡ manager.table) waiting
+
+  -- Each session of a list is of the manager that the one in its place was of. Threads to which a list is lent ensure it.
+  pub record KeepManagers (old new : List (SessionView B)) : Type 0 where
+    pub each : (manager : ManagerView) → AreOf manager old → AreOf manager new
+
+  -- A desk sees the seats that the boards of sessions have.
+  abbrev pub SeatsAre : (SessionView B → Seated) → Type 0
+  SeatsAre its_seat = (session : SessionView B) → its_seat session ≡ seat session.board
