@@ -21,14 +21,6 @@ note_of-noted link noted = ap (λ b. cond b (Some link.hash) None) noted
 pub note_of-free : (link : Link) → is_noted link ≡ false → note_of link ≡ None
 note_of-free link free = ap (λ b. cond b (Some link.hash) None) free
 
--- the link of a place that isn't noted says so
-pub free_of : (link : Link) → note_of link ≡ None → is_noted link ≡ false
-free_of link none =
-    elim (cases_Bool (is_noted link)) [
-      | inl noted ↦ absurd (let bad : Some link.hash ≡ None = sym (note_of-noted link noted) ∙ none in cc)
-      | inr free ↦ free
-    ]
-
 -- the link of a place that is noted says so, and has its hash
 pub noted_of : (link : Link) (hash : ℕ) → note_of link ≡ Some hash → (is_noted link ≡ true) × (link.hash ≡ hash)
 noted_of link hash some =
@@ -103,11 +95,6 @@ count-set links k link within = sum_by-set (λ x. cond (is_noted x) 1 0) links k
 -- a link that is noted before and after leaves the count
 pub count-alike : (links : List Link) (k : ℕ) (link : Link) → k < length links → is_noted (link_at links k) ≡ is_noted link → count_by is_noted (set links k link) ≡ count_by is_noted links
 count-alike links k link within same = omega (arith, count-set links k link within, ap one_if same)
-
-pub count-replicate : (n : ℕ) → count_by is_noted (replicate n free_link) ≡ 0
-count-replicate n = sum_by-replicate (λ x. cond (is_noted x) 1 0) n free_link ∙ mul-zero n where
-  mul-zero : (n : ℕ) → n * 0 ≡ 0
-  mul-zero n = omega arith
 
 -- ---- how often a place is noted
 
