@@ -19,4 +19,3 @@ pub mod FindLemmas
 pub mod WalkLemmas
 pub mod PlaceLemmas
 pub mod PartLemmas
-pub mod WholeLemmas

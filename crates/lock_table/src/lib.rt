@@ -3,7 +3,6 @@
 #![tactic(auto)]
 
 pub mod answering;
-pub mod listing;
 pub mod moves;
 pub mod no_memory;
 pub mod part_lists;
@@ -17,7 +16,6 @@ pub mod rows;
 pub mod waits;
 
 pub use answering::{Answer, Clash, answer_by_place, clash_with, first_against, waiting_answer};
-pub use listing::list_parts;
 pub use moves::Move;
 pub use no_memory::NoMemory;
 pub use part_table::PartTable;
