@@ -2,13 +2,13 @@
 //! command that a line is. It knows nothing of a lock manager: what a session is, is left to whoever runs scripts.
 #![tactic(auto)]
 
-pub mod bytes;
-pub mod command;
-pub mod faults;
-pub mod lines;
-pub mod names;
-pub mod sessions;
-pub mod words;
+mod bytes;
+mod command;
+mod faults;
+mod lines;
+mod names;
+mod sessions;
+mod words;
 
 pub use bytes::ByteSource;
 pub use command::{Command, Target, parse};

@@ -1,12 +1,14 @@
-//! The packed words of the shared table: lightweight locks' words with their wait lists, and the words of
-//! fast-path slots.
+//! The packed words of the shared table: lightweight locks' words with their wait lists, the words of
+//! fast-path slots, and sessions' wait words.
 #![tactic(auto)]
 
 pub mod laws;
-pub mod slot_words;
-pub mod wait_lists;
-pub mod words;
+mod slot_words;
+mod wait_lists;
+mod wait_words;
+mod words;
 
 pub use slot_words::SlotWord;
 pub use wait_lists::{LwWaiter, TakenOff, WaitList, Wakeup};
+pub use wait_words::{is_asked, wait_state};
 pub use words::{LwMode, LwWord};

@@ -2,7 +2,7 @@
 #![tactic(auto)]
 
 mod chains;
-pub mod index;
+mod index;
 mod links;
 
 pub use index::PlaceIndex;

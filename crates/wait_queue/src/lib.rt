@@ -2,9 +2,9 @@
 //! of the queue when a waiter leaves it. All of it works on any keeper of a partition's content.
 #![tactic(auto)]
 
-pub mod releases;
-pub mod removals;
-pub mod requests;
+mod releases;
+mod removals;
+mod requests;
 
 pub use releases::{awaited_in_conflict, release};
 pub use removals::{Removed, remove_waiter};
