@@ -1,7 +1,9 @@
 //! Modes, tags, session numbers and refusals: their numbers and texts, and what goes by the fast path.
 
 use crate::fixtures::{ANOTHER_OBJECT, OBJECT};
-use modes_core::{How, Mode, ModeSet, Refusal, SessionId, Tag, conflicts, is_eligible, is_strong};
+use modes_core::{
+    How, LockMethod, Mode, ModeSet, Refusal, SessionId, Tag, conflicts, is_eligible, is_strong,
+};
 use std::alloc::{AllocError, Global};
 use std::test::Fail;
 
@@ -70,7 +72,7 @@ fn sets_have_what_was_put_in(rt: HostRuntime) {
 
 /// Tags, their hashes, partitions and strong lock counters, and their texts. The hashes are worked examples of the rule,
 /// not this code's answers.
-const TAGS: [(Tag, u32, u8, u16, &str); 5] = [
+const TAGS: [(Tag, u32, u8, u16, &str); 6] = [
     (OBJECT, 2389211932, 12, 796, "5/16384"),
     (
         Tag::Relation {
@@ -94,7 +96,16 @@ const TAGS: [(Tag, u32, u8, u16, &str); 5] = [
         "4294967295/4294967295",
     ),
     (ANOTHER_OBJECT, 1793954687, 15, 895, "5/1259/16384/0"),
+    (ADVISORY, 144398250, 10, 938, "adv/5/0/42/1"),
 ];
+
+/// What an application names by a key of 64 bits.
+const ADVISORY: Tag = Tag::Advisory {
+    database: 5,
+    key1: 0,
+    key2: 42,
+    sub: 1,
+};
 
 /// A relation of no one database.
 const SHARED_RELATION: Tag = Tag::Relation {
@@ -126,7 +137,7 @@ fn tags_have_their_hashes_and_texts(rt: HostRuntime) -> Result<(), Fail> {
 }
 
 /// A tag, and one that is greater.
-const ORDERS: [(Tag, Tag); 2] = [
+const ORDERS: [(Tag, Tag); 3] = [
     (
         Tag::Object {
             database: 5,
@@ -148,6 +159,15 @@ const ORDERS: [(Tag, Tag); 2] = [
             sub_object: 0,
         },
     ),
+    (
+        Tag::Object {
+            database: 5,
+            class: 0,
+            object: 42,
+            sub_object: 1,
+        },
+        ADVISORY,
+    ),
 ];
 
 #[test]
@@ -158,19 +178,21 @@ fn tags_are_ordered_by_their_numbers(rt: HostRuntime) {
 }
 
 /// A session's database, an object and a mode, and whether that may go by the fast path.
-const ELIGIBLE: [(u32, Tag, Mode, bool); 5] = [
+const ELIGIBLE: [(u32, Tag, Mode, bool); 6] = [
     (5, OBJECT, Mode::RowExclusive, true),
     (5, OBJECT, Mode::ShareUpdateExclusive, false),
     (6, OBJECT, Mode::AccessShare, false),
     (0, SHARED_RELATION, Mode::AccessShare, false),
     (5, ANOTHER_OBJECT, Mode::AccessShare, false),
+    (5, ADVISORY, Mode::AccessShare, false),
 ];
 
 /// An object and a mode, and whether that is counted as strong.
-const STRONG: [(Tag, Mode, bool); 3] = [
+const STRONG: [(Tag, Mode, bool); 4] = [
     (OBJECT, Mode::Share, true),
     (OBJECT, Mode::ShareUpdateExclusive, false),
     (ANOTHER_OBJECT, Mode::AccessExclusive, false),
+    (ADVISORY, Mode::AccessExclusive, false),
 ];
 
 #[test]
@@ -182,6 +204,19 @@ fn the_fast_path_has_its_modes(rt: HostRuntime) {
     for (tag, mode, strong) in STRONG {
         assert!(rt; is_strong(tag, mode) == strong, "{}", mode.name());
     }
+}
+
+/// What a tag's method, database and relation are.
+fn parts(tag: Tag) -> (LockMethod, u32, u32) {
+    (tag.method(), tag.database(), tag.relation_number())
+}
+
+#[test]
+fn tags_have_their_parts(rt: HostRuntime) {
+    assert!(rt; parts(OBJECT) == (LockMethod::Default, 5, 16384));
+    assert!(rt; parts(ANOTHER_OBJECT) == (LockMethod::Default, 5, 0));
+    assert!(rt; parts(Tag::advisory(5, 0, 42, 1)) == (LockMethod::User, 5, 0));
+    assert!(rt; ADVISORY.is_same(Tag::advisory(5, 0, 42, 1)));
 }
 
 #[test]

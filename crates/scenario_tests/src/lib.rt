@@ -3,6 +3,8 @@
 #![tactic(auto)]
 
 #[cfg(test)]
+mod advisory;
+#[cfg(test)]
 mod pipes;
 #[cfg(test)]
 mod programs;

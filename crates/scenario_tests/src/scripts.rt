@@ -2,7 +2,7 @@
 use crate::pipes::Pipe;
 use crate::rows::{self, BadRow, Copies, Row};
 use crate::scenarios::SCENARIOS;
-use crate::waiting;
+use crate::{advisory, waiting};
 use lock_manager::{Config, MOST_LOCAL, MOST_SESSIONS};
 use lock_script::{Defect, Fault};
 use scenario::run_script;
@@ -147,6 +147,7 @@ fn scripts_print_what_the_rows_say(rt: HostRuntime) -> Result<(), Fail> {
     expect_rows(&rt, EIGHT, &rows::LISTINGS)?;
     expect_rows(&rt, TWO_LOCKS, &rows::TWO_LOCKS)?;
     expect_rows(&rt, ONE_SESSION, &rows::ONE_SESSION)?;
+    expect_rows(&rt, EIGHT, &advisory::ADVISORY)?;
     expect_rows(&rt, EIGHT, &waiting::WAITS)?;
     expect_rows(&rt, EIGHT, &waiting::PLACES)?;
     expect_rows(&rt, EIGHT, &waiting::CANCELS)?;
@@ -173,6 +174,7 @@ fn a_bad_line_ends_a_script(rt: HostRuntime) -> Result<(), Fail> {
     let closed = (1, "close a\n", "a: closed\n");
     let waiting = (2, waiting::B_WAITS, waiting::B_IS_QUEUED);
     expect_bad_lines(&rt, (1, "", ""), &rows::BAD_LINES)?;
+    expect_bad_lines(&rt, (1, "", ""), &advisory::NO_ADVISORY)?;
     expect_bad_lines(&rt, closed, &rows::CLOSED_LINES)?;
     expect_bad_lines(&rt, waiting, &waiting::WAITING_LINES)
 }

@@ -2,7 +2,7 @@
 
 use super::acquires::{acquire, acquire_in_one_look, new_table};
 use local_locks::{Acquired, End, Entry, LocalTable, Unlocked};
-use modes_core::{Mode, Owner, Refusal, Tag};
+use modes_core::{LockMethod, Mode, Owner, Refusal, Tag};
 use std::alloc::Global;
 use std::process::Abort;
 
@@ -117,13 +117,15 @@ fn is_same(table: &LocalTable, list: &Plain) -> bool {
     entries.next().is_none()
 }
 
-/// One of 32 objects, by some bits of a random number.
+/// One of 32 tags, by some bits of a random number.
 fn random_tag(random: u32) -> Tag {
     let number = random >> 20 & 15;
     if random >> 19 & 1 == 0 {
         Tag::relation(5, number)
-    } else {
+    } else if number < 8 {
         Tag::object(5, 1259, number, 0)
+    } else {
+        Tag::advisory(5, 1259, number, 0)
     }
 }
 
@@ -181,12 +183,29 @@ fn call_both(rt: &impl Abort, table: &mut LocalTable, list: &mut Plain, random: 
     }
 }
 
-/// All that is held goes.
-fn end(table: &mut LocalTable, list: &mut Plain) {
+/// What an abort leaves of an entry, if anything.
+fn aborted(entry: Entry) -> Option<Entry> {
+    match entry.tag.method() {
+        LockMethod::User if entry.session > 0 => Some(Entry {
+            transaction: 0,
+            ..entry
+        }),
+        LockMethod::Default | LockMethod::User => None,
+    }
+}
+
+/// An abort, by which most that is held goes.
+fn end(rt: &impl Abort, alloc: Global, table: &mut LocalTable, list: &mut Plain) {
     for _ in 0..200u32 {
         let _ = table.end_next(End::Abort);
     }
-    list.clear();
+    let mut left = new_list(rt, alloc);
+    for place in 0..list.len() {
+        if let Some(entry) = aborted(list[place]) {
+            assert!(rt; left.push(entry).is_ok());
+        }
+    }
+    *list = left;
 }
 
 #[test]
@@ -200,7 +219,8 @@ fn random_calls_are_as_on_a_plain_list(rt: HostRuntime) {
         assert!(rt; is_right, "call {step}");
         if step % 1000 == 0 {
             assert!(rt; is_same(&table, &list), "after {step}");
-            end(&mut table, &mut list);
+            end(&rt, rt.alloc(), &mut table, &mut list);
+            assert!(rt; is_same(&table, &list), "after the abort behind {step}");
         }
     }
     assert!(rt; is_same(&table, &list));

@@ -28,6 +28,53 @@ const OBJECT: Tag = Tag::Object {
     sub_object: 0,
 };
 
+const ADVISORY: Tag = Tag::Advisory {
+    database: 5,
+    key1: 0,
+    key2: 42,
+    sub: 1,
+};
+
+const ABORT_KEEPS_THE_SESSIONS_ADVISORY_LOCKS: [Turn; 13] = [
+    (
+        1,
+        Call::Acquire(ADVISORY, Exclusive, Session),
+        Answer::Granted,
+    ),
+    (
+        1,
+        Call::Acquire(FIRST, AccessShare, Session),
+        Answer::Granted,
+    ),
+    (
+        1,
+        Call::Acquire(ADVISORY, Exclusive, Transaction),
+        Answer::AlreadyHeld,
+    ),
+    (
+        1,
+        Call::Acquire(ADVISORY, Share, Transaction),
+        Answer::Granted,
+    ),
+    (1, Call::Next(End::Abort), Answer::Ends(FIRST, AccessShare)),
+    (1, Call::Next(End::Abort), Answer::Ends(ADVISORY, Share)),
+    (1, Call::Next(End::Abort), Answer::IsOver),
+    (1, Call::Entries, Answer::Number(1)),
+    (
+        1,
+        Call::Count(ADVISORY, Exclusive, Transaction),
+        Answer::Number(0),
+    ),
+    (
+        1,
+        Call::Count(ADVISORY, Exclusive, Session),
+        Answer::Number(1),
+    ),
+    (1, Call::Next(End::Commit), Answer::IsOver),
+    (1, Call::Next(End::Close), Answer::Ends(ADVISORY, Exclusive)),
+    (1, Call::Next(End::Close), Answer::IsOver),
+];
+
 const COMMIT_KEEPS_WHAT_THE_SESSION_OWNS: [Turn; 13] = [
     (
         1,
@@ -209,6 +256,16 @@ fn commit_keeps_what_the_session_owns(rt: HostRuntime) {
         rt.alloc(),
         1024,
         COMMIT_KEEPS_WHAT_THE_SESSION_OWNS.as_slice(),
+    );
+}
+
+#[test]
+fn abort_keeps_the_sessions_advisory_locks(rt: HostRuntime) {
+    run(
+        &rt,
+        rt.alloc(),
+        1024,
+        ABORT_KEEPS_THE_SESSIONS_ADVISORY_LOCKS.as_slice(),
     );
 }
 

@@ -31,6 +31,13 @@ const OBJECT: Tag = Tag::Object {
     sub_object: 8,
 };
 
+const ADVISORY: Tag = Tag::Advisory {
+    database: 5,
+    key1: 6,
+    key2: 7,
+    sub: 8,
+};
+
 /// The commands that open a session, or take or give back a lock.
 fn commands_on_locks(rt: &impl Abort) -> [(&'static str, Command); 7] {
     let name = name(rt, "c_1");
@@ -68,7 +75,7 @@ fn commands_on_locks(rt: &impl Abort) -> [(&'static str, Command); 7] {
 }
 
 /// The others.
-fn other_commands(rt: &impl Abort) -> [(&'static str, Command); 7] {
+fn other_commands(rt: &impl Abort) -> [(&'static str, Command); 8] {
     let name = name(rt, "d");
     let place = Place::Waiting(0);
     [
@@ -81,6 +88,7 @@ fn other_commands(rt: &impl Abort) -> [(&'static str, Command); 7] {
         ("list b", Command::List(caller(rt))),
         ("count b 1023", Command::Count(caller(rt), 1023)),
         ("hash 5/7", Command::Hash(RELATION)),
+        ("hash adv/5/06/7/8", Command::Hash(ADVISORY)),
         ("close b", Command::Close(caller(rt))),
     ]
 }
@@ -109,7 +117,7 @@ fn a_line_is_a_command(rt: HostRuntime) -> Result<(), Fail> {
 }
 
 /// Lines, each with the first defect that it has.
-const DEFECTS: [(&str, Defect); 12] = [
+const DEFECTS: [(&str, Defect); 13] = [
     ("frob", Defect::UnknownCommand),
     (
         "try b 5/7 RowShareLock session 6",
@@ -123,6 +131,7 @@ const DEFECTS: [(&str, Defect); 12] = [
     ("session c 4294967296", Defect::BadNumber),
     ("count b 1024", Defect::BadNumber),
     ("lock b 5/6/7/65536 Share owner", Defect::BadObject),
+    ("lock b adv/5/6/7 Share owner", Defect::BadObject),
     ("lock b 5/7 Share owner", Defect::BadMode),
     ("lock b 5/7 ShareLock owner", Defect::BadOwner),
 ];
