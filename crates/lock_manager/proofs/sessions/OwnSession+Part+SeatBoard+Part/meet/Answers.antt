@@ -1,6 +1,6 @@
 use Rattle.std.proofs.Common.{ap}
 use Rattle.lock_manager.proofs.Unlocking.{entries-apart}
-use Rattle.lock_manager.proofs.sessions.OwnSession+PlainPart+SeatBoard+PlainPart.meet.Goals as goal
+use Rattle.lock_manager.proofs.sessions.OwnSession+Part+SeatBoard+Part.meet.Goals as goal
 
 pub returns-clause-told : goal.returns-clause-told
 returns-clause-told c =

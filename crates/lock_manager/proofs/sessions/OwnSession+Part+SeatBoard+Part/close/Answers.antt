@@ -1,14 +1,14 @@
 use Rattle.std.proofs.Common.{◌≡◌, ◌∙◌, subst}
 use Rattle.local_locks.specs.declared.ends.End.TheVariants.{Close}
 use Rattle.local_locks.specs.Owned.{ended_by}
-use Rattle.lock_table.specs.PartView.{content_of}
+use Rattle.lock_manager.specs.Keeper.{content_of}
 use Rattle.shared_rule.specs.Boards.{Seated}
 use Rattle.shared_rule.specs.History.{first_account}
 use Rattle.lock_manager.specs.declared.sessions.Own.{Own}
 use Rattle.lock_manager.specs.Managers.{TakesBack}
 use Rattle.lock_manager.specs.Releases.{ReleasesAll}
 use Rattle.lock_manager.proofs.Unlocking.{MayCloseBy-rest, left_by-close}
-use Rattle.lock_manager.proofs.sessions.OwnSession+PlainPart+SeatBoard+PlainPart.close.Goals as goal
+use Rattle.lock_manager.proofs.sessions.OwnSession+Part+SeatBoard+Part.close.Goals as goal
 
 pub take_back-requires-clause-lawful : goal.take_back-requires-clause-lawful
 take_back-requires-clause-lawful g c =
