@@ -1,10 +1,10 @@
-use Rattle.std.specs.Prelude.{◌≡◌, ◌+◌, ◌≤◌, false, vec_len, vec_capacity}
+use Rattle.std.specs.Prelude.{◌≡◌, ◌+◌, ◌≤◌, true, false, vec_len, vec_capacity}
 use Rattle.std.specs.Option.{ForSome}
 use Rattle.lock_table.specs.Queue.{awaits_mode}
 use Rattle.lock_table.specs.PartWaits.{queues_in}
 use Rattle.slab.specs.Slab.{slab_len}
 use Rattle.lock_records.specs.Holders.{holds_in}
-use Rattle.lock_records.specs.Locks.{AreNoted}
+use Rattle.lock_records.specs.Locks.{AreNoted, HasNoLock}
 use Rattle.lock_records.specs.Objects.{AreObjects, HasRoom}
 use Rattle.lock_records.specs.View.{RecordView}
 use Rattle.lock_records.specs.declared.records.Records.TheInside.{Inside}
@@ -21,3 +21,4 @@ pub record AreRecords (part : Inside) : Type 0 where
   pub begun_new : ForSome part.begun (λ request. holds_in part.holders.slots request.session request.tag request.mode ≡ false)
   pub begun_not_awaited : ForSome part.begun (λ request. awaits_mode (queues_in part.waits.items request.tag) request.session request.mode ≡ false)
   pub begun_room : ForSome part.begun (λ request. HasRoom part.locks part.holders (vec_len part.waits) (vec_capacity part.waits) part.index)
+  pub begun_absent : part.absent ≡ true → ForSome part.begun (λ request. HasNoLock part.locks.slots request.tag)

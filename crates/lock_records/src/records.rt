@@ -28,6 +28,8 @@ pub struct Records {
     begun: Option<Request>,
     /// Where a lock record was found last: the call that follows mostly wants the same one.
     hint: usize,
+    /// Whether the object of the begun request has no lock record. Nobody makes one before it is granted or joins.
+    absent: bool,
 }
 
 impl Model for Records {
@@ -59,6 +61,7 @@ impl Records {
             index,
             begun: None,
             hint: 0,
+            absent: false,
         })
     }
 }
@@ -87,6 +90,7 @@ impl Records {
     ghost use Rattle.std.specs.Prelude.{ℕ, ◌==◌, count_by, OnOk, OnErr, if◌then◌else◌};
     ghost use Rattle.lock_table.specs.Listing.{has_row};
     ghost use Rattle.lock_records.specs.Rows.{AppendsRows, HasMoreRows};
+    ghost use Rattle.modes_core.specs.declared.modes.Mode.{Mode};
     ghost use Rattle.modes_core.specs.ModeSet.{set_has};
     ghost use Rattle.lock_table.specs.Content.{add_hold};
     ghost use Rattle.lock_table.specs.Clash.{NoConflictingHolder};
@@ -106,6 +110,20 @@ impl Records {
         self.conflict_of(session, tag, mode).is_none()
     }
 
+    /// Whether the object is known to have no lock record, since the request that is begun is on it and found none.
+    #[inline(always)]
+    fn is_absent(&self, tag: &Tag) -> bool
+        ensures { result ≡ true → (session : ℕ) (mode : Mode) → (content_of self.now).holds session tag.now mode ≡ false }
+    {
+        if !self.absent {
+            return false;
+        }
+        match self.begun {
+            Some(request) => tag.is_same(request.tag),
+            None => false,
+        }
+    }
+
     /// What is known of a queue for the caller's proof: a session stands in it once at most.
     fn queue_has_each_once(&self, tag: &Tag)
         ensures one_each { (session : ℕ) → count_by (λ wait. wait.session == session) ((content_of self.now).waits tag.now) ≤ 1 }
@@ -121,6 +139,7 @@ impl Records {
             ≡ add_hold (remove_wait (content_of self.old) session tag.now) session tag.now mode }
         ensures begun { self.new.begun ≡ self.old.begun }
     {
+        self.absent = false;
         let Some(place) = look(&self.locks, &self.index, self.hint, tag) else {
             unreachable!()
         };
@@ -155,6 +174,7 @@ impl PartTable for Records {
 
     ghost begun = { λ part. part.begun };
 
+    #[inline(always)]
     fn begin(&mut self, session: SessionId, tag: &Tag, mode: Mode) -> Result<(), NoMemory> {
         make_room(
             &mut self.locks,
@@ -162,19 +182,29 @@ impl PartTable for Records {
             &mut self.waits,
             &mut self.index,
         )?;
-        self.hint = look(&self.locks, &self.index, self.hint, tag).unwrap_or(self.hint);
+        let found = look(&self.locks, &self.index, self.hint, tag);
+        self.absent = found.is_none();
+        self.hint = found.unwrap_or(self.hint);
         let tag = *tag;
         self.begun = Some(Request { session, tag, mode });
         Ok(())
     }
 
+    #[inline(always)]
     fn withdraw(&mut self, _session: SessionId, _tag: &Tag, _mode: Mode) {
         self.begun = None;
     }
 
+    #[inline(always)]
     fn grant(&mut self, session: SessionId, tag: &Tag, mode: Mode) {
         self.begun = None;
-        let place = look_or_make(&mut self.locks, &mut self.index, self.hint, tag);
+        let place = look_or_make(
+            &mut self.locks,
+            &mut self.index,
+            self.hint,
+            self.absent,
+            tag,
+        );
         self.hint = place;
         add_hold(
             &mut self.locks,
@@ -186,7 +216,9 @@ impl PartTable for Records {
         );
     }
 
+    #[inline(always)]
     fn ungrant(&mut self, session: SessionId, tag: &Tag, mode: Mode) {
+        self.absent = false;
         let Some(place) = look(&self.locks, &self.index, self.hint, tag) else {
             unreachable!()
         };
@@ -202,6 +234,7 @@ impl PartTable for Records {
         drop_empty(&mut self.locks, &mut self.index, tag, place);
     }
 
+    #[inline(always)]
     fn held(&self, session: SessionId, tag: &Tag) -> ModeSet {
         let Some(place) = look(&self.locks, &self.index, self.hint, tag) else {
             return ModeSet::empty();
@@ -212,13 +245,18 @@ impl PartTable for Records {
         }
     }
 
+    #[inline(always)]
     fn conflict_of(&self, session: SessionId, tag: &Tag, mode: Mode) -> Option<(SessionId, Mode)> {
+        if self.is_absent(tag) {
+            return None;
+        }
         match look(&self.locks, &self.index, self.hint, tag) {
             Some(place) => holder_in_the_way(&self.locks, &self.holders, place, tag, session, mode),
             None => None,
         }
     }
 
+    #[inline(always)]
     fn waiter(&self, tag: &Tag, place: usize) -> Option<Waiter> {
         // No list is longer than a number of its length can say.
         let _len = self.waits.len();
@@ -229,7 +267,13 @@ impl PartTable for Records {
         let _number = session.number();
         let held = self.held(session, tag);
         self.begun = None;
-        let at = look_or_make(&mut self.locks, &mut self.index, self.hint, tag);
+        let at = look_or_make(
+            &mut self.locks,
+            &mut self.index,
+            self.hint,
+            self.absent,
+            tag,
+        );
         self.hint = at;
         raise_awaited(&mut self.locks, at, tag, mode);
         let index = index_of_place(self.waits.as_slice(), tag, place);
@@ -248,6 +292,7 @@ impl PartTable for Records {
         let Some(mode) = awaited_mode(self.waits.as_slice(), session, tag) else {
             return None;
         };
+        self.absent = false;
         let Some(place) = look(&self.locks, &self.index, self.hint, tag) else {
             unreachable!()
         };

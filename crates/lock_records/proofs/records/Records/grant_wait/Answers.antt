@@ -84,6 +84,7 @@ invariant_of-self c =
             holder = omega (arith, room.holder, less, c.add_hold.ensures.len, c.add_hold.ensures.capacity);
             wait = omega (arith, room.wait, less, c.take_wait_out.ensures.capacity);
           };
+      begun_absent = λ absent. let no_way : ⊥ = cc in absurd no_way;
     }
 
 pub returns-clause-content : goal.returns-clause-content

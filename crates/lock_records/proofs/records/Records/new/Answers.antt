@@ -22,6 +22,7 @@ invariant_of-result c =
       begun_new = ForSome-none (λ (request : Request). holds_in c.new-3.result.slots request.session request.tag request.mode ≡ false);
       begun_not_awaited = ForSome-none (λ (request : Request). awaits_mode (queues_in c.new-4.result.items request.tag) request.session request.mode ≡ false);
       begun_room = ForSome-none (λ (request : Request). HasRoom c.new-2.result c.new-3.result (vec_len c.new-4.result) (vec_capacity c.new-4.result) c.in_ok-index.index);
+      begun_absent = λ absent request is. let no_way : ⊥ = cc in absurd no_way;
     }
 
 pub returns-clause-content : goal.returns-clause-content

@@ -1,3 +1,5 @@
+use Rattle.std.proofs.lemmas.Bool.{true≢false}
+use Rattle.std.specs.Prelude.{is_some, not, IfNone, Option, Some, true}
 use Rattle.std.proofs.Common.{◌≡◌, false, None, List, vec_len, vec_capacity, sym, ap, ◌∙◌, subst, arith}
 use Rattle.slab.specs.Slab.{Slab, slab_len}
 use Rattle.lock_table.specs.declared.request.Request.{Request}
@@ -8,12 +10,16 @@ use Rattle.lock_table.proofs.Options.{ForSome-some}
 use Rattle.lock_records.specs.declared.locks.LockRecord.{LockRecord}
 use Rattle.lock_records.specs.declared.holders.HolderRecord.{HolderRecord}
 use Rattle.lock_records.specs.Holders.{holds_in}
-use Rattle.lock_records.specs.Locks.{AreNoted}
+use Rattle.lock_records.specs.Locks.{AreNoted, HasNoLock}
 use Rattle.lock_records.specs.Objects.{HasRoom, AreObjects}
 use Rattle.lock_records.specs.View.{RecordView}
 use Rattle.lock_records.proofs.Parts.{objects-same, noted-grown}
 use Rattle.lock_records.proofs.records.RecordsPartTable.begin.Goals as goal
 use Rattle.lock_records.proofs.records.RecordsPartTable.begin.Goals.{After-make_room}
+
+found-none : {X P : Type 0} (found : Option X) → is_some found ≡ false → IfNone found P → P
+found-none None none absent = absent
+found-none (Some x) none absent = absurd (true≢false none)
 
 locks : (c : After-make_room) → c.make_room.new.locks.slots ≡ c.self.inside.locks.slots
 locks c = ap (λ (slab : Slab LockRecord). slab.slots) c.make_room.ensures.locks
@@ -45,10 +51,11 @@ invariant_of-self c =
       begun_new = λ request is. let no_way : ⊥ = cc in absurd no_way;
       begun_not_awaited = λ request is. let no_way : ⊥ = cc in absurd no_way;
       begun_room = λ request is. let no_way : ⊥ = cc in absurd no_way;
+      begun_absent = λ absent request is. let no_way : ⊥ = cc in absurd no_way;
     }
 
-pub look-requires : goal.look-requires
-look-requires c = noted (goal.at.look-requires c).After-make_room
+pub look-found-requires : goal.look-found-requires
+look-found-requires c = noted (goal.at.look-found-requires c).After-make_room
 
 pub invariant_of-self-2 : goal.invariant_of-self-2
 invariant_of-self-2 c =
@@ -69,4 +76,6 @@ invariant_of-self-2 c =
       begun_room =
           ForSome-some (λ (x : Request). HasRoom c.make_room.new.locks c.make_room.new.holders (vec_len c.make_room.new.waits) (vec_capacity c.make_room.new.waits) c.make_room.new.index) request
           (c.in_ok-make_room.ensures {u = tt}).room;
+      begun_absent = λ absent.
+          ForSome-some (λ (x : Request). HasNoLock c.make_room.new.locks.slots x.tag) request (found-none c.look-found.result (c.is_none-self-inside.ensures ∙ ap not absent) c.look-found.ensures.absent);
     }

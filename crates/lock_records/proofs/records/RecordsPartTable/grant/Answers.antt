@@ -35,4 +35,8 @@ invariant_of-self c =
       begun_new = ForSome-none (λ (request : Request). holds_in c.add_hold.new.holders.slots request.session request.tag request.mode ≡ false);
       begun_not_awaited = ForSome-none (λ (request : Request). awaits_mode (queues_in c.self.inside.waits.items request.tag) request.session request.mode ≡ false);
       begun_room = ForSome-none (λ (request : Request). HasRoom c.add_hold.new.locks c.add_hold.new.holders (vec_len c.self.inside.waits) (vec_capacity c.self.inside.waits) c.look_or_make-place.new.index);
+      begun_absent = λ absent request is. let no_way : ⊥ = cc in absurd no_way;
     }
+
+pub look_or_make-place-requires-clause-absent : goal.look_or_make-place-requires-clause-absent
+look_or_make-place-requires-clause-absent c absent = c.self.invariant.begun_absent absent _ (ap (λ (part : RecordView). part.begun) c.self.view_is ∙ c.requires.begun)

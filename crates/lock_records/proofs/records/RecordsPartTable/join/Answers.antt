@@ -55,6 +55,7 @@ invariant_of-self c =
       begun_new = ForSome-none (λ (request : Request). holds_in c.self.inside.holders.slots request.session request.tag request.mode ≡ false);
       begun_not_awaited = ForSome-none (λ (request : Request). awaits_mode (queues_in c.insert.new.self.items request.tag) request.session request.mode ≡ false);
       begun_room = ForSome-none (λ (request : Request). HasRoom c.raise_awaited.new.locks c.self.inside.holders (vec_len c.insert.new.self) (vec_capacity c.insert.new.self) c.look_or_make-at.new.index);
+      begun_absent = λ absent request is. let no_way : ⊥ = cc in absurd no_way;
     }
 
 pub returns-clause-content : goal.returns-clause-content
@@ -66,3 +67,6 @@ returns-clause-content c =
     let waits = queues at ∙
     ap (λ (modes : Mode → Bool). put tag_eq (queues_in ws) c.args.tag.now (joined c.args.place (record { session = c.args.session; mode = c.args.mode; held = modes }) (queues_in ws c.args.tag.now))) held in
     rw (← c.self.view_is) (λ i. record { holds = holds_in c.self.inside.holders.slots; waits = waits i })
+
+pub look_or_make-at-requires-clause-absent : goal.look_or_make-at-requires-clause-absent
+look_or_make-at-requires-clause-absent c absent = c.self.invariant.begun_absent absent _ (ap (λ (part : RecordView). part.begun) c.self.view_is ∙ c.requires.begun)

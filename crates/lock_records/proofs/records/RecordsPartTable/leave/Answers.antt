@@ -63,6 +63,7 @@ invariant_of-self c =
             holder = omega (arith, room.holder, less);
             wait = omega (arith, room.wait, less, c.take_wait_out.ensures.capacity);
           };
+      begun_absent = λ absent. let no_way : ⊥ = cc in absurd no_way;
     }
 
 pub returns-in_default-clause-mode : goal.returns-in_default-clause-mode

@@ -42,4 +42,5 @@ invariant_of-self c =
             holder = omega (arith, room.holder, c.remove_hold.ensures.len, c.remove_hold.ensures.capacity);
             wait = room.wait;
           };
+      begun_absent = λ absent. let no_way : ⊥ = cc in absurd no_way;
     }
