@@ -2,4 +2,5 @@
 
 mod calls;
 mod keepers;
+mod many;
 mod rows;

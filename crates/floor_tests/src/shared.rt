@@ -81,7 +81,7 @@ fn each_content_has_eight_slots_to_itself(rt: HostRuntime) -> Result<(), Fail> {
 fn empty_slots(alloc: Global) -> Result<Vec<Option<PlainPart>>, Fail>
     ensures new { let T = ⟦<PlainPart as PartTable>⟧ in IfOk result (λ slots. AreNew T.content T.begun slots.items) }
 {
-    Ok(in_slots(alloc, empty_parts(alloc)?)?)
+    Ok(in_slots(alloc, empty_parts(alloc, PlainPart::new)?)?)
 }
 
 /// A board for tests, of a table for two sessions.

@@ -462,7 +462,7 @@ fn is_empty(part: &PlainPart) -> bool {
 
 #[test]
 fn a_new_table_has_sixteen_empty_parts(rt: HostRuntime) -> Result<(), Fail> {
-    let parts = empty_parts(rt.alloc())?;
+    let parts = empty_parts(rt.alloc(), PlainPart::new)?;
     assert!(rt; parts.len() == 16);
     for part in &parts {
         assert!(rt; is_empty(part));

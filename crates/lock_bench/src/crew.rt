@@ -8,8 +8,7 @@ use crate::session_loops::lock_pairs;
 use bench_base::keys::Key;
 use bench_base::rounds::Spread;
 use bench_base::shared_map::{SharedMap, map_pairs};
-use lock_manager::{Manager, Opener, OwnSession, Refusal};
-use lock_table::PlainPart;
+use lock_manager::{Manager, Opener, OwnSession, Part, Refusal};
 use modes_core::Owner;
 use shared_rule::board::Board;
 use shared_rule::seat_board::SeatBoard;
@@ -45,12 +44,12 @@ impl Job {
 }
 
 /// Four sessions of one manager.
-pub struct Crew<B: Board<PlainPart>> {
-    pub left: Pair<PlainPart, B>,
-    pub right: Pair<PlainPart, B>,
+pub struct Crew<B: Board<Part>> {
+    pub left: Pair<Part, B>,
+    pub right: Pair<Part, B>,
 }
 
-impl<'a> Crew<SeatBoard<'a, PlainPart>> {
+impl<'a> Crew<SeatBoard<'a, Part>> {
     /// Four sessions of a manager. Where one of them is refused none of them is open.
     pub fn open<R: Wait>(
         rt: &R,
@@ -59,13 +58,13 @@ impl<'a> Crew<SeatBoard<'a, PlainPart>> {
         database: u32,
     ) -> Result<Self, Refusal>
         requires own { IsOpenerOf opener.old manager.now }
-        ensures first { let B = ⟦<SeatBoard<'a, PlainPart> as Board<PlainPart>>⟧ in
+        ensures first { let B = ⟦<SeatBoard<'a, Part> as Board<Part>>⟧ in
             IfOk result (λ crew. (B.seat crew.left.first.board).table ≡ opener.old.table) }
-        ensures second { let B = ⟦<SeatBoard<'a, PlainPart> as Board<PlainPart>>⟧ in
+        ensures second { let B = ⟦<SeatBoard<'a, Part> as Board<Part>>⟧ in
             IfOk result (λ crew. (B.seat crew.left.second.board).table ≡ opener.old.table) }
-        ensures third { let B = ⟦<SeatBoard<'a, PlainPart> as Board<PlainPart>>⟧ in
+        ensures third { let B = ⟦<SeatBoard<'a, Part> as Board<Part>>⟧ in
             IfOk result (λ crew. (B.seat crew.right.first.board).table ≡ opener.old.table) }
-        ensures fourth { let B = ⟦<SeatBoard<'a, PlainPart> as Board<PlainPart>>⟧ in
+        ensures fourth { let B = ⟦<SeatBoard<'a, Part> as Board<Part>>⟧ in
             IfOk result (λ crew. (B.seat crew.right.second.board).table ≡ opener.old.table) }
         ensures live { OnOk result (opener.new.live ≡ opener.old.live + 4) }
         ensures refused { OnErr result (opener.new.live ≡ opener.old.live) }
@@ -84,10 +83,10 @@ impl<'a> Crew<SeatBoard<'a, PlainPart>> {
 
     /// Closes all four.
     pub fn close<R: Wait>(self, rt: &R, opener: &mut Opener)
-        requires first { (⟦<SeatBoard<'a, PlainPart> as Board<PlainPart>>⟧.seat self.left.first.board).table ≡ opener.old.table }
-        requires second { (⟦<SeatBoard<'a, PlainPart> as Board<PlainPart>>⟧.seat self.left.second.board).table ≡ opener.old.table }
-        requires third { (⟦<SeatBoard<'a, PlainPart> as Board<PlainPart>>⟧.seat self.right.first.board).table ≡ opener.old.table }
-        requires fourth { (⟦<SeatBoard<'a, PlainPart> as Board<PlainPart>>⟧.seat self.right.second.board).table ≡ opener.old.table }
+        requires first { (⟦<SeatBoard<'a, Part> as Board<Part>>⟧.seat self.left.first.board).table ≡ opener.old.table }
+        requires second { (⟦<SeatBoard<'a, Part> as Board<Part>>⟧.seat self.left.second.board).table ≡ opener.old.table }
+        requires third { (⟦<SeatBoard<'a, Part> as Board<Part>>⟧.seat self.right.first.board).table ≡ opener.old.table }
+        requires fourth { (⟦<SeatBoard<'a, Part> as Board<Part>>⟧.seat self.right.second.board).table ≡ opener.old.table }
         ensures live { opener.new.live ≡ opener.old.live - 4 }
         ensures table { opener.new.table ≡ opener.old.table }
         ensures limit { opener.new.limit ≡ opener.old.limit }
@@ -98,7 +97,7 @@ impl<'a> Crew<SeatBoard<'a, PlainPart>> {
     }
 }
 
-impl<B: Board<PlainPart> + Send> Crew<B> {
+impl<B: Board<Part> + Send> Crew<B> {
     /// The work of the first of them, in this thread, of two in two or of all in four. Whether nothing was refused.
     pub fn work<R: Threads + Wait + Sync>(&mut self, rt: &R, job: &Job, threads: u32) -> bool
         ensures first { B.seat self.new.left.first.board ≡ B.seat self.old.left.first.board }
@@ -115,9 +114,9 @@ impl<B: Board<PlainPart> + Send> Crew<B> {
 }
 
 /// A session's work in this thread. Whether nothing was refused.
-fn in_one<B: Board<PlainPart>, R: Wait>(
+fn in_one<B: Board<Part>, R: Wait>(
     rt: &R,
-    session: &mut OwnSession<PlainPart, B>,
+    session: &mut OwnSession<Part, B>,
     job: &Job,
     thread: usize,
 ) -> bool
@@ -127,9 +126,9 @@ fn in_one<B: Board<PlainPart>, R: Wait>(
 }
 
 /// The work of two sessions in two threads, with the lists of this number and of the next.
-fn in_two<B: Board<PlainPart> + Send, R: Threads + Wait + Sync>(
+fn in_two<B: Board<Part> + Send, R: Threads + Wait + Sync>(
     rt: &R,
-    pair: &mut Pair<PlainPart, B>,
+    pair: &mut Pair<Part, B>,
     job: &Job,
     thread: usize,
 ) -> bool
@@ -147,10 +146,10 @@ fn in_two<B: Board<PlainPart> + Send, R: Threads + Wait + Sync>(
 }
 
 /// The work of four sessions in four threads.
-fn in_four<B: Board<PlainPart> + Send, R: Threads + Wait + Sync>(
+fn in_four<B: Board<Part> + Send, R: Threads + Wait + Sync>(
     rt: &R,
-    first: &mut Pair<PlainPart, B>,
-    second: &mut Pair<PlainPart, B>,
+    first: &mut Pair<Part, B>,
+    second: &mut Pair<Part, B>,
     job: &Job,
 ) -> bool
     ensures first { B.seat first.new.first.board ≡ B.seat first.old.first.board }

@@ -8,8 +8,7 @@ use anyhow::{Result, bail};
 use bench_base::rounds::{
     ROUNDS, Spread, Times, WIDTH, print_header, print_ratio, print_time, wall_nanos,
 };
-use lock_manager::{Config, Manager};
-use lock_table::PlainPart;
+use lock_manager::{Config, Manager, Part};
 use modes_core::{Mode, Owner, Tag};
 use shared_rule::board::Board;
 use std::io;
@@ -58,11 +57,11 @@ fn play<R: Threads + Wait + Clock + AllocGlobal + Sync>(
 }
 
 /// Both sessions' turns: how many of them were granted, and the nanoseconds that they took.
-fn time_lock<B: Board<PlainPart> + Send, R: Threads + Wait + Clock + Sync>(
+fn time_lock<B: Board<Part> + Send, R: Threads + Wait + Clock + Sync>(
     rt: &R,
-    pair: Pair<PlainPart, B>,
+    pair: Pair<Part, B>,
     plan: Plan,
-) -> (Pair<PlainPart, B>, u64, Result<u64>)
+) -> (Pair<Part, B>, u64, Result<u64>)
     ensures first { B.seat result.0.first.board ≡ B.seat pair.first.board }
     ensures second { B.seat result.0.second.board ≡ B.seat pair.second.board }
 {

@@ -3,8 +3,8 @@
 ghost use Rattle.std.specs.Prelude.{◌≡◌, ◌+◌, ◌-◌, IfOk, OnOk, OnErr};
 ghost use Rattle.lock_manager.specs.Managers.{IsOpenerOf};
 
-use lock_manager::{Manager, Opener, OwnSession, Refusal};
-use lock_table::{PartTable, PlainPart};
+use lock_manager::{Manager, Opener, OwnSession, Part, Refusal};
+use lock_table::PartTable;
 use shared_rule::board::Board;
 use shared_rule::seat_board::SeatBoard;
 use std::sync::Wait;
@@ -25,7 +25,7 @@ impl<T: PartTable, B: Board<T>> Pair<T, B> {
     }
 }
 
-impl<'a> Pair<PlainPart, SeatBoard<'a, PlainPart>> {
+impl<'a> Pair<Part, SeatBoard<'a, Part>> {
     /// Two sessions of a manager. Where one of them is refused none of them is open.
     pub fn open<R: Wait>(
         rt: &R,
@@ -34,9 +34,9 @@ impl<'a> Pair<PlainPart, SeatBoard<'a, PlainPart>> {
         database: u32,
     ) -> Result<Self, Refusal>
         requires own { IsOpenerOf opener.old manager.now }
-        ensures first { let B = ⟦<SeatBoard<'a, PlainPart> as Board<PlainPart>>⟧ in
+        ensures first { let B = ⟦<SeatBoard<'a, Part> as Board<Part>>⟧ in
             IfOk result (λ pair. (B.seat pair.first.board).table ≡ opener.old.table) }
-        ensures second { let B = ⟦<SeatBoard<'a, PlainPart> as Board<PlainPart>>⟧ in
+        ensures second { let B = ⟦<SeatBoard<'a, Part> as Board<Part>>⟧ in
             IfOk result (λ pair. (B.seat pair.second.board).table ≡ opener.old.table) }
         ensures live { OnOk result (opener.new.live ≡ opener.old.live + 2) }
         ensures refused { OnErr result (opener.new.live ≡ opener.old.live) }
@@ -55,8 +55,8 @@ impl<'a> Pair<PlainPart, SeatBoard<'a, PlainPart>> {
 
     /// Closes both.
     pub fn close<R: Wait>(self, rt: &R, opener: &mut Opener)
-        requires first { (⟦<SeatBoard<'a, PlainPart> as Board<PlainPart>>⟧.seat self.first.board).table ≡ opener.old.table }
-        requires second { (⟦<SeatBoard<'a, PlainPart> as Board<PlainPart>>⟧.seat self.second.board).table ≡ opener.old.table }
+        requires first { (⟦<SeatBoard<'a, Part> as Board<Part>>⟧.seat self.first.board).table ≡ opener.old.table }
+        requires second { (⟦<SeatBoard<'a, Part> as Board<Part>>⟧.seat self.second.board).table ≡ opener.old.table }
         ensures live { opener.new.live ≡ opener.old.live - 2 }
         ensures table { opener.new.table ≡ opener.old.table }
         ensures limit { opener.new.limit ≡ opener.old.limit }

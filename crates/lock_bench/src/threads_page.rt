@@ -9,8 +9,7 @@ use bench_base::rounds::{
     ROUNDS, Spread, Times, WIDTH, print_header, print_ratio, print_time, wall_nanos,
 };
 use bench_base::shared_map::SharedMap;
-use lock_manager::{Config, Manager};
-use lock_table::PlainPart;
+use lock_manager::{Config, Manager, Part};
 use modes_core::{Mode, Owner};
 use shared_rule::board::Board;
 use std::alloc::{AllocError, Global};
@@ -105,7 +104,7 @@ fn jobs(alloc: Global, database: u32, owner: Owner, check: bool) -> Result<Vec<J
 }
 
 /// Times rounds of the sessions' work and of the same work on the map, in turn.
-fn time_job<B: Board<PlainPart> + Send, R: Threads + Wait + Clock + AllocGlobal + Sync>(
+fn time_job<B: Board<Part> + Send, R: Threads + Wait + Clock + AllocGlobal + Sync>(
     rt: &R,
     crew: &mut Crew<B>,
     job: &Job,
@@ -129,7 +128,7 @@ fn time_job<B: Board<PlainPart> + Send, R: Threads + Wait + Clock + AllocGlobal 
 }
 
 /// The nanoseconds of the sessions' work, and of the same work on the map.
-fn time_round<B: Board<PlainPart> + Send, R: Threads + Wait + Clock + Sync>(
+fn time_round<B: Board<Part> + Send, R: Threads + Wait + Clock + Sync>(
     rt: &R,
     crew: &mut Crew<B>,
     map: &SharedMap,
@@ -166,7 +165,7 @@ fn print_job<R: Print>(
 }
 
 /// The same once, and what it leaves.
-fn check_job<B: Board<PlainPart> + Send, R: Threads + Wait + AllocGlobal + Print + Sync>(
+fn check_job<B: Board<Part> + Send, R: Threads + Wait + AllocGlobal + Print + Sync>(
     rt: &R,
     crew: &mut Crew<B>,
     job: &Job,
@@ -195,7 +194,7 @@ fn is_counted<R: Threads + Wait + AllocGlobal + Sync>(rt: &R, job: &Job, threads
 }
 
 /// All cases, in so many threads.
-fn print_jobs<B: Board<PlainPart> + Send, R: Threads + Wait + Clock + AllocGlobal + Print + Sync>(
+fn print_jobs<B: Board<Part> + Send, R: Threads + Wait + Clock + AllocGlobal + Print + Sync>(
     rt: &R,
     crew: &mut Crew<B>,
     jobs: &mut [Job],
@@ -222,7 +221,7 @@ fn print_jobs<B: Board<PlainPart> + Send, R: Threads + Wait + Clock + AllocGloba
 }
 
 /// All cases, in one, two and four threads.
-fn print_crew<B: Board<PlainPart> + Send, R: Threads + Wait + Clock + AllocGlobal + Print + Sync>(
+fn print_crew<B: Board<Part> + Send, R: Threads + Wait + Clock + AllocGlobal + Print + Sync>(
     rt: &R,
     crew: &mut Crew<B>,
     jobs: &mut [Job],

@@ -5,8 +5,8 @@ ghost use Rattle.std.specs.Prelude.{◌≡◌};
 use crate::pair::Pair;
 use bench_base::keys::Key;
 use crossbeam_utils::Backoff;
-use lock_manager::OwnSession;
-use lock_table::{PartTable, PlainPart};
+use lock_manager::{OwnSession, Part};
+use lock_table::PartTable;
 use modes_core::Owner;
 use shared_rule::board::Board;
 use std::sync::atomic::{AtomicU64, Ordering};
@@ -78,10 +78,10 @@ fn take_turns<T: PartTable, B: Board<T>, R: Wait>(
 }
 
 /// The turns of two sessions that are lent, each in a thread, and how many of each were granted.
-fn pass_on_loan<B: Board<PlainPart> + Send, R: Threads + Wait + Sync>(
+fn pass_on_loan<B: Board<Part> + Send, R: Threads + Wait + Sync>(
     rt: &R,
-    first: &mut OwnSession<PlainPart, B>,
-    second: &mut OwnSession<PlainPart, B>,
+    first: &mut OwnSession<Part, B>,
+    second: &mut OwnSession<Part, B>,
     plan: &Plan,
 ) -> (u64, u64)
     ensures first { B.seat first.new.board ≡ B.seat first.old.board }
@@ -96,11 +96,11 @@ fn pass_on_loan<B: Board<PlainPart> + Send, R: Threads + Wait + Sync>(
 }
 
 /// Both sessions' turns, each in a thread, and how many of them were granted.
-pub fn pass_lock<B: Board<PlainPart> + Send, R: Threads + Wait + Sync>(
+pub fn pass_lock<B: Board<Part> + Send, R: Threads + Wait + Sync>(
     rt: &R,
-    pair: Pair<PlainPart, B>,
+    pair: Pair<Part, B>,
     plan: Plan,
-) -> (Pair<PlainPart, B>, u64)
+) -> (Pair<Part, B>, u64)
     ensures first { B.seat result.0.first.board ≡ B.seat pair.first.board }
     ensures second { B.seat result.0.second.board ≡ B.seat pair.second.board }
 {

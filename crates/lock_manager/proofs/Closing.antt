@@ -1,5 +1,5 @@
 use Rattle.std.proofs.Common.{ℕ, ◌+◌, List, [], arith}
-use Rattle.lock_table.specs.PartView.{PartView}
+use Rattle.lock_manager.specs.Keeper.{PartView}
 use Rattle.shared_rule.specs.declared.history.History.{History}
 use Rattle.shared_rule.specs.Openers.{HaveClosed}
 

@@ -1,4 +1,4 @@
-use Rattle.std.proofs.Common.{◌≡◌, ◌≢◌, ◌⊎◌, ℕ, Bool, true, false, ap, List, [], ◌∷◌, ◌++◌, append-nil, refl, sym, ◌∙◌, subst, inl, inr}
+use Rattle.std.proofs.Common.{◌≡◌, ◌≢◌, ◌⊎◌, ℕ, Bool, true, false, ap, List, [], ◌∷◌, ◌++◌, append-nil, None, refl, sym, ◌∙◌, subst, inl, inr}
 use Rattle.std.specs.Prelude.{map}
 use Rattle.std.proofs.lemmas.Bool.{false≢true, and_left}
 use Rattle.modes_core.specs.declared.modes.Mode.{Mode}
@@ -11,7 +11,7 @@ use Rattle.lock_table.specs.Waiter.{whose_and_mode}
 use Rattle.lock_world.specs.Account.{Account, InHand}
 use Rattle.lock_world.specs.AccountFacts.{OwnHoldsStand, KnowsContent}
 use Rattle.lock_world.specs.AccountLaw.{MayMoveBy, MayPutBy}
-use Rattle.lock_world.specs.AccountSteps.{account_taking, account_uncounting, own_with}
+use Rattle.lock_world.specs.AccountSteps.{account_taking, account_putting, account_uncounting, own_with}
 use Rattle.lock_world.specs.Counted.{is_counted, uncounting}
 use Rattle.lock_world.specs.SlotHolds.{slot_count, slot_holds}
 use Rattle.lock_world.specs.World.{TraceEntry, Took, Episode}
@@ -19,7 +19,9 @@ use Rattle.fast_path.specs.Slots.{slot_loads, account_tried}
 use Rattle.fast_path.specs.Releases.{Ungrants}
 use Rattle.shared_rule.specs.Boards.{Seated, Stack}
 use Rattle.shared_rule.specs.Lawful.{MayPutPart}
-use Rattle.shared_rule.proofs.Episodes.{fresh_hand, taken-in_hand}
+use Rattle.shared_rule.specs.History.{taken_of}
+use Rattle.shared_rule.specs.Episodes.{account_episode}
+use Rattle.shared_rule.proofs.Episodes.{fresh_hand, taken-in_hand, taken-put}
 use Rattle.lock_manager.specs.Rest.{IsUseCount, IsIdle}
 use Rattle.lock_manager.specs.Releases.{Wakens, Tells, ReleasesInPart, ReleasesHold, LooksNowhere, FindsNone, Releases, account_released}
 use Rattle.lock_manager.proofs.Holding.{use_count-same}
@@ -78,6 +80,25 @@ module _ (seat : Seated) (a : Account) (p : ℕ) (tag : Tag) (mode : Mode) (take
             (subst (λ v. Wakens seat v p (Release tag mode) woken put) {x = account_taking a p taken} {y = b} (sym same) wakens);
         so_far = inl (refl, some, refl);
       }
+
+-- A release that ends by a wakeup is an episode.
+pub woken-released :
+    (number : ℕ) (a b c : Account) (p : ℕ) (tag : Tag) (mode : Mode) (taken put : Content) (granted : List Wait)
+    → p ≡ partition_of tag → a.hand p ≡ None → b ≡ account_taking a p taken → OwnHoldsStand number a.own a.fast.database a.fast.remembered p taken
+    → Moves taken number (Release tag mode) granted put → c ≡ account_putting b p (taken_of (b.hand p)) put (Release tag mode)
+    → ReleasesInPart number a tag mode c
+woken-released number a b c p tag mode taken put granted object none same stand moved ended = record {
+  taken = taken;
+  put = put;
+  granted = granted;
+  own_stand = subst (λ q. OwnHoldsStand number a.own a.fast.database a.fast.remembered q taken) object stand;
+  moved = moved;
+  account =
+      ended
+      ∙ ap (λ (x : Account). account_putting x p (taken_of (x.hand p)) put (Release tag mode)) same
+      ∙ taken-put a p taken put (Release tag mode) none
+      ∙ ap (λ q. account_episode a q taken put (Release tag mode)) object;
+}
 
 -- ---- the whole release
 

@@ -1,3 +1,4 @@
+pub mod Keeper
 pub mod Rest
 pub mod Requests
 pub mod Releases

@@ -5,10 +5,10 @@ use Rattle.lock_world.specs.World.{TraceEntry}
 use Rattle.shared_rule.specs.Boards.{Seated, Stack}
 use Rattle.shared_rule.specs.declared.history.History.{History}
 use Rattle.shared_rule.specs.Openers.{HaveClosed, trace_told}
-use Rattle.lock_table.specs.PartView.{PartView, content_of}
 use Rattle.local_locks.specs.declared.ends.End.TheVariants as end_
 use Rattle.local_locks.specs.Owned.{ended_by}
 use Rattle.lock_manager.specs.declared.config.Config.{Config}
+use Rattle.lock_manager.specs.Keeper.{PartView, content_of}
 use Rattle.lock_manager.specs.Releases.{ReleasesAll}
 use Rattle.lock_manager.specs.Sessions.{SessionView, IsResting}
 

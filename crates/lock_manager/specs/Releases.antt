@@ -7,11 +7,12 @@ use Rattle.lock_table.specs.declared.moves.Move.{Move}
 use Rattle.lock_table.specs.declared.moves.Move.TheVariants.{Release}
 use Rattle.lock_table.specs.Content.{Wait, Content}
 use Rattle.lock_table.specs.Moves.{Moves}
+use Rattle.lock_table.specs.Queue.{Wakes}
 use Rattle.lock_table.specs.Waiter.{whose_and_mode}
 use Rattle.lock_world.specs.Account.{Account, InHand}
 use Rattle.lock_world.specs.AccountFacts.{OwnHoldsStand}
 use Rattle.lock_world.specs.AccountLaw.{MayMoveBy}
-use Rattle.lock_world.specs.AccountSteps.{own_with, account_marking}
+use Rattle.lock_world.specs.AccountSteps.{own_with, account_marking, account_putting}
 use Rattle.lock_world.specs.Counted.{Counted, uncounting}
 use Rattle.lock_world.specs.World.{TraceEntry, Took, Episode}
 use Rattle.lock_world.specs.SlotHolds.{slot_count, slot_holds, used}
@@ -19,7 +20,8 @@ use Rattle.fast_path.specs.Slots.{slot_loads}
 use Rattle.fast_path.specs.Releases.{ClearsSlot}
 use Rattle.shared_rule.specs.Boards.{Seated}
 use Rattle.shared_rule.specs.Episodes.{account_episode}
-use Rattle.shared_rule.specs.History.{in_hand, is_among, sessions_told}
+use Rattle.shared_rule.specs.Lawful.{MayPutPart}
+use Rattle.shared_rule.specs.History.{in_hand, is_among, sessions_told, taken_of}
 
 -- Releases of holds, as the session's trace has them.
 
@@ -49,6 +51,21 @@ pub record Tells (seat : Seated) (a : Account) (partition : ℕ) (done : Move) (
   pub from : Account
   pub wakens : Wakens seat from partition done woken now
   pub so_far : IsMarking from partition done now woken woken a
+
+-- The session may put a partition in hand after this move, whose wakeup of the object's queue is still to come, whomever it
+-- grants: it puts it where that is nobody, and else tells them.
+pub record MayWake (seat : Seated) (a : Account) (partition : ℕ) (done : Move) (tag : Tag) (before : Content) : Type 0 where
+  pub nobody : (after : Content) → Wakes before tag [] after → (mine : InHand) × MayPutPart seat.limit seat.number a partition mine done after
+  pub some :
+      (granted : List Wait) (woken : List (ℕ × Mode)) (after : Content) → Wakes before tag granted after
+      → woken ≡ map whose_and_mode granted → woken ≢ [] → Tells seat a partition done woken after
+
+-- The queue was woken, and the partition was put.
+pub record WakesAndPuts (a : Account) (partition : ℕ) (done : Move) (tag : Tag) (before : Content) (b : Account) : Type 0 where
+  pub granted : List Wait
+  pub after : Content
+  pub wakes : Wakes before tag granted after
+  pub account : b ≡ account_putting a partition (taken_of (a.hand partition)) after done
 
 -- The episode that releases a hold: the content is put once the hold is gone and who may go then is granted. The content
 -- taken has each own hold of its partition that is in no slot.

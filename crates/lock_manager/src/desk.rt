@@ -5,7 +5,7 @@ ghost use Rattle.lock_manager.specs.Managers.{IsOpenerOf};
 
 use crate::manager::{Manager, Opener};
 use crate::sessions::Session;
-use lock_table::PlainPart as Part;
+use crate::keeper::Part;
 use modes_core::Refusal;
 use shared_rule::board::Board;
 use shared_rule::seat_board::SeatBoard;

@@ -4,6 +4,7 @@
 mod any_board;
 mod config;
 mod desk;
+mod keeper;
 mod listing;
 mod manager;
 mod releases;
@@ -14,9 +15,10 @@ mod waits;
 
 pub use config::{Config, MOST_SESSIONS};
 pub use desk::{Desk, ManagerDesk};
+pub use keeper::Part;
 pub use listing::Listing;
 pub use local_locks::{Acquired, MOST_LOCAL, Unlocked};
-pub use lock_table::{PartTable, PlainPart as Part, SlotRow, TableRow};
+pub use lock_table::{PartTable, SlotRow, TableRow};
 pub use manager::{Final, Manager, Opener};
 pub use modes_core::{How, Mode, ModeSet, Owner, Refusal, SessionId, Tag};
 pub use sessions::{OwnSession, Session};

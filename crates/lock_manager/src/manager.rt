@@ -5,9 +5,10 @@ ghost use Rattle.shared_rule.specs.Seats.{MayCloseBy};
 ghost use Rattle.shared_rule.specs.Boards.{nothing_due};
 ghost use Rattle.lock_manager.specs.Managers.{IsNew, IsOpenerOf, IsOpened, TakesBack, is_in_range};
 
+use crate::keeper::Part;
 use crate::config::Config;
 use crate::sessions::{Own, OwnSession, Session};
-use lock_table::{PlainPart, empty_parts};
+use lock_table::empty_parts;
 use modes_core::Refusal;
 use shared_rule::board::Board;
 use shared_rule::opener::Opener as NumberOpener;
@@ -29,7 +30,7 @@ pub struct Final {
 /// it. Contracts see its table, how many sessions it may open, and how many local entries each may have.
 #[derive(Drop)]
 pub struct Manager {
-    table: SharedTable<PlainPart>,
+    table: SharedTable<Part>,
     max_local: u32,
     alloc: Global,
 }
@@ -53,7 +54,7 @@ impl Model for Manager {
 /// out and may give out, how many of them are open, and the histories of those that have closed.
 #[derive(Drop)]
 pub struct Opener {
-    numbers: NumberOpener<PlainPart>,
+    numbers: NumberOpener<Part>,
     issued: u8,
     sessions: u8,
     live: u8,
@@ -88,7 +89,7 @@ impl Manager {
         if !config.is_in_range() {
             return Err(Refusal::BadConfig);
         }
-        let Ok(parts) = empty_parts(alloc) else {
+        let Ok(parts) = empty_parts(alloc, Part::new) else {
             return Err(Refusal::NoMemory);
         };
         let Ok(slots) = in_slots(alloc, parts) else {
@@ -145,7 +146,7 @@ impl Opener {
         database: u32,
     ) -> Result<Session<'a>, Refusal>
         requires own { IsOpenerOf self.old manager.now }
-        ensures ok { let B = ⟦<SeatBoard<'a, PlainPart> as Board<PlainPart>>⟧ in
+        ensures ok { let B = ⟦<SeatBoard<'a, Part> as Board<Part>>⟧ in
             IfOk result (λ session. IsOpened B.seat B.view B.stack self.old manager.now database session) }
         ensures counted { OnOk result (self.new ≡
             record (self.old) { issued = self.old.issued + 1; live = self.old.live + 1 }) }
@@ -165,11 +166,11 @@ impl Opener {
     }
 
     // Takes the board of a session back that has nothing any more, with all that it did.
-    pub(crate) fn take_back<'a>(&mut self, board: SeatBoard<'a, PlainPart>)
-        requires table { (⟦<SeatBoard<'a, PlainPart> as Board<PlainPart>>⟧.seat board).table ≡ self.old.table }
-        requires stack { ⟦<SeatBoard<'a, PlainPart> as Board<PlainPart>>⟧.stack board ≡ nothing_due }
-        requires lawful { MayCloseBy (⟦<SeatBoard<'a, PlainPart> as Board<PlainPart>>⟧.view board) }
-        ensures closed { let B = ⟦<SeatBoard<'a, PlainPart> as Board<PlainPart>>⟧ in
+    pub(crate) fn take_back<'a>(&mut self, board: SeatBoard<'a, Part>)
+        requires table { (⟦<SeatBoard<'a, Part> as Board<Part>>⟧.seat board).table ≡ self.old.table }
+        requires stack { ⟦<SeatBoard<'a, Part> as Board<Part>>⟧.stack board ≡ nothing_due }
+        requires lawful { MayCloseBy (⟦<SeatBoard<'a, Part> as Board<Part>>⟧.view board) }
+        ensures closed { let B = ⟦<SeatBoard<'a, Part> as Board<Part>>⟧ in
             TakesBack (B.seat board.entry).number (B.view board.entry).trace self.old self.new }
     {
         self.numbers.close(board);

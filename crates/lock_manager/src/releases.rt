@@ -11,7 +11,7 @@ ghost use Rattle.shared_rule.specs.History.{taken_of};
 ghost use Rattle.shared_rule.specs.Lawful.{IsGrantingIn};
 ghost use Rattle.shared_rule.specs.Boards.{stack_putting};
 ghost use Rattle.lock_manager.specs.Rest.{IsIdle, IsUseCount, IsAtRest};
-ghost use Rattle.lock_manager.specs.Releases.{Tells, ReleasesInPart, ReleasesHold, Releases, ReleasesAll};
+ghost use Rattle.lock_manager.specs.Releases.{Tells, MayWake, WakesAndPuts, ReleasesInPart, ReleasesHold, Releases, ReleasesAll};
 ghost use Rattle.lock_manager.specs.Releases.{account_released};
 
 use crate::sessions::Own;
@@ -21,7 +21,7 @@ use lock_table::{Move, PartTable, Woken};
 use modes_core::{Mode, Tag, is_eligible, is_strong};
 use shared_rule::board::Board;
 use std::sync::Wait;
-use wait_queue::release;
+use wait_queue::take_hold_out;
 
 /// Releases all that the end of a transaction or of the session takes away, in the order of making (`LockReleaseAll` in
 /// lock.c).
@@ -114,9 +114,40 @@ fn release_in_part<T: PartTable, B: Board<T>, R: Wait>(rt: &R, board: &mut B, ta
     let part = tag.partition();
     let done = Move::Release { tag: *tag, mode };
     let mut content = board.take_part(rt, part);
-    match release(&mut content, number, tag, mode) {
-        None => board.put_part(part, &done, content),
-        Some(woken) => put_with_woken(board, part, &done, &woken, content),
+    if take_hold_out(&mut content, number, tag, mode) {
+        wake_and_put(board, part, tag, &done, content);
+    } else {
+        board.put_part(part, &done, content);
+    }
+}
+
+/// Ends a move by a wakeup of the object's queue: tells those who may go, if any, and puts the partition (`ProcLockWakeup`
+/// in proc.c). A function of its own, since the list of those woken is large and mostly not needed.
+#[cold]
+#[inline(never)]
+fn wake_and_put<T: PartTable, B: Board<T>>(
+    board: &mut B,
+    part: u8,
+    tag: &Tag,
+    done: &Move,
+    mut content: T,
+)
+    requires exists { part < 16 }
+    requires grants { IsGrantingIn part done.now }
+    requires none_begun { T.begun content ≡ None }
+    requires in_hand { (others : List ℕ) × ((B.stack board.old).parts ≡ part ∷ others) }
+    requires none_owed { (B.stack board.old).owed ≡ [] }
+    requires wait_is_over { WaitIsOver (B.view board.old).awaited part done.now }
+    requires lawful { MayWake (B.seat board.old) (B.view board.old) part done.now tag.now (T.content content) }
+    ensures account { WakesAndPuts (B.view board.old) part done.now tag.now (T.content content) (B.view board.new) }
+    ensures stack { B.stack board.new ≡ stack_putting (B.stack board.old) }
+    ensures seat { B.seat board.new ≡ B.seat board.old }
+{
+    let woken = content.wake(tag);
+    if woken.is_empty() {
+        board.put_part(part, done, content);
+    } else {
+        put_with_woken(board, part, done, &woken, content);
     }
 }
 

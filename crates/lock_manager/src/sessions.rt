@@ -16,13 +16,14 @@ ghost use Rattle.lock_manager.specs.Managers.{HasClosed};
 ghost use Rattle.lock_manager.specs.Requests.{Acquires, AcquiresBySlot};
 ghost use Rattle.lock_manager.specs.Releases.{Releases, ReleasesAll};
 
+use crate::keeper::Part;
 use crate::listing::{Listing, list};
 use crate::manager::Opener;
 use crate::releases::{end_all, release_hold};
 use crate::requests::{acquire, acquire_by_slot};
 use crossbeam_utils::CachePadded;
 use local_locks::{Acquired, End, LocalTable, Unlocked};
-use lock_table::{PartTable, PlainPart};
+use lock_table::PartTable;
 use modes_core::{Mode, ModeSet, Owner, Refusal, SessionId, Tag};
 use shared_rule::board::Board;
 use shared_rule::seat_board::SeatBoard;
@@ -31,7 +32,7 @@ use std::marker::{Model, PhantomData};
 use std::sync::Wait;
 
 /// A session of a manager.
-pub type Session<'a> = OwnSession<PlainPart, SeatBoard<'a, PlainPart>>;
+pub type Session<'a> = OwnSession<Part, SeatBoard<'a, Part>>;
 
 // What a session has of its own, which no other session sees. It is written in each call, so it has padding round it,
 // which keeps it off the cache lines of what the allocator puts beside it: that may be another thread's session.
@@ -318,16 +319,16 @@ impl<T: PartTable, B: Board<T>> OwnSession<T, B> {
     }
 }
 
-impl<'a> OwnSession<PlainPart, SeatBoard<'a, PlainPart>> {
+impl<'a> OwnSession<Part, SeatBoard<'a, Part>> {
     /// Meets another session of the same manager, which comes back: no hold of the one conflicts with a hold of the other
     /// on an object. Both are as before.
     pub fn meet(&mut self, other: Session<'a>) -> Session<'a>
-        requires same_manager { let B = ⟦<SeatBoard<'a, PlainPart> as Board<PlainPart>>⟧ in
+        requires same_manager { let B = ⟦<SeatBoard<'a, Part> as Board<Part>>⟧ in
             (B.seat other.board).table ≡ (B.seat self.old.board).table }
         ensures told { DontConflict self.old.owned.entries other.entry.owned.entries }
-        ensures unchanged { let B = ⟦<SeatBoard<'a, PlainPart> as Board<PlainPart>>⟧ in
+        ensures unchanged { let B = ⟦<SeatBoard<'a, Part> as Board<Part>>⟧ in
             IsUnchanged B.seat B.view B.stack self.old self.new }
-        ensures its_unchanged { let B = ⟦<SeatBoard<'a, PlainPart> as Board<PlainPart>>⟧ in
+        ensures its_unchanged { let B = ⟦<SeatBoard<'a, Part> as Board<Part>>⟧ in
             IsUnchanged B.seat B.view B.stack other.entry result }
     {
         let OwnSession { board, own, parts } = other;
@@ -338,8 +339,8 @@ impl<'a> OwnSession<PlainPart, SeatBoard<'a, PlainPart>> {
     /// Ends the session: all that it holds is released, in the order of making, and its number is that of a closed
     /// session from then on, which is not given out again (`ProcKill` in proc.c). Its trace goes to the opener.
     pub fn close<R: Wait>(self, rt: &R, opener: &mut Opener)
-        requires own_opener { (⟦<SeatBoard<'a, PlainPart> as Board<PlainPart>>⟧.seat self.board).table ≡ opener.old.table }
-        ensures closed { let B = ⟦<SeatBoard<'a, PlainPart> as Board<PlainPart>>⟧ in
+        requires own_opener { (⟦<SeatBoard<'a, Part> as Board<Part>>⟧.seat self.board).table ≡ opener.old.table }
+        ensures closed { let B = ⟦<SeatBoard<'a, Part> as Board<Part>>⟧ in
             HasClosed B.seat B.view B.stack self.entry opener.old opener.new }
     {
         let OwnSession {

@@ -13,10 +13,11 @@ ghost use Rattle.lock_manager.specs.Waits.{answer_cancelled, session_cancelled, 
 ghost use Rattle.lock_manager.specs.Waits.{answer_waited, session_waited, acquired_after};
 ghost use Rattle.lock_manager.specs.Waits.{answer_locked, session_locked, Locks, HasBegun, WaitsOn, HasEnded};
 
+use crate::keeper::Part;
 use crate::sessions::{Own, OwnSession};
 use crate::waiting::{self, Asked};
 use local_locks::Acquired;
-use lock_table::{PartTable, PlainPart};
+use lock_table::PartTable;
 use modes_core::{Mode, Owner, Refusal, SessionId, Tag};
 use shared_rule::board::Board;
 use shared_rule::seat_board::SeatBoard;
@@ -24,7 +25,7 @@ use std::marker::{Model, PhantomData};
 use std::sync::Wait;
 
 /// A session of a manager that waits.
-pub type Waiting<'a> = OwnWaiting<PlainPart, SeatBoard<'a, PlainPart>>;
+pub type Waiting<'a> = OwnWaiting<Part, SeatBoard<'a, Part>>;
 
 /// A session that waits, over any board and any keeper of the partitions: it can make no call but those of its wait. It
 /// ends by one of them alone: the compiler refuses code that lets one go, which would stand in the queue for ever. Contracts

@@ -6,5 +6,5 @@ pub mod Locks
 pub mod Rows
 pub mod Objects
 pub mod View
-pub mod Part
+pub mod Records
 pub mod Counts

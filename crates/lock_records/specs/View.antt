@@ -6,7 +6,7 @@ use Rattle.lock_table.specs.declared.part_waits.PartWait.{PartWait}
 use Rattle.lock_records.specs.Holders.{holds_in}
 use Rattle.lock_records.specs.declared.holders.HolderRecord.{HolderRecord}
 
--- what contracts see of a `RecordPart`: its holder records, its waits, and the request that is begun
+-- what contracts see of a `RecordPart` and of its records: its holder records, its waits, and the request that is begun
 pub record RecordView : Type 0 where
   pub holders : List (Option HolderRecord)
   pub waits : List PartWait

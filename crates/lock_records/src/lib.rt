@@ -8,6 +8,7 @@ mod listing;
 pub mod locks;
 pub mod objects;
 pub mod part;
+pub mod records;
 mod sets;
 pub mod tally;
 

@@ -97,20 +97,25 @@ fn look_up(locks: &Slab<LockRecord>, index: &PlaceIndex, tag: &Tag) -> Option<us
     }
 }
 
-/// Where the object's record stands, which is made where there is none.
+/// Where the object's record stands, which is made where there is none. The caller may know that there is none.
 #[inline(always)]
 pub(crate) fn look_or_make(
     locks: &mut Slab<LockRecord>,
     index: &mut PlaceIndex,
     hint: usize,
+    absent: bool,
     tag: &Tag,
 ) -> usize
     requires noted { AreNoted locks.old.slots index.old }
+    requires absent { absent ≡ true → HasNoLock locks.old.slots tag.now }
     requires room { HasRoomFor locks.old 1 }
     requires places { locks.old.vacant_key < index.old.places }
     ensures noted { AreNoted locks.new.slots index.new }
     ensures made { HasMadeLock locks.old.slots locks.new.slots tag.now result }
 {
+    if absent {
+        return make_lock(locks, index, tag);
+    }
     match look(locks, index, hint, tag) {
         Some(place) => place,
         None => make_lock(locks, index, tag),
@@ -118,6 +123,7 @@ pub(crate) fn look_or_make(
 }
 
 /// Makes a record of an object that has none.
+#[inline(always)]
 fn make_lock(locks: &mut Slab<LockRecord>, index: &mut PlaceIndex, tag: &Tag) -> usize
     requires noted { AreNoted locks.old.slots index.old }
     requires room { HasRoomFor locks.old 1 }

@@ -20,6 +20,7 @@ use slab::Slab;
 
 /// Makes room for a request: in the index for one lock record more, for that record, for the hold that it and each wait
 /// becomes, and for its wait. No record changes.
+#[inline(always)]
 pub(crate) fn make_room(
     locks: &mut Slab<LockRecord>,
     holders: &mut Slab<HolderRecord>,

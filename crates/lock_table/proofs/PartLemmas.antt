@@ -1,19 +1,31 @@
-use Rattle.std.proofs.Common.{◌≡◌, ℕ, List, [], ◌∷◌, ◌++◌, zero, suc, get_or, None, refl}
-use Rattle.lock_table.specs.Content.{empty_content}
+use Rattle.std.proofs.Common.{◌≡◌, ℕ, List, [], ◌∷◌, ◌++◌, zero, suc, ◌<◌, length, Option, Some, None, get_or, refl, ap, subst, ◌∙◌, sym}
+use Rattle.std.specs.Prelude.{slice_get}
+use Rattle.lock_table.specs.declared.request.Request.{Request}
+use Rattle.lock_table.specs.Content.{Content}
 use Rattle.lock_table.specs.PartView.{PartView, content_of}
-use Rattle.lock_table.specs.Parts.{no_part, AreEmpty}
+use Rattle.lock_table.specs.Parts.{no_part, part_at, IsBlank, AreEmptyParts}
 
--- What holds at each place of a list, and past its end, holds with one element more.
-all_places-push :
-    {X : Type 0} (P : X → Type 0) (xs : List X) (y d : X) → P y → P d → ((k : ℕ) → P (get_or xs k d)) → (k : ℕ) → P (get_or (xs ++ y ∷ []) k d)
-all_places-push P [] y d last past all zero = last
-all_places-push P [] y d last past all (suc k) = past
-all_places-push P (x ∷ xs) y d last past all zero = all zero
-all_places-push P (x ∷ xs) y d last past all (suc k) = all_places-push P xs y d last past (λ j. all (suc j)) k
+-- What holds of each element of a list holds with one element more.
+all-push : {X : Type 0} (P : X → Type 0) (xs : List X) (y : X) → P y → ((i : ℕ) (x : X) → slice_get xs i ≡ Some x → P x) → (i : ℕ) (x : X) → slice_get (xs ++ y ∷ []) i ≡ Some x → P x
+all-push P [] y last all zero x there = let same : y ≡ x = cc (there) in subst P same last
+all-push P [] y last all (suc i) x there = absurd (cc (there))
+all-push P (z ∷ zs) y last all zero x there = all zero x there
+all-push P (z ∷ zs) y last all (suc i) x there = all-push P zs y last (λ j w at. all (suc j) w at) i x there
 
-pub AreEmpty-push : (parts : List PartView) (part : PartView) → content_of part ≡ empty_content → part.begun ≡ None → AreEmpty parts → AreEmpty (parts ++ part ∷ [])
-AreEmpty-push parts part content begun are =
-    record {
-      content = all_places-push (λ (view : PartView). content_of view ≡ empty_content) parts part no_part content refl are.content;
-      begun = all_places-push (λ (view : PartView). view.begun ≡ None) parts part no_part begun refl are.begun;
-    }
+module _ {T : Type 0} (content : T → Content) (begun : T → Option Request) where
+  pub AreEmptyParts-none : AreEmptyParts content begun []
+  AreEmptyParts-none i part there = absurd (cc (there))
+
+  pub AreEmptyParts-push : (parts : List T) (part : T) → IsBlank content begun part → AreEmptyParts content begun parts → AreEmptyParts content begun (parts ++ part ∷ [])
+  AreEmptyParts-push parts part blank are = all-push (IsBlank content begun) parts part blank are
+
+-- What holds of each element of a list, and past its end, holds at each place.
+all_places : {X : Type 0} (P : X → Type 0) (xs : List X) (d : X) → P d → ((i : ℕ) (x : X) → slice_get xs i ≡ Some x → P x) → (k : ℕ) → P (get_or xs k d)
+all_places P [] d past all k = past
+all_places P (x ∷ xs) d past all zero = all zero x refl
+all_places P (x ∷ xs) d past all (suc k) = all_places P xs d past (λ i y there. all (suc i) y there) k
+
+-- Whatever the number of the part is, it has nothing in it.
+pub AreEmptyParts-at : (parts : List PartView) → AreEmptyParts content_of (λ part. part.begun) parts → (p : ℕ) → IsBlank content_of (λ (part : PartView). part.begun) (part_at parts p)
+AreEmptyParts-at parts are p =
+    all_places (IsBlank content_of (λ (part : PartView). part.begun)) parts no_part (record { is_empty = refl; none_begun = refl }) are p

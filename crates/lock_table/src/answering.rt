@@ -23,6 +23,7 @@ pub struct Clash {
 /// What a request for the mode clashes with, if anything: the first waiter that awaits a conflicting
 /// mode, else the lowest-numbered session that holds one (`LockCheckConflicts` in lock.c, after the
 /// look at `waitMask`).
+#[inline(always)]
 pub fn clash_with<P: PartTable>(
     part: &P,
     session: SessionId,

@@ -24,8 +24,7 @@ mod wakes;
 
 use counted::Steps;
 use desk::{Desk, ManagerDesk};
-use lock_manager::{Config, Final, Manager, Mode, Opener, OwnSession, Refusal};
-use lock_table::PlainPart;
+use lock_manager::{Config, Final, Manager, Mode, Opener, OwnSession, Part, Refusal};
 use pair::Pair;
 use races::Race;
 use scenes::{Scene, perform};
@@ -56,8 +55,8 @@ enum Story<'a> {
 
 /// Tells a story, with sessions from a desk.
 fn tell<
-    B: Board<PlainPart> + Send,
-    D: Desk<OwnSession<PlainPart, B>>,
+    B: Board<Part> + Send,
+    D: Desk<OwnSession<Part, B>>,
     R: Abort + Threads + Wait + Sync,
 >(rt: &R, alloc: Global, desk: &mut D, story: Story<'_>)
     requires seats { SeatsAre B.seat D.seat }

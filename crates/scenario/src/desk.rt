@@ -1,12 +1,11 @@
 //! Desks, at which the sessions of a manager are opened and closed.
 
 ghost use Rattle.std.specs.Prelude.{◌≡◌, ◌<◌, ◌+◌, ◌-◌, ◌∷◌, IfOk, OnOk, OnErr};
-ghost use Rattle.lock_table.specs.PartView.{PartView};
+ghost use Rattle.lock_manager.specs.Keeper.{PartView};
 ghost use Rattle.shared_rule.specs.declared.history.History.{History};
 ghost use Rattle.lock_manager.specs.Managers.{IsOpenerOf};
 
-use lock_manager::{Manager, Opener, Refusal, Session};
-use lock_table::PlainPart;
+use lock_manager::{Manager, Opener, Part, Refusal, Session};
 use shared_rule::board::Board;
 use shared_rule::seat_board::SeatBoard;
 use std::sync::Wait;
@@ -55,8 +54,8 @@ impl<'a> Desk<'a, Session<'a>> for SharedDesk {
     }
 
     fn close<R: Wait>(&self, rt: &R, opener: &mut Opener, session: Session<'a>)
-        requires own { (⟦<SeatBoard<'a, PlainPart> as Board<PlainPart>>⟧.seat session.board).table ≡ opener.old.table }
-        ensures closed { let B = ⟦<SeatBoard<'a, PlainPart> as Board<PlainPart>>⟧ in
+        requires own { (⟦<SeatBoard<'a, Part> as Board<Part>>⟧.seat session.board).table ≡ opener.old.table }
+        ensures closed { let B = ⟦<SeatBoard<'a, Part> as Board<Part>>⟧ in
             (last : History PartView) × (last.number ≡ (B.seat session.entry.board).number)
             × (opener.new ≡ record (opener.old) { live = opener.old.live - 1; closed = last ∷ opener.old.closed }) }
     {

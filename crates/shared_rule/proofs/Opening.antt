@@ -1,5 +1,5 @@
 use Rattle.std.proofs.Common.{◌≡◌, ℕ, zero, suc, ◌≤◌, List, [], ◌∷◌, ◌++◌, length, Option, Some, None, IsSome, refl, sym, ap, ◌∙◌, subst, arith}
-use Rattle.std.specs.Prelude.{slice_get, slice_index_or, option_to_list}
+use Rattle.std.specs.Prelude.{slice_get, option_to_list}
 use Rattle.std.proofs.lemmas.Bool.{false≢true}
 use mathlib.Core.Option.{some, some-injective, some-ne-none}
 use lib.ListN.{get_elem?}
@@ -7,8 +7,7 @@ use Rattle.atomic_table.specs.Table as table
 use Rattle.atomic_table.proofs.Lists.{at_map}
 use Rattle.lock_table.specs.declared.request.Request.{Request}
 use Rattle.lock_table.specs.Content.{Content}
-use Rattle.lock_table.specs.PartView.{PartView, content_of}
-use Rattle.lock_table.specs.Parts.{AreEmpty, part_at, no_part}
+use Rattle.lock_table.specs.Parts.{AreEmptyParts}
 use Rattle.lock_world.specs.World.{opening}
 use Rattle.lock_table.specs.Total.{total}
 use Rattle.lock_world.proofs.SafeWorld.Opening.{opening-safe}
@@ -18,7 +17,7 @@ use Rattle.shared_rule.specs.declared.history.View.{View}
 use Rattle.shared_rule.specs.Layout.{content_slot_of}
 use Rattle.shared_rule.specs.Shown.{WordsAreShown}
 use Rattle.shared_rule.specs.History.{opening_view}
-use Rattle.shared_rule.specs.Opening.{IsNew, AreNew, AreEmptyParts}
+use Rattle.shared_rule.specs.Opening.{IsNew, AreNew}
 use Rattle.shared_rule.specs.Ruled.{ClosedAreCounted, SeatsAreShown, Ruled}
 
 -- The table before the first step meets the rule.
@@ -28,18 +27,6 @@ get-there : {A : Type 0} (xs : List A) (i : ℕ) (a : A) → slice_get xs i ≡ 
 get-there [] i a get = absurd (cc (get))
 get-there (x ∷ xs) zero a get = let same : x ≡ a = cc (get) in ap some same
 get-there (x ∷ xs) (suc i) a get = get-there xs i a get
-
--- What is there is read there.
-read-there : {A : Type 0} (xs : List A) (i : ℕ) (a d : A) → slice_get xs i ≡ Some a → slice_index_or xs i d ≡ a
-read-there [] i a d there = absurd (cc (there))
-read-there (x ∷ xs) zero a d there = cc (there)
-read-there (x ∷ xs) (suc i) a d there = read-there xs i a d there
-
--- The plain keepers of empty partitions have nothing in them.
-pub AreEmpty-blank : (parts : List PartView) → AreEmpty parts → AreEmptyParts content_of (λ part. part.begun) parts
-AreEmpty-blank parts empty k part there =
-    let same : part_at parts k ≡ part = read-there parts k part no_part there in
-    record { is_empty = ap content_of (sym same) ∙ empty.content k; none_begun = ap (λ (p : PartView). p.begun) (sym same) ∙ empty.begun k }
 
 module _ {T : Type 0} (content : T → Content) (begun : T → Option Request) (limit : ℕ) where
   -- the opener's seat is the only one

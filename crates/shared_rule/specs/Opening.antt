@@ -1,6 +1,7 @@
 use Rattle.std.specs.Prelude.{◌≡◌, ℕ, ◌<◌, List, length, slice_index, slice_get, Option, Some, None}
 use Rattle.lock_table.specs.declared.request.Request.{Request}
-use Rattle.lock_table.specs.Content.{Content, empty_content}
+use Rattle.lock_table.specs.Content.{Content}
+use Rattle.lock_table.specs.Parts.{IsBlank}
 use Rattle.lock_world.specs.declared.events.Word.{Word}
 use Rattle.lock_world.specs.World.{opening, word_in}
 use Rattle.shared_rule.specs.declared.layout.TheConstants.{CONTENT_SLOTS}
@@ -18,20 +19,11 @@ abbrev pub AreFirst : List ℕ → Type 0
 AreFirst words = (index : ℕ) → index < length words → IsFirst index (slice_index words index)
 
 module _ {T : Type 0} (content : T → Content) (begun : T → Option Request) where
-  -- The part has nothing in it.
-  pub record IsBlank (part : T) : Type 0 where
-    pub is_empty : content part ≡ empty_content
-    pub none_begun : begun part ≡ None
-
   -- There is a part with nothing in it.
   pub record IsNew (there : Option (Option T)) : Type 0 where
     pub part : T
     pub is_there : there ≡ Some (Some part)
-    pub blank : IsBlank part
-
-  -- These parts have nothing in them.
-  abbrev pub AreEmptyParts : List T → Type 0
-  AreEmptyParts parts = (i : ℕ) (part : T) → slice_get parts i ≡ Some part → IsBlank part
+    pub blank : IsBlank content begun part
 
   -- Each partition's part is in its slot, with nothing in it.
   pub record AreNew (slots : List (Option T)) : Type 0 where

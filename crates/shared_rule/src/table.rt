@@ -3,7 +3,8 @@
 ghost use Rattle.std.specs.Prelude.{◌≡◌, ◌<◌, ◌≤◌, ◌+◌, ◌/◌, ◌%◌, [], length, Some, IfOk, IfErr};
 ghost use Rattle.lock_world.specs.World.{opening};
 ghost use Rattle.shared_rule.specs.Shown.{WordsAreShown};
-ghost use Rattle.shared_rule.specs.Opening.{IsFirst, IsNew, AreNew, AreEmptyParts};
+ghost use Rattle.lock_table.specs.Parts.{AreEmptyParts};
+ghost use Rattle.shared_rule.specs.Opening.{IsFirst, IsNew, AreNew};
 
 use crate::history::View;
 use crate::layout::{

@@ -6,6 +6,6 @@ mod releases;
 mod removals;
 mod requests;
 
-pub use releases::{awaited_in_conflict, release};
+pub use releases::{awaited_in_conflict, release, take_hold_out};
 pub use removals::{Removed, remove_waiter};
 pub use requests::{Decision, Kind, decide};

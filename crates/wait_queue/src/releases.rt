@@ -1,8 +1,8 @@
-ghost use Rattle.std.specs.Prelude.{◌≡◌, ◌≢◌, true, List, [], map, IfNone, IfSome};
-ghost use Rattle.lock_table.specs.Content.{Wait};
+ghost use Rattle.std.specs.Prelude.{◌≡◌, ◌≢◌, true, false, List, [], map, IfNone, IfSome};
+ghost use Rattle.lock_table.specs.Content.{Wait, Content};
 ghost use Rattle.lock_table.specs.declared.moves.Move.TheVariants.{Release};
 ghost use Rattle.lock_table.specs.Moves.{Moves};
-ghost use Rattle.lock_table.specs.Queue.{some_awaits_conflict};
+ghost use Rattle.lock_table.specs.Queue.{some_awaits_conflict, Wakes};
 ghost use Rattle.lock_table.specs.Waiter.{whose_and_mode};
 
 use lock_table::{PartTable, Woken, first_against};
@@ -14,6 +14,26 @@ pub fn awaited_in_conflict<P: PartTable>(part: &P, tag: &Tag, mode: Mode) -> boo
     ensures { result ≡ some_awaits_conflict ((P.content part.now).waits tag.now) mode }
 {
     first_against(part, tag, mode).is_some()
+}
+
+/// Takes a hold of the session out (`UnGrantLock` in lock.c), and says whether somebody awaits a mode in conflict with the one
+/// released: the release is over where nobody does, and else by a wakeup of the queue (`PartTable::wake`).
+#[inline(always)]
+pub fn take_hold_out<P: PartTable>(
+    part: &mut P,
+    session: SessionId,
+    tag: &Tag,
+    mode: Mode,
+) -> bool
+    requires { (P.content part.old).holds session tag.now mode ≡ true }
+    ensures over { result ≡ false →
+        Moves (P.content part.old) session (Release tag.now mode) [] (P.content part.new) }
+    ensures to_wake { result ≡ true → (granted : List Wait) (after : Content) → Wakes (P.content part.new) tag.now granted after →
+        Moves (P.content part.old) session (Release tag.now mode) granted after }
+    ensures begun { P.begun part.new ≡ P.begun part.old }
+{
+    part.ungrant(session, tag, mode);
+    awaited_in_conflict(part, tag, mode)
 }
 
 /// Takes a hold of the session out, and grants the waits that are free to go then, where somebody
@@ -34,8 +54,7 @@ pub fn release<P: PartTable>(
     ensures somebody { IfSome result (λ woken. woken.items ≢ []) }
     ensures begun { P.begun part.new ≡ P.begun part.old }
 {
-    part.ungrant(session, tag, mode);
-    if !awaited_in_conflict(part, tag, mode) {
+    if !take_hold_out(part, session, tag, mode) {
         return None;
     }
     let woken = part.wake(tag);

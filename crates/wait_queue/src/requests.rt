@@ -28,6 +28,7 @@ pub enum Decision {
 /// lock.c, with `ProcSleep` in proc.c). Where nothing stands in its way it is granted. Else a
 /// conditional one is refused with what stands in its way, and one that may wait is answered by its
 /// place in the queue. After `NoMemory`, as after each refusal, the content is as before.
+#[inline(always)]
 pub fn decide<P: PartTable>(
     part: &mut P,
     session: SessionId,
@@ -53,6 +54,7 @@ pub fn decide<P: PartTable>(
 }
 
 /// Decides a request that is begun, with the room that was made for it: no more memory is taken.
+#[inline(always)]
 fn decide_begun<P: PartTable>(
     part: &mut P,
     session: SessionId,
@@ -95,6 +97,7 @@ fn decide_begun<P: PartTable>(
 /// Ends a begun request that something stands in the way of, by its place in the queue: it is granted,
 /// queued, or withdrawn, since it and the session that the error names would wait for one another. It
 /// takes no memory.
+#[inline(never)]
 fn end_by_place<P: PartTable>(
     part: &mut P,
     session: SessionId,

@@ -203,7 +203,7 @@ impl Machine {
             lists: Lists::empty(alloc),
             contents: Contents {
                 hands: [None; 16],
-                parts: empty_parts(alloc)?,
+                parts: empty_parts(alloc, PlainPart::new)?,
             },
             waits: OwnWaits {
                 awaited: [None; 64],

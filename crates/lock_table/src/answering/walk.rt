@@ -29,6 +29,7 @@ pub fn is_against(mode: Mode, modes: ModeSet) -> bool
 
 /// Walks along the object's queue, from its front up to the first waiter whose mode conflicts with one
 /// of these (the loop over `waitProcs` of `ProcSleep` in proc.c).
+#[inline(always)]
 pub fn walk_until<P: PartTable>(part: &P, tag: &Tag, modes: ModeSet) -> Walk
     ensures { WalksUntil (set_has modes) ((P.content part.now).waits tag.now) result }
 {
@@ -53,6 +54,7 @@ pub fn walk_until<P: PartTable>(part: &P, tag: &Tag, modes: ModeSet) -> Walk
 }
 
 /// The first waiter of the object's queue that awaits a mode in conflict with this one.
+#[inline(always)]
 pub fn first_against<P: PartTable>(part: &P, tag: &Tag, mode: Mode) -> Option<Waiter>
     ensures { option_map shown_wait result ≡ first_waiter ((P.content part.now).waits tag.now) mode }
 {

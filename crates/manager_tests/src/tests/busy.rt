@@ -7,8 +7,8 @@ use super::deeds::{Deed, act_side_by_side};
 use super::pair::Pair;
 use super::races::see_nothing;
 use super::waits::{OWNER, TABLE, take};
-use lock_manager::{Acquired, Mode, OwnSession, Refusal};
-use lock_table::{PartTable, PlainPart};
+use lock_manager::{Acquired, Mode, OwnSession, Part, Refusal};
+use lock_table::PartTable;
 use shared_rule::board::Board;
 use std::process::Abort;
 use std::sync::Wait;
@@ -80,10 +80,10 @@ pub fn take_until_seen<T: PartTable, B: Board<T>, R: Abort + Wait>(
 }
 
 /// One goes past the slots of the other, until that one finds them busy. At the end nothing stands.
-pub fn find_slots_busy<B: Board<PlainPart> + Send, R: Abort + Threads + Wait + Sync>(
+pub fn find_slots_busy<B: Board<Part> + Send, R: Abort + Threads + Wait + Sync>(
     rt: &R,
-    pair: Pair<PlainPart, B>,
-) -> Pair<PlainPart, B>
+    pair: Pair<Part, B>,
+) -> Pair<Part, B>
     ensures first { B.seat result.first.board ≡ B.seat pair.first.board }
     ensures second { B.seat result.second.board ≡ B.seat pair.second.board }
 {

@@ -351,7 +351,7 @@ pub fn make_all<T: PartTable, B: Board<T>, R: Abort + Wait>(
 fn empty_slots(alloc: Global) -> Result<Vec<Option<PlainPart>>, Fail>
     ensures new { let T = ⟦<PlainPart as PartTable>⟧ in IfOk result (λ slots. AreNew T.content T.begun slots.items) }
 {
-    Ok(in_slots(alloc, empty_parts(alloc)?)?)
+    Ok(in_slots(alloc, empty_parts(alloc, PlainPart::new)?)?)
 }
 
 /// A board for tests, of a table for one session.

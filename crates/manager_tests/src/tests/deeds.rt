@@ -6,8 +6,8 @@ use super::answers::Answer;
 use super::busy::{take_until_seen, try_until_busy};
 use super::pair::Pair;
 use super::waits::{OWNER, TABLE, ask, ask_until_heard, give_back, see_wait};
-use lock_manager::{Asked, Mode, OwnSession, SessionId};
-use lock_table::{PartTable, PlainPart};
+use lock_manager::{Asked, Mode, OwnSession, Part, SessionId};
+use lock_table::PartTable;
 use shared_rule::board::Board;
 use std::process::Abort;
 use std::sync::Wait;
@@ -97,10 +97,10 @@ fn act<T: PartTable, B: Board<T>, R: Abort + Wait>(
 
 /// Two that are lent do something, the one beside the other, and what each was answered. The two deeds are lent too, since the
 /// check covers no two closures each of which borrows a variable of its own beside its session.
-fn act_on_loan<B: Board<PlainPart> + Send, R: Abort + Threads + Wait + Sync>(
+fn act_on_loan<B: Board<Part> + Send, R: Abort + Threads + Wait + Sync>(
     rt: &R,
-    first: &mut OwnSession<PlainPart, B>,
-    second: &mut OwnSession<PlainPart, B>,
+    first: &mut OwnSession<Part, B>,
+    second: &mut OwnSession<Part, B>,
     deeds: &(Deed, Deed),
 ) -> (Option<Answer>, Option<Answer>)
     ensures first { B.seat first.new.board ≡ B.seat first.old.board }
@@ -118,12 +118,12 @@ fn act_on_loan<B: Board<PlainPart> + Send, R: Abort + Threads + Wait + Sync>(
 }
 
 /// Each of two sessions does something, the one beside the other, and what each was answered.
-pub fn act_side_by_side<B: Board<PlainPart> + Send, R: Abort + Threads + Wait + Sync>(
+pub fn act_side_by_side<B: Board<Part> + Send, R: Abort + Threads + Wait + Sync>(
     rt: &R,
-    pair: Pair<PlainPart, B>,
+    pair: Pair<Part, B>,
     of_first: Deed,
     of_second: Deed,
-) -> (Pair<PlainPart, B>, Option<Answer>, Option<Answer>)
+) -> (Pair<Part, B>, Option<Answer>, Option<Answer>)
     ensures first { B.seat result.0.first.board ≡ B.seat pair.first.board }
     ensures second { B.seat result.0.second.board ≡ B.seat pair.second.board }
 {

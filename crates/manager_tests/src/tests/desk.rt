@@ -4,8 +4,8 @@ ghost use Rattle.std.specs.Prelude.{◌≡◌, ◌+◌, ◌-◌, ◌++◌, ◌�
 ghost use Rattle.lock_manager.specs.Managers.{IsOpenerOf};
 ghost use Rattle.manager_tests.specs.Crews.{AreOf, SeatsAre};
 
-use lock_manager::{Manager, Opener, OwnSession, Refusal, Session};
-use lock_table::{PartTable, PlainPart};
+use lock_manager::{Manager, Opener, OwnSession, Part, Refusal, Session};
+use lock_table::PartTable;
 use shared_rule::board::Board;
 use shared_rule::seat_board::SeatBoard;
 use std::alloc::Global;
@@ -103,18 +103,18 @@ impl<'a> Desk<Session<'a>> for ManagerDesk<'a> {
     }
 
     fn meet(&self, session: &mut Session<'a>, other: Session<'a>) -> Session<'a>
-        requires same_manager { let B = ⟦<SeatBoard<'a, PlainPart> as Board<PlainPart>>⟧ in
+        requires same_manager { let B = ⟦<SeatBoard<'a, Part> as Board<Part>>⟧ in
             (B.seat other.board).table ≡ (B.seat session.old.board).table }
-        ensures kept { let B = ⟦<SeatBoard<'a, PlainPart> as Board<PlainPart>>⟧ in
+        ensures kept { let B = ⟦<SeatBoard<'a, Part> as Board<Part>>⟧ in
             B.seat session.new.board ≡ B.seat session.old.board }
-        ensures its_kept { let B = ⟦<SeatBoard<'a, PlainPart> as Board<PlainPart>>⟧ in
+        ensures its_kept { let B = ⟦<SeatBoard<'a, Part> as Board<Part>>⟧ in
             B.seat result.board ≡ B.seat other.entry.board }
     {
         session.meet(other)
     }
 
     fn close<R: Wait>(&mut self, rt: &R, session: Session<'a>)
-        requires own { (⟦<SeatBoard<'a, PlainPart> as Board<PlainPart>>⟧.seat session.board).table
+        requires own { (⟦<SeatBoard<'a, Part> as Board<Part>>⟧.seat session.board).table
             ≡ self.old.manager.now.table }
         ensures manager { self.new.manager.now ≡ self.old.manager.now }
         ensures live { self.new.opener.live ≡ self.old.opener.live - 1 }

@@ -8,8 +8,8 @@ use super::answers::expect_granted;
 use super::desk::{Desk, close_many, open_many};
 use super::waits::{OWNER, TABLE, give_back, see_wait, take};
 use super::wakes::pause;
-use lock_manager::{Mode, OwnSession, SessionId};
-use lock_table::{PartTable, PlainPart};
+use lock_manager::{Mode, OwnSession, Part, SessionId};
+use lock_table::PartTable;
 use shared_rule::board::Board;
 use std::alloc::Global;
 use std::process::Abort;
@@ -125,10 +125,10 @@ fn play_part<T: PartTable, B: Board<T>, R: Abort + Wait>(
 }
 
 /// Each does its part in a thread of its own.
-fn sleep_side_by_side<B: Board<PlainPart> + Send, R: Abort + Threads + Wait + Sync>(
+fn sleep_side_by_side<B: Board<Part> + Send, R: Abort + Threads + Wait + Sync>(
     rt: &R,
     tally: &Tally,
-    sleepers: &mut [OwnSession<PlainPart, B>],
+    sleepers: &mut [OwnSession<Part, B>],
 )
     ensures own { (manager : ManagerView) → AreOf B.seat manager sleepers.old → AreOf B.seat manager sleepers.new }
 {
@@ -144,8 +144,8 @@ fn sleep_side_by_side<B: Board<PlainPart> + Send, R: Abort + Threads + Wait + Sy
 /// One session has the table and all others wait for it. Where they wait for `AccessExclusiveLock` they are woken one by
 /// one, in the order of their queue, and where for `AccessShareLock` all by one release.
 pub fn wake_sleepers<
-    B: Board<PlainPart> + Send,
-    D: Desk<OwnSession<PlainPart, B>>,
+    B: Board<Part> + Send,
+    D: Desk<OwnSession<Part, B>>,
     R: Abort + Threads + Wait + Sync,
 >(rt: &R, alloc: Global, desk: &mut D, mode: Mode)
     requires seats { SeatsAre B.seat D.seat }

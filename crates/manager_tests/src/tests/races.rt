@@ -6,8 +6,8 @@ use super::answers::{Answer, expect_acted, expect_granted, expect_rows};
 use super::deeds::{Deed, act_side_by_side, begin};
 use super::pair::Pair;
 use super::waits::{OWNER, TABLE, give_back, queue, take};
-use lock_manager::{Acquired, How, Mode, OwnSession, OwnWaiting, Refusal, SessionId};
-use lock_table::{PartTable, PlainPart};
+use lock_manager::{Acquired, How, Mode, OwnSession, OwnWaiting, Part, Refusal, SessionId};
+use lock_table::PartTable;
 use shared_rule::board::Board;
 use std::process::Abort;
 use std::sync::Wait;
@@ -58,12 +58,12 @@ fn expect_one<R: Abort>(
 }
 
 /// One tries a weak mode by a slot, and the other one a strong one.
-fn try_weak_against_strong<B: Board<PlainPart> + Send, R: Abort + Threads + Wait + Sync>(
+fn try_weak_against_strong<B: Board<Part> + Send, R: Abort + Threads + Wait + Sync>(
     rt: &R,
-    pair: Pair<PlainPart, B>,
+    pair: Pair<Part, B>,
     weak: Mode,
     strong: Mode,
-) -> Pair<PlainPart, B>
+) -> Pair<Part, B>
     ensures first { B.seat result.first.board ≡ B.seat pair.first.board }
     ensures second { B.seat result.second.board ≡ B.seat pair.second.board }
 {
@@ -92,12 +92,12 @@ fn take_fast<T: PartTable, B: Board<T>, R: Abort>(
 }
 
 /// Both have a weak mode, and ask for a strong one.
-fn try_strong_over_weak<B: Board<PlainPart> + Send, R: Abort + Threads + Wait + Sync>(
+fn try_strong_over_weak<B: Board<Part> + Send, R: Abort + Threads + Wait + Sync>(
     rt: &R,
-    pair: Pair<PlainPart, B>,
+    pair: Pair<Part, B>,
     weak: Mode,
     strong: Mode,
-) -> Pair<PlainPart, B>
+) -> Pair<Part, B>
     ensures first { B.seat result.first.board ≡ B.seat pair.first.board }
     ensures second { B.seat result.second.board ≡ B.seat pair.second.board }
 {
@@ -191,12 +191,12 @@ fn expect_none<T: PartTable, B: Board<T>, R: Abort>(rt: &R, session: &OwnSession
 }
 
 /// The one that waits cancels its wait for the first mode while the other one gives back the second one.
-fn cancel_on_loan<B: Board<PlainPart> + Send, R: Abort + Threads + Wait + Sync>(
+fn cancel_on_loan<B: Board<Part> + Send, R: Abort + Threads + Wait + Sync>(
     rt: &R,
-    waiting: &mut Option<OwnWaiting<PlainPart, B>>,
-    session: &mut OwnSession<PlainPart, B>,
+    waiting: &mut Option<OwnWaiting<Part, B>>,
+    session: &mut OwnSession<Part, B>,
     modes: &(Mode, Mode),
-) -> OwnSession<PlainPart, B>
+) -> OwnSession<Part, B>
     ensures gone { waiting.new ≡ None }
     ensures seat { IfSome waiting.old (λ waiting. B.seat result.board ≡ B.seat waiting.board) }
     ensures its_seat { B.seat session.new.board ≡ B.seat session.old.board }
@@ -211,12 +211,12 @@ fn cancel_on_loan<B: Board<PlainPart> + Send, R: Abort + Threads + Wait + Sync>(
 }
 
 /// The second one waits for a mode that the first one's is in the way of.
-fn cancel_as_released<B: Board<PlainPart> + Send, R: Abort + Threads + Wait + Sync>(
+fn cancel_as_released<B: Board<Part> + Send, R: Abort + Threads + Wait + Sync>(
     rt: &R,
-    pair: Pair<PlainPart, B>,
+    pair: Pair<Part, B>,
     held: Mode,
     awaited: Mode,
-) -> Pair<PlainPart, B>
+) -> Pair<Part, B>
     ensures first { B.seat result.first.board ≡ B.seat pair.first.board }
     ensures second { B.seat result.second.board ≡ B.seat pair.second.board }
 {
@@ -231,10 +231,10 @@ fn cancel_as_released<B: Board<PlainPart> + Send, R: Abort + Threads + Wait + Sy
 }
 
 /// The second one waits, and the first one asks it to cancel as soon as it does.
-fn ask_before_sleep<B: Board<PlainPart> + Send, R: Abort + Threads + Wait + Sync>(
+fn ask_before_sleep<B: Board<Part> + Send, R: Abort + Threads + Wait + Sync>(
     rt: &R,
-    pair: Pair<PlainPart, B>,
-) -> Pair<PlainPart, B>
+    pair: Pair<Part, B>,
+) -> Pair<Part, B>
     ensures first { B.seat result.first.board ≡ B.seat pair.first.board }
     ensures second { B.seat result.second.board ≡ B.seat pair.second.board }
 {
@@ -248,11 +248,11 @@ fn ask_before_sleep<B: Board<PlainPart> + Send, R: Abort + Threads + Wait + Sync
 }
 
 /// One round of a race, after which both hold what they held.
-fn race_once<B: Board<PlainPart> + Send, R: Abort + Threads + Wait + Sync>(
+fn race_once<B: Board<Part> + Send, R: Abort + Threads + Wait + Sync>(
     rt: &R,
-    pair: Pair<PlainPart, B>,
+    pair: Pair<Part, B>,
     race: Race,
-) -> Pair<PlainPart, B>
+) -> Pair<Part, B>
     ensures first { B.seat result.first.board ≡ B.seat pair.first.board }
     ensures second { B.seat result.second.board ≡ B.seat pair.second.board }
 {
@@ -277,12 +277,12 @@ pub fn see_nothing<T: PartTable, B: Board<T>, R: Abort + Wait>(
 }
 
 /// Round after round, at the end of which nothing stands.
-pub fn race_often<B: Board<PlainPart> + Send, R: Abort + Threads + Wait + Sync>(
+pub fn race_often<B: Board<Part> + Send, R: Abort + Threads + Wait + Sync>(
     rt: &R,
-    pair: Pair<PlainPart, B>,
+    pair: Pair<Part, B>,
     race: Race,
     rounds: u32,
-) -> Pair<PlainPart, B>
+) -> Pair<Part, B>
     ensures first { B.seat result.first.board ≡ B.seat pair.first.board }
     ensures second { B.seat result.second.board ≡ B.seat pair.second.board }
 {

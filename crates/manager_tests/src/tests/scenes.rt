@@ -2,11 +2,11 @@
 
 ghost use Rattle.std.specs.Prelude.{◌≡◌};
 
+use lock_manager::Part;
 use super::pair::Pair;
 use super::races::Race;
 use super::turns::Turn;
 use super::{busy, conflicts, listings, memory, races, turns, waits};
-use lock_table::PlainPart;
 use shared_rule::board::Board;
 use std::process::Abort;
 use std::sync::Wait;
@@ -36,11 +36,11 @@ pub enum Scene<'a> {
 }
 
 /// Plays a scene.
-pub fn perform<B: Board<PlainPart> + Send, R: Abort + Threads + Wait + Sync>(
+pub fn perform<B: Board<Part> + Send, R: Abort + Threads + Wait + Sync>(
     rt: &R,
-    mut pair: Pair<PlainPart, B>,
+    mut pair: Pair<Part, B>,
     scene: Scene<'_>,
-) -> Pair<PlainPart, B>
+) -> Pair<Part, B>
     ensures first { B.seat result.first.board ≡ B.seat pair.first.board }
     ensures second { B.seat result.second.board ≡ B.seat pair.second.board }
 {

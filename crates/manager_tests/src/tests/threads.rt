@@ -8,8 +8,8 @@ ghost use Rattle.manager_tests.specs.Crews.{AreOf, SeatsAre};
 use super::answers::{expect_granted, expect_released};
 use super::conflicts::conflicts;
 use super::desk::{Desk, close_many, open_many};
-use lock_manager::{How, Mode, OwnSession, Owner, Refusal, SessionId, Tag};
-use lock_table::{PartTable, PlainPart};
+use lock_manager::{How, Mode, OwnSession, Owner, Part, Refusal, SessionId, Tag};
+use lock_table::PartTable;
 use shared_rule::board::Board;
 use std::alloc::Global;
 use std::process::Abort;
@@ -150,11 +150,11 @@ fn ask_often<T: PartTable, B: Board<T>, R: Abort + Wait>(
 }
 
 /// Each session does so in a thread of its own.
-fn ask_side_by_side<B: Board<PlainPart> + Send, R: Abort + Threads + Wait + Sync>(
+fn ask_side_by_side<B: Board<Part> + Send, R: Abort + Threads + Wait + Sync>(
     rt: &R,
     holders: &Mutex<Holders>,
     plan: Plan,
-    sessions: &mut [OwnSession<PlainPart, B>],
+    sessions: &mut [OwnSession<Part, B>],
 )
     ensures own { (manager : ManagerView) → AreOf B.seat manager sessions.old → AreOf B.seat manager sessions.new }
 {
@@ -169,8 +169,8 @@ fn ask_side_by_side<B: Board<PlainPart> + Send, R: Abort + Threads + Wait + Sync
 
 /// So many sessions from a desk do as the plan says, and at the end nobody has anything.
 pub fn ask_in_threads<
-    B: Board<PlainPart> + Send,
-    D: Desk<OwnSession<PlainPart, B>>,
+    B: Board<Part> + Send,
+    D: Desk<OwnSession<Part, B>>,
     R: Abort + Threads + Wait + Sync,
 >(rt: &R, alloc: Global, desk: &mut D, number: u32, plan: Plan)
     requires seats { SeatsAre B.seat D.seat }

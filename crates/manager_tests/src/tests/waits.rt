@@ -7,11 +7,8 @@ use super::answers::{
 };
 use super::deeds::{Deed, act_side_by_side};
 use super::pair::Pair;
-use lock_manager::{
-    Acquired, Asked, Mode, OwnSession, OwnWaiting, Owner, Polled, Refusal, SessionId, Started,
-    TableRow, Tag,
-};
-use lock_table::{PartTable, PlainPart};
+use lock_manager::{Acquired, Asked, Mode, OwnSession, OwnWaiting, Owner, Part, Polled, Refusal, SessionId, Started, TableRow, Tag};
+use lock_table::PartTable;
 use shared_rule::board::Board;
 use std::process::Abort;
 use std::sync::Wait;
@@ -375,11 +372,11 @@ pub fn see_wait<T: PartTable, B: Board<T>, R: Wait>(
 }
 
 /// A session sleeps in its thread until the other one, in another thread, gives back or asks it to cancel.
-pub fn sleep_in_a_thread<B: Board<PlainPart> + Send, R: Abort + Threads + Wait + Sync>(
+pub fn sleep_in_a_thread<B: Board<Part> + Send, R: Abort + Threads + Wait + Sync>(
     rt: &R,
-    pair: Pair<PlainPart, B>,
+    pair: Pair<Part, B>,
     asks: bool,
-) -> Pair<PlainPart, B>
+) -> Pair<Part, B>
     ensures first { B.seat result.first.board ≡ B.seat pair.first.board }
     ensures second { B.seat result.second.board ≡ B.seat pair.second.board }
 {

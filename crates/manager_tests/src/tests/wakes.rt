@@ -7,8 +7,8 @@ use super::answers::expect_answer;
 use super::desk::{Desk, open};
 use super::races::end_wait;
 use super::waits::{OWNER, TABLE, ask, give_back, leave, queue, see_wait, take};
-use lock_manager::{Acquired, Asked, Mode, OwnSession, OwnWaiting, Refusal, SessionId};
-use lock_table::{PartTable, PlainPart};
+use lock_manager::{Acquired, Asked, Mode, OwnSession, OwnWaiting, Part, Refusal, SessionId};
+use lock_table::PartTable;
 use shared_rule::board::Board;
 use std::process::Abort;
 use std::sync::Wait;
@@ -78,13 +78,13 @@ fn leave_once_asleep<T: PartTable, B: Board<T>, R: Abort + Wait>(
 }
 
 /// The one ahead in the queue leaves it, and the one behind it, who sleeps in a thread of its own, is granted.
-fn leave_side_by_side<B: Board<PlainPart> + Send, R: Abort + Threads + Wait + Sync>(
+fn leave_side_by_side<B: Board<Part> + Send, R: Abort + Threads + Wait + Sync>(
     rt: &R,
-    holder: &mut OwnSession<PlainPart, B>,
-    ahead: &mut Option<OwnWaiting<PlainPart, B>>,
-    behind: &mut OwnSession<PlainPart, B>,
+    holder: &mut OwnSession<Part, B>,
+    ahead: &mut Option<OwnWaiting<Part, B>>,
+    behind: &mut OwnSession<Part, B>,
     number: &SessionId,
-) -> OwnSession<PlainPart, B>
+) -> OwnSession<Part, B>
     ensures holder { B.seat holder.new.board ≡ B.seat holder.old.board }
     ensures gone { ahead.new ≡ None }
     ensures ahead { IfSome ahead.old (λ waiting. B.seat result.board ≡ B.seat waiting.board) }
@@ -101,8 +101,8 @@ fn leave_side_by_side<B: Board<PlainPart> + Send, R: Abort + Threads + Wait + Sy
 /// A session has the table, one waits for it in a mode that conflicts, and one sleeps behind that, which only the wait
 /// ahead of it stops. That wait is cancelled, and lets it go.
 pub fn let_go_by_a_cancel<
-    B: Board<PlainPart> + Send,
-    D: Desk<OwnSession<PlainPart, B>>,
+    B: Board<Part> + Send,
+    D: Desk<OwnSession<Part, B>>,
     R: Abort + Threads + Wait + Sync,
 >(rt: &R, desk: &mut D)
     requires seats { SeatsAre B.seat D.seat }
@@ -136,10 +136,10 @@ fn ask_once_asleep<T: PartTable, B: Board<T>, R: Abort + Wait>(
 }
 
 /// The one asks the other, who sleeps in a thread of its own, to cancel, and so its wait is over.
-fn ask_side_by_side<B: Board<PlainPart> + Send, R: Abort + Threads + Wait + Sync>(
+fn ask_side_by_side<B: Board<Part> + Send, R: Abort + Threads + Wait + Sync>(
     rt: &R,
-    holder: &mut OwnSession<PlainPart, B>,
-    sleeper: &mut OwnSession<PlainPart, B>,
+    holder: &mut OwnSession<Part, B>,
+    sleeper: &mut OwnSession<Part, B>,
     number: &SessionId,
 )
     ensures holder { B.seat holder.new.board ≡ B.seat holder.old.board }
@@ -154,8 +154,8 @@ fn ask_side_by_side<B: Board<PlainPart> + Send, R: Abort + Threads + Wait + Sync
 
 /// A session has the table, and one that sleeps in the queue for it is asked to cancel.
 pub fn woken_as_asked<
-    B: Board<PlainPart> + Send,
-    D: Desk<OwnSession<PlainPart, B>>,
+    B: Board<Part> + Send,
+    D: Desk<OwnSession<Part, B>>,
     R: Abort + Threads + Wait + Sync,
 >(rt: &R, desk: &mut D)
     requires seats { SeatsAre B.seat D.seat }

@@ -1,7 +1,8 @@
 use Rattle.std.proofs.Common.{◌≡◌, ℕ, ◌+◌, ◌/◌, ◌<◌, length, slice_get, vec_len, vec_capacity}
 use Rattle.shared_rule.specs.declared.layout.TheConstants.{CONTENT_SLOTS}
 use Rattle.shared_rule.specs.Layout.{content_slot_of}
-use Rattle.shared_rule.specs.Opening.{AreEmptyParts, IsNew}
+use Rattle.lock_table.specs.Parts.{AreEmptyParts}
+use Rattle.shared_rule.specs.Opening.{IsNew}
 use Rattle.shared_rule.proofs.table.in_slots.Given as goal
 
 abbrev pub invariant-loop-index : goal.invariant-loop-index

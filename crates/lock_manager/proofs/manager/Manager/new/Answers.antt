@@ -1,5 +1,4 @@
-use Rattle.shared_rule.proofs.Opening.{AreEmpty-blank}
 use Rattle.lock_manager.proofs.manager.Manager.new.Goals as goal
 
 pub in_slots-requires-clause-new : goal.in_slots-requires-clause-new
-in_slots-requires-clause-new c = AreEmpty-blank c.in-Ok.parts.items c.in-Ok.ensures.empty
+in_slots-requires-clause-new c = c.in-Ok.ensures.empty

@@ -1,5 +1,4 @@
-use Rattle.shared_rule.proofs.Opening.{AreEmpty-blank}
 use Rattle.manager_tests.proofs.tests.counted.empty_slots.Goals as goal
 
 pub in_slots-requires-clause-new : goal.in_slots-requires-clause-new
-in_slots-requires-clause-new c = AreEmpty-blank c.in_ok-empty_parts.field-0.items c.in_ok-empty_parts.ensures.empty
+in_slots-requires-clause-new c = c.in_ok-empty_parts.ensures.empty

@@ -1,0 +1,81 @@
+use Rattle.std.proofs.lemmas.Bool.{true≢false}
+use Rattle.std.specs.Prelude.{is_some, not, IfNone, Option, Some, true}
+use Rattle.std.proofs.Common.{◌≡◌, false, None, List, vec_len, vec_capacity, sym, ap, ◌∙◌, subst, arith}
+use Rattle.slab.specs.Slab.{Slab, slab_len}
+use Rattle.lock_table.specs.declared.request.Request.{Request}
+use Rattle.lock_table.specs.declared.part_waits.PartWait.{PartWait}
+use Rattle.lock_table.specs.Queue.{awaits_mode}
+use Rattle.lock_table.specs.PartWaits.{queues_in}
+use Rattle.lock_table.proofs.Options.{ForSome-some}
+use Rattle.lock_records.specs.declared.locks.LockRecord.{LockRecord}
+use Rattle.lock_records.specs.declared.holders.HolderRecord.{HolderRecord}
+use Rattle.lock_records.specs.Holders.{holds_in}
+use Rattle.lock_records.specs.Locks.{AreNoted, HasNoLock}
+use Rattle.lock_records.specs.Objects.{HasRoom, AreObjects}
+use Rattle.lock_records.specs.View.{RecordView}
+use Rattle.lock_records.proofs.Parts.{objects-same, noted-grown}
+use Rattle.lock_records.proofs.records.RecordsPartTable.begin.Goals as goal
+use Rattle.lock_records.proofs.records.RecordsPartTable.begin.Goals.{After-make_room}
+
+found-none : {X P : Type 0} (found : Option X) → is_some found ≡ false → IfNone found P → P
+found-none None none absent = absent
+found-none (Some x) none absent = absurd (true≢false none)
+
+locks : (c : After-make_room) → c.make_room.new.locks.slots ≡ c.self.inside.locks.slots
+locks c = ap (λ (slab : Slab LockRecord). slab.slots) c.make_room.ensures.locks
+
+holders : (c : After-make_room) → c.make_room.new.holders.slots ≡ c.self.inside.holders.slots
+holders c = ap (λ (slab : Slab HolderRecord). slab.slots) c.make_room.ensures.holders
+
+len : (c : After-make_room) → slab_len c.make_room.new.holders ≡ slab_len c.self.inside.holders
+len c = ap (λ (slab : Slab HolderRecord). slab_len slab) c.make_room.ensures.holders
+
+objects : (c : After-make_room) → AreObjects c.make_room.new.locks.slots c.make_room.new.holders.slots c.make_room.new.waits.items
+objects c =
+    objects-same c.self.inside.locks.slots c.make_room.new.locks.slots c.self.inside.holders.slots c.make_room.new.holders.slots c.self.inside.waits.items c.make_room.new.waits.items
+    (locks c) (holders c) c.make_room.ensures.waits c.self.invariant.objects
+
+noted : (c : After-make_room) → AreNoted c.make_room.new.locks.slots c.make_room.new.index
+noted c =
+    subst (λ slots. AreNoted slots c.make_room.new.index) (sym (locks c))
+    (noted-grown c.self.inside.locks.slots c.self.inside.index c.make_room.new.index c.make_room.ensures.notes c.make_room.ensures.places c.self.invariant.noted)
+
+pub invariant_of-self : goal.invariant_of-self
+invariant_of-self c =
+    let at = (goal.at.invariant_of-self c).After-make_room in
+    let none : c.self.inside.begun ≡ None = ap (λ (part : RecordView). part.begun) c.self.view_is ∙ c.requires.none_begun in
+    record {
+      objects = objects at;
+      noted = noted at;
+      room = omega (arith, c.self.invariant.room, len at, c.make_room.ensures.len, c.make_room.ensures.capacity);
+      begun_new = λ request is. let no_way : ⊥ = cc in absurd no_way;
+      begun_not_awaited = λ request is. let no_way : ⊥ = cc in absurd no_way;
+      begun_room = λ request is. let no_way : ⊥ = cc in absurd no_way;
+      begun_absent = λ absent request is. let no_way : ⊥ = cc in absurd no_way;
+    }
+
+pub look-found-requires : goal.look-found-requires
+look-found-requires c = noted (goal.at.look-found-requires c).After-make_room
+
+pub invariant_of-self-2 : goal.invariant_of-self-2
+invariant_of-self-2 c =
+    let at = (goal.at.invariant_of-self-2 c).After-make_room in
+    let request : Request = record { session = c.args.session; tag = c.args.tag.now; mode = c.args.mode } in
+    record {
+      objects = objects at;
+      noted = noted at;
+      room = omega (arith, c.self.invariant.room, len at, c.make_room.ensures.len, c.make_room.ensures.capacity);
+      begun_new =
+          ForSome-some (λ (x : Request). holds_in c.make_room.new.holders.slots x.session x.tag x.mode ≡ false) request
+          (ap (λ slots. holds_in slots c.args.session c.args.tag.now c.args.mode) (holders at)
+          ∙ ap (λ (part : RecordView). holds_in part.holders c.args.session c.args.tag.now c.args.mode) c.self.view_is ∙ c.requires.new);
+      begun_not_awaited =
+          ForSome-some (λ (x : Request). awaits_mode (queues_in c.make_room.new.waits.items x.tag) x.session x.mode ≡ false) request
+          (ap (λ (waits : List PartWait). awaits_mode (queues_in waits c.args.tag.now) c.args.session c.args.mode) c.make_room.ensures.waits
+          ∙ ap (λ (part : RecordView). awaits_mode (queues_in part.waits c.args.tag.now) c.args.session c.args.mode) c.self.view_is ∙ c.requires.not_awaited);
+      begun_room =
+          ForSome-some (λ (x : Request). HasRoom c.make_room.new.locks c.make_room.new.holders (vec_len c.make_room.new.waits) (vec_capacity c.make_room.new.waits) c.make_room.new.index) request
+          (c.in_ok-make_room.ensures {u = tt}).room;
+      begun_absent = λ absent.
+          ForSome-some (λ (x : Request). HasNoLock c.make_room.new.locks.slots x.tag) request (found-none c.look-found.result (c.is_none-self-inside.ensures ∙ ap not absent) c.look-found.ensures.absent);
+    }

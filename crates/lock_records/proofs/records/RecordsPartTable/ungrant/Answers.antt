@@ -1,0 +1,46 @@
+use Rattle.std.proofs.Common.{ap, ◌∙◌, arith}
+use Rattle.lock_records.specs.Holders.{holds_in}
+use Rattle.lock_records.specs.View.{RecordView}
+use Rattle.lock_records.proofs.Changes.{objects-ungranted}
+use Rattle.lock_records.proofs.IndexLaws.{noted-relocked}
+use Rattle.lock_records.proofs.Parts.{held-has, not-held-less}
+use Rattle.lock_records.proofs.records.RecordsPartTable.ungrant.Goals as goal
+
+pub unreachable-requires : goal.unreachable-requires
+unreachable-requires c =
+    held-has c.self.inside.locks.slots c.self.inside.holders.slots c.self.inside.waits.items c.args.session c.args.tag.now c.args.mode c.self.invariant.objects
+    (ap (λ (part : RecordView). holds_in part.holders c.args.session c.args.tag.now c.args.mode) c.self.view_is ∙ c.requires.held) (c.in_default.ensures {u = tt}).absent
+
+pub remove_hold-requires-clause-held : goal.remove_hold-requires-clause-held
+remove_hold-requires-clause-held c = λ i. ((c.self.invariant.objects c.args.tag.now).lock c.in-Some.place i).held
+
+pub drop_empty-requires-clause-noted : goal.drop_empty-requires-clause-noted
+drop_empty-requires-clause-noted c =
+    noted-relocked c.self.inside.locks.slots c.remove_hold.new.locks.slots c.self.inside.index c.args.tag.now c.in-Some.place c.remove_hold.ensures.lock.0 c.self.invariant.noted
+
+pub drop_empty-requires-clause-there : goal.drop_empty-requires-clause-there
+drop_empty-requires-clause-there c = c.remove_hold.ensures.lock.0.is
+
+pub invariant_of-self : goal.invariant_of-self
+invariant_of-self c =
+    let lock = c.remove_hold.ensures.lock in
+    record {
+      objects =
+          objects-ungranted c.self.inside.locks.slots c.remove_hold.new.locks.slots c.drop_empty.new.locks.slots c.self.inside.holders.slots c.remove_hold.new.holders.slots c.self.inside.waits.items
+          c.args.session c.args.tag.now c.args.mode c.in-Some.place c.self.inside.index c.self.invariant.objects c.self.invariant.noted lock.0 lock.1 lock.2 c.remove_hold.ensures.set c.drop_empty.ensures.dropped;
+      noted = c.drop_empty.ensures.noted;
+      room = omega (arith, c.self.invariant.room, c.remove_hold.ensures.len, c.remove_hold.ensures.capacity);
+      begun_new = λ request is.
+          ap (λ holds. holds request.session request.tag request.mode) c.remove_hold.ensures.set.holds
+          ∙ not-held-less (holds_in c.self.inside.holders.slots) c.args.session c.args.tag.now c.args.mode request.session request.tag request.mode (c.self.invariant.begun_new request is);
+      begun_not_awaited = c.self.invariant.begun_not_awaited;
+      begun_room = λ request is.
+          let room = c.self.invariant.begun_room request is in
+          record {
+            lock = c.drop_empty.ensures.room (c.remove_hold.ensures.room room.lock);
+            noted = c.drop_empty.ensures.places (omega (arith, room.noted, c.remove_hold.ensures.key));
+            holder = omega (arith, room.holder, c.remove_hold.ensures.len, c.remove_hold.ensures.capacity);
+            wait = room.wait;
+          };
+      begun_absent = λ absent. let no_way : ⊥ = cc in absurd no_way;
+    }

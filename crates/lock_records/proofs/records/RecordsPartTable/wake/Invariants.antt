@@ -1,0 +1,16 @@
+use Rattle.std.proofs.Common.{◌≡◌, ◌-◌, List, length}
+use Rattle.modes_core.specs.ModeSet.{set_has}
+use Rattle.lock_table.specs.Content.{Wait}
+use Rattle.lock_table.specs.PartWaits.{queues_in}
+use Rattle.lock_table.specs.Walk.{StandFor}
+use Rattle.lock_records.specs.View.{content_of}
+use Rattle.lock_records.proofs.Wakings.{WakingTo}
+use Rattle.lock_records.proofs.records.RecordsPartTable.wake.Given as goal
+
+abbrev pub invariant-loop-waiter : goal.invariant-loop-waiter
+invariant-loop-waiter l =
+    (done : List Wait) × (todo : List Wait) × WakingTo (content_of l.fn.self) l.tag (content_of l.self) done todo l.woken.items
+    × (length done ≡ l.place) × StandFor (set_has l.ahead) done × (l.self.begun ≡ l.fn.self.begun)
+
+abbrev pub decreases-loop-waiter : goal.decreases-loop-waiter
+decreases-loop-waiter l = length (queues_in l.self.waits l.tag) - l.place

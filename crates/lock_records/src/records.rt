@@ -1,0 +1,337 @@
+ghost use Rattle.std.specs.Prelude.{◌≡◌, ◌<◌, ◌≤◌, false, true, None, IfOk};
+
+use crate::counts::{Counts, counts_of};
+use crate::holders::{HolderRecord, find_holder};
+use crate::listing::{push_holds, push_waits};
+use crate::locks::{LockRecord, drop_empty, look, look_or_make};
+use crate::objects::{
+    add_hold, holder_in_the_way, lower_awaited, make_room, raise_awaited, remove_hold,
+};
+use lock_table::answering::walk::is_against;
+use lock_table::part_waits::{PartWait, awaited_mode, index_of_place, take_wait_out, waiter_at};
+use lock_table::rows::sort_rows;
+use lock_table::{NoMemory, PartTable, Request, TableRow, Waiter, Woken};
+use modes_core::{Mode, ModeSet, SessionId, Tag};
+use place_index::PlaceIndex;
+use slab::Slab;
+use std::alloc::Global;
+use std::marker::Model;
+
+/// One partition of the lock table as lock.c keeps it: lock records, found through an index by the hash of the tag, holder
+/// records, and the waits of all its objects.
+#[derive(Drop)]
+pub struct Records {
+    locks: Slab<LockRecord>,
+    holders: Slab<HolderRecord>,
+    waits: Vec<PartWait>,
+    index: PlaceIndex,
+    begun: Option<Request>,
+    /// Where a lock record was found last: the call that follows mostly wants the same one.
+    hint: usize,
+    /// Whether the object of the begun request has no lock record. Nobody makes one before it is granted or joins.
+    absent: bool,
+}
+
+impl Model for Records {
+    ghost use Rattle.lock_records.specs.View.{RecordView};
+
+    ghost Value = { RecordView };
+
+    ghost use Rattle.lock_records.specs.Records.{view_of, AreRecords};
+
+    ghost view = { view_of };
+
+    ghost invariant = { AreRecords };
+}
+
+impl Records {
+    ghost use Rattle.lock_records.specs.View.{content_of};
+    ghost use Rattle.lock_table.specs.Content.{empty_content};
+
+    /// A part with nothing in it, which grows by this allocator.
+    pub fn new(alloc: Global) -> Result<Self, NoMemory>
+        ensures content { IfOk result (λ part. content_of part ≡ empty_content) }
+        ensures begun { IfOk result (λ part. part.begun ≡ None) }
+    {
+        let index = PlaceIndex::new(alloc)?;
+        Ok(Records {
+            locks: Slab::new(alloc),
+            holders: Slab::new(alloc),
+            waits: Vec::new(alloc),
+            index,
+            begun: None,
+            hint: 0,
+            absent: false,
+        })
+    }
+}
+
+impl Records {
+    ghost use Rattle.std.specs.Prelude.{IfSome, IfNone};
+    ghost use Rattle.lock_records.specs.View.{content_of};
+    ghost use Rattle.lock_records.specs.Counts.{AreCountsOf, IsUntouched};
+
+    /// The counts of an object, or that nobody holds or awaits it. No record is kept of such an object: there is something to
+    /// count wherever there are counts.
+    pub fn counts(&self, tag: &Tag) -> Option<Counts>
+        ensures found { IfSome result (AreCountsOf (content_of self.now) tag.now) }
+        ensures used { IfSome result (λ counts. 0 < counts.requested_total) }
+        ensures absent { IfNone result (IsUntouched (content_of self.now) tag.now) }
+    {
+        match look(&self.locks, &self.index, self.hint, tag) {
+            Some(place) => Some(counts_of(&self.locks[place])),
+            None => None,
+        }
+    }
+}
+
+/// What a wakeup does at one wait, and what a listing has of the records.
+impl Records {
+    ghost use Rattle.std.specs.Prelude.{ℕ, ◌==◌, count_by, OnOk, OnErr, if◌then◌else◌};
+    ghost use Rattle.lock_table.specs.Listing.{has_row};
+    ghost use Rattle.lock_records.specs.Rows.{AppendsRows, HasMoreRows};
+    ghost use Rattle.modes_core.specs.declared.modes.Mode.{Mode};
+    ghost use Rattle.modes_core.specs.ModeSet.{set_has};
+    ghost use Rattle.lock_table.specs.Content.{add_hold};
+    ghost use Rattle.lock_table.specs.Clash.{NoConflictingHolder};
+    ghost use Rattle.lock_table.specs.Queue.{awaits_mode, remove_wait, conflicts_with_some};
+    ghost use Rattle.lock_records.specs.View.{content_of};
+
+    /// Whether the mode is free to go for the session, behind waits for these modes.
+    fn is_free(&self, session: SessionId, tag: &Tag, mode: Mode, ahead: ModeSet) -> bool
+        ensures free { result ≡ true →
+            (conflicts_with_some mode (set_has ahead) ≡ false) × NoConflictingHolder (content_of self.now).holds session tag.now mode }
+        ensures taken { result ≡ false → conflicts_with_some mode (set_has ahead) ≡ false →
+            NoConflictingHolder (content_of self.now).holds session tag.now mode → ⊥ }
+    {
+        if is_against(mode, ahead) {
+            return false;
+        }
+        self.conflict_of(session, tag, mode).is_none()
+    }
+
+    /// Whether the object is known to have no lock record, since the request that is begun is on it and found none.
+    #[inline(always)]
+    fn is_absent(&self, tag: &Tag) -> bool
+        ensures { result ≡ true → (session : ℕ) (mode : Mode) → (content_of self.now).holds session tag.now mode ≡ false }
+    {
+        if !self.absent {
+            return false;
+        }
+        match self.begun {
+            Some(request) => tag.is_same(request.tag),
+            None => false,
+        }
+    }
+
+    /// What is known of a queue for the caller's proof: a session stands in it once at most.
+    fn queue_has_each_once(&self, tag: &Tag)
+        ensures one_each { (session : ℕ) → count_by (λ wait. wait.session == session) ((content_of self.now).waits tag.now) ≤ 1 }
+    {
+        let _tag = *tag;
+        let _waits = self.waits.len();
+    }
+
+    /// Makes the session's wait a hold.
+    fn grant_wait(&mut self, session: SessionId, tag: &Tag, mode: Mode)
+        requires { awaits_mode ((content_of self.old).waits tag.now) session mode ≡ true }
+        ensures content { content_of self.new
+            ≡ add_hold (remove_wait (content_of self.old) session tag.now) session tag.now mode }
+        ensures begun { self.new.begun ≡ self.old.begun }
+    {
+        self.absent = false;
+        let Some(place) = look(&self.locks, &self.index, self.hint, tag) else {
+            unreachable!()
+        };
+        take_wait_out(&mut self.waits, session, tag);
+        lower_awaited(&mut self.locks, place, tag, mode);
+        add_hold(
+            &mut self.locks,
+            &mut self.holders,
+            place,
+            tag,
+            session,
+            mode,
+        );
+    }
+
+    /// Appends the content's rows, in no order. After a refusal some may be there.
+    fn push_rows(&self, rows: &mut Vec<TableRow>) -> Result<(), NoMemory>
+        ensures ok { OnOk result (AppendsRows rows.old.items rows.new.items (λ row. if has_row (content_of self.now) row then 1 else 0)) }
+        ensures err { OnErr result (HasMoreRows rows.old.items rows.new.items) }
+    {
+        if push_holds(&self.holders, rows).is_err() {
+            return Err(NoMemory);
+        }
+        push_waits(self.waits.as_slice(), rows)
+    }
+}
+
+impl PartTable for Records {
+    ghost use Rattle.lock_records.specs.View.{content_of};
+
+    ghost content = { content_of };
+
+    ghost begun = { λ part. part.begun };
+
+    #[inline(always)]
+    fn begin(&mut self, session: SessionId, tag: &Tag, mode: Mode) -> Result<(), NoMemory> {
+        make_room(
+            &mut self.locks,
+            &mut self.holders,
+            &mut self.waits,
+            &mut self.index,
+        )?;
+        let found = look(&self.locks, &self.index, self.hint, tag);
+        self.absent = found.is_none();
+        self.hint = found.unwrap_or(self.hint);
+        let tag = *tag;
+        self.begun = Some(Request { session, tag, mode });
+        Ok(())
+    }
+
+    #[inline(always)]
+    fn withdraw(&mut self, _session: SessionId, _tag: &Tag, _mode: Mode) {
+        self.begun = None;
+    }
+
+    #[inline(always)]
+    fn grant(&mut self, session: SessionId, tag: &Tag, mode: Mode) {
+        self.begun = None;
+        let place = look_or_make(
+            &mut self.locks,
+            &mut self.index,
+            self.hint,
+            self.absent,
+            tag,
+        );
+        self.hint = place;
+        add_hold(
+            &mut self.locks,
+            &mut self.holders,
+            place,
+            tag,
+            session,
+            mode,
+        );
+    }
+
+    #[inline(always)]
+    fn ungrant(&mut self, session: SessionId, tag: &Tag, mode: Mode) {
+        self.absent = false;
+        let Some(place) = look(&self.locks, &self.index, self.hint, tag) else {
+            unreachable!()
+        };
+        self.hint = place;
+        remove_hold(
+            &mut self.locks,
+            &mut self.holders,
+            place,
+            tag,
+            session,
+            mode,
+        );
+        drop_empty(&mut self.locks, &mut self.index, tag, place);
+    }
+
+    #[inline(always)]
+    fn held(&self, session: SessionId, tag: &Tag) -> ModeSet {
+        let Some(place) = look(&self.locks, &self.index, self.hint, tag) else {
+            return ModeSet::empty();
+        };
+        match find_holder(&self.holders, self.locks[place].holders, tag, session) {
+            Some(holder) => self.holders[holder].modes,
+            None => ModeSet::empty(),
+        }
+    }
+
+    #[inline(always)]
+    fn conflict_of(&self, session: SessionId, tag: &Tag, mode: Mode) -> Option<(SessionId, Mode)> {
+        if self.is_absent(tag) {
+            return None;
+        }
+        match look(&self.locks, &self.index, self.hint, tag) {
+            Some(place) => holder_in_the_way(&self.locks, &self.holders, place, tag, session, mode),
+            None => None,
+        }
+    }
+
+    #[inline(always)]
+    fn waiter(&self, tag: &Tag, place: usize) -> Option<Waiter> {
+        // No list is longer than a number of its length can say.
+        let _len = self.waits.len();
+        waiter_at(self.waits.as_slice(), tag, place)
+    }
+
+    fn join(&mut self, session: SessionId, tag: &Tag, mode: Mode, place: usize) {
+        let _number = session.number();
+        let held = self.held(session, tag);
+        self.begun = None;
+        let at = look_or_make(
+            &mut self.locks,
+            &mut self.index,
+            self.hint,
+            self.absent,
+            tag,
+        );
+        self.hint = at;
+        raise_awaited(&mut self.locks, at, tag, mode);
+        let index = index_of_place(self.waits.as_slice(), tag, place);
+        let waiter = Waiter {
+            session,
+            mode,
+            held,
+        };
+        match self.waits.insert(index, PartWait { tag: *tag, waiter }) {
+            Ok(()) => {}
+            Err(_) => unreachable!(),
+        }
+    }
+
+    fn leave(&mut self, session: SessionId, tag: &Tag) -> Option<Mode> {
+        let Some(mode) = awaited_mode(self.waits.as_slice(), session, tag) else {
+            return None;
+        };
+        self.absent = false;
+        let Some(place) = look(&self.locks, &self.index, self.hint, tag) else {
+            unreachable!()
+        };
+        take_wait_out(&mut self.waits, session, tag);
+        lower_awaited(&mut self.locks, place, tag, mode);
+        drop_empty(&mut self.locks, &mut self.index, tag, place);
+        Some(mode)
+    }
+
+    fn wake(&mut self, tag: &Tag) -> Woken {
+        self.queue_has_each_once(tag);
+        let mut woken = Woken::new();
+        let mut ahead = ModeSet::empty();
+        let mut place = 0;
+        while let Some(waiter) = self.waiter(tag, place) {
+            let Waiter { session, mode, .. } = waiter;
+            let _number = session.number();
+            if self.is_free(session, tag, mode, ahead) {
+                self.grant_wait(session, tag, mode);
+                woken.push((session, mode));
+            } else {
+                ahead = ahead.with(mode);
+                place += 1;
+            }
+        }
+        woken
+    }
+
+    fn rows(&self, rows: &mut Vec<TableRow>) -> Result<(), NoMemory> {
+        let before = rows.len();
+        match self.push_rows(rows) {
+            Ok(()) => {
+                sort_rows(&mut rows[before..]);
+                Ok(())
+            }
+            Err(error) => {
+                rows.truncate(before);
+                Err(error)
+            }
+        }
+    }
+}
