@@ -11,3 +11,5 @@ pub mod Passing
 pub mod Transferring
 mod Reading
 pub mod SlotRows
+pub mod Times
+pub mod LoadsAt

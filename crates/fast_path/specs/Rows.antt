@@ -1,7 +1,10 @@
-use Rattle.std.specs.Prelude.{◌≡◌, ◌≢◌, ℕ, ◌<◌, ◌≤◌, ◌%◌, ◌^◌, zero, suc, List, [], ◌∷◌, ◌++◌, Result, OnOk, OnErr, if◌then◌else◌}
+use Rattle.std.specs.Prelude.{◌≡◌, ◌≢◌, ℕ, ◌<◌, ◌≤◌, ◌%◌, ◌^◌, zero, suc, List, [], ◌∷◌, ◌++◌, Result, OnOk, OnErr, ◌==◌, ◌&&◌, count_by, if◌then◌else◌}
 use Rattle.modes_core.specs.declared.modes.Mode.{Mode}
 use Rattle.modes_core.specs.declared.modes.Mode.TheVariants.{AccessShare, RowShare, RowExclusive}
+use Rattle.modes_core.specs.declared.tags.Tag.{Tag}
 use Rattle.modes_core.specs.declared.tags.Tag.TheVariants.{Relation}
+use Rattle.modes_core.specs.Mode.{mode_eq}
+use Rattle.modes_core.specs.Tag.{tag_eq}
 use Rattle.lw_word.specs.SlotWord.{relation_in, has_mode}
 use Rattle.lock_table.specs.declared.no_memory.NoMemory.{NoMemory}
 use Rattle.lock_table.specs.declared.rows.SlotRow.{SlotRow}
@@ -45,6 +48,11 @@ rows_of_session session database word =
 abbrev pub rows_of_all : ℕ → (ℕ → ℕ) → (ℕ → ℕ → ℕ) → List SlotRow
 rows_of_all limit database word =
     rows_below limit (λ session. rows_of_session session (database_in (database session)) (word session))
+
+-- how many of the rows are of this hold
+abbrev pub times_shown : List SlotRow → ℕ → Tag → Mode → ℕ
+times_shown rows session tag mode =
+    count_by (λ row. (row.session == session) && (tag_eq row.tag tag && mode_eq row.mode mode)) rows
 
 -- the loads by which that is found: of each session below the limit the database, and then the words of its slots
 unfoldable pub loads_of_all : ℕ → (ℕ → ℕ) → (ℕ → ℕ → ℕ) → List TraceEntry

@@ -8,6 +8,7 @@ pub mod Polling
 pub mod Unlocking
 mod HeldModes
 mod Listed
+mod ListedOwn
 pub mod Leaving
 pub mod Cancelling
 pub mod Watching

@@ -74,7 +74,7 @@ kept-since a taking later put p content steps none took made puts =
 
 -- ---- rows
 
-waits-foreign :
+pub waits-foreign :
     (waits : List Wait) (session : ℕ) (mode : Mode) → waits_there waits session ≡ false →
     list_any (λ w. (w.session == session) && mode_eq w.mode mode) waits ≡ false
 waits-foreign [] session mode none = refl

@@ -21,9 +21,10 @@ pub struct Listing {
     pub table: Vec<TableRow>,
 }
 
-/// All that is held and awaited (`GetLockStatusData` in lock.c): first what the slots show, read session by session under
-/// the lock of each one's slots, and then the lock table at one moment, at which the session has all partitions in hand. So a
-/// hold that is moved from a slot to the table meanwhile may be listed in both. Only the lists of the answer take memory.
+/// All that is held and awaited (`GetLockStatusData` in lock.c): first what the slots show, read session by session with
+/// the lock of each one's slots shared, and then the lock table at one moment, at which the session has all partitions in hand.
+/// So a hold that is moved from a slot to the table meanwhile may be listed in both, and none that stands all the while is
+/// missed. Only the lists of the answer take memory.
 pub fn list<T: PartTable, B: Board<T>, R: Wait>(
     rt: &R,
     board: &mut B,
@@ -32,12 +33,17 @@ pub fn list<T: PartTable, B: Board<T>, R: Wait>(
     requires few { (B.seat board.old).limit ≤ 64 }
     requires rest { IsAtRest (B.seat board.old).limit own.now.database own.now.uses
         (B.view board.old) (B.stack board.old) own.now.locals.entries }
-    ensures listed { Lists (B.seat board.old).limit (B.view board.old).trace result (B.view board.new).trace }
+    ensures listed { Lists (B.seat board.old).limit (B.seat board.old).number (B.view board.old) result
+        (B.view board.new) }
     ensures no_memory { IsOkUnless result Refusal.NoMemory }
     ensures rest { IsAtRest (B.seat board.old).limit own.now.database own.now.uses
         (B.view board.new) (B.stack board.new) own.now.locals.entries }
     ensures seat { B.seat board.new ≡ B.seat board.old }
 {
+    // The own slots are among those that are read, and a row has room for the own database.
+    let is_among = board.number().number() < board.sessions();
+    let has_room = own.database <= u32::MAX;
+    prove!(is_among && has_room);
     let mut fast = Vec::new(own.alloc);
     if slot_rows(rt, board, &mut fast).is_err() {
         return Err(Refusal::NoMemory);
@@ -58,7 +64,7 @@ fn list_table<T: PartTable, B: Board<T>, R: Wait>(
     requires none_in_hand { (partition : ℕ) → (B.view board.old).hand partition ≡ None }
     requires none_owed { (B.stack board.old).owed ≡ [] }
     requires empty { rows.old.items ≡ [] }
-    ensures listed { ListsTable (B.view board.old).trace result rows.new.items (B.view board.new).trace }
+    ensures listed { ListsTable (B.seat board.old).number (B.view board.old) result rows.new.items (B.view board.new) }
     ensures account { B.view board.new ≡ record (B.view board.old) { trace = (B.view board.new).trace } }
     ensures stack { B.stack board.new ≡ B.stack board.old }
     ensures seat { B.seat board.new ≡ B.seat board.old }
@@ -80,7 +86,8 @@ fn list_from<T: PartTable, B: Board<T>, R: Wait>(
     requires exists { part ≤ 16 }
     requires none_in_hand { IsAboveHand (B.view board.old) part }
     requires none_owed { (B.stack board.old).owed ≡ [] }
-    ensures listed { ListsFrom part (B.view board.old) rows.old.items result (B.view board.new) rows.new.items }
+    ensures listed { ListsFrom (B.seat board.old).number part (B.view board.old) rows.old.items result
+        (B.view board.new) rows.new.items }
     ensures stack { B.stack board.new ≡ B.stack board.old }
     ensures seat { B.seat board.new ≡ B.seat board.old }
 {

@@ -293,10 +293,11 @@ impl<T: PartTable, B: Board<T>> OwnSession<T, B> {
 
     /// All that is held and awaited (`GetLockStatusData` in lock.c): first what the slots show, session by session, then the
     /// lock table at one moment, at which the session has all partitions in hand. A hold that is moved from a slot to the table
-    /// meanwhile may be in both. Only the lists of the answer take memory; where that is wanting it is refused.
+    /// meanwhile may be in both; one that stands all the while is in one of them. Only the lists of the answer take memory; where
+    /// that is wanting it is refused.
     pub fn list<R: Wait>(&mut self, rt: &R) -> Result<Listing, Refusal>
-        ensures listed { Lists (B.seat self.old.board).limit (B.view self.old.board).trace result
-            (B.view self.new.board).trace }
+        ensures listed { Lists (B.seat self.old.board).limit (B.seat self.old.board).number (B.view self.old.board)
+            result (B.view self.new.board) }
         ensures no_memory { IsOkUnless result Refusal.NoMemory }
         ensures entries { self.new.owned.entries ≡ self.old.owned.entries }
         ensures uses { self.new.uses ≡ self.old.uses }

@@ -19,6 +19,7 @@ pub mod ListWords
 pub mod Headline
 pub mod Closed
 pub mod Telling
+pub mod Unmissed
 pub mod Remembered
 pub mod OwnStand
 pub mod Tallies

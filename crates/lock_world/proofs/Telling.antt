@@ -174,7 +174,7 @@ adds-step w s (LoadSleep n) v h = keeps w s _ v h.1 refl
 adds-step w s (SetReleaseOk lock n) v h = adds-setting_release_ok w s lock n v h
 adds-step w s (SetHasWaiters lock n) v h = adds-setting_has_waiters w s lock n v h
 
-not-none : {A : Type 0} (before : List A) (x : A) (after : List A) → [] ≡ before ++ x ∷ after → ⊥
+pub not-none : {A : Type 0} (before : List A) (x : A) (after : List A) → [] ≡ before ++ x ∷ after → ⊥
 not-none [] x after none = absurd (cc (none))
 not-none (c ∷ before) x after none = absurd (cc (none))
 
@@ -225,7 +225,7 @@ abbrev pub WasTold : World → List World → ℕ → List TraceEntry → TraceE
 WasTold w worlds s before entry =
     (place : ℕ) × (u : World) × (slice_get (w ∷ worlds) place ≡ Some u) × (u.sessions.trace s ≡ before) × TellsWhatIs u entry
 
-told-or-stood :
+pub told-or-stood :
     (w : World) (events : List Event) (worlds : List World) (s : ℕ) (before after : List TraceEntry) (entry : TraceEntry) → SafeWorld w → RunsThrough w events worlds
     → (last_of w worlds).sessions.trace s ≡ before ++ entry ∷ after
     → ((rest : List TraceEntry) × (w.sessions.trace s ≡ before ++ entry ∷ rest)) ⊎ WasTold w worlds s before entry

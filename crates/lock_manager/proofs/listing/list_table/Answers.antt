@@ -23,6 +23,7 @@ returns-clause-listed g c =
     record {
       contents = listed.contents;
       sixteen = omega (arith, listed.last);
+      of_caller = listed.of_caller;
       trace = ap (λ a. a.trace) listed.account;
       table =
           subst (λ (rows : List TableRow). IsListing (whole_of (content_at listed.contents)) rows) (sym whole)
