@@ -3,7 +3,6 @@
 ghost use Rattle.std.specs.Prelude.{◌≡◌, ◌≢◌, ◌<◌, ◌≤◌, ◌↔◌, ◌==◌, [], false, true, length, None};
 ghost use Rattle.std.specs.Prelude.{IsErrOf, IsOkUnless, IfOk, OnOk, OnErr};
 ghost use Rattle.local_locks.specs.Owned.{has_entry, owner_count_of, max_count, with_one_more, IsReserved, IsWellOwned};
-ghost use Rattle.lock_world.specs.WaitWord as words;
 ghost use Rattle.lock_manager.specs.Rest.{IsAtRest};
 ghost use Rattle.lock_manager.specs.Waiting.{IsWaiting, HasLooked, entries_started, Starts, Asks, LooksForWaiters};
 ghost use Rattle.lock_manager.specs.Waiting.{IsInWait, polled_as, Polls, Cancels, Waits, account_cancelled};
@@ -14,6 +13,7 @@ use crate::requests::request;
 use crate::sessions::Own;
 use local_locks::Acquired;
 use lock_table::{Move, PartTable};
+use lw_word::{is_asked, wait_state};
 use modes_core::{Mode, Owner, Refusal, SessionId, Tag, is_strong};
 use shared_rule::board::Board;
 use std::sync::Wait;
@@ -396,18 +396,4 @@ fn leave_in_part<T: PartTable, B: Board<T>, R: Wait>(
         content,
     );
     Cancelled::Removed
-}
-
-/// Bits 0 to 1 of a wait word (`waitStatus` in proc.h).
-fn wait_state(word: u64) -> u64
-    ensures { result ≡ words.wait_state word }
-{
-    word % 4
-}
-
-/// Whether bit 2 of a wait word is set (`QueryCancelPending` in globals.c).
-fn is_asked(word: u64) -> bool
-    ensures { result ≡ words.is_asked word }
-{
-    word / 4 % 2 == 1
 }

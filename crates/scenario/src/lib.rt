@@ -2,12 +2,12 @@
 //! and the program that runs one.
 #![tactic(auto)]
 
-pub mod arguments;
-pub mod desk;
-pub mod output;
-pub mod program;
-pub mod run;
-pub mod sessions;
+mod arguments;
+mod desk;
+mod output;
+mod program;
+mod run;
+mod sessions;
 
 pub use arguments::{Limits, NoRun, parse_arguments};
 pub use desk::{Desk, SharedDesk};
