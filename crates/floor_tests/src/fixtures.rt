@@ -24,7 +24,7 @@ pub fn session(rt: &impl Abort, number: u8) -> SessionId {
     SessionId::new(number).expect(rt, "a session number")
 }
 
-/// A part with nothing in it, at the second attempt where memory was wanting.
+/// A part with nothing in it, at the second attempt where there was no memory.
 pub fn new_part(alloc: Global) -> Result<PlainPart, NoMemory>
     ensures { IfOk result (λ part. part.begun ≡ None) }
 {

@@ -119,7 +119,7 @@ fn asked_once<P: PartTable>(
     decide(part, session, &OBJECT, mode, kind)
 }
 
-/// What it is answered at the second attempt where memory was wanting: all is as before then.
+/// What it is answered at the second attempt where there was no memory: all is as before then.
 fn asked<P: PartTable>(
     rt: &impl Abort,
     part: &mut P,

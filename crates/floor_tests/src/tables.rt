@@ -136,7 +136,7 @@ fn begins_once<P: PartTable>(
     part.begin(session, tag, mode)
 }
 
-/// Begins it at the second attempt where memory was wanting: all is as before then.
+/// Begins it at the second attempt where there was no memory: all is as before then.
 fn begins<P: PartTable>(
     rt: &impl Abort,
     part: &mut P,
@@ -366,7 +366,7 @@ const HOLDERS_WHO_WAIT: [Step; 4] = [
     Step::Waits(1, OBJECT, AccessShare, 0),
 ];
 
-/// The rows of a part, at the second attempt where memory was wanting: no row is there then.
+/// The rows of a part, at the second attempt where there was no memory: no row is there then.
 fn rows_of<P: PartTable>(
     rt: &impl Abort,
     alloc: Global,

@@ -19,7 +19,7 @@ fn main(rt: HostRuntime) -> ExitCode {
     ExitCode::from(status)
 }
 
-/// The words of the command line. The error is want of memory, or a word that is not UTF-8.
+/// The words of the command line. The error is being out of memory, or a word that is not UTF-8.
 fn read_words(rt: &HostRuntime) -> io::Result<Vec<String>> {
     Ok(env::args(rt)?.collect(rt.alloc())?)
 }

@@ -41,7 +41,7 @@ of_word P words place d inside here d' = subst (λ (word : Bor (List ℕ)). P wo
 pub bad_number-other : (defect : Defect) → defect ≡ BadNumber → defect ≢ WrongNumberOfWords
 bad_number-other defect bad wrong = let never : ⊥ = cc in never
 
--- an error in the place of a value says that there is none
+-- an error instead of a value says that there is none
 pub no_value : {T E : Type 0} (o : Option T) (its given : E) → Err its ≡ ok_or o given → (its ≡ given) × (o ≡ None)
 no_value None its given e = (cc, refl)
 no_value (Some x) its given e = let never : ⊥ = cc in absurd never

@@ -42,7 +42,7 @@ impl<S> ByName<S> {
     ghost use Rattle.lock_script.specs.declared.sessions.Named.{Named};
     ghost use Rattle.lock_script.specs.Lending.{LendsSession};
 
-    /// No session. It is refused where memory is wanting.
+    /// No session. It is refused where there is no memory.
     pub fn new(alloc: Global) -> Result<Self, AllocError>
         ensures { IfOk result (λ made. made ≡ []) }
     {
@@ -179,7 +179,7 @@ pub struct Opened {
 impl<S, W> OpenSessions<S, W> {
     ghost use Rattle.lock_script.specs.Sessions.{IsAt, IsUnknown};
 
-    /// Nobody. It is refused where memory is wanting.
+    /// Nobody. It is refused where there is no memory.
     pub fn new(alloc: Global) -> Result<Self, AllocError>
         ensures resting { IfOk result (λ sessions. sessions.resting ≡ []) }
         ensures waiting { IfOk result (λ sessions. sessions.waiting ≡ []) }

@@ -78,7 +78,7 @@ fn tell<
     }
 }
 
-/// A manager and its opener, at the second attempt where memory was wanting.
+/// A manager and its opener, at the second attempt where there was no memory.
 fn make_at_last(alloc: Global, config: Config) -> Result<(Manager, Opener), Refusal>
     ensures new { IfOk result (λ made. IsNew made.0 made.1 config) }
 {

@@ -18,7 +18,7 @@ pub trait Desk<'a, S> {
     // At which table a session is, and under which number.
     ghost seat: { S → Seated };
 
-    /// Opens a session of this database. It is refused where all numbers are given out, and then where memory is wanting.
+    /// Opens a session of this database. It is refused where all numbers are given out, and then where there is no memory.
     fn open(&self, manager: &'a Manager, opener: &mut Opener, database: u32) -> Result<S, Refusal>
         requires own { IsOpenerOf opener.old manager.now }
         ensures own { IfOk result (λ session. (seat session).table ≡ opener.old.table) }

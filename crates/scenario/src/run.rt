@@ -41,7 +41,7 @@ pub fn run_script<H: AllocGlobal + Wait, R: Read + Drop, W: Write + Drop>(
 }
 
 /// Runs a script with the sessions that the desk opens for this manager, of which none is open after it. It is not begun
-/// where memory is wanting for the list of them.
+/// where there is no memory for the list of them.
 fn play<
     'a,
     T: PartTable,

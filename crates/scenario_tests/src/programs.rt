@@ -62,7 +62,7 @@ fn reads_its_own_words(rt: HostRuntime) -> Result<(), Fail> {
         let limits = match parse_arguments(alloc, words.as_slice()) {
             Ok(limits) => Some((limits.sessions, limits.max_local)),
             Err(NoRun::Refused(_)) => None,
-            // A text, and want of memory: limits that no row has.
+            // A text, and being out of memory: limits that no row has.
             Err(_) => Some((0, 0)),
         };
         assert!(rt; limits == expected, "the limits of {line:?}");

@@ -318,7 +318,7 @@ pub static LISTINGS: [Row<'static>; 14] = [
         table a 5/16384 AccessShareLock granted\ntable b 5/16384 ShareLock granted\nrows 2\n",
         "",
     ),
-    // a weak mode on a relation of the own database goes by a slot
+    // a weak mode on a relation of its own database goes by a slot
     (
         1,
         "try a 5/16384 AccessShareLock\nlist a\n",

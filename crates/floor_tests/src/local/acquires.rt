@@ -7,7 +7,7 @@ use modes_core::{Mode, Owner, Refusal, Tag};
 use std::alloc::Global;
 use std::process::Abort;
 
-/// A table, at the second attempt where memory was wanting.
+/// A table, at the second attempt where there was no memory.
 pub fn new_table(rt: &impl Abort, alloc: Global, max_local: u32) -> LocalTable
     requires from { 1 ≤ max_local }
     requires to { max_local ≤ 65536 }

@@ -4,7 +4,7 @@ use place_index::PlaceIndex;
 use std::alloc::Global;
 use std::process::Abort;
 
-/// An index, at the second attempt where memory was wanting.
+/// An index, at the second attempt where there was no memory.
 fn new_index(rt: &impl Abort, alloc: Global) -> PlaceIndex {
     match PlaceIndex::new(alloc) {
         Ok(index) => index,

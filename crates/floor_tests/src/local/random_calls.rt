@@ -9,7 +9,7 @@ use std::process::Abort;
 /// What a session holds, in the order of making.
 type Plain = Vec<Entry>;
 
-/// A list with room, at the second attempt where memory was wanting.
+/// A list with room, at the second attempt where there was no memory.
 fn new_list(rt: &impl Abort, alloc: Global) -> Plain {
     match Vec::with_capacity(alloc, 200) {
         Ok(list) => list,

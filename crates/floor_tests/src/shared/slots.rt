@@ -1,4 +1,4 @@
-//! Slots, strong lock counters and the lock of the own slots, on a board for tests.
+//! Slots, strong lock counters and the lock of its own slots, on a board for tests.
 
 ghost use Rattle.std.specs.Prelude.{◌≡◌, ◌<◌, None};
 ghost use Rattle.shared_rule.specs.Boards.{nothing_due};

@@ -31,7 +31,7 @@ pub trait Desk<S> {
     // At which table a session is, and under which number.
     ghost seat: { S → Seated };
 
-    /// Opens a session. It is refused where all numbers are given out, or memory is wanting.
+    /// Opens a session. It is refused where all numbers are given out, or there is no memory.
     fn open(&mut self) -> Result<S, Refusal>
         ensures manager { manager self.new ≡ manager self.old }
         ensures own { IfOk result (λ session. (seat session).table ≡ (manager self.old).table) }
@@ -123,7 +123,7 @@ impl<'a> Desk<Session<'a>> for ManagerDesk<'a> {
     }
 }
 
-/// A session, at the second attempt where memory was wanting.
+/// A session, at the second attempt where there was no memory.
 pub fn open<T: PartTable, B: Board<T>, D: Desk<OwnSession<T, B>>, R: Abort>(
     rt: &R,
     desk: &mut D,

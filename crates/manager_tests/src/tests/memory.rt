@@ -23,12 +23,12 @@ fn object(number: u32) -> (Tag, Mode) {
     (Tag::object(5, 1_259, number, 0), mode)
 }
 
-/// Whether memory was wanting.
+/// Whether there was no memory.
 fn is_wanting(answer: &Answer) -> bool {
     *answer == Err(Refusal::NoMemory)
 }
 
-/// Asks for the mode, and again where memory was wanting. A refusal for that leaves what the session had.
+/// Asks for the mode, and again where there was no memory. A refusal for that leaves what the session had.
 fn try_at_last<T: PartTable, B: Board<T>, R: Abort + Wait>(
     rt: &R,
     session: &mut OwnSession<T, B>,
@@ -68,7 +68,7 @@ fn take_many<T: PartTable, B: Board<T>, R: Abort + Wait>(rt: &R, session: &mut O
     }
 }
 
-/// A listing, at the second attempt where memory was wanting.
+/// A listing, at the second attempt where there was no memory.
 fn list_at_last<T: PartTable, B: Board<T>, R: Abort + Wait>(
     rt: &R,
     session: &mut OwnSession<T, B>,
@@ -179,7 +179,7 @@ fn see_no_trace<T: PartTable, B: Board<T>, R: Abort + Wait>(rt: &R, session: &mu
     expect_once(rt, &listing, Mode::RowExclusive);
 }
 
-/// Asks for the strong mode, and again where memory was wanting.
+/// Asks for the strong mode, and again where there was no memory.
 fn try_strong_at_last<T: PartTable, B: Board<T>, R: Abort + Wait>(
     rt: &R,
     session: &mut OwnSession<T, B>,
