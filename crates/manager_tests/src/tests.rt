@@ -21,6 +21,7 @@ mod turn_lists;
 mod turns;
 mod waits;
 mod wakes;
+mod watches;
 
 use counted::Steps;
 use desk::{Desk, ManagerDesk};
@@ -47,6 +48,8 @@ enum Story<'a> {
     Asks(u32, Plan),
     /// They sleep in one queue for this mode, each in a thread of its own.
     Queue(Mode),
+    /// One lists while three lock and unlock, each in a thread of its own.
+    Watch,
     /// One sleeps in a queue until the wait ahead of it is cancelled.
     LetGoByCancel,
     /// One sleeps in a queue until it is asked to cancel.
@@ -73,6 +76,7 @@ fn tell<
         Story::GoesOn => memory::go_on(rt, desk),
         Story::Asks(number, plan) => threads::ask_in_threads(rt, alloc, desk, number, plan),
         Story::Queue(mode) => queues::wake_sleepers(rt, alloc, desk, mode),
+        Story::Watch => watches::list_beside(rt, alloc, desk),
         Story::LetGoByCancel => wakes::let_go_by_a_cancel(rt, desk),
         Story::WokenAsAsked => wakes::woken_as_asked(rt, desk),
     }
@@ -236,6 +240,7 @@ fn many_sessions_do_as_the_stories_say(rt: HostRuntime) -> Result<(), Fail> {
         (4, Story::Asks(4, Plan::of(10_000, 1, false))),
         (4, Story::Asks(4, Plan::of(10_000, 1, true))),
         (8, Story::Asks(8, Plan::of(3_000, 2, true))),
+        (watches::SESSIONS, Story::Watch),
         (queues::MANY + 1, Story::Queue(Mode::AccessExclusive)),
         (queues::MANY + 1, Story::Queue(Mode::AccessShare)),
         (3, Story::LetGoByCancel),

@@ -1,0 +1,256 @@
+//! Listings beside sessions that lock and unlock. Whatever a row says was so at some time during the listing, and a hold that
+//! stood all the while has a row. Strong requests move holds from slots to the table meanwhile.
+
+ghost use Rattle.std.specs.Prelude.{◌≡◌, ◌<◌};
+ghost use Rattle.lock_manager.specs.Managers.{ManagerView};
+ghost use Rattle.manager_tests.specs.Crews.{AreOf, SeatsAre};
+
+use super::answers::expect_released;
+use super::desk::{Desk, close_many, open_many};
+use lock_manager::{Listing, Mode, OwnSession, Owner, SessionId, Tag};
+use lock_table::{PartTable, PlainPart};
+use shared_rule::board::Board;
+use std::alloc::Global;
+use std::process::Abort;
+use std::sync::Wait;
+use std::sync::atomic::{AtomicU64, Ordering};
+use std::thread::{Threads, for_each_mut};
+
+/// How many sessions there are, of which the first one lists.
+pub const SESSIONS: u32 = 4;
+
+const LISTINGS: u32 = 300;
+
+const ROUNDS: u32 = 10_000;
+
+/// What each session says of its hold on its relation, by numbers that rise.
+#[derive(Drop)]
+struct Words {
+    /// Odd from before it asks for the hold until it has given it back, or was refused.
+    may_hold: [AtomicU64; 4],
+    /// Odd from when it has the hold until before it gives it back.
+    holds: [AtomicU64; 4],
+}
+
+impl Words {
+    fn new() -> Words {
+        Words {
+            may_hold: [
+                AtomicU64::new(0),
+                AtomicU64::new(0),
+                AtomicU64::new(0),
+                AtomicU64::new(0),
+            ],
+            holds: [
+                AtomicU64::new(0),
+                AtomicU64::new(0),
+                AtomicU64::new(0),
+                AtomicU64::new(0),
+            ],
+        }
+    }
+}
+
+/// Whether a word was odd, or even, all the while between two looks.
+fn stayed(before: u64, after: u64, odd: bool) -> bool {
+    before == after && (before % 2 == 1) == odd
+}
+
+/// Sessions have their numbers from 0 on, so this is the place of each.
+fn place_of(number: SessionId) -> usize
+    ensures { result < 4 }
+{
+    usize::from(number.number() % 4)
+}
+
+/// The relation of the session at this place.
+fn relation(place: usize) -> Tag
+    requires place { place < 4 }
+{
+    Tag::relation(5, 20_000 | (place as u32))
+}
+
+/// Asks for the strongest mode on the next session's relation, so that its hold is moved to the table, and gives back what it got.
+fn disturb<T: PartTable, B: Board<T>, R: Abort + Wait>(
+    rt: &R,
+    session: &mut OwnSession<T, B>,
+    next: usize,
+)
+    requires next { next < 4 }
+    ensures seat { B.seat session.new.board ≡ B.seat session.old.board }
+{
+    let tag = relation(next);
+    let mode = Mode::AccessExclusive;
+    if session.try_lock(rt, tag, mode, Owner::Transaction).is_ok() {
+        let released = session.unlock(rt, tag, mode, Owner::Transaction);
+        expect_released(rt, released, tag, mode);
+    }
+}
+
+/// Holds its own relation for a moment, if nobody is in the way, and disturbs the next session meanwhile.
+fn hold_once<T: PartTable, B: Board<T>, R: Abort + Wait>(
+    rt: &R,
+    words: &Words,
+    session: &mut OwnSession<T, B>,
+)
+    ensures seat { B.seat session.new.board ≡ B.seat session.old.board }
+{
+    let place = place_of(session.id());
+    let tag = relation(place);
+    let mode = Mode::AccessShare;
+    words.may_hold[place].fetch_add(1, Ordering::SeqCst);
+    if session.try_lock(rt, tag, mode, Owner::Transaction).is_ok() {
+        words.holds[place].fetch_add(1, Ordering::SeqCst);
+        disturb(rt, session, (place + 1) % 4);
+        words.holds[place].fetch_add(1, Ordering::SeqCst);
+        let released = session.unlock(rt, tag, mode, Owner::Transaction);
+        expect_released(rt, released, tag, mode);
+    }
+    words.may_hold[place].fetch_add(1, Ordering::SeqCst);
+}
+
+/// How many rows the hold of the session at this place has.
+fn rows_of(listing: &Listing, place: usize) -> u32
+    requires place { place < 4 }
+{
+    let mut rows: u32 = 0;
+    for row in listing.fast.as_slice() {
+        if place_of(row.session) == place
+            && row.tag == relation(place)
+            && row.mode == Mode::AccessShare
+        {
+            rows = rows.saturating_add(1);
+        }
+    }
+    for row in listing.table.as_slice() {
+        if place_of(row.session) == place
+            && row.tag == relation(place)
+            && row.mode == Mode::AccessShare
+        {
+            rows = rows.saturating_add(1);
+        }
+    }
+    rows
+}
+
+/// As many rows as there can be of a hold of which these two are known.
+fn expect_rows_of<R: Abort>(rt: &R, rows: u32, never: bool, throughout: bool) {
+    assert!(rt; rows <= 2, "{rows} rows of one hold");
+    assert!(rt; !never || rows == 0, "a row of a hold that nobody had");
+    assert!(rt;
+        !throughout || rows > 0,
+        "no row of a hold that stood all the while"
+    );
+}
+
+/// What all words of a kind show.
+fn look(words: &[AtomicU64; 4]) -> [u64; 4] {
+    [
+        words[0].load(Ordering::SeqCst),
+        words[1].load(Ordering::SeqCst),
+        words[2].load(Ordering::SeqCst),
+        words[3].load(Ordering::SeqCst),
+    ]
+}
+
+/// Lists once, and looks at what was so before and after.
+fn list_once<T: PartTable, B: Board<T>, R: Abort + Wait>(
+    rt: &R,
+    words: &Words,
+    session: &mut OwnSession<T, B>,
+)
+    ensures seat { B.seat session.new.board ≡ B.seat session.old.board }
+{
+    let may_hold = look(&words.may_hold);
+    let holds = look(&words.holds);
+    let listing = session.list(rt).expect(rt, "a listing");
+    let held = look(&words.holds);
+    let might_hold = look(&words.may_hold);
+    for place in 1..4usize {
+        let never = stayed(may_hold[place], might_hold[place], false);
+        let throughout = stayed(holds[place], held[place], true);
+        expect_rows_of(rt, rows_of(&listing, place), never, throughout);
+    }
+    let own = rows_of(&listing, 0);
+    assert!(rt; own == 1 || own == 2, "{own} rows of the own hold");
+}
+
+/// The first session has its relation all the while, and lists over and over.
+fn list_often<T: PartTable, B: Board<T>, R: Abort + Wait>(
+    rt: &R,
+    words: &Words,
+    session: &mut OwnSession<T, B>,
+)
+    ensures seat { B.seat session.new.board ≡ B.seat session.old.board }
+{
+    'listings: for _ in 0..LISTINGS {
+        list_once(rt, words, session);
+    }
+}
+
+/// Each other one holds its own over and over.
+fn hold_often<T: PartTable, B: Board<T>, R: Abort + Wait>(
+    rt: &R,
+    words: &Words,
+    session: &mut OwnSession<T, B>,
+)
+    ensures seat { B.seat session.new.board ≡ B.seat session.old.board }
+{
+    'rounds: for _ in 0..ROUNDS {
+        hold_once(rt, words, session);
+    }
+}
+
+/// Does what the session at its place is to do.
+fn play<T: PartTable, B: Board<T>, R: Abort + Wait>(
+    rt: &R,
+    words: &Words,
+    session: &mut OwnSession<T, B>,
+)
+    ensures seat { B.seat session.new.board ≡ B.seat session.old.board }
+{
+    if place_of(session.id()) != 0 {
+        hold_often(rt, words, session);
+        return;
+    }
+    let tag = relation(0);
+    let mode = Mode::AccessShare;
+    if session.try_lock(rt, tag, mode, Owner::Session).is_ok() {
+        list_often(rt, words, session);
+        let released = session.unlock(rt, tag, mode, Owner::Session);
+        expect_released(rt, released, tag, mode);
+    }
+}
+
+/// Each session does so in a thread of its own.
+fn play_side_by_side<B: Board<PlainPart> + Send, R: Abort + Threads + Wait + Sync>(
+    rt: &R,
+    words: &Words,
+    sessions: &mut [OwnSession<PlainPart, B>],
+)
+    ensures own { (manager : ManagerView) → AreOf B.seat manager sessions.old → AreOf B.seat manager sessions.new }
+{
+    let threads = sessions.len().max(1);
+    for_each_mut(
+        rt,
+        sessions,
+        threads,
+        &|_, session| play(rt, words, session),
+    );
+}
+
+/// A session of a desk lists while three others lock and unlock.
+pub fn list_beside<
+    B: Board<PlainPart> + Send,
+    D: Desk<OwnSession<PlainPart, B>>,
+    R: Abort + Threads + Wait + Sync,
+>(rt: &R, alloc: Global, desk: &mut D)
+    requires seats { SeatsAre B.seat D.seat }
+    ensures manager { D.manager desk.new ≡ D.manager desk.old }
+    ensures live { D.live desk.new ≡ D.live desk.old }
+{
+    let mut sessions = open_many(rt, alloc, desk, SESSIONS);
+    let words = Words::new();
+    play_side_by_side(rt, &words, sessions.as_mut_slice());
+    close_many(rt, desk, sessions);
+}
