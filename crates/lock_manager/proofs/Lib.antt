@@ -7,7 +7,6 @@ pub mod Holding
 pub mod Polling
 pub mod Unlocking
 mod HeldModes
-mod Listed
 pub mod Leaving
 pub mod Cancelling
 pub mod Watching

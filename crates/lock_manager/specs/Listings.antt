@@ -10,7 +10,7 @@ use Rattle.lock_table.specs.declared.rows.TableRow.{TableRow}
 use Rattle.lock_table.specs.Content.{Content, empty_content}
 use Rattle.lock_table.specs.Listing.{row_eq, has_row, IsListing}
 use Rattle.lock_table.specs.Queue.{waits_there}
-use Rattle.lock_table.specs.WholeContent.{whole_of}
+use Rattle.lock_table.specs.WholeContent.{whole_of, content_at, times_had, AreOfPartitions}
 use Rattle.lock_world.specs.Account.{Account}
 use Rattle.lock_world.specs.SlotHolds.{OneSlotEach}
 use Rattle.lock_world.specs.World.{TraceEntry, Took, Episode}
@@ -25,10 +25,6 @@ abbrev pub listing_steps : ℕ → List Content → List TraceEntry
 listing_steps partition [] = []
 listing_steps partition (content ∷ contents) =
     Took partition content ∷ listing_steps (partition + 1) contents ++ Episode partition content content ∷ []
-
--- the content of a partition, by the contents of all
-abbrev pub content_at : List Content → ℕ → Content
-content_at contents partition = slice_index_or contents partition empty_content
 
 -- All sixteen partitions are taken, in rising order, and put back as they were, in the opposite order. While all are in hand
 -- their contents stand side by side, and the rows list these.
@@ -67,20 +63,6 @@ abbrev pub Lists : ℕ → List TraceEntry → Result Listing Refusal → List T
 Lists limit before result after = ListsAll limit before result after ⊎ StopsAtSlots limit before result after
 
 -- The same of the partitions from one on.
-
--- how many of these contents have what the row says
-abbrev pub times_had : List Content → TableRow → ℕ
-times_had [] row = 0
-times_had (content ∷ contents) row = times_had contents row + (if has_row content row then 1 else 0)
-
--- The content has holds and waits on objects of the partition alone.
-pub record IsOfPartition (partition : ℕ) (content : Content) : Type 0 where
-  pub holds : (session : ℕ) (tag : Tag) (mode : Mode) → content.holds session tag mode ≡ true → partition_of tag ≡ partition
-  pub waits : (session : ℕ) (tag : Tag) → waits_there (content.waits tag) session ≡ true → partition_of tag ≡ partition
-
-abbrev pub AreOfPartitions : ℕ → List Content → Type 0
-AreOfPartitions partition [] = Unit {0}
-AreOfPartitions partition (content ∷ contents) = IsOfPartition partition content × AreOfPartitions (partition + 1) contents
 
 pub record ListsFrom (partition : ℕ) (a : Account) (old : List TableRow) (result : Result (Unit {0}) no_memory.NoMemory)
     (b : Account) (new : List TableRow) : Type 0 where
