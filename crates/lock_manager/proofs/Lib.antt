@@ -14,3 +14,4 @@ mod Reading
 mod Slotting
 mod Owing
 mod Closing
+pub mod Auditing

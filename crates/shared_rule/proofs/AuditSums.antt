@@ -23,7 +23,7 @@ use Rattle.atomic_table.specs.Seated.{TableId}
 use Rattle.lock_table.specs.declared.no_memory.NoMemory.{NoMemory}
 use Rattle.lock_table.specs.WholeContent.{content_at}
 use Rattle.lock_table.proofs.PartitionRows.{RowsMore, each-all}
-use Rattle.shared_rule.specs.declared.audits.Tally.{Tally}
+use Rattle.shared_rule.specs.declared.audits.Audit.{Audit}
 use Rattle.shared_rule.specs.declared.history.History.{History}
 use Rattle.shared_rule.specs.declared.history.View.{View}
 use Rattle.shared_rule.specs.History.{first_account, first_number}
@@ -151,7 +151,7 @@ module _ {T : Type 0} (content : T → Content) (table later : TableId) (limit i
       after-both (first_account content v0.sessions) (first_account content v1.sessions) (first_account content v2.sessions)
       (counter_loads 1024 shown) (holding_steps 0 counts.contents (all_slot_loads limit counts.word)) seen.account counts.account
 
-  made : (result : Result Tally NoMemory) → IfOk result (CountsTo limit shown counts.word counts.contents) → IfOk result (AddsUp gathered) → CountsAll content before after result
+  made : (result : Result Audit NoMemory) → IfOk result (CountsTo limit shown counts.word counts.contents) → IfOk result (AddsUp gathered) → CountsAll content before after result
   made result counted adds_up = record {
     counts = record { counters = shown; word = counts.word; contents = counts.contents; sixteen = sixteen; trace = ap (λ (a : Account). a.trace) account; counted = counted };
     adds_up = adds_up;

@@ -10,7 +10,7 @@ use Rattle.lock_world.specs.Account.{Account, InHand}
 use Rattle.lock_world.specs.SlotHolds.{slot_count}
 use Rattle.lock_world.specs.Tallies.{joined, shown_in_slots, modes_shown, AreSoMany, OwnStand, ShowsLeft}
 use Rattle.lock_world.specs.World.{TraceEntry, Took, Episode, Loaded}
-use Rattle.shared_rule.specs.declared.audits.Tally.{Tally}
+use Rattle.shared_rule.specs.declared.audits.Audit.{Audit}
 use Rattle.shared_rule.specs.declared.history.View.{View}
 use Rattle.shared_rule.specs.declared.history.History.{History}
 use Rattle.shared_rule.specs.History.{told, first_account, first_number}
@@ -134,16 +134,16 @@ OwnSoMany (one ∷ rest) (many ∷ others) = AreSoMany one.account.own many × O
 
 -- What was counted: the modes in what the slot loads show, the granted rows of the contents taken together, and what the counter loads
 -- show.
-pub record CountsTo (limit : ℕ) (counters : ℕ → ℕ) (word : ℕ → ℕ → ℕ) (contents : List Content) (tally : Tally) : Type 0 where
-  pub fast : tally.fast ≡ shown_in_slots limit word
+pub record CountsTo (limit : ℕ) (counters : ℕ → ℕ) (word : ℕ → ℕ → ℕ) (contents : List Content) (audit : Audit) : Type 0 where
+  pub fast : audit.fast ≡ shown_in_slots limit word
   pub rows : List TableRow
   pub each_once : HasEachRow (whole_of (content_at contents)) rows
-  pub table : tally.table ≡ count_by (λ (row : TableRow). row.granted) rows
-  pub strong : tally.strong ≡ total 1024 counters
+  pub table : audit.table ≡ count_by (λ (row : TableRow). row.granted) rows
+  pub strong : audit.strong ≡ total 1024 counters
 
 -- An audit of those gathered, by the trace of the first. Where memory is wanting for the rows it counts nothing, and has made the same
 -- steps.
-pub record Counts (limit : ℕ) (before : List TraceEntry) (result : Result Tally NoMemory) (after : List TraceEntry) : Type 0 where
+pub record Counts {E : Type 0} (limit : ℕ) (before : List TraceEntry) (result : Result Audit E) (after : List TraceEntry) : Type 0 where
   pub counters : ℕ → ℕ
   pub word : ℕ → ℕ → ℕ
   pub contents : List Content
@@ -153,12 +153,12 @@ pub record Counts (limit : ℕ) (before : List TraceEntry) (result : Result Tall
 
 -- What was counted adds up: modes in slots and rows to what those gathered own, however that is listed, and counters to what they have
 -- counted.
-pub record AddsUp (gathered : List Gathered) (tally : Tally) : Type 0 where
-  pub held : (many : List ℕ) → OwnSoMany gathered many → tally.fast + tally.table ≡ sum many
-  pub strong : tally.strong ≡ sum_by (λ one. length one.account.fast.counted) gathered
+pub record AddsUp (gathered : List Gathered) (audit : Audit) : Type 0 where
+  pub held : (many : List ℕ) → OwnSoMany gathered many → audit.fast + audit.table ≡ sum many
+  pub strong : audit.strong ≡ sum_by (λ one. length one.account.fast.counted) gathered
 
 -- The opener's seat counts what stands, with all sessions gathered there: the first one makes the steps, and all else is as before.
-pub record CountsAll {T : Type 0} (content : T → Content) (old new : OpenerState T) (result : Result Tally NoMemory) : Type 0 where
+pub record CountsAll {T : Type 0} (content : T → Content) (old new : OpenerState T) (result : Result Audit NoMemory) : Type 0 where
   pub counts : Counts old.limit (first_account content old.gathered).trace result (first_account content new.gathered).trace
   pub adds_up : IfOk result (AddsUp (gathered_in content old.gathered))
   pub opener : new ≡ record old { gathered = new.gathered }

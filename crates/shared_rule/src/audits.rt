@@ -39,10 +39,10 @@ const COUNTERS: u16 = 1024;
 
 const SLOTS: u8 = 16;
 
-/// What an audit counts: modes that fast-path slots show, granted rows of the lock table, and the sum of the strong lock
+/// What an audit counted: modes that fast-path slots show, granted rows of the lock table, and the sum of the strong lock
 /// counters.
 #[derive(Clone, Copy, Debug, PartialEq, Eq)]
-pub struct Tally {
+pub struct Audit {
     pub fast: u64,
     pub table: u64,
     pub strong: u64,
@@ -254,7 +254,7 @@ impl<T: PartTable> Opener<T> {
         rt: &R,
         table: &Top<T>,
         rows: &mut Vec<TableRow>,
-    ) -> Result<Tally, NoMemory>
+    ) -> Result<Audit, NoMemory>
         requires table { (self.old.table ≡ table.now.table_id) × (self.old.limit ≡ table.now.key) }
         requires some { (first : History T) × (others : List (History T)) × (self.old.gathered ≡ first ∷ others) }
         requires all { length self.old.gathered + length self.old.closed ≡ self.old.issued }
@@ -274,7 +274,7 @@ impl<T: PartTable> Opener<T> {
             &mut fast,
             rows,
         )?;
-        Ok(Tally {
+        Ok(Audit {
             fast,
             table: granted_in(rows.as_slice()),
             strong,
