@@ -7,7 +7,6 @@ pub mod Holding
 pub mod Polling
 pub mod Unlocking
 mod HeldModes
-mod Listed
 mod ListedOwn
 pub mod Leaving
 pub mod Cancelling
@@ -16,3 +15,4 @@ mod Reading
 mod Slotting
 mod Owing
 mod Closing
+pub mod Auditing

@@ -29,9 +29,10 @@ use Rattle.fast_path.specs.Rows.{rows_of_all, loads_of_all, times_shown, ReadsSl
 use Rattle.fast_path.proofs.LoadsAt.{LoadsAt, loads-at}
 use Rattle.fast_path.proofs.Times.{times-all, times-some}
 use Rattle.lock_manager.specs.declared.listing.Listing.{Listing}
-use Rattle.lock_manager.specs.Listings.{content_at, listing_steps, IsOfCaller, AreOfCaller, times_in_table, times_listed}
+use Rattle.lock_table.specs.WholeContent.{content_at}
+use Rattle.lock_manager.specs.Listings.{listing_steps, IsOfCaller, AreOfCaller, times_in_table, times_listed}
 use Rattle.lock_manager.specs.Listings.{LeftItsSlot, ListsOwn, HasWords, MissesNone}
-use Rattle.lock_manager.proofs.Listed.{waits-foreign}
+use Rattle.lock_table.proofs.PartitionRows.{waits-foreign}
 
 -- ---- what the caller knows of the contents that it takes
 

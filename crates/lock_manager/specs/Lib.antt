@@ -8,3 +8,4 @@ pub mod Listings
 pub mod Waiting
 pub mod Waits
 pub mod Crews
+pub mod Audits

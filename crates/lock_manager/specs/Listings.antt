@@ -11,7 +11,7 @@ use Rattle.lock_table.specs.declared.rows.TableRow.{TableRow}
 use Rattle.lock_table.specs.Content.{Content, empty_content}
 use Rattle.lock_table.specs.Listing.{row_eq, has_row, IsListing}
 use Rattle.lock_table.specs.Queue.{waits_there}
-use Rattle.lock_table.specs.WholeContent.{whole_of}
+use Rattle.lock_table.specs.WholeContent.{whole_of, content_at, times_had, AreOfPartitions}
 use Rattle.lock_table.specs.OwnWait.{OwnWait, is_for}
 use Rattle.lock_world.specs.declared.events.Event.{Event}
 use Rattle.lock_world.specs.Account.{Account}
@@ -33,10 +33,6 @@ listing_steps partition [] = []
 listing_steps partition (content ∷ contents) =
     Took partition content ∷ listing_steps (partition + 1) contents ++ Episode partition content content ∷ []
 
--- the content of a partition, by the contents of all
-abbrev pub content_at : List Content → ℕ → Content
-content_at contents partition = slice_index_or contents partition empty_content
-
 -- What the session that takes a partition knows there of itself: where its own holds stand, with its slots as it remembers them;
 -- that its holds there are its own, or what it awaits; and that it stands in no queue where it awaits nothing.
 pub record IsOfCaller (number : ℕ) (own : Tag → Mode → Bool) (awaited : Option OwnWait) (database : ℕ) (remembered : ℕ → ℕ)
@@ -46,7 +42,7 @@ pub record IsOfCaller (number : ℕ) (own : Tag → Mode → Bool) (awaited : Op
       (tag : Tag) (mode : Mode) → content.holds number tag mode ≡ true → (own tag mode ≡ true) ⊎ (is_for awaited tag mode ≡ true)
   pub no_wait : (tag : Tag) → awaited ≡ None → waits_there (content.waits tag) number ≡ false
 
--- The same of the partitions from one on.
+-- The same, of the partitions from one on.
 abbrev pub AreOfCaller : ℕ → (Tag → Mode → Bool) → Option OwnWait → ℕ → (ℕ → ℕ) → ℕ → List Content → Type 0
 AreOfCaller number own awaited database remembered partition [] = Unit {0}
 AreOfCaller number own awaited database remembered partition (content ∷ contents) =
@@ -136,21 +132,7 @@ pub record StopsAtSlots (limit : ℕ) (a : Account) (result : Result Listing Ref
 abbrev pub Lists : ℕ → ℕ → Account → Result Listing Refusal → Account → Type 0
 Lists limit number a result b = ListsAll limit number a result b ⊎ StopsAtSlots limit a result b
 
--- The same of the partitions from one on.
-
--- how many of these contents have what the row says
-abbrev pub times_had : List Content → TableRow → ℕ
-times_had [] row = 0
-times_had (content ∷ contents) row = times_had contents row + (if has_row content row then 1 else 0)
-
--- The content has holds and waits on objects of the partition alone.
-pub record IsOfPartition (partition : ℕ) (content : Content) : Type 0 where
-  pub holds : (session : ℕ) (tag : Tag) (mode : Mode) → content.holds session tag mode ≡ true → partition_of tag ≡ partition
-  pub waits : (session : ℕ) (tag : Tag) → waits_there (content.waits tag) session ≡ true → partition_of tag ≡ partition
-
-abbrev pub AreOfPartitions : ℕ → List Content → Type 0
-AreOfPartitions partition [] = Unit {0}
-AreOfPartitions partition (content ∷ contents) = IsOfPartition partition content × AreOfPartitions (partition + 1) contents
+-- The same, of the partitions from one on.
 
 pub record ListsFrom (number partition : ℕ) (a : Account) (old : List TableRow) (result : Result (Unit {0}) no_memory.NoMemory)
     (b : Account) (new : List TableRow) : Type 0 where

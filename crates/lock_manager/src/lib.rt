@@ -2,6 +2,7 @@
 #![tactic(auto)]
 
 mod any_board;
+mod audit;
 mod config;
 mod desk;
 mod keeper;
@@ -22,6 +23,7 @@ pub use lock_table::{PartTable, SlotRow, TableRow};
 pub use manager::{Final, Manager, Opener};
 pub use modes_core::{How, Mode, ModeSet, Owner, Refusal, SessionId, Tag};
 pub use sessions::{OwnSession, Session};
+pub use shared_rule::audits::Audit;
 pub use shared_rule::board::Board;
 pub use waiting::Asked;
 pub use waits::{Cancelled, Locked, OwnWaiting, Polled, Started, Waited, Waiting};

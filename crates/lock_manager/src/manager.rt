@@ -30,9 +30,9 @@ pub struct Final {
 /// it. Contracts see its table, how many sessions it may open, and how many local entries each may have.
 #[derive(Drop)]
 pub struct Manager {
-    table: SharedTable<Part>,
+    pub(crate) table: SharedTable<Part>,
     max_local: u32,
-    alloc: Global,
+    pub(crate) alloc: Global,
 }
 
 impl Model for Manager {
@@ -54,14 +54,14 @@ impl Model for Manager {
 /// out and may give out, how many of them are open, and the histories of those that have closed.
 #[derive(Drop)]
 pub struct Opener {
-    numbers: NumberOpener<Part>,
+    pub(crate) numbers: NumberOpener<Part>,
     issued: u8,
     sessions: u8,
     live: u8,
 }
 
 impl Model for Opener {
-    ghost use Rattle.std.specs.Prelude.{◌≡◌};
+    ghost use Rattle.std.specs.Prelude.{◌≡◌, []};
     ghost use Rattle.lock_manager.specs.Managers.{OpenerView, IsCounted};
 
     ghost Value = { OpenerView };
@@ -75,7 +75,8 @@ impl Model for Opener {
     } };
 
     ghost invariant = { λ opener. (opener.numbers.issued ≡ opener.issued) × (opener.numbers.limit ≡ opener.sessions)
-        × IsCounted opener.issued opener.sessions opener.live opener.numbers.closed };
+        × IsCounted opener.issued opener.sessions opener.live opener.numbers.closed
+        × (opener.numbers.gathered ≡ []) };
 }
 
 impl Manager {

@@ -19,3 +19,4 @@ pub mod FindLemmas
 pub mod WalkLemmas
 pub mod PlaceLemmas
 pub mod PartLemmas
+pub mod PartitionRows

@@ -35,6 +35,10 @@ row_cmp =
     then_cmp (then_cmp (then_cmp (on (λ row. numbers_of row.tag) (slice_cmp nat_cmp)) (on (λ row. row.session) nat_cmp)) (on (λ row. not row.granted) bool_cmp))
     (on (λ row. number_of row.mode) nat_cmp)
 
+-- The rows are the content's holds and waits, each once, in whatever order.
+abbrev pub HasEachRow : Content → List TableRow → Type 0
+HasEachRow content rows = (row : TableRow) → count_by (row_eq row) rows ≡ (if has_row content row then 1 else 0)
+
 -- The rows are the content's holds and waits, each once, in the listing's order.
 pub record IsListing (content : Content) (rows : List TableRow) : Type 0 where
   pub in_order : IsSorted row_cmp rows

@@ -1,4 +1,4 @@
-use Rattle.std.specs.Prelude.{◌≡◌, ℕ, ◌+◌, Bool, true, not, ◌&&◌, List, length, count_by, if◌then◌else◌}
+use Rattle.std.specs.Prelude.{◌≡◌, ℕ, ◌+◌, zero, suc, Bool, true, not, ◌&&◌, List, [], ◌++◌, length, count_by, if◌then◌else◌}
 use Rattle.modes_core.specs.declared.modes.Mode.{Mode}
 use Rattle.modes_core.specs.declared.modes.Mode.TheVariants.{AccessShare, RowShare, RowExclusive}
 use Rattle.modes_core.specs.declared.tags.Tag.{Tag}
@@ -12,6 +12,11 @@ use Rattle.lock_world.specs.SlotHolds.{slot_count, slot_holds, OneSlotEach}
 use Rattle.lock_world.specs.Account.{Account}
 
 -- What is counted where all sessions stand still: what slots show, what contents have, and what the sessions own.
+
+-- so many lists, one behind another
+unfoldable pub joined : {X : Type 0} → ℕ → (ℕ → List X) → List X
+joined zero lists = []
+joined (suc limit) lists = joined limit lists ++ lists limit
 
 -- how many modes a slot's word shows: there are bits for three
 abbrev pub modes_shown : ℕ → ℕ

@@ -6,3 +6,4 @@ pub mod Counters
 pub mod Waits
 pub mod Slots
 pub mod Seats
+pub mod Gatherings

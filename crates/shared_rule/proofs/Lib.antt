@@ -4,6 +4,7 @@ pub mod ClosedCounts
 pub mod Frame
 pub mod Views
 pub mod Meetings
+pub mod Gathered
 pub mod Opening
 pub mod Events
 pub mod Sides
@@ -11,5 +12,7 @@ pub mod Taken
 pub mod SlotWords
 pub mod FirstSlot
 pub mod Episodes
+pub mod Auditing
+pub mod AuditSums
 pub mod Stacks
 mod Walks

@@ -13,7 +13,8 @@ use Rattle.shared_rule.specs.declared.history.History.{History}
 use Rattle.shared_rule.specs.declared.history.View.{View}
 use Rattle.shared_rule.specs.History.{keeper, lone, spent_view}
 use Rattle.shared_rule.specs.Ruled.{IsClosed, HistoryIsShown, IsBehind, SeatsAreShown}
-use Rattle.shared_rule.specs.Seats.{all_but_last, last_of}
+use Rattle.shared_rule.specs.Boards.{first_marks}
+use Rattle.shared_rule.specs.Seats.{all_but_last, last_of, handed_back}
 use Rattle.shared_rule.proofs.Standing.{there-within, there-one}
 use Rattle.shared_rule.proofs.Views.{there-snoc, one-get, still-shown, with_numbers, history-alone, nobody-behind}
 
@@ -66,6 +67,15 @@ module _ {T : Type 0} where
       → (x : History T) × (slice_get xs 0 ≡ Some x) × (x.number ≡ by)
   keeper-last [] y by kept = absurd (cc (kept))
   keeper-last (x ∷ xs) y by kept = let same : Some x.number ≡ Some by = kept in (x, refl, cc (same))
+
+-- The view of the last one alone is one session's.
+pub lone-last : {T : Type 0} (view : View T) (before : List (History T)) (last : History T) (number : ℕ) → view.sessions ≡ before ++ last ∷ [] → last.number ≡ number
+    → handed_back view ≡ lone number (first_marks (handed_back view).sessions)
+lone-last {T} view before last number is same =
+    let there : last_of view.sessions ≡ last ∷ [] = ap last_of is ∙ last_of-of before last in
+    let as_lone : last_of view.sessions ≡ record { number = number; marks = first_marks (last_of view.sessions) } ∷ [] =
+    there ∙ (λ i. record { number = same i; marks = last.marks } ∷ []) ∙ sym (ap (λ (xs : List (History T)). record { number = number; marks = first_marks xs } ∷ []) there) in
+    λ i. record { next = None; closed = []; sessions = as_lone i }
 
 -- The session b is kept apart behind those at a seat.
 module _ {T : Type 0} (content : T → Content) (w : World) (views : List (View T)) (id : ℕ) (view : View T) (other b : ℕ) (others : List (Mark T))

@@ -11,5 +11,7 @@ pub mod Lawful
 pub mod Opening
 pub mod Seats
 pub mod Openers
+pub mod Gatherings
+pub mod Audits
 pub mod Episodes
 pub mod Headline

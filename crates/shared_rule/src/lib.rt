@@ -2,9 +2,11 @@
 //! holds between any two steps.
 #![tactic(auto)]
 
+pub mod audits;
 pub mod board;
 pub mod busy;
 mod counters;
+pub mod gatherings;
 pub mod history;
 pub mod laws;
 pub mod layout;

@@ -16,12 +16,13 @@ use modes_core::SessionId;
 use std::marker::Model;
 
 /// Gives out session numbers, each once, in rising order (`InitProcess` in proc.c). Contracts see at which table it is,
-/// how many numbers it has given out, how many there can be, and the histories of the sessions that have closed.
+/// how many numbers it has given out, how many there can be, the histories of the sessions that have closed, and which
+/// sessions are gathered at its seat.
 #[derive(Drop)]
 pub struct Opener<T: PartTable> {
-    place: Place<T>,
+    pub(crate) place: Place<T>,
     issued: u8,
-    sessions: u8,
+    pub(crate) sessions: u8,
 }
 
 impl<T: PartTable> Model for Opener<T> {
@@ -36,6 +37,7 @@ impl<T: PartTable> Model for Opener<T> {
       issued = opener.issued;
       limit = opener.sessions;
       closed = opener.place.me.0.closed;
+      gathered = opener.place.me.0.sessions;
     } };
 
     ghost invariant = { λ opener. (opener.place.me.0.next ≡ Some opener.issued) × (opener.issued ≤ opener.sessions)
@@ -48,7 +50,7 @@ impl<T: PartTable> Opener<T> {
         requires first { place.me ≡ (opening_view, []) }
         requires sized { IsSized place.table_id }
         requires few { sessions ≤ 64 }
-        ensures { result ≡ record { table = place.table_id; issued = 0; limit = sessions; closed = [] } }
+        ensures { result ≡ record { table = place.table_id; issued = 0; limit = sessions; closed = []; gathered = [] } }
     {
         Opener {
             place,
@@ -79,7 +81,7 @@ impl<T: PartTable> Opener<T> {
         ensures none { IsNone result ↔ (self.old.issued ≡ self.old.limit) }
         ensures unchanged { IfNone result (self.new ≡ self.old) }
         ensures opener { (self.new.table ≡ self.old.table) × (self.new.limit ≡ self.old.limit)
-            × (self.new.closed ≡ self.old.closed) }
+            × (self.new.closed ≡ self.old.closed) × (self.new.gathered ≡ self.old.gathered) }
         ensures issued { OnSome result (self.new.issued ≡ self.old.issued + 1) }
         ensures blank { IfSome result (λ board. ⟦<SeatBoard<'a, T> as Board<T>>⟧.view board ≡ blank_account) }
         ensures stack { IfSome result (λ board. ⟦<SeatBoard<'a, T> as Board<T>>⟧.stack board ≡ nothing_due) }

@@ -107,3 +107,23 @@ impl<T: PartTable> Play<Option<T>, View<T>> for TellsApart {
 
     ghost then = { ToldApart T.content };
 }
+
+/// A load that leaves its mark, and tells what a seat at which all sessions are knows of the number found.
+pub struct LooksOver<M> {
+    of: PhantomData<M>,
+}
+
+impl<T: PartTable, M: Marking<T>> Play<Option<T>, View<T>> for LooksOver<M> {
+    ghost use Rattle.shared_rule.specs.Gatherings.{LookedOver};
+
+    ghost then = { LookedOver T.content M.mark };
+}
+
+/// A load that changes nothing, and tells such a seat who is there, and where the own holds of each stand.
+pub struct TellsAll;
+
+impl<T: PartTable> Play<Option<T>, View<T>> for TellsAll {
+    ghost use Rattle.shared_rule.specs.Gatherings.{ToldAll};
+
+    ghost then = { ToldAll T.content };
+}

@@ -92,7 +92,7 @@ pub fn open<T: PartTable>(
     requires parts { AreNew T.content T.begun parts.items }
     ensures key { IfOk result (λ opened. opened.0.shared.key ≡ sessions) }
     ensures opener { IfOk result (λ opened.
-        opened.1 ≡ record { table = opened.0.shared.table_id; issued = 0; limit = sessions; closed = [] }) }
+        opened.1 ≡ record { table = opened.0.shared.table_id; issued = 0; limit = sessions; closed = []; gathered = [] }) }
     ensures refused { IfErr result (λ refused. refused.slots.items ≡ parts.items) }
 {
     let words = match first_words(alloc) {

@@ -10,9 +10,9 @@ use Rattle.modes_core.specs.Mode.{mode_eq, number_of}
 use Rattle.lw_word.specs.SlotWord.{relation_in, has_mode, shows}
 use Rattle.lock_table.specs.Total.{total}
 use Rattle.lock_world.specs.SlotHolds.{slot_count}
-use Rattle.lock_world.specs.Tallies.{Held, modes_shown, is_this}
+use Rattle.lock_world.specs.Tallies.{Held, joined, modes_shown, is_this}
 use Rattle.lock_world.proofs.Slots.Bits.{shows-weak}
-use Rattle.lock_world.proofs.Tallies.Lists.{count_by-append, count_by-one, joined, length-joined, count_by-joined}
+use Rattle.lock_world.proofs.Tallies.Lists.{count_by-append, count_by-one, length-joined, count_by-joined}
 
 -- The modes that slots show, as a list of holds.
 

@@ -11,7 +11,7 @@ use Rattle.lock_world.proofs.Tallies.Sums.{total-one, total-add, total-swap}
 -- All counters together show how much is counted.
 
 -- What one session has counted is at some index, each once.
-all-counted : (list : List Counted) → total 1024 (λ index. count_at index list) ≡ length list
+pub all-counted : (list : List Counted) → total 1024 (λ index. count_at index list) ≡ length list
 all-counted [] = total-nothing 1024 (λ index. 0) (λ index within. refl)
 all-counted (c ∷ list) =
     let rest = all-counted list in

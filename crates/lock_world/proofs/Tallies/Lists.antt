@@ -5,6 +5,7 @@ use Rattle.std.proofs.lemmas.List.{length-append}
 use Rattle.std.proofs.lemmas.List.Sums.{sum_by-append}
 use Rattle.lock_table.proofs.HoldLists.{count_by-cons}
 use Rattle.lock_table.specs.Total.{total}
+use Rattle.lock_world.specs.Tallies.{joined}
 
 -- Lists that have each element equally often are equally long.
 
@@ -90,10 +91,7 @@ module _ {X : Type 0} (test : X → X → Bool) (itself : (x : X) → test x x �
       omega (arith, whole, both, dropped)) in
       omega (arith, shorter, rest)
 
--- so many lists, one behind another
-pub joined : {X : Type 0} → ℕ → (ℕ → List X) → List X
-joined zero lists = []
-joined (suc limit) lists = joined limit lists ++ lists limit
+-- Lists joined, one behind another.
 
 pub length-joined : {X : Type 0} (limit : ℕ) (lists : ℕ → List X) → length (joined limit lists) ≡ total limit (λ k. length (lists k))
 unfolding joined total
@@ -145,3 +143,17 @@ length-map_filter turn keep (x ∷ xs) =
           let here : ◌≡◌ {A = ℕ} (if keep x then 1 else 0) 0 = cond-false (keep x) 1 0 gone in
           omega (arith, e, whole, here, rest)
     ]
+
+pub joined-more : {X : Type 0} (limit : ℕ) (lists : ℕ → List X) → joined (limit + 1) lists ≡ joined limit lists ++ lists limit
+unfolding joined
+joined-more limit lists = ap (λ n. joined n lists) more where
+  more : limit + 1 ≡ suc limit
+  more = omega arith
+
+pub joined-same : {X : Type 0} (limit : ℕ) (f g : ℕ → List X) → ((k : ℕ) → k < limit → f k ≡ g k) → joined limit f ≡ joined limit g
+unfolding joined
+joined-same zero f g same = refl
+joined-same (suc limit) f g same =
+    let before : joined limit f ≡ joined limit g = joined-same limit f g (λ k below. same k (omega arith)) in
+    let here : f limit ≡ g limit = same limit (omega arith) in
+    λ i. before i ++ here i

@@ -11,7 +11,7 @@ use Rattle.modes_core.proofs.Laws.{mode_eq-refl, mode_eq-same, tag_eq-refl, tag_
 use Rattle.lw_word.specs.SlotWord.{shows}
 use Rattle.lock_table.specs.declared.rows.TableRow.{TableRow}
 use Rattle.lock_table.specs.Content.{Content}
-use Rattle.lock_table.specs.Listing.{row_eq, has_row, IsListing}
+use Rattle.lock_table.specs.Listing.{row_eq, has_row, HasEachRow}
 use Rattle.lock_table.specs.WholeContent.{whole_of}
 use Rattle.lock_table.proofs.HoldLists.{count_by-cons}
 use Rattle.lock_table.specs.Total.{total}
@@ -119,7 +119,7 @@ module _ (k : ℕ) (a : Account) (contents : ℕ → Content) (stand : OwnStand 
   one_of_both false false is = refl
 
   -- What its slots show and its rows are as much as it owns.
-  pub session-sum : (rows : List TableRow) (many : ℕ) → IsListing (whole_of contents) rows → AreSoMany a.own many
+  pub session-sum : (rows : List TableRow) (many : ℕ) → HasEachRow (whole_of contents) rows → AreSoMany a.own many
       → total slot_count (λ place. modes_shown (slot place)) + count_by is_its rows ≡ many
   session-sum rows many listing owned =
       let slots = held_in_all a.fast.database slot in
@@ -137,7 +137,7 @@ module _ (k : ℕ) (a : Account) (contents : ℕ → Content) (stand : OwnStand 
             let rest = count_by-map_filter held_by is_its (is_this h.tag h.mode) rows in
             let each = count_by-same (λ row. is_its row && is_this h.tag h.mode (held_by row)) (row_eq (record { session = k; tag = h.tag; mode = h.mode; granted = true })) rows (same-row h.tag h.mode) in
             let listed : count_by (row_eq (record { session = k; tag = h.tag; mode = h.mode; granted = true })) rows ≡ (if (contents (partition_of h.tag)).holds k h.tag h.mode then 1 else 0) =
-            listing.each_once (record { session = k; tag = h.tag; mode = h.mode; granted = true }) in
+            listing (record { session = k; tag = h.tag; mode = h.mode; granted = true }) in
             let one = one_of_both (a.own h.tag h.mode) ((contents (partition_of h.tag)).holds k h.tag h.mode) (stand.in_contents h.tag h.mode) in
             let own = owned.each_once h.tag h.mode in
             omega (arith, split, first, rest, each, listed, one, own)
@@ -189,7 +189,7 @@ module _ (limit : ℕ) (accounts : ℕ → Account) (contents : ℕ → Content)
     (owned : (k : ℕ) → AreSoMany (accounts k).own (many k))
     (within : (k : ℕ) (tag : Tag) (mode : Mode) → (accounts k).own tag mode ≡ true → k < limit) where
   -- What all slots show and all granted rows are as much as all sessions own.
-  pub all-sum : (rows : List TableRow) → IsListing (whole_of contents) rows → shown_in_slots limit slot + count_by (λ (row : TableRow). row.granted) rows ≡ total limit many
+  pub all-sum : (rows : List TableRow) → HasEachRow (whole_of contents) rows → shown_in_slots limit slot + count_by (λ (row : TableRow). row.granted) rows ≡ total limit many
   all-sum rows listing =
       let by_session = rows-by_session limit rows row-within in
       let both = total-add limit (λ k. total slot_count (λ place. modes_shown (slot k place))) (λ k. count_by (λ (row : TableRow). row.granted && (row.session == k)) rows) in
@@ -201,7 +201,7 @@ module _ (limit : ℕ) (accounts : ℕ → Account) (contents : ℕ → Content)
             elim (cases_Bool ((contents (partition_of row.tag)).holds row.session row.tag row.mode)) [
               | inl has ↦ within row.session row.tag row.mode ((stand row.session).in_contents row.tag row.mode has)
               | inr none ↦
-                  let listed = listing.each_once row in
+                  let listed = listing row in
                   let not_there : has_row (whole_of contents) row ≡ false = rw granted none in
                   let zeroth : ◌≡◌ {A = ℕ} (if has_row (whole_of contents) row then 1 else 0) 0 = cond-false (has_row (whole_of contents) row) 1 0 not_there in
                   absurd (omega (arith, there, listed, zeroth))

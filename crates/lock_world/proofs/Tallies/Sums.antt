@@ -1,4 +1,4 @@
-use Rattle.std.proofs.Common.{◌≡◌, ◌≢◌, ℕ, zero, suc, ◌+◌, ◌<◌, refl, sym, ◌∙◌, inl, inr, arith}
+use Rattle.std.proofs.Common.{◌≡◌, ap, ◌≢◌, ℕ, zero, suc, ◌+◌, ◌<◌, refl, sym, ◌∙◌, inl, inr, arith}
 use Rattle.std.proofs.lemmas.Bool.{cases_eq}
 use Rattle.lock_table.specs.Put.{set_at}
 use Rattle.lock_table.proofs.PutLemmas.{set_at-here, set_at-else}
@@ -32,3 +32,10 @@ total-swap (suc limit) bound f =
     let split : total bound (λ j. total limit (λ k. f k j) + f limit j) ≡ total bound (λ j. total limit (λ k. f k j)) + total bound (f limit) =
     total-add bound (λ j. total limit (λ k. f k j)) (f limit) in
     omega (arith, before, split)
+
+-- One more below the limit.
+pub total-more : (limit : ℕ) (f : ℕ → ℕ) → total (limit + 1) f ≡ total limit f + f limit
+unfolding total
+total-more limit f = ap (λ n. total n f) more where
+  more : limit + 1 ≡ suc limit
+  more = omega arith

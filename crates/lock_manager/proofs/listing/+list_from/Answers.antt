@@ -1,5 +1,6 @@
 use Rattle.std.proofs.Common.{arith, ◌+◌, ◌∷◌, ◌∙◌, ap, sym}
-use Rattle.lock_manager.proofs.Listed.{may_keep-since, kept-since, rows-then, rows-refused}
+use Rattle.lock_table.proofs.PartitionRows.{rows-then, rows-refused}
+use Rattle.shared_rule.proofs.Episodes.{may_keep-since, kept-since}
 use Rattle.lock_manager.specs.Listings.{listing_steps}
 use Rattle.lock_manager.proofs.ListedOwn.{caller-taking}
 use Rattle.shared_rule.specs.Boards.{Seated, Stack}

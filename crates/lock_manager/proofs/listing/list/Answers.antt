@@ -5,7 +5,7 @@ use Rattle.shared_rule.specs.Boards.{Seated}
 use Rattle.fast_path.specs.Rows.{rows_of_all, loads_of_all}
 use Rattle.lock_manager.specs.declared.listing.Listing.{Listing}
 use Rattle.lock_manager.specs.Listings.{listing_steps, AreOfCaller}
-use Rattle.lock_manager.proofs.Listed.{rows-ok}
+use Rattle.lock_table.proofs.PartitionRows.{rows-ok}
 use Rattle.lock_manager.proofs.ListedOwn.{lists-own, misses-none}
 use Rattle.lock_manager.proofs.Reading.{rest-read_slots, rest-read}
 use Rattle.lock_manager.proofs.listing.list.Goals as goal

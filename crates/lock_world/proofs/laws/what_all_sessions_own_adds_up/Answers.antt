@@ -19,7 +19,7 @@ returns-clause-holds c =
     all-sum w.numbers.limit (account w) w.contents.now w.words.slot many
     (λ k. own-stand w safe k (once k) (no_wait k))
     (λ k place below within. shows-left w safe k (once k) place within)
-    owned (holder-within w safe) rows listing
+    owned (holder-within w safe) rows listing.each_once
 
 pub returns-clause-counters : goal.returns-clause-counters
 returns-clause-counters c =

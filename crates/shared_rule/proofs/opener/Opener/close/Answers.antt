@@ -23,11 +23,13 @@ returns-clause-closed g c =
     let closed : c.tell_closed.new.opener.me.0.closed ≡ last ∷ had.me.0.closed =
     ap (λ (side : Side g.row.T.Denot). side.0.closed) (c.tell_closed.ensures.side ∙ c.close.ensures.side)
     ∙ ap (λ (view : View g.row.T.Denot). first_of view.sessions ++ had.me.0.closed) (came ∙ board.lone) in
+    let gathered : c.tell_closed.new.opener.me.0.sessions ≡ had.me.0.sessions =
+    ap (λ (side : Side g.row.T.Denot). side.0.sessions) (c.tell_closed.ensures.side ∙ c.close.ensures.side) in
     let table : c.tell_closed.new.opener.table_id ≡ had.table_id = c.tell_closed.ensures.seat.table_id ∙ c.close.ensures.seat.table_id in
     record {
       last = last;
       number_ = refl;
       trace_ = ap (λ (view : View g.row.T.Denot). (first_account g.T.PartTable.content view.sessions).trace) (sym board.lone);
-      opener = (λ i. record { table = table i; issued = c.self.inside.issued; limit = c.self.inside.sessions; closed = closed i })
+      opener = (λ i. record { table = table i; issued = c.self.inside.issued; limit = c.self.inside.sessions; closed = closed i; gathered = gathered i })
           ∙ ap (λ (old : OpenerState g.row.T.Denot). record old { closed = last ∷ old.closed }) c.self.view_is;
     }

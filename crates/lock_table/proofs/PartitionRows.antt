@@ -1,5 +1,4 @@
--- The listing of the partitions from one on, partition by partition, to that of all.
-use Rattle.std.proofs.Common.{◌≡◌, ◌≢◌, ℕ, zero, suc, ◌+◌, ◌<◌, true, false, ◌&&◌, ◌==◌, List, [], ◌∷◌, ◌++◌, length, arith, refl, sym, ap, ◌∙◌, subst, inl, inr, Some, None, append_assoc}
+use Rattle.std.proofs.Common.{◌≡◌, ◌≢◌, ℕ, zero, suc, ◌+◌, ◌<◌, true, false, ◌&&◌, ◌==◌, List, [], ◌∷◌, ◌++◌, length, arith, refl, sym, ap, ◌∙◌, inl, inr}
 use Rattle.std.specs.Prelude.{count_by, if◌then◌else◌, IsSorted, IsPermutation, Result, Ok, Err, OnOk}
 use Rattle.std.specs.List.{list_any}
 use Rattle.std.specs.Result.{is_ok, is_err}
@@ -9,70 +8,14 @@ use Rattle.std.proofs.lemmas.List.Sorted.{sum_by-IsPermutation}
 use Rattle.modes_core.specs.declared.modes.Mode.{Mode}
 use Rattle.modes_core.specs.Mode.{mode_eq}
 use Rattle.modes_core.specs.Tag.{partition_of}
-use Rattle.lock_table.specs.declared.moves.Move.TheVariants.{Keep}
 use Rattle.lock_table.specs.declared.no_memory.NoMemory.{NoMemory}
 use Rattle.lock_table.specs.declared.rows.TableRow.{TableRow}
 use Rattle.lock_table.specs.Content.{Content, Wait}
-use Rattle.lock_table.specs.Listing.{row_eq, has_row, row_cmp, IsListing, AppendsListing}
-use Rattle.lock_table.specs.Put.{set_at}
+use Rattle.lock_table.specs.Listing.{row_eq, has_row, row_cmp, HasEachRow, IsListing, AppendsListing}
 use Rattle.lock_table.specs.Queue.{waits_there}
-use Rattle.lock_table.specs.WholeContent.{whole_of}
-use Rattle.lock_table.proofs.PutLemmas.{set_at-same, set_at-twice}
-use Rattle.lock_world.specs.Account.{Account, InHand}
-use Rattle.lock_world.specs.AccountSteps.{account_taking, account_putting}
-use Rattle.lock_world.specs.World.{TraceEntry, Took, Episode}
-use Rattle.shared_rule.specs.History.{taken_of}
-use Rattle.shared_rule.specs.Lawful.{MayPutPart}
-use Rattle.shared_rule.proofs.Episodes.{fresh_hand, taken-in_hand}
-use Rattle.lock_manager.specs.Listings.{content_at, times_had, IsOfPartition, AreOfPartitions}
+use Rattle.lock_table.specs.WholeContent.{whole_of, content_at, times_had, IsOfPartition, AreOfPartitions}
 
--- ---- accounts
-
--- the account with a partition taken, and these steps made since
-abbrev pub account_since : Account → ℕ → Content → List TraceEntry → Account
-account_since a p content steps = record (account_taking a p content) { trace = (a.trace ++ Took p content ∷ []) ++ steps }
-
-since-taking :
-    (a taking later : Account) (p : ℕ) (content : Content) (steps : List TraceEntry) → taking ≡ account_taking a p content →
-    later ≡ record taking { trace = taking.trace ++ steps } → later ≡ account_since a p content steps
-since-taking a taking later p content steps took made = made ∙ ap (λ (b : Account). record b { trace = b.trace ++ steps }) took
-
--- The partition may then be put as it was,
-pub may_keep-since :
-    (limit number : ℕ) (a taking later : Account) (p : ℕ) (content : Content) (steps : List TraceEntry) → taking ≡ account_taking a p content →
-    later ≡ record taking { trace = taking.trace ++ steps } → (mine : InHand) × MayPutPart limit number later p mine Keep content
-may_keep-since limit number a taking later p content steps took made = (
-  fresh_hand content,
-  subst (λ (b : Account). MayPutPart limit number b p (fresh_hand content) Keep content) (sym (since-taking a taking later p content steps took made))
-      (inl (record {
-        may_move = record {
-          in_hand = taken-in_hand a p content;
-          unrecorded = refl;
-          object = tt;
-          fits = tt;
-          counted = tt;
-          moved = (refl, refl);
-        };
-        by_putting = tt;
-      })),
-)
-
--- and the account has nothing of it but the trace.
-pub kept-since :
-    (a taking later put : Account) (p : ℕ) (content : Content) (steps : List TraceEntry) → a.hand p ≡ None → taking ≡ account_taking a p content →
-    later ≡ record taking { trace = taking.trace ++ steps } → put ≡ account_putting later p (taken_of (later.hand p)) content Keep →
-    put ≡ record a { trace = a.trace ++ (Took p content ∷ steps ++ Episode p content content ∷ []) }
-kept-since a taking later put p content steps none took made puts =
-    let was : taken_of ((account_taking a p content).hand p) ≡ content = ap taken_of (taken-in_hand a p content) in
-    let hand : set_at (set_at a.hand p (Some (fresh_hand content))) p None ≡ a.hand = set_at-twice a.hand p (Some (fresh_hand content)) None ∙ set_at-same a.hand p None (sym none) in
-    let trace : ((a.trace ++ Took p content ∷ []) ++ steps) ++ Episode p content content ∷ [] ≡ a.trace ++ (Took p content ∷ steps ++ Episode p content content ∷ []) =
-    append_assoc (a.trace ++ Took p content ∷ []) steps (Episode p content content ∷ []) ∙ append_assoc a.trace (Took p content ∷ []) (steps ++ Episode p content content ∷ []) in
-    puts ∙
-    ap (λ (b : Account). account_putting b p (taken_of (b.hand p)) content Keep) (since-taking a taking later p content steps took made) ∙
-    ap (λ (taken : Content). account_putting (account_since a p content steps) p taken content Keep) was ∙
-    (λ i. record a { hand = hand i; trace = trace i })
-
--- ---- rows
+-- The rows of the partitions from one on, partition by partition, to those of all.
 
 pub waits-foreign :
     (waits : List Wait) (session : ℕ) (mode : Mode) → waits_there waits session ≡ false →
@@ -156,7 +99,17 @@ pub rows-ok : (first : Result (Unit {0}) NoMemory) (P : Type 0) → is_err first
 rows-ok (Ok u) P was p = p
 rows-ok (Err refusal) P was p = absurd (false≢true (sym was))
 
--- All partitions listed and the rows sorted, it is the whole listing.
+-- All partitions listed, the rows are those of all,
+pub each-all :
+    (contents : List Content) (rows : List TableRow) → length contents ≡ 16 → AreOfPartitions 0 contents → RowsMore contents [] rows →
+    HasEachRow (whole_of (content_at contents)) rows
+each-all contents rows sixteen own all row =
+    let e = all row in
+    let counted : count_by (row_eq row) rows ≡ times_had contents row = omega (arith, e) in
+    let below : partition_of row.tag < 16 = omega arith in
+    counted ∙ times-at 0 (partition_of row.tag) contents row own (omega (arith, below, sixteen)) (omega arith)
+
+-- and sorted they are the whole listing.
 pub IsListing-all :
     (contents : List Content) (rows sorted : List TableRow) → length contents ≡ 16 → AreOfPartitions 0 contents → RowsMore contents [] rows →
     IsSorted row_cmp sorted → IsPermutation rows sorted → IsListing (whole_of (content_at contents)) sorted
@@ -164,11 +117,5 @@ IsListing-all contents rows sorted sixteen own all in_order moved =
     record {
       in_order = in_order;
       each_once = λ row.
-          sum_by-IsPermutation (λ other. if row_eq row other then 1 else 0) rows sorted moved ∙ counted row ∙
-          times-at 0 (partition_of row.tag) contents row own (within row) (omega arith);
-    } where
-      counted : (row : TableRow) → count_by (row_eq row) rows ≡ times_had contents row
-      counted row = let e = all row in omega (arith, e)
-
-      within : (row : TableRow) → partition_of row.tag < length contents
-      within row = let below : partition_of row.tag < 16 = omega arith in omega (arith, below, sixteen)
+          sum_by-IsPermutation (λ other. if row_eq row other then 1 else 0) rows sorted moved ∙ each-all contents rows sixteen own all row;
+    }

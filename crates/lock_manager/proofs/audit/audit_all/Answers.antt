@@ -1,0 +1,73 @@
+use Rattle.std.proofs.Common.{◌≡◌, ◌+◌, ℕ, List, [], ◌∷◌, ◌++◌, length, refl, sym, ap, ◌∙◌, subst, arith, length-append}
+use Rattle.std.specs.List.{AllByRecursion}
+use Rattle.atomic_table.specs.Seated.{TableId}
+use Rattle.lock_table.specs.PartView.{PartView, content_of}
+use Rattle.lock_world.specs.Account.{Account}
+use Rattle.shared_rule.specs.declared.history.History.{History}
+use Rattle.shared_rule.specs.Boards.{Seated}
+use Rattle.shared_rule.specs.Openers.{OpenerState}
+use Rattle.lock_manager.specs.Audits.{MayCount}
+use Rattle.std.proofs.Common.{◌≤◌}
+use Rattle.lock_manager.proofs.Auditing.{may_count-first, no_wait-rest, kept_apart-rest, rest-traced, all-before, traced-first, audits-first, opener-back}
+use Rattle.lock_manager.proofs.audit.audit_all.Goals as goal
+
+pub audit_others-counted-requires-clause-ready : goal.audit_others-counted-requires-clause-ready
+audit_others-counted-requires-clause-ready g c =
+    let long : length c.args.sessions.now.items ≡ length (c.pop.new.self.items ++ c.in-Some.session ∷ []) = ap length c.in-Some.ensures.items in
+    let split = length-append c.pop.new.self.items (c.in-Some.session ∷ []) in
+    let all = c.requires.all in
+    may_count-first (length c.pop.new.self.items) c.args.numbers.now c.gather-absent.new.self _ _ c.requires.none_gathered (omega (arith, long, split, all)) c.gather-absent.ensures.gathered
+    (no_wait-rest _ _ _ _ _ _ c.session.invariant.0) (kept_apart-rest _ _ _ _ _ _ c.session.invariant.0)
+
+pub send_back-board-requires-clause-table : goal.send_back-board-requires-clause-table
+send_back-board-requires-clause-table g c =
+    let is = c.in-Some.ensures.items ∙ ap (λ x. c.pop.new.self.items ++ x ∷ []) (sym c.session.view_is) in
+    let at = (all-before _ c.pop.new.self.items _ (subst (AllByRecursion _) is c.requires.same_manager)).1 in
+    ap (λ (s : Seated). s.table) c.gather-absent.ensures.absent ∙ at
+    ∙ sym (ap (λ (o : OpenerState PartView). o.table) c.gather-absent.ensures.gathered.opener)
+    ∙ sym (ap (λ (o : OpenerState PartView). o.table) c.audit_others-counted.ensures.counts.opener)
+
+pub push_reserved-requires : goal.push_reserved-requires
+push_reserved-requires g c =
+    omega (arith, c.audit_others-counted.ensures.len, c.audit_others-counted.ensures.capacity, c.in-Some.ensures.len, c.in-Some.ensures.capacity, c.args.sessions.now.ok.1)
+
+pub invariant_of-push_reserved : goal.invariant_of-push_reserved
+invariant_of-push_reserved g c =
+    let is = c.in-Some.ensures.items ∙ ap (λ x. c.pop.new.self.items ++ x ∷ []) (sym c.session.view_is) in
+    let same_seat = c.send_back-board.ensures.seat ∙ c.gather-absent.ensures.absent in
+    let e = (traced-first _ _ _ c.args.numbers.now c.gather-absent.new.self c.audit_others-counted.new.numbers c.send_back-board.new.self c.audit_others-counted.result
+    (record { board = c.session.inside.board; database = c.session.inside.own.value.database; uses = c.session.inside.own.value.uses; owned = c.session.inside.own.value.locals })
+    (record { board = c.send_back-board.result; database = c.session.inside.own.value.database; uses = c.session.inside.own.value.uses; owned = c.session.inside.own.value.locals })
+    c.pop.new.self.items c.args.sessions.now.items c.audit_others-counted.new.sessions.items
+    (c.audit_others-counted.new.sessions.items ++ record { board = c.send_back-board.result; database = c.session.inside.own.value.database; uses = c.session.inside.own.value.uses; owned = c.session.inside.own.value.locals } ∷ [])
+    is refl c.requires.none_gathered c.gather-absent.ensures.gathered c.audit_others-counted.ensures.counts c.send_back-board.ensures.left
+    same_seat c.send_back-board.ensures.stack c.session.invariant.0 c.session.invariant.3 refl refl refl).view_ in (
+      rest-traced _ _ _ _ _ _ _ _ _ same_seat e (c.send_back-board.ensures.stack ∙ sym c.session.invariant.0.nothing_left) c.session.invariant.0,
+      subst (λ n. n ≤ 64) (sym (ap (λ (s : Seated). s.limit) same_seat)) c.session.invariant.1,
+      c.session.invariant.2,
+      c.session.invariant.3,
+    )
+
+pub returns-clause-audited : goal.returns-clause-audited
+returns-clause-audited g c =
+    let is = c.in-Some.ensures.items ∙ ap (λ x. c.pop.new.self.items ++ x ∷ []) (sym c.session.view_is) in
+    let same_seat = c.send_back-board.ensures.seat ∙ c.gather-absent.ensures.absent in
+    audits-first _ _ _ c.args.numbers.now c.gather-absent.new.self c.audit_others-counted.new.numbers c.send_back-board.new.self c.audit_others-counted.result
+    (record { board = c.session.inside.board; database = c.session.inside.own.value.database; uses = c.session.inside.own.value.uses; owned = c.session.inside.own.value.locals })
+    (record { board = c.send_back-board.result; database = c.session.inside.own.value.database; uses = c.session.inside.own.value.uses; owned = c.session.inside.own.value.locals })
+    c.pop.new.self.items c.args.sessions.now.items c.audit_others-counted.new.sessions.items
+    c.push_reserved.new.self.items
+    is c.push_reserved.ensures.items c.requires.none_gathered c.gather-absent.ensures.gathered c.audit_others-counted.ensures.counts c.send_back-board.ensures.left
+    same_seat c.send_back-board.ensures.stack c.session.invariant.0 c.session.invariant.3 refl refl refl
+
+pub returns-clause-numbers : goal.returns-clause-numbers
+returns-clause-numbers g c =
+    let is = c.in-Some.ensures.items ∙ ap (λ x. c.pop.new.self.items ++ x ∷ []) (sym c.session.view_is) in
+    let same_seat = c.send_back-board.ensures.seat ∙ c.gather-absent.ensures.absent in
+    opener-back _ _ _ c.args.numbers.now c.gather-absent.new.self c.audit_others-counted.new.numbers c.send_back-board.new.self c.audit_others-counted.result
+    (record { board = c.session.inside.board; database = c.session.inside.own.value.database; uses = c.session.inside.own.value.uses; owned = c.session.inside.own.value.locals })
+    (record { board = c.send_back-board.result; database = c.session.inside.own.value.database; uses = c.session.inside.own.value.uses; owned = c.session.inside.own.value.locals })
+    c.pop.new.self.items c.args.sessions.now.items c.audit_others-counted.new.sessions.items
+    c.push_reserved.new.self.items
+    is c.push_reserved.ensures.items c.requires.none_gathered c.gather-absent.ensures.gathered c.audit_others-counted.ensures.counts c.send_back-board.ensures.left
+    same_seat c.send_back-board.ensures.stack c.session.invariant.0 c.session.invariant.3 refl refl refl

@@ -1,0 +1,509 @@
+use Rattle.std.proofs.Common.{◌≡◌, ◌≢◌, ◌⊎◌, ℕ, zero, suc, ◌+◌, ◌-◌, ◌*◌, ◌<◌, ◌≤◌, Bool, true, false, not, ◌&&◌, List, [], ◌∷◌, ◌++◌, map, length, Option, Some, None, refl, sym, ap, ◌∙◌, subst, inl, inr, arith, append_assoc, append-nil}
+use Rattle.std.specs.Prelude.{◌==◌, sum_by, is_some, count_by, if◌then◌else◌, Result, Ok, OnOk}
+use Rattle.std.proofs.lemmas.Bool.{cases_Bool, cases_eq, cond-true, cond-false, and_right}
+use Rattle.std.proofs.lemmas.List.Sums.{sum_by-cons}
+use Rattle.modes_core.specs.declared.modes.Mode.{Mode}
+use Rattle.modes_core.specs.declared.tags.Tag.{Tag}
+use Rattle.modes_core.specs.declared.tags.Tag.TheVariants.{Relation}
+use Rattle.lw_word.specs.SlotWord.{shows}
+use Rattle.lock_table.specs.Put.{set_at}
+use Rattle.lock_table.specs.Content.{Content}
+use Rattle.lock_table.specs.Total.{total}
+use Rattle.lock_table.specs.declared.moves.Move.TheVariants.{Keep}
+use Rattle.lock_table.specs.declared.no_memory.NoMemory.{NoMemory}
+use Rattle.lock_table.specs.declared.rows.TableRow.{TableRow}
+use Rattle.lock_table.specs.Listing.{row_eq}
+use Rattle.lock_table.specs.WholeContent.{content_at, times_had}
+use Rattle.lock_table.proofs.PutLemmas.{set_at-here, set_at-else}
+use Rattle.lock_table.proofs.Totals.{total-same}
+use Rattle.lock_world.specs.declared.events.Word.TheVariants.{Slot, Strong}
+use Rattle.lock_world.specs.Account.{Account, FastAccount, InHand}
+use Rattle.lock_world.specs.AccountSteps.{account_taking, account_putting, account_tracing, account_reading}
+use Rattle.lock_world.specs.AccountFacts.{KnowsContent}
+use Rattle.lock_world.specs.Counted.{Counted, count_at}
+use Rattle.lock_world.specs.SlotHolds.{slot_count, slot_holds, OneSlotEach}
+use Rattle.lock_world.specs.Tallies.{joined, modes_shown, shown_in_slots, left_in_slots, OwnStand, ShowsLeft}
+use Rattle.lock_world.specs.World.{TraceEntry, Loaded}
+use Rattle.lock_world.proofs.Tallies.Lists.{joined-more, joined-same}
+use Rattle.lock_world.proofs.Tallies.Sums.{total-more}
+use Rattle.shared_rule.specs.declared.history.History.{History}
+use Rattle.shared_rule.specs.declared.history.Mark.{Mark}
+use Rattle.shared_rule.specs.declared.history.View.{View}
+use Rattle.shared_rule.specs.History.{noted, noting, noting_first, taken_of, told, first_account, first_number}
+use Rattle.atomic_table.specs.declared.shared.Seat.{Seat}
+use Rattle.shared_rule.specs.declared.history.Mark.TheVariants.{LoadedSlot, LoadedStrong, TookPart, PutPart}
+use Rattle.shared_rule.specs.Plays.{HasSession, IsSameSeat}
+use Rattle.shared_rule.specs.Lawful.{IsAboveHand}
+use Rattle.shared_rule.specs.Seats.{behind_of}
+use Rattle.shared_rule.specs.Gatherings.{Gathered, account_among, IsNone, AreDistinct, NoneWaits, counted_at, HasAllInHand, AreAll, gathered_in, KnowsOfAll, KnowsAll}
+use Rattle.shared_rule.specs.Audits.{account_after, counter_loads, CountersSeen, slot_loads_of, all_slot_loads, IsFurther, HasPartInHand, holding_steps, SeesSlots, SeesAllSlots, Finds, CountsFrom}
+use Rattle.shared_rule.proofs.Episodes.{fresh_hand, taken-in_hand, kept-since}
+
+-- What a seat at which all sessions are knows stays as its first session makes steps that change neither its own holds nor what it knows of
+-- slots and counters.
+
+-- ---- steps at a seat
+
+pub same-seat : {T : Type 0} (place : Seat (Option T) (View T)) → IsSameSeat place place
+same-seat place = record { table_id = refl; id = refl }
+
+pub same-seat_then : {T : Type 0} (a b c : Seat (Option T) (View T)) → IsSameSeat a b → IsSameSeat b c → IsSameSeat a c
+same-seat_then a b c first second = record { table_id = second.table_id ∙ first.table_id; id = second.id ∙ first.id }
+
+module _ {T : Type 0} where
+  pub noting-further : (view : View T) (mark : Mark T) → HasSession view → IsFurther view (noting view mark)
+  noting-further view mark has =
+      let is : (noting view mark).sessions ≡ record { number = has.history.number; marks = mark ∷ has.history.marks } ∷ has.others = ap (λ xs. noting_first xs mark) has.sessions in
+      record {
+        next = refl;
+        closed = refl;
+        behind = ap behind_of is ∙ sym (ap behind_of has.sessions);
+        number = ap first_number is ∙ sym (ap first_number has.sessions);
+        some = record { history = record { number = has.history.number; marks = mark ∷ has.history.marks }; others = has.others; sessions = is };
+      }
+
+  pub further-itself : (view : View T) → HasSession view → IsFurther view view
+  further-itself view has = record { next = refl; closed = refl; behind = refl; number = refl; some = has }
+
+  pub further-then : (a b c : View T) → IsFurther a b → IsFurther b c → IsFurther a c
+  further-then a b c first second = record {
+    next = second.next ∙ first.next;
+    closed = second.closed ∙ first.closed;
+    behind = second.behind ∙ first.behind;
+    number = second.number ∙ first.number;
+    some = second.some;
+  }
+
+  -- the sessions at a seat, the first and those behind it
+  pub sessions-split : (view : View T) (has : HasSession view) → view.sessions ≡ has.history ∷ behind_of view.sessions
+  sessions-split view has = has.sessions ∙ ap (λ xs. has.history ∷ xs) (sym (ap behind_of has.sessions))
+
+  pub further-all : (a b : View T) (issued : ℕ) → HasSession a → IsFurther a b → AreAll issued a → AreAll issued b
+  further-all a b issued has further are = record {
+    next = further.next ∙ are.next;
+    all =
+        let mine : length a.sessions ≡ length (has.history ∷ behind_of a.sessions) = ap length (sessions-split a has) in
+        let its : length b.sessions ≡ length (further.some.history ∷ behind_of b.sessions) = ap length (sessions-split b further.some) in
+        let rest : length (behind_of b.sessions) ≡ length (behind_of a.sessions) = ap length further.behind in
+        let closed : length b.closed ≡ length a.closed = ap length further.closed in
+        let old = are.all in
+        omega (arith, mine, its, rest, closed, old);
+  }
+
+module _ {T : Type 0} (content : T → Content) where
+  pub account-noting : (view : View T) (mark : Mark T) → HasSession view
+      → first_account content (noting view mark).sessions ≡ noted content (first_number view.sessions) (first_account content view.sessions) mark
+  account-noting view mark has =
+      ap (λ xs. first_account content (noting_first xs mark)) has.sessions
+      ∙ sym (λ i. noted content (first_number (has.sessions i)) (first_account content (has.sessions i)) mark)
+
+  -- who is at the seat
+  pub gathered-split : (view : View T) → HasSession view
+      → gathered_in content view.sessions ≡ record { number = first_number view.sessions; account = first_account content view.sessions } ∷ gathered_in content (behind_of view.sessions)
+  gathered-split view has =
+      ap (gathered_in content) has.sessions
+      ∙ sym (λ i. record { number = first_number (has.sessions i); account = first_account content (has.sessions i) } ∷ gathered_in content (behind_of (has.sessions i)))
+
+-- ---- what is known of the first by another account of it that owns the same and knows the same of slots
+
+stand-as : (k : ℕ) (a b : Account) (contents : ℕ → Content) → a.own ≡ b.own → a.fast ≡ b.fast → OwnStand k a contents → OwnStand k b contents
+stand-as k a b contents own fast stand = record {
+  one_each = subst (λ (f : FastAccount). OneSlotEach f.remembered) fast stand.one_each;
+  in_slots = λ t m is.
+      subst (λ (f : FastAccount). slot_holds f.database f.remembered t m ≡ true) fast
+      (stand.in_slots t m (ap (λ (o : Tag → Mode → Bool). left_in_slots o contents k t m) own ∙ is));
+  in_contents = λ t m has. ap (λ (o : Tag → Mode → Bool). o t m) (sym own) ∙ stand.in_contents t m has;
+}
+
+left-as : (k : ℕ) (a b : Account) (contents : ℕ → Content) (place word : ℕ) → a.own ≡ b.own → a.fast ≡ b.fast → ShowsLeft k a contents place word → ShowsLeft k b contents place word
+left-as k a b contents place word own fast left relation mode =
+    left relation mode
+    ∙ (λ i. shows ((fast i).remembered place) relation mode && left_in_slots (own i) contents k (Relation (fast i).database relation) mode)
+
+-- the first of a list by two accounts
+among-as : (P : Account → Type 0) (n : ℕ) (a b : Account) (others : List Gathered) (k : ℕ) → (P a → P b)
+    → P (account_among (record { number = n; account = a } ∷ others) k) → P (account_among (record { number = n; account = b } ∷ others) k)
+among-as P n a b others k same p =
+    elim (cases_Bool (n == k)) [
+      | inl its ↦
+          subst P (sym (cond-true (n == k) b (account_among others k) its)) (same (subst P (cond-true (n == k) a (account_among others k) its) p))
+      | inr other ↦
+          subst P (sym (cond-false (n == k) b (account_among others k) other)) (subst P (cond-false (n == k) a (account_among others k) other) p)
+    ]
+
+module _ {T : Type 0} (content : T → Content) (a b : View T) (has : HasSession a) (further : IsFurther a b) where
+  abbrev mine : Account
+  mine = first_account content a.sessions
+
+  abbrev its : Account
+  its = first_account content b.sessions
+
+  abbrev rest : List Gathered
+  rest = gathered_in content (behind_of a.sessions)
+
+  abbrev number : ℕ
+  number = first_number a.sessions
+
+  before-is : gathered_in content a.sessions ≡ record { number = number; account = mine } ∷ rest
+  before-is = gathered-split content a has
+
+  after-is : gathered_in content b.sessions ≡ record { number = number; account = its } ∷ rest
+  after-is =
+      gathered-split content b further.some
+      ∙ (λ i. record { number = further.number i; account = its } ∷ gathered_in content (further.behind i))
+
+  pub distinct-before : (limit : ℕ) → AreDistinct limit (gathered_in content b.sessions) → AreDistinct limit (gathered_in content a.sessions)
+  distinct-before limit are =
+      let split : AreDistinct limit (record { number = number; account = its } ∷ rest) = subst (AreDistinct limit) after-is are in
+      subst (AreDistinct limit) (sym before-is) (split.0, split.1, split.2)
+
+  pub none_waits-after : mine.awaited ≡ its.awaited → NoneWaits (gathered_in content a.sessions) → NoneWaits (gathered_in content b.sessions)
+  none_waits-after same nobody =
+      let split : NoneWaits (record { number = number; account = mine } ∷ rest) = subst NoneWaits before-is nobody in
+      subst NoneWaits (sym after-is) (sym same ∙ split.0, split.1)
+
+  pub stand-before : its.own ≡ mine.own → its.fast ≡ mine.fast → (k : ℕ) (contents : ℕ → Content)
+      → OwnStand k (account_among (gathered_in content b.sessions) k) contents → OwnStand k (account_among (gathered_in content a.sessions) k) contents
+  stand-before own fast k contents stand =
+      subst (λ xs. OwnStand k (account_among xs k) contents) (sym before-is)
+      (among-as (λ c. OwnStand k c contents) number its mine rest k (stand-as k its mine contents own fast)
+      (subst (λ xs. OwnStand k (account_among xs k) contents) after-is stand))
+
+  pub left-before : its.own ≡ mine.own → its.fast ≡ mine.fast → (k : ℕ) (contents : ℕ → Content) (place word : ℕ)
+      → ShowsLeft k (account_among (gathered_in content b.sessions) k) contents place word → ShowsLeft k (account_among (gathered_in content a.sessions) k) contents place word
+  left-before own fast k contents place word left =
+      subst (λ xs. ShowsLeft k (account_among xs k) contents place word) (sym before-is)
+      (among-as (λ c. ShowsLeft k c contents place word) number its mine rest k (left-as k its mine contents place word own fast)
+      (subst (λ xs. ShowsLeft k (account_among xs k) contents place word) after-is left))
+
+  pub counted-before : its.fast ≡ mine.fast → (index : ℕ) → counted_at index (gathered_in content b.sessions) ≡ counted_at index (gathered_in content a.sessions)
+  counted-before fast index =
+      ap (counted_at index) after-is
+      ∙ sum_by-cons (λ (g : Gathered). count_at index g.account.fast.counted) (record { number = number; account = its }) rest
+      ∙ ap (λ (f : FastAccount). count_at index f.counted + counted_at index rest) fast
+      ∙ sym (sum_by-cons (λ (g : Gathered). count_at index g.account.fast.counted) (record { number = number; account = mine }) rest)
+      ∙ sym (ap (counted_at index) before-is)
+
+-- ---- slots
+
+-- One more load joins the trace.
+one-more : (a b c : Account) (steps : List TraceEntry) (entry : TraceEntry) → b ≡ account_after a steps → c ≡ account_tracing b entry → c ≡ account_after a (steps ++ entry ∷ [])
+one-more a b c steps entry so_far more =
+    more ∙ ap (λ (x : Account). account_tracing x entry) so_far ∙ (λ i. record a { trace = append_assoc a.trace steps (entry ∷ []) i })
+
+pub after-none : (a : Account) (steps : List TraceEntry) → steps ≡ [] → a ≡ account_after a steps
+after-none a steps none = (λ i. record a { trace = sym (append-nil a.trace) i }) ∙ ap (account_after a) (sym none)
+
+pub after-both : (a b c : Account) (first second : List TraceEntry) → b ≡ account_after a first → c ≡ account_after b second → c ≡ account_after a (first ++ second)
+after-both a b c first second one two =
+    two ∙ ap (λ (x : Account). account_after x second) one ∙ (λ i. record a { trace = append_assoc a.trace first second i })
+
+joined-none : {X : Type 0} (lists : ℕ → List X) → joined 0 lists ≡ []
+unfolding joined
+joined-none lists = refl
+
+total-none : (f : ℕ → ℕ) → total 0 f ≡ 0
+unfolding total
+total-none f = refl
+
+module _ {T : Type 0} (content : T → Content) where
+  pub sees-none : (owner : ℕ) (view : View T) → HasSession view → SeesSlots content owner 0 view view 0
+  sees-none owner view has = record {
+    word = λ _. 0;
+    further = further-itself view has;
+    account = after-none (first_account content view.sessions) (slot_loads_of owner 0 (λ _. 0)) (joined-none (λ place. Loaded (Slot owner place) 0 ∷ []));
+    sum_ = sym (total-none (λ place. modes_shown 0));
+    left = λ issued are contents in_hand place below. absurd (omega (arith, below));
+  }
+
+  pub sees-more : (owner count : ℕ) (before mid after : View T) (sum more shown : ℕ) → HasSession before → SeesSlots content owner count before mid sum → IsFurther mid after
+      → first_account content after.sessions ≡ account_tracing (first_account content mid.sessions) (Loaded (Slot owner count) shown)
+      → ((issued : ℕ) → AreAll issued mid → KnowsOfAll content mid (Slot owner count) shown) → more ≡ sum + modes_shown shown
+      → SeesSlots content owner (count + 1) before after more
+  sees-more owner count before mid after sum more shown has so_far further loaded knows added =
+      let word : ℕ → ℕ = set_at so_far.word count shown in
+      let here : word count ≡ shown = set_at-here so_far.word count shown count refl in
+      let old : (k : ℕ) → k < count → word k ≡ so_far.word k = λ k below.
+      set_at-else so_far.word count shown k (λ e. let same : ◌≡◌ {A = ℕ} k count = e in omega (arith, below, same)) in
+      record {
+        word = word;
+        further = further-then before mid after so_far.further further;
+        account =
+            one-more (first_account content before.sessions) (first_account content mid.sessions) (first_account content after.sessions)
+            (slot_loads_of owner count so_far.word) (Loaded (Slot owner count) shown) so_far.account loaded
+            ∙ ap (account_after (first_account content before.sessions))
+            ((λ i. joined-same count (λ k. Loaded (Slot owner k) (so_far.word k) ∷ []) (λ k. Loaded (Slot owner k) (word k) ∷ [])
+            (λ k below. ap (λ n. Loaded (Slot owner k) n ∷ []) (sym (old k below))) i ++ Loaded (Slot owner count) (sym here i) ∷ [])
+            ∙ sym (joined-more count (λ k. Loaded (Slot owner k) (word k) ∷ [])));
+        sum_ =
+            let total_more = total-more count (λ k. modes_shown (word k)) in
+            let same : total count (λ k. modes_shown (word k)) ≡ total count (λ k. modes_shown (so_far.word k)) = total-same count _ _ (λ k below. ap modes_shown (old k below)) in
+            let last : modes_shown (word count) ≡ modes_shown shown = ap modes_shown here in
+            let sum_before = so_far.sum_ in
+            omega (arith, added, total_more, same, last, sum_before);
+        left = λ issued are contents in_hand place below.
+            elim (cases_eq place count) [
+              | inl same ↦
+                  subst (λ k. ShowsLeft owner (account_among (gathered_in content before.sessions) owner) contents k (word k)) (sym same)
+                  (subst (ShowsLeft owner (account_among (gathered_in content before.sessions) owner) contents count) (sym here)
+                  (left-before content before mid has so_far.further (ap (λ (a : Account). a.own) so_far.account) (ap (λ (a : Account). a.fast) so_far.account) owner contents count shown
+                  (knows issued (further-all before mid issued has so_far.further are) contents
+                  (subst (λ (a : Account). HasAllInHand a contents) (sym so_far.account) in_hand))))
+              | inr other ↦
+                  let less : place < count = omega (arith, below, other) in
+                  subst (ShowsLeft owner (account_among (gathered_in content before.sessions) owner) contents place) (sym (old place less)) (so_far.left issued are contents in_hand place less)
+            ];
+      }
+
+  -- the same of a load that is noted
+  pub sees-load : (owner count : ℕ) (before mid after : View T) (sum more shown : ℕ) → HasSession before → SeesSlots content owner count before mid sum
+      → after ≡ noting mid (LoadedSlot owner count shown) → ((issued : ℕ) → AreAll issued mid → KnowsOfAll content mid (Slot owner count) shown)
+      → more ≡ sum + modes_shown shown → SeesSlots content owner (count + 1) before after more
+  sees-load owner count before mid after sum more shown has so_far is knows added =
+      sees-more owner count before mid after sum more shown has so_far
+      (subst (IsFurther mid) (sym is) (noting-further mid (LoadedSlot owner count shown) so_far.further.some))
+      (ap (λ (v : View T). first_account content v.sessions) is ∙ account-noting content mid (LoadedSlot owner count shown) so_far.further.some)
+      knows added
+
+  pub sees-no_session : (view : View T) → HasSession view → SeesAllSlots content 0 view view 0
+  sees-no_session view has = record {
+    word = λ _ _. 0;
+    further = further-itself view has;
+    account = after-none (first_account content view.sessions) (all_slot_loads 0 (λ _ _. 0)) (joined-none (λ owner. slot_loads_of owner slot_count (λ _. 0)));
+    sum_ = sym (total-none (λ owner. total slot_count (λ place. modes_shown 0)));
+    left = λ issued are contents in_hand owner place below within. absurd (omega (arith, below));
+  }
+
+  pub sees-session : (count : ℕ) (before mid after : View T) (sum more one : ℕ) → HasSession before → SeesAllSlots content count before mid sum → SeesSlots content count slot_count mid after one
+      → more ≡ sum + one → SeesAllSlots content (count + 1) before after more
+  sees-session count before mid after sum more one has so_far sees added =
+      let word : ℕ → ℕ → ℕ = set_at so_far.word count sees.word in
+      let here : word count ≡ sees.word = set_at-here so_far.word count sees.word count refl in
+      let old : (k : ℕ) → k < count → word k ≡ so_far.word k = λ k below.
+      set_at-else so_far.word count sees.word k (λ e. let same : ◌≡◌ {A = ℕ} k count = e in omega (arith, below, same)) in
+      record {
+        word = word;
+        further = further-then before mid after so_far.further sees.further;
+        account =
+            after-both (first_account content before.sessions) (first_account content mid.sessions) (first_account content after.sessions)
+            (all_slot_loads count so_far.word) (slot_loads_of count slot_count sees.word) so_far.account sees.account
+            ∙ ap (account_after (first_account content before.sessions))
+            ((λ i. joined-same count (λ k. slot_loads_of k slot_count (so_far.word k)) (λ k. slot_loads_of k slot_count (word k))
+            (λ k below. ap (slot_loads_of k slot_count) (sym (old k below))) i ++ slot_loads_of count slot_count (sym here i))
+            ∙ sym (joined-more count (λ k. slot_loads_of k slot_count (word k))));
+        sum_ =
+            let total_more = total-more count (λ k. total slot_count (λ place. modes_shown (word k place))) in
+            let same : shown_in_slots count word ≡ shown_in_slots count so_far.word =
+            total-same count _ _ (λ k below. ap (λ (row : ℕ → ℕ). total slot_count (λ place. modes_shown (row place))) (old k below)) in
+            let last : total slot_count (λ place. modes_shown (word count place)) ≡ total slot_count (λ place. modes_shown (sees.word place)) =
+            ap (λ (row : ℕ → ℕ). total slot_count (λ place. modes_shown (row place))) here in
+            let sum_before = so_far.sum_ in
+            let sum_here = sees.sum_ in
+            omega (arith, added, total_more, same, last, sum_before, sum_here);
+        left = λ issued are contents in_hand owner place below within.
+            elim (cases_eq owner count) [
+              | inl same ↦
+                  subst (λ k. ShowsLeft k (account_among (gathered_in content before.sessions) k) contents place (word k place)) (sym same)
+                  (subst (λ (row : ℕ → ℕ). ShowsLeft count (account_among (gathered_in content before.sessions) count) contents place (row place)) (sym here)
+                  (left-before content before mid has so_far.further (ap (λ (a : Account). a.own) so_far.account) (ap (λ (a : Account). a.fast) so_far.account) count contents place (sees.word place)
+                  (sees.left issued (further-all before mid issued has so_far.further are) contents
+                  (subst (λ (a : Account). HasAllInHand a contents) (sym so_far.account) in_hand) place within)))
+              | inr other ↦
+                  let less : owner < count = omega (arith, below, other) in
+                  subst (λ (row : ℕ → ℕ). ShowsLeft owner (account_among (gathered_in content before.sessions) owner) contents place (row place)) (sym (old owner less))
+                  (so_far.left issued are contents in_hand owner place less within)
+            ];
+      }
+
+-- ---- counters
+
+-- Where the own slots are not in hand a counter that is read joins the trace alone.
+reading-traces : (number : ℕ) (a : Account) (index shown : ℕ) → a.fast.slots number ≡ None → account_reading number a index shown ≡ account_tracing a (Loaded (Strong index) shown)
+reading-traces number a index shown none =
+    let off : ((shown == 0) && is_some (a.fast.slots number)) ≡ false = and_right (shown == 0) (is_some (a.fast.slots number)) (ap is_some none) in
+    let zero : (if (shown == 0) && is_some (a.fast.slots number) then Some index else a.fast.zero) ≡ a.fast.zero =
+    cond-false ((shown == 0) && is_some (a.fast.slots number)) (Some index) a.fast.zero off in
+    λ i. record a { fast = record (a.fast) { zero = zero i }; trace = a.trace ++ Loaded (Strong index) shown ∷ [] }
+
+module _ {T : Type 0} (content : T → Content) where
+  pub counters-none : (view : View T) → HasSession view → CountersSeen content 0 view view 0
+  counters-none view has = record {
+    further = further-itself view has;
+    account = after-none (first_account content view.sessions) (counter_loads 0 (λ index. counted_at index (gathered_in content view.sessions)))
+        (joined-none (λ index. Loaded (Strong index) (counted_at index (gathered_in content view.sessions)) ∷ []));
+    sum_ = sym (total-none (λ index. counted_at index (gathered_in content view.sessions)));
+    few = omega arith;
+  }
+
+  pub counters-more : (count issued : ℕ) (before mid after : View T) (sum more shown : ℕ) → HasSession before → CountersSeen content count before mid sum → AreAll issued before
+      → (first_account content before.sessions).fast.slots (first_number before.sessions) ≡ None → IsFurther mid after
+      → first_account content after.sessions ≡ account_reading (first_number mid.sessions) (first_account content mid.sessions) count shown
+      → ((issued : ℕ) → AreAll issued mid → KnowsOfAll content mid (Strong count) shown) → more ≡ sum + shown → CountersSeen content (count + 1) before after more
+  counters-more count issued before mid after sum more shown has so_far are no_slots further loaded knows added =
+      let f : ℕ → ℕ = λ index. counted_at index (gathered_in content before.sessions) in
+      let fast = ap (λ (a : Account). a.fast) so_far.account in
+      let none : (first_account content mid.sessions).fast.slots (first_number mid.sessions) ≡ None =
+      (λ i. (fast i).slots (so_far.further.number i)) ∙ no_slots in
+      let known = knows issued (further-all before mid issued has so_far.further are) in
+      let here : f count ≡ shown = sym (known.0 ∙ counted-before content before mid has so_far.further fast count) in
+      record {
+        further = further-then before mid after so_far.further further;
+        account =
+            one-more (first_account content before.sessions) (first_account content mid.sessions) (first_account content after.sessions)
+            (counter_loads count f) (Loaded (Strong count) shown) so_far.account
+            (loaded ∙ reading-traces (first_number mid.sessions) (first_account content mid.sessions) count shown none)
+            ∙ ap (account_after (first_account content before.sessions))
+            ((λ i. counter_loads count f ++ Loaded (Strong count) (sym here i) ∷ []) ∙ sym (joined-more count (λ index. Loaded (Strong index) (f index) ∷ [])));
+        sum_ =
+            let total_more = total-more count f in
+            let sum_before = so_far.sum_ in
+            omega (arith, added, total_more, here, sum_before);
+        few =
+            let most : shown ≤ 4194304 = known.1 in
+            let few_before = so_far.few in
+            omega (arith, added, most, few_before);
+      }
+
+  -- the same of a load that is noted
+  pub counters-load : (count issued : ℕ) (before mid after : View T) (sum shown : ℕ) → HasSession before → CountersSeen content count before mid sum → AreAll issued before
+      → (first_account content before.sessions).fast.slots (first_number before.sessions) ≡ None → after ≡ noting mid (LoadedStrong count shown)
+      → ((issued : ℕ) → AreAll issued mid → KnowsOfAll content mid (Strong count) shown) → CountersSeen content (count + 1) before after (sum + shown)
+  counters-load count issued before mid after sum shown has so_far are no_slots is knows =
+      counters-more count issued before mid after sum (sum + shown) shown has so_far are no_slots
+      (subst (IsFurther mid) (sym is) (noting-further mid (LoadedStrong count shown) so_far.further.some))
+      (ap (λ (v : View T). first_account content v.sessions) is ∙ account-noting content mid (LoadedStrong count shown) so_far.further.some)
+      knows refl
+
+-- ---- partitions
+
+-- With all in hand, what is told is what was found.
+module _ {T : Type 0} (content : T → Content) where
+  pub finds-all : (issued limit sum : ℕ) (before after : View T) (contents : ℕ → Content) (sees : SeesAllSlots content limit before after sum) → AreAll issued before → KnowsAll content issued before
+      → HasAllInHand (first_account content before.sessions) contents → Finds content issued limit before contents sees.word
+  finds-all issued limit sum before after contents sees are known in_hand = record {
+    distinct = known.distinct;
+    stand = λ nobody number. known.stand contents nobody in_hand number;
+    left = λ owner place below within. sees.left issued are contents in_hand owner place below within;
+  }
+
+-- What was found with one partition more in hand was found.
+module _ {T : Type 0} (content : T → Content) (issued limit p : ℕ) (before mid : View T) (has : HasSession before) (further : IsFurther before mid) (taken : Content)
+    (took : first_account content mid.sessions ≡ account_taking (first_account content before.sessions) p taken) (all : ℕ → Content) (word : ℕ → ℕ → ℕ) where
+  pub finds-before : Finds content issued limit mid all word → Finds content issued limit before all word
+  finds-before found = record {
+    distinct = distinct-before content before mid has further issued found.distinct;
+    stand = λ nobody number.
+        stand-before content before mid has further (ap (λ (a : Account). a.own) took) (ap (λ (a : Account). a.fast) took) number all
+        (found.stand (none_waits-after content before mid has further (sym (ap (λ (a : Account). a.awaited) took)) nobody) number);
+    left = λ owner place below within.
+        left-before content before mid has further (ap (λ (a : Account). a.own) took) (ap (λ (a : Account). a.fast) took) owner all place (word owner place)
+        (found.left owner place below within);
+  }
+
+  -- Those in hand before are still, and this one with what was taken.
+  pub in_hand-more : ((k : ℕ) → k < p → HasPartInHand (first_account content before.sessions) k (all k)) → all p ≡ taken
+      → (k : ℕ) → k < p + 1 → HasPartInHand (first_account content mid.sessions) k (all k)
+  in_hand-more old is k below =
+      subst (λ (a : Account). HasPartInHand a k (all k)) (sym took)
+      (elim (cases_eq k p) [
+        | inl same ↦
+            subst (λ j. HasPartInHand (account_taking (first_account content before.sessions) p taken) j (all j)) (sym same)
+            (fresh_hand taken, taken-in_hand (first_account content before.sessions) p taken, sym is)
+        | inr other ↦
+            let there = old k (omega (arith, below, other)) in
+            (there.0, set_at-else (first_account content before.sessions).hand p (Some (fresh_hand taken)) k other ∙ there.1, there.2)
+      ])
+
+-- After a step there is a session still, and after a partition was taken it has none above in hand.
+pub took-session : {T : Type 0} (before after : View T) (mark : Mark T) → HasSession before → after ≡ noting before mark → HasSession after
+took-session before after mark has is = subst HasSession (sym is) (noting-further before mark has).some
+
+pub took-above : {T : Type 0} (content : T → Content) (p : ℕ) (before after : View T) (part : T) → HasSession before → after ≡ noting before (TookPart p part)
+    → IsAboveHand (first_account content before.sessions) p → IsAboveHand (first_account content after.sessions) (p + 1)
+took-above {T} content p before after part has is above =
+    let account = ap (λ (v : View T). first_account content v.sessions) is ∙ account-noting content before (TookPart p part) has in
+    subst (λ (a : Account). IsAboveHand a (p + 1)) (sym account)
+    (λ k later.
+    set_at-else (first_account content before.sessions).hand p (Some (fresh_hand (content part))) k (λ e. let same : ◌≡◌ {A = ℕ} k p = e in omega (arith, later, same))
+    ∙ above k (omega (arith, later)))
+
+-- One partition more: it was taken, the others after it, and it was put back as it was.
+module _ {T : Type 0} (content : T → Content) (limit p : ℕ) (before mid : View T) (has : HasSession before) (part : T) (took : mid ≡ noting before (TookPart p part)) where
+  abbrev taken : Content
+  taken = content part
+
+  mid-further : IsFurther before mid
+  mid-further = subst (IsFurther before) (sym took) (noting-further before (TookPart p part) has)
+
+  pub mid-account : first_account content mid.sessions ≡ account_taking (first_account content before.sessions) p taken
+  mid-account = ap (λ (v : View T). first_account content v.sessions) took ∙ account-noting content before (TookPart p part) has
+
+module _ {T : Type 0} (content : T → Content) (limit p : ℕ) (before mid later after : View T) (old new most : List TableRow) (first result : Result (Unit {0}) NoMemory) (fast : ℕ)
+    (has : HasSession before) (part : T) (took : mid ≡ noting before (TookPart p part)) (counts : CountsFrom content (p + 1) limit mid old first fast later new)
+    (put : after ≡ noting later (PutPart p Keep part)) (none : (first_account content before.sessions).hand p ≡ None) where
+  last-account : first_account content after.sessions
+      ≡ account_putting (first_account content later.sessions) p (taken_of ((first_account content later.sessions).hand p)) (content part) Keep
+  last-account = ap (λ (v : View T). first_account content v.sessions) put ∙ account-noting content later (PutPart p Keep part) counts.further.some
+
+  pub counts-more :
+      KnowsContent (first_number before.sessions) (first_account content before.sessions) p (content part)
+      → OnOk result ((row : TableRow) → count_by (row_eq row) most ≡ count_by (row_eq row) old + times_had (content part ∷ counts.contents) row)
+      → CountsFrom content p limit before old result fast after most
+  counts-more knows rows = record {
+    contents = content part ∷ counts.contents;
+    last = let last = counts.last in omega (arith, last);
+    of_partitions = (record { holds = knows.holds_of_it; waits = knows.waits_of_it }, counts.of_partitions);
+    word = counts.word;
+    further =
+        further-then before mid after (mid-further content limit p before mid has part took)
+        (further-then mid later after counts.further (subst (IsFurther later) (sym put) (noting-further later (PutPart p Keep part) counts.further.some)));
+    account =
+        kept-since (first_account content before.sessions) (first_account content mid.sessions) (first_account content later.sessions) (first_account content after.sessions) p (content part)
+        (holding_steps (p + 1) counts.contents (all_slot_loads limit counts.word)) none (mid-account content limit p before mid has part took) counts.account last-account;
+    fast_ = counts.fast_;
+    rows = rows;
+    finds = λ issued are all in_hand is.
+        let taken_further = mid-further content limit p before mid has part took in
+        let taken_account = mid-account content limit p before mid has part took in
+        let zeroth : p ≡ p + 0 = omega arith in
+        let here : all p ≡ content part = ap all zeroth ∙ is 0 (omega arith) in
+        finds-before content issued limit p before mid has taken_further (content part) taken_account all counts.word
+        (counts.finds issued (further-all before mid issued has taken_further are) all
+        (in_hand-more content issued limit p before mid has taken_further (content part) taken_account all counts.word in_hand here)
+        (λ k below.
+        let next : p + 1 + k ≡ p + suc k = omega arith in
+        ap all next ∙ is (suc k) (omega (arith, below))));
+  }
+
+-- With all sixteen in hand the slots are loaded.
+module _ {T : Type 0} (content : T → Content) where
+  pub counts-slots : (limit p : ℕ) (before told_ after : View T) (rows : List TableRow) (fast : ℕ) → p ≡ 16 → told_ ≡ before
+      → ((issued : ℕ) → AreAll issued before → KnowsAll content issued before) → SeesAllSlots content limit told_ after fast → CountsFrom content p limit before rows (Ok tt) fast after rows
+  counts-slots limit p before told_ after rows fast all same knows sees_ =
+      let sees : SeesAllSlots content limit before after fast = subst (λ (v : View T). SeesAllSlots content limit v after fast) same sees_ in
+      record {
+        contents = [];
+        last = omega (arith, all);
+        of_partitions = tt;
+        word = sees.word;
+        further = sees.further;
+        account = sees.account;
+        fast_ = sees.sum_;
+        rows = λ row. omega arith;
+        finds = λ issued are contents in_hand is.
+            finds-all content issued limit fast before after contents sees are (knows issued are) (λ q below. in_hand q (omega (arith, below, all)));
+      }
+
+-- What was found after steps that only joined the trace was found.
+pub finds-traced : {T : Type 0} (content : T → Content) (issued limit : ℕ) (before mid : View T) (steps : List TraceEntry) (has : HasSession before) (further : IsFurther before mid)
+    → first_account content mid.sessions ≡ account_after (first_account content before.sessions) steps → (contents : ℕ → Content) (word : ℕ → ℕ → ℕ)
+    → Finds content issued limit mid contents word → Finds content issued limit before contents word
+finds-traced {T} content issued limit before mid steps has further account contents word found = record {
+  distinct = distinct-before content before mid has further issued found.distinct;
+  stand = λ nobody number.
+      stand-before content before mid has further (ap (λ (a : Account). a.own) account) (ap (λ (a : Account). a.fast) account) number contents
+      (found.stand (none_waits-after content before mid has further (sym (ap (λ (a : Account). a.awaited) account)) nobody) number);
+  left = λ owner place below within.
+      left-before content before mid has further (ap (λ (a : Account). a.own) account) (ap (λ (a : Account). a.fast) account) owner contents place (word owner place)
+      (found.left owner place below within);
+}

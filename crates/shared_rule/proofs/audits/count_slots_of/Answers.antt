@@ -1,0 +1,33 @@
+use Rattle.std.proofs.Common.{◌+◌, arith, refl, ap, ◌∙◌}
+use Rattle.lock_world.specs.declared.events.Word.TheVariants.{Slot}
+use Rattle.lock_world.specs.World.{Loaded}
+use Rattle.lock_world.specs.AccountSteps.{account_tracing}
+use Rattle.shared_rule.specs.declared.history.Mark.TheVariants.{LoadedSlot}
+use Rattle.shared_rule.specs.History.{first_account}
+use Rattle.shared_rule.specs.Plays.{Side, IsSameSeat}
+use Rattle.shared_rule.proofs.Auditing.{sees-none, sees-load, same-seat, same-seat_then}
+use Rattle.shared_rule.proofs.audits.count_slots_of.Goals as goal
+
+pub loop-slot-init : goal.loop-slot-init
+loop-slot-init g c = record {
+  seat = same-seat c.args.place.now;
+  slots = refl;
+  sees = sees-none g.T.PartTable.content c.args.owner c.args.place.now.me.0 c.requires.session;
+  few = omega arith;
+}
+
+pub loop-slot-preserved : goal.loop-slot-preserved
+loop-slot-preserved g c =
+    let content = g.T.PartTable.content in
+    let so_far = c.loop-slot.invariant in
+    let few = so_far.few in
+    let most = c.modes_in-sum.ensures.few in
+    record {
+      seat = same-seat_then c.args.place.now c.loop-slot.place c.look_over_slot.new.place so_far.seat c.look_over_slot.ensures.seat;
+      slots = ap (λ (m : Side g.row.T.Denot). m.1) c.look_over_slot.ensures.side ∙ so_far.slots;
+      sees = sees-load content c.args.owner c.loop-slot.slot c.args.place.now.me.0 c.loop-slot.place.me.0 c.look_over_slot.new.place.me.0
+          c.loop-slot.sum _ c.look_over_slot.result c.requires.session so_far.sees
+          (ap (λ (m : Side g.row.T.Denot). m.0) c.look_over_slot.ensures.side) c.look_over_slot.ensures.knows
+          (ap (λ n. c.loop-slot.sum + n) c.modes_in-sum.ensures.modes);
+      few = omega (arith, few, most);
+    }

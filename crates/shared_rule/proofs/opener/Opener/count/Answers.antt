@@ -1,0 +1,41 @@
+use Rattle.std.proofs.Common.{◌≡◌, ◌+◌, List, [], ◌∷◌, length, refl, sym, ap, ◌∙◌, subst}
+use Rattle.std.specs.Prelude.{count_by, Ok, Err}
+use Rattle.lock_table.specs.declared.rows.TableRow.{TableRow}
+use Rattle.shared_rule.specs.declared.history.History.{History}
+use Rattle.shared_rule.specs.Audits.{CountsAll, CountsFrom}
+use Rattle.shared_rule.specs.Gatherings.{NoneWaits, AreAll, gathered_in}
+use Rattle.shared_rule.specs.Openers.{OpenerState}
+use Rattle.shared_rule.specs.Plays.{HasSession}
+use Rattle.shared_rule.proofs.AuditSums.{counts-all, counts-refused, has-first, are-all}
+use Rattle.shared_rule.proofs.opener.Opener.count.Given.{Over}
+use Rattle.shared_rule.proofs.opener.Opener.count.Goals as goal
+
+pub returns : goal.returns
+returns g c =
+    let content = g.T.PartTable.content in
+    let v0 = c.self.inside.place.me.0 in
+    let v2 = c.count_from.new.place.me.0 in
+    let has : HasSession v0 = has-first v0 c.args.self.now.gathered (ap (λ (o : OpenerState g.row.T.Denot). o.gathered) c.self.view_is) c.requires.some in
+    let are : AreAll c.self.inside.issued v0 = are-all v0 c.self.inside.issued c.self.invariant.0
+    (subst (λ (o : OpenerState g.row.T.Denot). length o.gathered + length o.closed ≡ o.issued) (sym c.self.view_is) c.requires.all) in
+    let nobody : NoneWaits (gathered_in content v0.sessions) =
+    subst (λ (o : OpenerState g.row.T.Denot). NoneWaits (gathered_in content o.gathered)) (sym c.self.view_is) c.requires.nobody_waits in
+    let after : OpenerState g.row.T.Denot = record {
+      table = c.count_from.new.place.table_id;
+      issued = c.self.inside.issued;
+      limit = c.self.inside.sessions;
+      closed = v2.closed;
+      gathered = v2.sessions;
+    } in
+    let counts : CountsFrom content 0 c.self.inside.sessions c.count_counters-strong.new.place.me.0 [] c.count_from.result c.count_from.new.fast v2 c.count_from.new.rows.items =
+    subst (λ rows. CountsFrom content 0 c.self.inside.sessions c.count_counters-strong.new.place.me.0 rows c.count_from.result c.count_from.new.fast v2 c.count_from.new.rows.items)
+    c.requires.empty c.count_from.ensures.counts in
+    subst
+    (λ (o : OpenerState g.row.T.Denot).
+    CountsAll content o after (Ok (record { fast = c.count_from.new.fast; table = c.granted_in.result; strong = c.count_counters-strong.result })))
+    c.self.view_is
+    (counts-all content c.self.inside.place.table_id c.count_from.new.place.table_id c.self.inside.sessions c.self.inside.issued
+    c.count_counters-strong.result c.count_from.new.fast v0 c.count_counters-strong.new.place.me.0 v2 c.count_from.new.rows.items c.count_from.result
+    (c.count_from.ensures.seat.table_id ∙ c.count_counters-strong.ensures.seat.table_id) has are c.self.invariant.1 nobody
+    c.count_counters-strong.ensures.seen counts c.granted_in.result c.in_ok-count_from.was
+    (c.granted_in.ensures ∙ ap (count_by (λ (row : TableRow). row.granted)) c.as_slice.ensures.value))

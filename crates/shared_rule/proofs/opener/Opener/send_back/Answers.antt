@@ -1,0 +1,33 @@
+use Rattle.std.proofs.Common.{◌≡◌, List, ◌∷◌, ◌++◌, [], sym, ap, ◌∙◌}
+use Rattle.shared_rule.specs.declared.history.History.{History}
+use Rattle.shared_rule.specs.declared.history.View.{View}
+use Rattle.shared_rule.specs.Boards.{Seated, first_marks}
+use Rattle.shared_rule.specs.History.{lone, first_account}
+use Rattle.shared_rule.specs.Openers.{OpenerState}
+use Rattle.shared_rule.specs.Plays.{Side}
+use Rattle.shared_rule.specs.Seats.{all_but_last, last_of}
+use Rattle.shared_rule.proofs.Meetings.{all_but_last-of, last_of-of, lone-last}
+use Rattle.shared_rule.proofs.opener.Opener.send_back.Goals as goal
+
+pub at-requires-clause-lone : goal.at-requires-clause-lone
+at-requires-clause-lone g c =
+    let came = ap (λ (m : Side g.row.T.Denot). m.0) c.hand_back-place.ensures.other in
+    let last = c.requires.last in
+    let is = ap (λ (o : OpenerState g.row.T.Denot). o.gathered) c.self.view_is ∙ last.gathered in
+    let number = last.number_ ∙ sym (ap (λ (s : Seated). s.number) c.absent.view_is) in
+    came ∙ lone-last c.self.inside.place.me.0 last.before last.last c.absent.inside.number is number
+    ∙ sym (ap (λ (v : View g.row.T.Denot). lone c.absent.inside.number (first_marks v.sessions)) came)
+
+pub returns-clause-left : goal.returns-clause-left
+returns-clause-left g c = λ before last gathered.
+    let left = ap (λ (m : Side g.row.T.Denot). m.0) c.hand_back-place.ensures.side in
+    let came = ap (λ (m : Side g.row.T.Denot). m.0) c.hand_back-place.ensures.other in
+    let is = ap (λ (o : OpenerState g.row.T.Denot). o.gathered) c.self.view_is ∙ gathered in
+    let table = c.hand_back-place.ensures.seat.table_id in
+    let closed = ap (λ (v : View g.row.T.Denot). v.closed) left in
+    let rest = ap (λ (v : View g.row.T.Denot). v.sessions) left ∙ ap all_but_last is ∙ all_but_last-of before last in
+    let there = ap (λ (v : View g.row.T.Denot). v.sessions) came ∙ ap last_of is ∙ last_of-of before last in (
+      (λ i. record { table = table i; issued = c.self.inside.issued; limit = c.self.inside.sessions; closed = closed i; gathered = rest i })
+          ∙ ap (λ (o : OpenerState g.row.T.Denot). record o { gathered = before }) c.self.view_is,
+      ap (λ place. first_account g.T.PartTable.content place.me.0.sessions) c.at.ensures.1 ∙ ap (first_account g.T.PartTable.content) there,
+    )

@@ -1,0 +1,97 @@
+use Rattle.std.specs.Prelude.{◌≡◌, ◌≢◌, ℕ, ◌+◌, ◌<◌, ◌≤◌, ◌==◌, List, [], ◌∷◌, map, length, sum_by, Option, Some, None, if◌then◌else◌}
+use Rattle.atomic_table.specs.Table.{Step}
+use Rattle.lock_table.specs.Content.{Content}
+use Rattle.lock_world.specs.declared.events.Word.{Word}
+use Rattle.lock_world.specs.declared.events.Word.TheVariants.{Partition, Fast, Database, Slot, Wait, Strong, Sleep}
+use Rattle.lock_world.specs.Account.{Account, InHand}
+use Rattle.lock_world.specs.Counted.{count_at}
+use Rattle.lock_world.specs.Tallies.{OwnStand, ShowsLeft}
+use Rattle.shared_rule.specs.declared.history.History.{History}
+use Rattle.shared_rule.specs.declared.history.Mark.{Mark}
+use Rattle.shared_rule.specs.declared.history.View.{View}
+use Rattle.shared_rule.specs.History.{blank_account, told, first_account}
+use Rattle.shared_rule.specs.Layout.{index_of_word, IsInTable}
+use Rattle.shared_rule.specs.Plays.{Side, Marked}
+
+-- Sessions gathered at the opener's seat: the first makes steps with it, and keeps the others apart.
+
+-- a session there: its number and its account
+pub record Gathered : Type 0 where
+  pub number : ℕ
+  pub account : Account
+
+-- the account of the session of this number, one with nothing in it where it is not among them
+abbrev pub account_among : List Gathered → ℕ → Account
+account_among [] number = blank_account
+account_among (one ∷ others) number = if one.number == number then one.account else account_among others number
+
+-- The number is none of theirs.
+abbrev pub IsNone : ℕ → List Gathered → Type 0
+IsNone number [] = Unit {0}
+IsNone number (one ∷ others) = (one.number ≢ number) × IsNone number others
+
+-- Their numbers are below a limit, and no two are the same.
+abbrev pub AreDistinct : ℕ → List Gathered → Type 0
+AreDistinct limit [] = Unit {0}
+AreDistinct limit (one ∷ others) = (one.number < limit) × IsNone one.number others × AreDistinct limit others
+
+-- None of them waits.
+abbrev pub NoneWaits : List Gathered → Type 0
+NoneWaits [] = Unit {0}
+NoneWaits (one ∷ others) = (one.account.awaited ≡ None) × NoneWaits others
+
+-- how much they have counted at an index of the strong lock counters
+abbrev pub counted_at : ℕ → List Gathered → ℕ
+counted_at index gathered = sum_by (λ one. count_at index one.account.fast.counted) gathered
+
+-- The session has each partition in hand, with this content.
+abbrev pub HasAllInHand : Account → (ℕ → Content) → Type 0
+HasAllInHand a contents =
+    (partition : ℕ) → partition < 16 → (mine : InHand) × (a.hand partition ≡ Some mine) × (mine.now ≡ contents partition)
+
+module _ {T : Type 0} where
+  -- They are all that there are: of so many numbers given out each is at the seat, or has closed.
+  pub record AreAll (issued : ℕ) (view : View T) : Type 0 where
+    pub next : view.next ≡ Some issued
+    pub all : length view.sessions + length view.closed ≡ issued
+
+module _ {T : Type 0} (content : T → Content) where
+  -- who is at a seat
+  abbrev pub gathered_as : History T → Gathered
+  gathered_as history = record { number = history.number; account = told content history.number history.marks }
+
+  abbrev pub gathered_in : List (History T) → List Gathered
+  gathered_in sessions = map gathered_as sessions
+
+  -- What the seat knows of a number that is found in a word, where they are all that there are. A slot shows, with all partitions in
+  -- hand, the own holds of its session that no content has; a strong lock counter shows what they have counted.
+  abbrev pub KnowsOfAll : View T → Word → ℕ → Type 0
+  KnowsOfAll view (Partition partition) found = Unit {0}
+  KnowsOfAll view (Fast owner) found = Unit {0}
+  KnowsOfAll view (Database owner) found = Unit {0}
+  KnowsOfAll view (Slot owner place) found =
+      (contents : ℕ → Content) → HasAllInHand (first_account content view.sessions) contents
+      → ShowsLeft owner (account_among (gathered_in view.sessions) owner) contents place found
+  KnowsOfAll view (Wait owner) found = Unit {0}
+  KnowsOfAll view (Strong index) found = (found ≡ counted_at index (gathered_in view.sessions)) × (found ≤ 4194304)
+  KnowsOfAll view (Sleep owner) found = Unit {0}
+
+  -- A load was noted, and the seat learns that of the number found.
+  abbrev pub LookedOver : (ℕ → Mark T) → Step (Option T) → Side T → ℕ → Side T → Type 0
+  LookedOver mark step before found after =
+      Marked mark step before found after
+      × ((word : Word) (issued : ℕ) → IsInTable word → step.word ≡ index_of_word word → AreAll issued before.0
+      → KnowsOfAll before.0 word found)
+
+  -- What the seat knows where they are all that there are: who they are, and, with all partitions in hand and nobody waiting, where
+  -- the own holds of each stand.
+  pub record KnowsAll (issued : ℕ) (view : View T) : Type 0 where
+    pub distinct : AreDistinct issued (gathered_in view.sessions)
+    pub stand :
+        (contents : ℕ → Content) → NoneWaits (gathered_in view.sessions)
+        → HasAllInHand (first_account content view.sessions) contents → (number : ℕ)
+        → OwnStand number (account_among (gathered_in view.sessions) number) contents
+
+  -- Nothing changed, and it is told that.
+  abbrev pub ToldAll : Step (Option T) → Side T → ℕ → Side T → Type 0
+  ToldAll step before found after = (after ≡ before) × ((issued : ℕ) → AreAll issued before.0 → KnowsAll issued before.0)

@@ -1,0 +1,283 @@
+//! What stands in the table, counted by a seat at which all sessions are gathered.
+
+ghost use Rattle.std.specs.Prelude.{◌≡◌, ◌<◌, ◌≤◌, ◌+◌, List, [], ◌∷◌, length, count_by, ℕ, None};
+ghost use mathlib.Core.Option.{none};
+ghost use Rattle.atomic_table.specs.Table.{Allows, step, rest};
+ghost use Rattle.lock_table.specs.declared.rows.TableRow.{TableRow};
+ghost use Rattle.lock_table.specs.declared.moves.Move.TheVariants.{Keep};
+ghost use Rattle.lock_world.specs.Account.{InHand};
+ghost use Rattle.lock_world.specs.AccountFacts.{KnowsContent};
+ghost use Rattle.lock_world.specs.declared.events.Word.{Word};
+ghost use Rattle.lock_world.specs.declared.events.Word.TheVariants.{Slot, Strong};
+ghost use Rattle.lock_world.specs.SlotHolds.{slot_count};
+ghost use Rattle.lock_world.specs.Tallies.{modes_shown};
+ghost use Rattle.shared_rule.specs.declared.history.Mark.TheVariants.{LoadedSlot, LoadedStrong, TookPart, PutPart};
+ghost use Rattle.shared_rule.specs.Audits.{CountersSeen, CountsAll, CountsFrom, SeesSlots, SeesAllSlots};
+ghost use Rattle.shared_rule.specs.Gatherings.{AreAll, KnowsAll, KnowsOfAll, LookedOver, NoneWaits, gathered_in};
+ghost use Rattle.shared_rule.specs.declared.history.History.{History};
+ghost use Rattle.shared_rule.specs.History.{noting, first_account};
+ghost use Rattle.shared_rule.specs.Layout.{content_slot_of, index_of_word, IsInTable};
+ghost use Rattle.shared_rule.specs.Lawful.{IsAboveHand, MayPutPart};
+ghost use Rattle.shared_rule.specs.Plays.{account_at, number_at, FitsTable, HasSession, IsSameSeat};
+ghost use Rattle.shared_rule.specs.Ruled.{Ruled};
+ghost use Rattle.shared_rule.specs.Seats.{MayBeKeptApartBy};
+
+use crate::layout::{slot_word, strong_word};
+use crate::opener::Opener;
+use crate::partitions::{put_part, take_part};
+use crate::plays::{LooksOver, Marking, TellsAll};
+use crate::rule::{Place, Top};
+use lock_table::{Move, NoMemory, PartTable, TableRow};
+use lw_word::SlotWord;
+use modes_core::tags::PARTITIONS;
+use modes_core::{Mode, SessionId};
+use std::marker::Brand;
+use std::sync::Wait;
+
+/// How many strong lock counters there are (`FAST_PATH_STRONG_LOCK_HASH_PARTITIONS` in lock.c), and slots of a session.
+const COUNTERS: u16 = 1024;
+
+const SLOTS: u8 = 16;
+
+/// What an audit counted: modes that fast-path slots show, granted rows of the lock table, and the sum of the strong lock
+/// counters.
+#[derive(Clone, Copy, Debug, PartialEq, Eq)]
+pub struct Audit {
+    pub fast: u64,
+    pub table: u64,
+    pub strong: u64,
+}
+
+// A load that tells what a seat at which all sessions are knows of the number found.
+fn look_over_as<T: PartTable, M: Marking<T>>(top: &Top<T>, place: &mut Place<T>, word: usize) -> u64
+    requires table { FitsTable place.old top.now.table_id × (word < top.now.table_id.words) }
+    requires allowed { Allows (Ruled T.content T.begun top.now.key) top.now.table_id.slots
+        place.old.id place.old.me word (λ n. n)
+        (LookedOver T.content M.mark (step top.now.table_id.slots word 0 0 none) place.old.me) }
+    ensures seat { IsSameSeat place.old place.new }
+    ensures side { place.new.me ≡ (noting place.old.me.0 (M.mark result), place.old.me.1) }
+    ensures knows { (which : Word) (issued : ℕ) → IsInTable which → word ≡ index_of_word which
+        → AreAll issued place.old.me.0 → KnowsOfAll T.content place.old.me.0 which result }
+{
+    top.load::<LooksOver<M>>(place, word)
+}
+
+// Loads a slot of a session.
+fn look_over_slot<T: PartTable, M: Marking<T>>(
+    top: &Top<T>,
+    place: &mut Place<T>,
+    owner: SessionId,
+    slot: u8,
+) -> SlotWord
+    requires table { FitsTable place.old top.now.table_id }
+    requires session { HasSession place.old.me.0 }
+    requires within { slot < 16 }
+    requires mark { M.mark ≡ LoadedSlot owner slot }
+    ensures seat { IsSameSeat place.old place.new }
+    ensures side { place.new.me ≡ (noting place.old.me.0 (LoadedSlot owner slot result), place.old.me.1) }
+    ensures knows { (issued : ℕ) → AreAll issued place.old.me.0
+        → KnowsOfAll T.content place.old.me.0 (Slot owner slot) result }
+{
+    SlotWord::from_number(look_over_as::<T, M>(top, place, slot_word(owner, slot)))
+}
+
+// Loads a strong lock counter.
+fn look_over_strong<T: PartTable, M: Marking<T>>(
+    top: &Top<T>,
+    place: &mut Place<T>,
+    index: u16,
+) -> u64
+    requires table { FitsTable place.old top.now.table_id }
+    requires session { HasSession place.old.me.0 }
+    requires within { index < 1024 }
+    requires mark { M.mark ≡ LoadedStrong index }
+    ensures seat { IsSameSeat place.old place.new }
+    ensures side { place.new.me ≡ (noting place.old.me.0 (LoadedStrong index result), place.old.me.1) }
+    ensures knows { (issued : ℕ) → AreAll issued place.old.me.0
+        → KnowsOfAll T.content place.old.me.0 (Strong index) result }
+{
+    look_over_as::<T, M>(top, place, strong_word(index))
+}
+
+// Tells who is there, and where the own holds of each stand. It loads a word, and ignores what it finds.
+fn tell_all<T: PartTable>(top: &Top<T>, place: &mut Place<T>)
+    requires table { FitsTable place.old top.now.table_id }
+    requires session { HasSession place.old.me.0 }
+    ensures seat { IsSameSeat place.old place.new }
+    ensures side { place.new.me ≡ place.old.me }
+    ensures knows { (issued : ℕ) → AreAll issued place.old.me.0 → KnowsAll T.content issued place.old.me.0 }
+{
+    top.load::<TellsAll>(place, 0);
+}
+
+// How many modes a slot's word shows.
+fn modes_in(word: SlotWord) -> u64
+    ensures modes { result ≡ modes_shown word }
+    ensures few { result ≤ 3 }
+{
+    let higher = u64::from(word.has(Mode::RowShare)) + u64::from(word.has(Mode::RowExclusive));
+    u64::from(word.has(Mode::AccessShare)) + higher
+}
+
+/// The sum of all strong lock counters, each loaded once.
+pub(crate) fn count_counters<T: PartTable>(top: &Top<T>, place: &mut Place<T>) -> u64
+    requires table { FitsTable place.old top.now.table_id }
+    requires session { HasSession place.old.me.0 }
+    requires all { (issued : ℕ) × AreAll issued place.old.me.0 }
+    requires no_slots { (account_at T.content place.old).fast.slots (number_at place.old) ≡ None }
+    ensures seat { IsSameSeat place.old place.new }
+    ensures slots { place.new.me.1 ≡ place.old.me.1 }
+    ensures seen { CountersSeen T.content 1024 place.old.me.0 place.new.me.0 result }
+{
+    let mut sum = 0;
+    for index in 0..COUNTERS {
+        sum += look_over_strong::<T, Brand>(top, place, index);
+    }
+    sum
+}
+
+// How many modes a session's slots show, each loaded once.
+fn count_slots_of<T: PartTable>(top: &Top<T>, place: &mut Place<T>, owner: SessionId) -> u64
+    requires table { FitsTable place.old top.now.table_id }
+    requires session { HasSession place.old.me.0 }
+    ensures seat { IsSameSeat place.old place.new }
+    ensures slots { place.new.me.1 ≡ place.old.me.1 }
+    ensures sees { SeesSlots T.content owner slot_count place.old.me.0 place.new.me.0 result }
+    ensures few { result ≤ 48 }
+{
+    let mut sum = 0;
+    for slot in 0..SLOTS {
+        sum += modes_in(look_over_slot::<T, Brand>(top, place, owner, slot));
+    }
+    sum
+}
+
+// How many modes all slots show, of the sessions below this number.
+fn count_slots<T: PartTable>(top: &Top<T>, place: &mut Place<T>, sessions: u8) -> u64
+    requires table { FitsTable place.old top.now.table_id }
+    requires session { HasSession place.old.me.0 }
+    requires few { sessions ≤ 64 }
+    ensures seat { IsSameSeat place.old place.new }
+    ensures slots { place.new.me.1 ≡ place.old.me.1 }
+    ensures sees { SeesAllSlots T.content sessions place.old.me.0 place.new.me.0 result }
+{
+    let mut sum = 0;
+    for number in 0..sessions {
+        let owner = SessionId::new(number).unwrap();
+        sum += count_slots_of(top, place, owner);
+    }
+    sum
+}
+
+// Takes the next partition in rising order, whose content comes in hand.
+fn take_next<T: PartTable, R: Wait>(rt: &R, top: &Top<T>, place: &mut Place<T>, part: u8) -> T
+    requires table { FitsTable place.old top.now.table_id }
+    requires session { HasSession place.old.me.0 }
+    requires exists { part < 16 }
+    requires none_in_hand { IsAboveHand (account_at T.content place.old) part }
+    ensures seat { IsSameSeat place.old place.new }
+    ensures side { place.new.me
+        ≡ (noting place.old.me.0 (TookPart part result), (content_slot_of part, None) ∷ place.old.me.1) }
+    ensures none_begun { T.begun result ≡ None }
+    ensures knows { KnowsContent (number_at place.old) (account_at T.content place.old) part (T.content result) }
+    ensures session_there { HasSession place.new.me.0 }
+    ensures above { IsAboveHand (account_at T.content place.new) (part + 1) }
+{
+    take_part(rt, top, place, part)
+}
+
+// Puts a partition back as it was taken.
+fn put_back<T: PartTable>(top: &Top<T>, place: &mut Place<T>, part: u8, content: T)
+    requires table { FitsTable place.old top.now.table_id }
+    requires exists { part < 16 }
+    requires session { HasSession place.old.me.0 }
+    requires in_hand { place.old.me.1 ≡ (content_slot_of part, None) ∷ rest place.old.me.1 }
+    requires none_begun { T.begun content ≡ None }
+    requires lawful { (mine : InHand) × MayPutPart top.now.key (number_at place.old)
+        (account_at T.content place.old) part mine Keep (T.content content) }
+    ensures seat { IsSameSeat place.old place.new }
+    ensures side { place.new.me ≡ (noting place.old.me.0 (PutPart part Keep content), rest place.old.me.1) }
+{
+    put_part::<T, Brand>(top, place, part, &Move::Keep, content);
+}
+
+/// Takes the partitions from this one on, in rising order, counts with all in hand what slots show, and puts them back as
+/// they were, in the opposite order, with their rows appended to the list. Where memory is wanting for these it is refused,
+/// and all partitions are put back as well.
+pub(crate) fn count_from<T: PartTable, R: Wait>(
+    rt: &R,
+    top: &Top<T>,
+    place: &mut Place<T>,
+    sessions: u8,
+    part: u8,
+    fast: &mut u64,
+    rows: &mut Vec<TableRow>,
+) -> Result<(), NoMemory>
+    requires table { FitsTable place.old top.now.table_id }
+    requires session { HasSession place.old.me.0 }
+    requires few { sessions ≤ 64 }
+    requires exists { part ≤ 16 }
+    requires none_in_hand { IsAboveHand (account_at T.content place.old) part }
+    ensures seat { IsSameSeat place.old place.new }
+    ensures slots { place.new.me.1 ≡ place.old.me.1 }
+    ensures counts { CountsFrom T.content part sessions place.old.me.0 rows.old.items result fast.new
+        place.new.me.0 rows.new.items }
+{
+    if u32::from(part) == PARTITIONS {
+        tell_all(top, place);
+        *fast = count_slots(top, place, sessions);
+        return Ok(());
+    }
+    let content = take_next(rt, top, place, part);
+    let mut counted = count_from(rt, top, place, sessions, part + 1, fast, rows);
+    if counted.is_ok() {
+        counted = content.rows(rows);
+    }
+    put_back(top, place, part, content);
+    counted
+}
+
+// How many of the rows are of holds.
+fn granted_in(rows: &[TableRow]) -> u64
+    ensures { result ≡ count_by (λ (row : TableRow). row.granted) rows.now }
+{
+    rows.iter().filter(|row| row.granted).count() as u64
+}
+
+impl<T: PartTable> Opener<T> {
+    /// Counts what stands in the table, with all sessions gathered here that are open, and nobody waiting: the strong lock
+    /// counters, each by a load; what fast-path slots show, each loaded with all partitions in hand; and the rows of these,
+    /// which are appended to an empty list. The first session makes the steps. Where memory is wanting for the rows it is
+    /// refused, and all is as before as well.
+    pub fn count<R: Wait>(
+        &mut self,
+        rt: &R,
+        table: &Top<T>,
+        rows: &mut Vec<TableRow>,
+    ) -> Result<Audit, NoMemory>
+        requires table { (self.old.table ≡ table.now.table_id) × (self.old.limit ≡ table.now.key) }
+        requires some { (first : History T) × (others : List (History T)) × (self.old.gathered ≡ first ∷ others) }
+        requires all { length self.old.gathered + length self.old.closed ≡ self.old.issued }
+        requires nobody_waits { NoneWaits (gathered_in T.content self.old.gathered) }
+        requires nothing_in_hand { MayBeKeptApartBy (first_account T.content self.old.gathered) }
+        requires empty { rows.old.items ≡ [] }
+        ensures { CountsAll T.content self.old self.new result }
+    {
+        let strong = count_counters(table, &mut self.place);
+        let mut fast = 0;
+        count_from(
+            rt,
+            table,
+            &mut self.place,
+            self.sessions,
+            0,
+            &mut fast,
+            rows,
+        )?;
+        Ok(Audit {
+            fast,
+            table: granted_in(rows.as_slice()),
+            strong,
+        })
+    }
+}

@@ -1,0 +1,81 @@
+//! Sessions gathered at the opener's seat, and sent back. While a session is there it makes no step of its own; the first
+//! to come is the one that makes steps.
+
+ghost use Rattle.std.specs.Prelude.{◌≡◌, ◌++◌, List, [], ◌∷◌};
+ghost use Rattle.shared_rule.specs.Boards.{nothing_due, Seated};
+ghost use Rattle.shared_rule.specs.declared.history.History.{History};
+ghost use Rattle.shared_rule.specs.History.{told};
+ghost use Rattle.shared_rule.specs.Openers.{HasGathered, HasLastOf};
+ghost use Rattle.shared_rule.specs.Seats.{MayBeKeptApartBy};
+
+use crate::board::Board;
+use crate::opener::Opener;
+use crate::rule::Top;
+use crate::seat_board::SeatBoard;
+use crate::seats;
+use lock_table::PartTable;
+use modes_core::SessionId;
+use std::marker::Model;
+
+/// A session whose seat is gathered at the opener's: what is left of its board. It is no `Drop`, so that nobody lets one
+/// go, which would leave its session there for ever. Contracts see whose board it was, and at which table.
+pub struct Absent<'a, T: PartTable> {
+    table: &'a Top<T>,
+    number: SessionId,
+    sessions: u8,
+}
+
+impl<'a, T: PartTable> Model for Absent<'a, T> {
+    ghost use Rattle.std.specs.Prelude.{◌≡◌, ◌<◌};
+    ghost use Rattle.shared_rule.specs.Boards.{Seated};
+    ghost use Rattle.shared_rule.specs.Plays.{IsSized};
+
+    ghost Value = { Seated };
+
+    ghost view = { λ absent.
+        record { number = absent.number; limit = absent.sessions; table = absent.table.now.table_id } };
+
+    ghost invariant = { λ absent. IsSized absent.table.now.table_id × (absent.sessions ≡ absent.table.now.key)
+        × (absent.number < absent.sessions) };
+}
+
+impl<T: PartTable> Opener<T> {
+    /// Takes a session's seat, which has nothing in hand, behind those that came before.
+    pub fn gather<'a>(&mut self, board: SeatBoard<'a, T>) -> Absent<'a, T>
+        requires table { (⟦<SeatBoard<'a, T> as Board<T>>⟧.seat board).table ≡ self.old.table }
+        requires stack { ⟦<SeatBoard<'a, T> as Board<T>>⟧.stack board ≡ nothing_due }
+        requires no_word { MayBeKeptApartBy (⟦<SeatBoard<'a, T> as Board<T>>⟧.view board) }
+        ensures absent { result ≡ ⟦<SeatBoard<'a, T> as Board<T>>⟧.seat board.entry }
+        ensures gathered { let B = ⟦<SeatBoard<'a, T> as Board<T>>⟧ in
+            HasGathered T.content (B.seat board.entry).number (B.view board.entry) self.old self.new }
+    {
+        let number = board.number();
+        let sessions = board.sessions();
+        let (table, place) = board.into_place();
+        seats::keep_apart(table, &mut self.place, place);
+        Absent {
+            table,
+            number,
+            sessions,
+        }
+    }
+
+    /// Gives the session that came last its seat back.
+    pub fn send_back<'a>(&mut self, absent: Absent<'a, T>) -> SeatBoard<'a, T>
+        requires table { absent.table ≡ self.old.table }
+        requires last { HasLastOf absent.number self.old }
+        ensures seat { ⟦<SeatBoard<'a, T> as Board<T>>⟧.seat result ≡ absent.entry }
+        ensures stack { ⟦<SeatBoard<'a, T> as Board<T>>⟧.stack result ≡ nothing_due }
+        ensures left { (before : List (History T)) (last : History T) → self.old.gathered ≡ before ++ last ∷ []
+            → (self.new ≡ record (self.old) { gathered = before })
+            × (⟦<SeatBoard<'a, T> as Board<T>>⟧.view result ≡ told T.content last.number last.marks) }
+    {
+        let Absent {
+            table,
+            number,
+            sessions,
+        } = absent;
+        let place = seats::hand_back(table, &mut self.place);
+        SeatBoard::at(table, place, number, sessions)
+    }
+}
