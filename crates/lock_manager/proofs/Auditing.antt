@@ -15,7 +15,7 @@ use Rattle.atomic_table.specs.Seated.{TableId}
 use Rattle.local_locks.specs.declared.records.Entry.{Entry}
 use Rattle.local_locks.specs.Owned.{is_of, has_entry, are_of_same, IsWellOwned}
 use Rattle.lock_table.specs.declared.no_memory.NoMemory.{NoMemory}
-use Rattle.lock_table.specs.PartView.{PartView, content_of}
+use Rattle.lock_manager.specs.Keeper.{PartView, content_of}
 use Rattle.lock_table.proofs.HoldLists.{count_by-cons}
 use Rattle.lock_world.specs.Account.{Account}
 use Rattle.lock_world.specs.Tallies.{Held, AreSoMany, is_this}

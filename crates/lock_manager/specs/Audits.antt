@@ -3,7 +3,7 @@ use Rattle.std.specs.List.{AllZip, AllByRecursion}
 use Rattle.modes_core.specs.declared.refusals.Refusal.{Refusal}
 use Rattle.modes_core.specs.Tag.{is_strong_on}
 use Rattle.lock_table.specs.declared.no_memory.NoMemory.{NoMemory}
-use Rattle.lock_table.specs.PartView.{PartView, content_of}
+use Rattle.lock_manager.specs.Keeper.{PartView, content_of}
 use Rattle.local_locks.specs.Owned.{IsWellOwned}
 use Rattle.lock_world.specs.Account.{Account}
 use Rattle.shared_rule.specs.declared.audits.Audit.{Audit}

@@ -2,7 +2,7 @@
 
 ghost use Rattle.std.specs.Prelude.{◌≡◌, ◌+◌, All, length, reverse, vec_len, vec_capacity, None, [], IsOkUnless};
 ghost use Rattle.std.specs.List.{AllByRecursion};
-ghost use Rattle.lock_table.specs.PartView.{content_of};
+ghost use Rattle.lock_manager.specs.Keeper.{content_of};
 ghost use Rattle.shared_rule.specs.Boards.{nothing_due};
 ghost use Rattle.shared_rule.specs.Openers.{HasGathered};
 ghost use Rattle.shared_rule.specs.Seats.{MayBeKeptApartBy};

@@ -1,6 +1,6 @@
 use Rattle.std.proofs.Common.{◌≡◌, sym, ap, ◌∙◌, subst}
 use Rattle.std.specs.List.{AllByRecursion}
-use Rattle.lock_table.specs.PartView.{PartView}
+use Rattle.lock_manager.specs.Keeper.{PartView}
 use Rattle.lock_table.specs.declared.plain_part.PlainPart.{PlainPart}
 use Rattle.shared_rule.specs.declared.seat_board.SeatBoard.{SeatBoard}
 use Rattle.shared_rule.specs.Openers.{OpenerState}
