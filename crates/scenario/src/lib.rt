@@ -4,13 +4,15 @@
 
 pub mod arguments;
 pub mod desk;
+pub mod modes;
 pub mod output;
 pub mod program;
 pub mod run;
 pub mod sessions;
 
-pub use arguments::{Limits, NoRun, parse_arguments};
+pub use arguments::{Limits, NoRun, Task, parse_arguments};
 pub use desk::{Desk, SharedDesk};
+pub use modes::print_modes;
 pub use output::Output;
 pub use program::{Source, run_program};
 pub use run::{Scene, run_script};
