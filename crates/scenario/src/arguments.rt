@@ -1,5 +1,6 @@
 //! The words of the command line.
 ghost use Rattle.std.specs.Prelude.{◌≤◌, IfOk};
+ghost use Rattle.scenario.specs.Tasks.{OfRun};
 
 use clap::error::ErrorKind;
 use clap::{Arg, ArgMatches, Command, Error, value_parser};
@@ -55,7 +56,18 @@ MODE is AccessShareLock, RowShareLock, RowExclusiveLock, ShareUpdateExclusiveLoc
   ShareLock, ShareRowExclusiveLock, ExclusiveLock or AccessExclusiveLock.
 A lock is the transaction's, and with the word session at the end of its line the session's.";
 
-/// The command line: `run [--sessions N] [--max-local M]`.
+/// What `modes --help` shows beside its options.
+const MASKS: &str =
+    "Each line has a mode's number, its name, and the modes that it conflicts with: a
+hexadecimal number, whose bit 1 << NUMBER stands for the mode of that number.
+
+Example:
+  lock_scenario modes";
+
+/// The subcommand that prints the conflict table.
+const MODES: &str = "modes";
+
+/// The command line: `run [--sessions N] [--max-local M]`, or `modes`.
 fn command<'a>(alloc: Global) -> Result<Command<'a>, AllocError> {
     let sessions = Arg::new(alloc, "sessions")
         .long("sessions")
@@ -74,12 +86,16 @@ fn command<'a>(alloc: Global) -> Result<Command<'a>, AllocError> {
         .after_help(FORMS)
         .arg(sessions)?
         .arg(max_local)?;
+    let modes = Command::new(alloc, MODES)
+        .about("Print which lock modes conflict")
+        .after_help(MASKS);
     Command::new(alloc, "lock_scenario")
         .version(VERSION)
         .about("Run scripts against PostgreSQL's lock manager")
         .after_help(LINES_AND_EXAMPLE)
         .subcommand_required(true)
-        .subcommand(run)
+        .subcommand(run)?
+        .subcommand(modes)
 }
 
 /// How large a lock manager the words ask for.
@@ -89,6 +105,15 @@ pub struct Limits {
     pub sessions: u32,
     /// How many local entries each may have.
     pub max_local: u32,
+}
+
+/// What the words ask for.
+#[derive(Clone, Copy, Debug, PartialEq, Eq)]
+pub enum Task {
+    /// To run the script on standard input.
+    Run(Limits),
+    /// To print the conflict table.
+    Modes,
 }
 
 /// What words come to that ask for no run.
@@ -116,33 +141,36 @@ impl NoRun {
     }
 }
 
-/// The limits that the words ask for, each in its range: 1 to 64 sessions, 1 to 65,536 local entries. The first word is the program's
+/// What the words ask for, with each limit in its range: 1 to 64 sessions, 1 to 65,536 local entries. The first word is the program's
 /// name.
-pub fn parse_arguments(alloc: Global, words: &[String]) -> Result<Limits, NoRun>
-    ensures sessions { IfOk result (λ limits. (1 ≤ limits.sessions) × (limits.sessions ≤ 64)) }
-    ensures max_local { IfOk result (λ limits. (1 ≤ limits.max_local) × (limits.max_local ≤ 65536)) }
+pub fn parse_arguments(alloc: Global, words: &[String]) -> Result<Task, NoRun>
+    ensures sessions { IfOk result (λ task. OfRun task (λ limits. (1 ≤ limits.sessions) × (limits.sessions ≤ 64))) }
+    ensures max_local { IfOk result (λ task. OfRun task
+        (λ limits. (1 ≤ limits.max_local) × (limits.max_local ≤ 65536))) }
 {
-    match limits_of(alloc, words) {
-        Ok(limits) => Ok(limits),
+    match task_of(alloc, words) {
+        Ok(task) => Ok(task),
         Err(error) => Err(NoRun::of(alloc, &error)),
     }
 }
 
 /// The same, with `clap`'s own error.
-fn limits_of<'a>(alloc: Global, words: &'a [String]) -> Result<Limits, Error>
-    ensures sessions { IfOk result (λ limits. (1 ≤ limits.sessions) × (limits.sessions ≤ 64)) }
-    ensures max_local { IfOk result (λ limits. (1 ≤ limits.max_local) × (limits.max_local ≤ 65536)) }
+fn task_of<'a>(alloc: Global, words: &'a [String]) -> Result<Task, Error>
+    ensures sessions { IfOk result (λ task. OfRun task (λ limits. (1 ≤ limits.sessions) × (limits.sessions ≤ 64))) }
+    ensures max_local { IfOk result (λ task. OfRun task
+        (λ limits. (1 ≤ limits.max_local) × (limits.max_local ≤ 65536))) }
 {
     let matches = command(alloc)?.try_get_matches_from(words)?;
     let (sessions, max_local) = match matches.subcommand() {
+        Some((name, _)) if name == MODES => return Ok(Task::Modes),
         Some((_, run)) => (
             run.get_one::<u32>("sessions").unwrap_or(USUAL_SESSIONS),
             run.get_one::<u32>("max-local").unwrap_or(USUAL_LOCAL),
         ),
         None => (USUAL_SESSIONS, USUAL_LOCAL),
     };
-    Ok(Limits {
+    Ok(Task::Run(Limits {
         sessions: sessions.clamp(1, MOST_SESSIONS),
         max_local: max_local.clamp(1, MOST_LOCAL),
-    })
+    }))
 }

@@ -4,13 +4,15 @@
 
 mod arguments;
 mod desk;
+mod modes;
 mod output;
 mod program;
 mod run;
 mod sessions;
 
-pub use arguments::{Limits, NoRun, parse_arguments};
+pub use arguments::{Limits, NoRun, Task, parse_arguments};
 pub use desk::{Desk, SharedDesk};
+pub use modes::print_modes;
 pub use output::Output;
 pub use program::{Source, run_program};
 pub use run::{Scene, run_script};

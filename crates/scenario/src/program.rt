@@ -1,7 +1,8 @@
 //! The program as a function of its words and its streams.
 ghost use Rattle.std.specs.Prelude.{◌≤◌, IfOk};
 
-use crate::arguments::{NoRun, parse_arguments};
+use crate::arguments::{NoRun, Task, parse_arguments};
+use crate::modes::print_modes;
 use crate::run::run_script;
 use lock_manager::Config;
 use lock_script::Fault;
@@ -46,7 +47,7 @@ pub fn run_program<H: AllocGlobal + Wait, R: Read + Drop, W: Write + Drop, E: Wr
     }
 }
 
-/// Runs the script, where the words ask for that.
+/// Does what the words ask for.
 fn run_words<H: AllocGlobal + Wait, R: Read + Drop, W: Write + Drop, E: Write>(
     rt: &H,
     words: &[String],
@@ -58,7 +59,11 @@ fn run_words<H: AllocGlobal + Wait, R: Read + Drop, W: Write + Drop, E: Write>(
 {
     let alloc = rt.alloc();
     match parse_arguments(alloc, words) {
-        Ok(limits) => {
+        Ok(Task::Modes) => {
+            print_modes(output)?;
+            Ok(SUCCESS)
+        }
+        Ok(Task::Run(limits)) => {
             let output = BufWriter::new(alloc, output).map_err(|_| Fault::NoMemory)?;
             let config = Config {
                 sessions: limits.sessions,

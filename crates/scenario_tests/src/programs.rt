@@ -1,6 +1,6 @@
 //! The program's own words, its statuses, and what it writes to its output and its errors.
 use crate::pipes::Pipe;
-use scenario::{NoRun, Source, parse_arguments, run_program};
+use scenario::{NoRun, Source, Task, parse_arguments, run_program};
 use std::alloc::Global;
 use std::io::{self, ErrorKind, Read};
 use std::process::Abort;
@@ -32,7 +32,7 @@ fn words_of(alloc: Global, line: &str) -> Result<Vec<String>, Fail> {
 }
 
 /// Words, and how many sessions and local entries they ask for, where they aren't refused.
-static WORDS: [(&str, Option<(u32, u32)>); 15] = [
+static WORDS: [(&str, Option<(u32, u32)>); 18] = [
     ("lock_scenario run", Some((8, 1024))),
     ("lock_scenario run --sessions 1", Some((1, 1024))),
     ("lock_scenario run --sessions=64", Some((64, 1024))),
@@ -43,6 +43,9 @@ static WORDS: [(&str, Option<(u32, u32)>); 15] = [
     ),
     ("lock_scenario", None),
     ("lock_scenario hammer", None),
+    ("lock_scenario modes", Some((0, 0))),
+    ("lock_scenario modes more", None),
+    ("lock_scenario modes --sessions 1", None),
     ("lock_scenario run --sessions 0", None),
     ("lock_scenario run --sessions 65", None),
     ("lock_scenario run --sessions x", None),
@@ -60,10 +63,12 @@ fn reads_its_own_words(rt: HostRuntime) -> Result<(), Fail> {
         let (line, expected) = *row;
         let words = words_of(alloc, line)?;
         let limits = match parse_arguments(alloc, words.as_slice()) {
-            Ok(limits) => Some((limits.sessions, limits.max_local)),
+            Ok(Task::Run(limits)) => Some((limits.sessions, limits.max_local)),
             Err(NoRun::Refused(_)) => None,
+            // The conflict table, which has no limits.
+            Ok(Task::Modes) => Some((0, 0)),
             // A text, and being out of memory: limits that no row has.
-            Err(_) => Some((0, 0)),
+            Err(_) => Some((0, 1)),
         };
         assert!(rt; limits == expected, "the limits of {line:?}");
     }
@@ -77,8 +82,9 @@ Run scripts against PostgreSQL's lock manager
 Usage: lock_scenario <COMMAND>
 
 Commands:
-  run   Run the script on standard input
-  help  Print this message or the help of the given subcommand(s)
+  run    Run the script on standard input
+  modes  Print which lock modes conflict
+  help   Print this message or the help of the given subcommand(s)
 
 Options:
   -h, --help     Print help
@@ -127,6 +133,34 @@ MODE is AccessShareLock, RowShareLock, RowExclusiveLock, ShareUpdateExclusiveLoc
 A lock is the transaction's, and with the word session at the end of its line the session's.
 ";
 
+/// The text of `modes --help`.
+const MODES_HELP: &str = "\
+Print which lock modes conflict
+
+Usage: lock_scenario modes
+
+Options:
+  -h, --help  Print help
+
+Each line has a mode's number, its name, and the modes that it conflicts with: a
+hexadecimal number, whose bit 1 << NUMBER stands for the mode of that number.
+
+Example:
+  lock_scenario modes
+";
+
+/// What `modes` prints.
+const MODES: &str = "\
+1 AccessShareLock 100
+2 RowShareLock 180
+3 RowExclusiveLock 1e0
+4 ShareUpdateExclusiveLock 1f0
+5 ShareLock 1d8
+6 ShareRowExclusiveLock 1f8
+7 ExclusiveLock 1fc
+8 AccessExclusiveLock 1fe
+";
+
 /// What the errors take where the script is typed.
 const INVITATION: &str = "reading a script from the terminal; run --help shows its lines\n";
 
@@ -139,7 +173,9 @@ const RUN: &str = "lock_scenario run";
 const OPENED: &str = "a: session 0 database 5\n";
 
 /// Words with a run of the program on them.
-static RUNS: [(&str, Run); 10] = [
+static RUNS: [(&str, Run); 12] = [
+    ("lock_scenario modes", ("frob", false, 0, MODES, "")),
+    ("lock_scenario modes --help", ("", false, 0, MODES_HELP, "")),
     (RUN, ("session a 5\n", false, 0, OPENED, "")),
     (
         "lock_scenario run --sessions 1 --max-local 2",
@@ -292,7 +328,9 @@ fn answers_its_words(rt: HostRuntime) -> Result<(), Fail> {
 type Closed = (&'static str, &'static str, u32, bool, u8, u32);
 
 /// Runs with writers that fail. A line that the errors don't take changes no status.
-static CLOSED: [Closed; 10] = [
+static CLOSED: [Closed; 12] = [
+    ("lock_scenario modes", "", 7, true, 1, 1),
+    ("lock_scenario modes", "", 1000, false, 1, 1),
     (RUN, "session a 5\n", 0, true, 1, 1),
     (RUN, "session a 5\n", 1000, false, 1, 1),
     ("lock_scenario --help", "", 0, true, 1, 1),
