@@ -1,4 +1,4 @@
-use Rattle.std.proofs.Common.{rules, ◌≡◌, ◌+◌, length, sym, ap, subst, arith}
+use Rattle.std.proofs.Common.{rules, ◌≡◌, ◌+◌, length, sym, ap, ◌∙◌, subst, arith}
 use Rattle.shared_rule.specs.Openers.{HaveClosed}
 use Rattle.lock_manager.proofs.Closing.{closed-before-next}
 use Rattle.lock_manager.proofs.manager.Opener.session.Goals as goal
@@ -19,4 +19,5 @@ invariant_of-self c =
         issued_within = omega (arith, within, c.if-self.false);
         few = counted.few;
       },
+      c.session.ensures.opener.3 ∙ c.self.invariant.3,
     )
