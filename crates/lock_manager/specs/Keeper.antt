@@ -1,7 +1,11 @@
 use Rattle.lock_table.specs.Content.{Content}
+use Rattle.lock_records.specs.declared.part.RecordPart as part
 use Rattle.lock_records.specs.View as records
 
--- What contracts see of the keeper of a partition, and the content that it stands for.
+-- The keeper of a partition, what contracts see of it, and the content that it stands for.
+
+abbrev pub KeptPart : Type 0
+KeptPart = part.RecordPart
 
 abbrev pub PartView : Type 0
 PartView = records.RecordView

@@ -1,7 +1,6 @@
 use Rattle.std.proofs.Common.{◌≡◌, sym, ap, ◌∙◌, subst}
 use Rattle.std.specs.List.{AllByRecursion}
-use Rattle.lock_manager.specs.Keeper.{PartView}
-use Rattle.lock_table.specs.declared.plain_part.PlainPart.{PlainPart}
+use Rattle.lock_manager.specs.Keeper.{KeptPart, PartView}
 use Rattle.shared_rule.specs.declared.seat_board.SeatBoard.{SeatBoard}
 use Rattle.shared_rule.specs.Openers.{OpenerState}
 use Rattle.lock_manager.proofs.Auditing.{may_count-more, all-tables}
@@ -16,7 +15,7 @@ returns-clause-table c =
 
 pub returns-clause-left_own : goal.returns-clause-left_own
 returns-clause-left_own c =
-    all-tables {B = SeatBoard PlainPart} (λ board. record { number = board.number; limit = board.sessions; table = board.table.now.table_id })
+    all-tables {B = SeatBoard KeptPart} (λ board. record { number = board.number; limit = board.sessions; table = board.table.now.table_id })
     c.args.numbers.now.table c.gather.new.self.table c.args.left.now.items (sym (ap (λ (o : OpenerState PartView). o.table) c.gather.ensures.gathered.opener)) c.requires.left_own
 
 pub returns-clause-ready : goal.returns-clause-ready
