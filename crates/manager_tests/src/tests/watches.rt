@@ -7,8 +7,8 @@ ghost use Rattle.manager_tests.specs.Crews.{AreOf, SeatsAre};
 
 use super::answers::expect_released;
 use super::desk::{Desk, close_many, open_many};
-use lock_manager::{Listing, Mode, OwnSession, Owner, SessionId, Tag};
-use lock_table::{PartTable, PlainPart};
+use lock_manager::{Listing, Mode, OwnSession, Owner, Part, SessionId, Tag};
+use lock_table::PartTable;
 use shared_rule::board::Board;
 use std::alloc::Global;
 use std::process::Abort;
@@ -223,10 +223,10 @@ fn play<T: PartTable, B: Board<T>, R: Abort + Wait>(
 }
 
 /// Each session does so in a thread of its own.
-fn play_side_by_side<B: Board<PlainPart> + Send, R: Abort + Threads + Wait + Sync>(
+fn play_side_by_side<B: Board<Part> + Send, R: Abort + Threads + Wait + Sync>(
     rt: &R,
     words: &Words,
-    sessions: &mut [OwnSession<PlainPart, B>],
+    sessions: &mut [OwnSession<Part, B>],
 )
     ensures own { (manager : ManagerView) → AreOf B.seat manager sessions.old → AreOf B.seat manager sessions.new }
 {
@@ -241,8 +241,8 @@ fn play_side_by_side<B: Board<PlainPart> + Send, R: Abort + Threads + Wait + Syn
 
 /// A session of a desk lists while three others lock and unlock.
 pub fn list_beside<
-    B: Board<PlainPart> + Send,
-    D: Desk<OwnSession<PlainPart, B>>,
+    B: Board<Part> + Send,
+    D: Desk<OwnSession<Part, B>>,
     R: Abort + Threads + Wait + Sync,
 >(rt: &R, alloc: Global, desk: &mut D)
     requires seats { SeatsAre B.seat D.seat }
