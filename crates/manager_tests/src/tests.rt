@@ -57,11 +57,12 @@ enum Story<'a> {
 }
 
 /// Tells a story, with sessions from a desk.
-fn tell<
-    B: Board<Part> + Send,
-    D: Desk<OwnSession<Part, B>>,
-    R: Abort + Threads + Wait + Sync,
->(rt: &R, alloc: Global, desk: &mut D, story: Story<'_>)
+fn tell<B: Board<Part> + Send, D: Desk<OwnSession<Part, B>>, R: Abort + Threads + Wait + Sync>(
+    rt: &R,
+    alloc: Global,
+    desk: &mut D,
+    story: Story<'_>,
+)
     requires seats { SeatsAre B.seat D.seat }
     ensures manager { D.manager desk.new ≡ D.manager desk.old }
     ensures live { D.live desk.new ≡ D.live desk.old }

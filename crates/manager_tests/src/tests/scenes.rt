@@ -2,11 +2,11 @@
 
 ghost use Rattle.std.specs.Prelude.{◌≡◌};
 
-use lock_manager::Part;
 use super::pair::Pair;
 use super::races::Race;
 use super::turns::Turn;
 use super::{busy, conflicts, listings, memory, races, turns, waits};
+use lock_manager::Part;
 use shared_rule::board::Board;
 use std::process::Abort;
 use std::sync::Wait;

@@ -7,7 +7,10 @@ use super::answers::{
 };
 use super::deeds::{Deed, act_side_by_side};
 use super::pair::Pair;
-use lock_manager::{Acquired, Asked, Mode, OwnSession, OwnWaiting, Owner, Part, Polled, Refusal, SessionId, Started, TableRow, Tag};
+use lock_manager::{
+    Acquired, Asked, Mode, OwnSession, OwnWaiting, Owner, Part, Polled, Refusal, SessionId,
+    Started, TableRow, Tag,
+};
 use lock_table::PartTable;
 use shared_rule::board::Board;
 use std::process::Abort;
