@@ -3,9 +3,9 @@
 ghost use Rattle.std.specs.Prelude.{◌≡◌, ◌+◌, ◌-◌, IfOk, OnOk, OnErr};
 ghost use Rattle.lock_manager.specs.Managers.{IsOpenerOf};
 
+use crate::keeper::Part;
 use crate::manager::{Manager, Opener};
 use crate::sessions::Session;
-use crate::keeper::Part;
 use modes_core::Refusal;
 use shared_rule::board::Board;
 use shared_rule::seat_board::SeatBoard;

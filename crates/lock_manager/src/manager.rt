@@ -5,8 +5,8 @@ ghost use Rattle.shared_rule.specs.Seats.{MayCloseBy};
 ghost use Rattle.shared_rule.specs.Boards.{nothing_due};
 ghost use Rattle.lock_manager.specs.Managers.{IsNew, IsOpenerOf, IsOpened, TakesBack, is_in_range};
 
-use crate::keeper::Part;
 use crate::config::Config;
+use crate::keeper::Part;
 use crate::sessions::{Own, OwnSession, Session};
 use lock_table::empty_parts;
 use modes_core::Refusal;

@@ -40,7 +40,10 @@ fn look_at_all(rt: &impl Abort, part: &RecordPart) {
         let found = part.conflict_of(session(rt, 1), &tag, Exclusive);
         let is_first = found == Some((session(rt, 0), Exclusive));
         assert!(rt; is_first, "its holder");
-        assert!(rt; part.conflict_of(session(rt, 1), &tag, AccessShare).is_none());
+        assert!(rt;
+            part.conflict_of(session(rt, 1), &tag, AccessShare)
+                .is_none()
+        );
     }
 }
 

@@ -48,10 +48,12 @@ unshare_fast-requires-clause-lawful g c =
     let was = shared (g.B.Board.seat c.store_database.new.self).number own c.load_database-database.result c.load_slot-shown.result
     (view c.args.board.now) (view c.store_database.new.self) (view c.share_fast.new.self) (view c.load_database-database.new.self)
     (view c.load_slot-shown.new.self) c.requires.blank c.store_database.ensures.view c.share_fast.ensures.shared
-    c.load_database-database.ensures.view c.load_slot-shown.ensures.view in
-    (was.slots, record {
-      shared = ap (λ (k : Account). k.fast.shared_slots own) was.is ∙ set_at-here (λ _. None) own (Some was.slots) own refl;
-    })
+    c.load_database-database.ensures.view c.load_slot-shown.ensures.view in (
+      was.slots,
+      record {
+        shared = ap (λ (k : Account). k.fast.shared_slots own) was.is ∙ set_at-here (λ _. None) own (Some was.slots) own refl;
+      },
+    )
 
 pub returns-clause-none_shared : goal.returns-clause-none_shared
 returns-clause-none_shared g c =
