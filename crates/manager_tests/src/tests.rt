@@ -23,7 +23,6 @@ mod waits;
 mod wakes;
 mod watches;
 
-use counted::Steps;
 use desk::{Desk, ManagerDesk};
 use lock_manager::{Config, Final, Manager, Mode, Opener, OwnSession, Part, Refusal};
 use pair::Pair;
@@ -274,9 +273,5 @@ fn sessions_go_on_where_memory_was_wanting_once(rt: HostRuntime) -> Result<(), F
 
 #[test]
 fn what_makes_no_step_does_nothing_on_the_board(rt: HostRuntime) -> Result<(), Fail> {
-    let steps = Steps::none();
-    let mut session = counted::open(rt.alloc(), &steps)?;
-    counted::make_all(&rt, &mut session, &steps);
-    session.into_board(&rt);
-    Ok(())
+    counted::make_all_on_one_thread(&rt, rt.alloc())
 }

@@ -1,7 +1,7 @@
 //! What makes no step on shared state: a board that counts all that is done on it shows that no shared word is loaded or
 //! written.
 
-ghost use Rattle.std.specs.Prelude.{◌≡◌, ◌<◌, IfOk};
+ghost use Rattle.std.specs.Prelude.{◌≡◌, ◌<◌, ◌≤◌, IfOk};
 ghost use Rattle.shared_rule.specs.Boards.{nothing_due};
 ghost use Rattle.shared_rule.specs.History.{blank_account};
 ghost use Rattle.shared_rule.specs.Opening.{AreNew};
@@ -28,12 +28,12 @@ use std::test::Fail;
 
 /// How much was done on a board.
 #[derive(Drop)]
-pub struct Steps {
+struct Steps {
     made: AtomicU64,
 }
 
 impl Steps {
-    pub fn none() -> Self {
+    fn none() -> Self {
         Steps {
             made: AtomicU64::new(0),
         }
@@ -52,13 +52,13 @@ impl Steps {
 
 /// A board that counts all that is done on it, but for what it tells of itself.
 #[derive(Drop)]
-pub struct CountingBoard<'a, B> {
+struct CountingBoard<'a, B> {
     board: B,
     steps: &'a Steps,
 }
 
 impl<'a, B> CountingBoard<'a, B> {
-    pub fn over(board: B, steps: &'a Steps) -> Self
+    fn over(board: B, steps: &'a Steps) -> Self
         ensures { result.board ≡ board }
     {
         CountingBoard { board, steps }
@@ -335,7 +335,7 @@ fn make_counted<T: PartTable, B: Board<T>, R: Abort + Wait>(
 }
 
 /// Makes them all.
-pub fn make_all<T: PartTable, B: Board<T>, R: Abort + Wait>(
+fn make_all<T: PartTable, B: Board<T>, R: Abort + Wait>(
     rt: &R,
     session: &mut OwnSession<T, B>,
     steps: &Steps,
@@ -369,14 +369,30 @@ fn one_thread(alloc: Global) -> Result<OneThread<PlainPart>, Fail>
     }
 }
 
-/// A session over a board that counts.
-type CountedSession<'a> = OwnSession<PlainPart, CountingBoard<'a, OneThread<PlainPart>>>;
+/// Makes all of them in a session over this board, of which nothing was asked yet, and counts what is done on it.
+fn make_all_over<T: PartTable, B: Board<T> + Drop, R: Abort + Wait>(
+    rt: &R,
+    alloc: Global,
+    board: B,
+) -> Result<(), Fail>
+    requires limit { (B.seat board).limit ≤ 64 }
+    requires blank { B.view board ≡ blank_account }
+    requires stack { B.stack board ≡ nothing_due }
+{
+    let steps = Steps::none();
+    let board = CountingBoard::over(board, &steps);
+    let mut session: OwnSession<T, CountingBoard<'_, B>> = match OwnSession::over(
+        alloc, board, DATABASE, MAX_LOCAL,
+    ) {
+        Ok(session) => session,
+        Err(_) => return Err("out of memory".into()),
+    };
+    make_all(rt, &mut session, &steps);
+    session.into_board(rt);
+    Ok(())
+}
 
-/// One of which nothing was asked yet.
-pub fn open(alloc: Global, steps: &Steps) -> Result<CountedSession<'_>, Fail> {
-    let board = CountingBoard::over(one_thread(alloc)?, steps);
-    match OwnSession::over(alloc, board, DATABASE, MAX_LOCAL) {
-        Ok(session) => Ok(session),
-        Err(_) => Err("out of memory".into()),
-    }
+/// The same over a board for one thread.
+pub fn make_all_on_one_thread<R: Abort + Wait>(rt: &R, alloc: Global) -> Result<(), Fail> {
+    make_all_over::<PlainPart, OneThread<PlainPart>, R>(rt, alloc, one_thread(alloc)?)
 }
