@@ -1,5 +1,5 @@
 //! Functions that are not inlined, so that no call of them is specialised to what the benchmark passes.
-ghost use Rattle.std.specs.Prelude.{◌≡◌, false};
+ghost use Rattle.std.specs.Prelude.{◌≡◌, ◌≢◌, false};
 ghost use Rattle.local_locks.specs.Owned.{has_entry};
 
 use local_locks::{AtOnce, End, LocalTable};
@@ -86,7 +86,9 @@ fn release_looked_up(table: &mut LocalTable, tag: &Tag, mode: Mode, owner: Owner
 }
 
 #[inline(never)]
-pub fn end_next(table: &mut LocalTable, end: End) -> Option<(Tag, Mode)> {
+pub fn end_next(table: &mut LocalTable, end: End) -> Option<(Tag, Mode)>
+    requires { end ≢ End.Inner }
+{
     table.end_next(end)
 }
 

@@ -5,6 +5,7 @@
 pub mod doors;
 pub mod floors;
 pub mod keys;
+pub mod levels_page;
 pub mod local_bed;
 pub mod local_page;
 pub mod loops;

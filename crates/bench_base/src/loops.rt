@@ -1,5 +1,7 @@
 //! The loops that are timed: each goes through a list of keys so many times, and calls nothing but doors. None is inlined, so
 //! that its code does not depend on what calls it.
+ghost use Rattle.std.specs.Prelude.{◌≢◌};
+
 use crate::doors::{KeyMap, acquire, end_next, insert, look_up, pass, release, remove};
 use crate::keys::Key;
 use anyhow::Result;
@@ -100,7 +102,9 @@ pub fn refusals(table: &mut LocalTable, keys: &[Key], owner: Owner, laps: u32) -
 
 /// Goes through an end, and gives how many entries it took away.
 #[inline(never)]
-pub fn end_all(table: &mut LocalTable, end: End) -> u32 {
+pub fn end_all(table: &mut LocalTable, end: End) -> u32
+    requires { end ≢ End.Inner }
+{
     for taken in 0..u32::MAX {
         if end_next(table, end).is_none() {
             return taken;

@@ -7,7 +7,7 @@ use Rattle.modes_core.specs.declared.tags.Tag.{Tag}
 use Rattle.modes_core.specs.Mode.{mode_eq}
 use Rattle.modes_core.specs.Tag.{tag_eq}
 use Rattle.modes_core.proofs.Laws.{tag_eq-refl, mode_eq-refl}
-use Rattle.lock_world.specs.Counted.{Counted, is_of, is_counted, is_at, passing, uncounting}
+use Rattle.lock_world.specs.Counted.{Counted, is_of, is_counted, passing, uncounting}
 
 -- What counting a strong lock behind others makes of the list.
 
@@ -18,18 +18,7 @@ counted_at tag mode position = record { tag = tag; mode = mode; position = posit
 pub counted_at-is : (tag : Tag) (mode : Mode) (position : ℕ) → is_of tag mode (counted_at tag mode position) ≡ true
 counted_at-is tag mode position = and_from (tag_eq tag tag) (mode_eq mode mode) (tag_eq-refl tag) (mode_eq-refl mode)
 
--- The last one is at its position,
-pub is_at-last : (list : List Counted) (tag : Tag) (mode : Mode) (position : ℕ)
-    → is_at position (list ++ counted_at tag mode position ∷ []) tag mode ≡ true
-is_at-last [] tag mode position =
-    or_left (is_of tag mode (counted_at tag mode position) && (position == position)) false
-    (and_from (is_of tag mode (counted_at tag mode position)) (position == position) (counted_at-is tag mode position)
-    (eq-eqb position position refl))
-is_at-last (x ∷ list) tag mode position =
-    Rattle.std.proofs.lemmas.Bool.or_right (is_of tag mode x && (x.position == position))
-    (is_at position (list ++ counted_at tag mode position ∷ []) tag mode) (is_at-last list tag mode position)
-
--- it alone goes past the session that is next,
+-- The last one alone goes past the session that is next,
 pub passing-last :
     (list : List Counted) (tag : Tag) (mode : Mode) (position : ℕ) → is_counted list tag mode ≡ false
     → passing (list ++ counted_at tag mode position ∷ []) tag mode position

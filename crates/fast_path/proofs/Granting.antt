@@ -26,7 +26,7 @@ use Rattle.fast_path.specs.Grants.{GrantsInSlot, HasOwnSlots, without_slots}
 
 -- A grant by the fast path, through its steps.
 
--- Taking the lock of the own slots.
+-- Taking the lock of its own slots.
 
 -- Whoever has none in hand and takes it has it and no other one; its use count is still enough.
 pub has_own_slots :

@@ -4,10 +4,8 @@ use Rattle.std.specs.Prelude.{◌&&◌, if◌then◌else◌, IfSome, IfNone}
 use Rattle.std.proofs.lemmas.Bool.{cases_eq, and_from, eq-eqb, ne_eqb, cond-true, cond-false}
 use Rattle.lw_word.specs.SlotWord.{in_use, relation_in}
 use Rattle.lock_table.specs.Total.{total, how_many}
-use Rattle.lock_world.specs.SlotHolds.{slot_count, is_slot_of}
+use Rattle.lock_world.specs.SlotHolds.{is_slot_of}
 use Rattle.fast_path.specs.declared.slot_words.SeenSlot.{SeenSlot}
-use Rattle.fast_path.specs.declared.slot_words.Sighting.{Sighting}
-use Rattle.fast_path.specs.Slots.{IsSeenOf, IsSeenUnused, Sights}
 
 -- Looking through slots one after another.
 
@@ -42,34 +40,6 @@ sights-none word relation = record {
   full = λ k below. absurd (omega (arith, below));
   counted = refl;
 }
-
--- Among all is what a look through them finds.
-pub sights-all :
-    (word : ℕ → ℕ) (relation : ℕ) (seen : Sighting)
-    → SightsBelow word relation slot_count seen.of_relation seen.highest_unused seen.used_count
-    → Sights word relation seen
-sights-all word relation seen all = record {
-  found = found seen.of_relation all.found;
-  none = all.none;
-  unused = unused seen.highest_unused all.unused;
-  full = all.full;
-  counted = all.counted;
-} where
-  found : (its : Option SeenSlot) → IfSome its (IsOfRelation word relation slot_count)
-      → IfSome its (IsSeenOf word relation)
-  found (Some slot) is = record { within = is.within; shown = is.shown; its = is.its }
-  found None is = tt
-
-  unused : (last : Option SeenSlot) → IfSome last (IsLastUnused word slot_count) → IfSome last (IsSeenUnused word)
-  unused (Some slot) is = record {
-    shown = is.shown;
-    highest = record {
-      within = is.within;
-      unused = ap in_use (sym is.shown) ∙ is.unused;
-      higher = is.higher;
-    };
-  }
-  unused None is = tt
 
 -- What holds of each number below a limit, and of it, holds below the next.
 below-more :
@@ -112,7 +82,7 @@ sights-same word relation limit its its_now last last_now count count_now same_i
     (subst (λ (slot : Option SeenSlot). SightsBelow word relation limit its slot count_now) (sym same_last)
     (subst (λ (n : ℕ). SightsBelow word relation limit its last n) (sym same_count) sights))
 
--- One slot more.
+-- One more slot.
 module _ (word : ℕ → ℕ) (relation limit : ℕ) (its last : Option SeenSlot) (count shown : ℕ)
     (so_far : SightsBelow word relation limit its last count) (is : shown ≡ word limit) where
   -- What was found is still found,

@@ -28,7 +28,7 @@ use Rattle.fast_path.specs.Turns.{HasSlotsAndPart, MovesBelow, MovesSome, hand_m
 use Rattle.fast_path.proofs.Showing.{none_below_one, below-next, not_below, below-itself, held-shown, ShowsFrom}
 use Rattle.fast_path.proofs.Showing.{left-shows, left-was, left-not}
 
--- Moving the modes of a slot into the content in hand, one a step.
+-- Moving the modes of a slot into the content in hand, one per step.
 
 -- ---- the content
 
@@ -149,7 +149,7 @@ holds-clear holds tag mode its =
       at true = refl
       at false = refl
 
--- One mode more is gone, of those from a number on.
+-- One more mode is gone, of those from a number on.
 gone-next :
     (n m : Mode) (below : ℕ) (b : Bool) → number_of m ≡ below
     → (not (mode_eq n m) && (not (nat_lt (number_of n) below) && b)) ≡ (not (nat_lt (number_of n) (below + 1)) && b)
@@ -273,7 +273,7 @@ module _ (a : Account) (owner place word : ℕ) (tag : Tag) (taken : Content)
         (held-shown has.slots place word tag mode strong has.has strong_is (omega (arith, next, weak))
         ∙ left-was below word left (relation_of tag) mode has.has.its so_far.still shown)
 
-    -- stops there where memory is wanting,
+    -- stops there where memory runs out,
     pub moving-stops : has_mode left mode ≡ true → MovesSome a owner place word tag taken now b
     moving-stops shown = record {
       wanting = mode;

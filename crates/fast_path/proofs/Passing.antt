@@ -288,19 +288,7 @@ after-put number a b c owner slots remembered steps unlocked no_more is put =
       trace = a.trace ++ steps;
     }))
 
--- A turn that goes past a session of another database,
-pub passes-elsewhere :
-    (number : ℕ) (a b c : Account) (owner shown : ℕ) (tag : Tag) (mode : Mode) → IsUnlocked a → Looks a owner shown b
-    → shown ≢ database_of tag
-    → c ≡ account_passing number b owner tag mode → Passes a owner tag mode c
-passes-elsewhere number a b c owner shown tag mode unlocked looked other passed = record {
-  steps = Loaded (Database owner) shown ∷ [];
-  turn = inl (record { shown = shown; elsewhere = other; loads = refl });
-  after = after-pass number a b c owner looked.slots looked.remembered
-      (Loaded (Database owner) shown ∷ []) tag mode unlocked looked.no_more looked.account passed;
-}
-
--- past one with no slot of the relation,
+-- A turn that goes past a session with no slot of the relation,
 pub passes-nothing :
     (number : ℕ) (a b c : Account) (owner : ℕ) (tag : Tag) (mode : Mode) (seen : Sighting) → IsUnlocked a
     → Finds a owner tag seen b

@@ -96,9 +96,6 @@ rows-more limit database word shown its =
 
 -- ---- a list that begins with another
 
-pub behind-itself : (xs : List SlotRow) → BeginsWith xs xs
-behind-itself xs = ([], sym (append-nil xs))
-
 pub behind-more : (xs ys zs : List SlotRow) → BeginsWith xs ys → BeginsWith ys zs → BeginsWith xs zs
 behind-more xs ys zs first second =
     (first.0 ++ second.0, second.1 ∙ ap (λ its. its ++ second.0) first.1 ∙ append_assoc xs first.0 second.0)
@@ -176,7 +173,7 @@ has-before own a b session database word same_own same_database no_more has = re
   own_database = λ its. has.own_database its ∙ same_database;
 }
 
--- With one session more.
+-- With one more session.
 has-next :
     (own : ℕ) (a : Account) (limit : ℕ) (database : ℕ → ℕ) (word : ℕ → ℕ → ℕ) (shown : ℕ) (its : ℕ → ℕ)
     → ((session : ℕ) → session < limit → ReadsSlots own a session (database session) (word session))
@@ -233,7 +230,7 @@ module _ (own k : ℕ) (a b c : Account) (old mid new : List SlotRow) (so_far : 
         ∙ sym (set_at-else so_far.word k its own (λ same. other (sym same)))
   ]
 
-  -- the account with one session more
+  -- the account with one more session
   account-next :
       (shown : ℕ) (its : ℕ → ℕ)
       → c ≡ record b {
@@ -311,11 +308,3 @@ module _ (own k : ℕ) (a b c : Account) (old mid new : List SlotRow) (so_far : 
         so_far.no_more place relation mode within (session.no_more place relation mode within shown);
     account = account-next session.shown session.word session.account;
   }
-
-  pub listing-unlocked : IsUnlocked a → IsUnlocked b
-  listing-unlocked unlocked = subst (λ (x : Account). IsUnlocked x) (sym so_far.account) (record {
-    no_content = unlocked.no_content;
-    no_slots = unlocked.no_slots;
-    no_shared_slots = unlocked.no_shared_slots;
-    no_zero = unlocked.no_zero;
-  })

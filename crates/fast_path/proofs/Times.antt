@@ -1,7 +1,7 @@
 use Rattle.std.proofs.Common.{◌≡◌, ◌≢◌, ℕ, zero, suc, ◌+◌, ◌<◌, ◌≤◌, ◌^◌, ◌%◌, Bool, true, false, nat_le, List, [], ◌∷◌, ◌++◌}
 use Rattle.std.proofs.Common.{refl, sym, ap, ◌∙◌, inl, inr, arith}
 use Rattle.std.specs.Prelude.{◌==◌, ◌&&◌, ◌||◌, if◌then◌else◌}
-use Rattle.std.proofs.lemmas.Bool.{cases_Bool, cases_eq, cond-true, cond-false, eq-eqb, ne_eqb, both_ways, false_from_ne_true}
+use Rattle.std.proofs.lemmas.Bool.{cases_Bool, cases_eq, cond-true, cond-false, eq-eqb, ne_eqb, false_from_ne_true}
 use Rattle.std.proofs.lemmas.Bool.{and_parts, and_from, eqb-true, leb-true, le-leb}
 use Rattle.std.proofs.lemmas.List.Sums.{sum_by-append}
 use Rattle.modes_core.specs.declared.modes.Mode.{Mode}
@@ -18,7 +18,7 @@ use Rattle.lock_table.specs.declared.rows.SlotRow.{SlotRow}
 use Rattle.lock_table.specs.Put.{set_at}
 use Rattle.lock_table.proofs.PutLemmas.{set_at-here, set_at-else}
 use Rattle.lock_table.specs.Total.{total, how_many}
-use Rattle.lock_world.specs.SlotHolds.{slot_count, any_below, slot_holds, relation_of, is_slot_of}
+use Rattle.lock_world.specs.SlotHolds.{slot_count, any_below, slot_holds, relation_of}
 use Rattle.lock_world.specs.SlotHolds.{OneSlotEach, InUseHasDatabase}
 use Rattle.lock_table.proofs.Totals.{total-same, total-nothing, total-change, total-least}
 use Rattle.lock_world.proofs.Slots.Some.{any_below-at, any_below-found}

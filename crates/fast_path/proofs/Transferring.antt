@@ -1,37 +1,20 @@
-use Rattle.std.proofs.Common.{◌≡◌, ℕ, ◌+◌, ◌<◌, true, false, [], ◌∷◌, ◌++◌, None, refl, sym, ap, ◌∙◌}
-use Rattle.std.proofs.Common.{subst, arith, append_assoc, append-nil}
+use Rattle.std.proofs.Common.{◌≡◌, ℕ, ◌+◌, ◌<◌, false, [], ◌∷◌, ◌++◌, None, refl, sym, ap, ◌∙◌}
+use Rattle.std.proofs.Common.{subst, arith, append_assoc}
 use Rattle.std.specs.Prelude.{suc}
 use Rattle.modes_core.specs.declared.modes.Mode.{Mode}
 use Rattle.modes_core.specs.declared.tags.Tag.{Tag}
 use Rattle.lock_table.specs.OwnWait.{is_for}
-use Rattle.lock_world.specs.Counted.{is_at, is_counted, passing}
+use Rattle.lock_world.specs.Counted.{is_counted, passing}
 use Rattle.lock_world.specs.Account.{Account}
-use Rattle.lock_world.specs.AccountSteps.{account_counting, account_uncounting}
+use Rattle.lock_world.specs.AccountSteps.{account_uncounting}
 use Rattle.lock_world.specs.AccountLaw.{MayUncountBy}
 use Rattle.fast_path.specs.Transfers.{AreTurns, Transfers, IsCutShort, Passes, StopsAt}
-use Rattle.fast_path.specs.Turns.{IsUnlocked}
-use Rattle.fast_path.proofs.Counting.{counted_at, passing-last, is_at-last, is_counted-last, uncounting-last}
+use Rattle.fast_path.proofs.Counting.{counted_at, passing-last, is_counted-last, uncounting-last}
 use Rattle.fast_path.proofs.Passing.{after-from}
 
 -- One turn of a transfer after another.
 
--- It begins once the strong lock is counted,
-pub transfer-begun : (a b : Account) (tag : Tag) (mode : Mode) → b ≡ account_counting a tag mode
-    → Transfers 0 a tag mode b
-transfer-begun a b tag mode is = record {
-  steps = [];
-  turns = refl;
-  after = after-from a b a.fast.remembered (a.fast.counted ++ counted_at tag mode 0 ∷ []) []
-      (λ place relation its within shown. shown)
-      (is ∙ (λ i. record a {
-        fast =
-            record (a.fast) { counted = a.fast.counted ++ counted_at tag mode 0 ∷ [] };
-        trace =
-            sym (append-nil a.trace) i;
-      }));
-}
-
--- goes on past one session more,
+-- It goes on past one more session,
 pub transfer-next :
     (position : ℕ) (a b c : Account) (tag : Tag) (mode : Mode) → is_counted a.fast.counted tag mode ≡ false
     → Transfers position a tag mode b → Passes b position tag mode c → Transfers (position + 1) a tag mode c
@@ -59,24 +42,7 @@ transfer-next position a b c tag mode new so_far passes =
       };
     }
 
--- leaves the rest as it was,
-pub transferring-unlocked : (position : ℕ) (a b : Account) (tag : Tag) (mode : Mode) → Transfers position a tag mode b
-    → IsUnlocked a → IsUnlocked b
-transferring-unlocked position a b tag mode so_far unlocked =
-    subst (λ (x : Account). IsUnlocked x) (sym so_far.after.account) (record {
-      no_content = unlocked.no_content;
-      no_slots = unlocked.no_slots;
-      no_shared_slots = unlocked.no_shared_slots;
-      no_zero = unlocked.no_zero;
-    })
-
-pub transferring-at : (position : ℕ) (a b : Account) (tag : Tag) (mode : Mode) → Transfers position a tag mode b
-    → is_at position b.fast.counted tag mode ≡ true
-transferring-at position a b tag mode so_far =
-    ap (λ (x : Account). is_at position x.fast.counted tag mode) so_far.after.account
-    ∙ is_at-last a.fast.counted tag mode position
-
--- and where it stops the strong lock may be counted no more,
+-- Where it stops the strong lock may be counted no more,
 module _ (position : ℕ) (a b c : Account) (tag : Tag) (mode : Mode) (so_far : Transfers position a tag mode b)
     (stops : StopsAt b position tag c) where
   stopped : c ≡ record a {

@@ -18,7 +18,7 @@ use Rattle.fast_path.specs.Slots.{slot_loads, account_tried, IsHighestUnused}
 -- Grants by the fast path, as the session's account and its trace have them.
 
 -- The mode is set in the slot that the relation has, or in the highest-numbered one that is not in use, and the use count
--- is raised in the second case alone. With the lock of the own slots in hand, the one load of the object's counter shows 0,
+-- is raised in the second case alone. With the lock of its own slots in hand, the one load of the object's counter shows 0,
 -- and then all slots are loaded. No other step joins the trace; `before` is what it had until that lock was taken.
 pub record GrantsInSlot (number : ℕ) (a : Account) (before : List TraceEntry) (uses : ℕ) (tag : Tag) (mode : Mode)
     (b : Account) (left : ℕ) : Type 0 where
@@ -46,7 +46,7 @@ pub record FindsFull (a : Account) (uses : ℕ) (b : Account) (left : ℕ) : Typ
   pub account : b ≡ a
   pub same : left ≡ uses
 
--- The lock of the own slots is in hand, and no other one.
+-- The lock of its own slots is in hand, and no other one.
 pub record HasOwnSlots (number : ℕ) (a : Account) (uses : ℕ) : Type 0 where
   pub slots : SlotsInHand
   pub in_hand : a.fast.slots ≡ set_at (λ _. None) number (Some slots)
@@ -75,15 +75,15 @@ Grants number a uses tag mode (Err StrongCounted) b left =
     (uses ≢ slot_count) × FindsCounted a a.trace uses tag b left
 Grants number a uses tag mode (Err refusal) b left = ⊥
 
--- the trace with a load of the own lock's word
+-- the trace with a load of its own lock's word
 abbrev pub with_look : ℕ → List TraceEntry → ℕ → List TraceEntry
 with_look number before shown = before ++ Loaded (Fast number) shown ∷ []
 
--- The lock of the own slots is not taken: it is held, or changed between the load of its word and the exchange.
+-- The lock of its own slots is not taken: it is held, or changed between the load of its word and the exchange.
 abbrev pub IsBusy : ℕ → Account → Account → Type 0
 IsBusy number a b = FoundItHeld number a b ⊎ FoundItChanged number a b
 
--- What a grant does that waits for nobody: the lock of the own slots is tried once, after a load that shows it free.
+-- What a grant does that waits for nobody: the lock of its own slots is tried once, after a load that shows it free.
 abbrev pub TriesGrant : ℕ → Account → ℕ → Tag → Mode → Result (Unit {0}) Refusal → Account → ℕ → Type 0
 TriesGrant number a uses tag mode (Ok done) b left =
     (uses ≢ slot_count) × (shown : ℕ) × IsHeldByNobody shown

@@ -81,7 +81,7 @@ abbrev pub IsWithout : SlotsInHand → Tag → ℕ → SlotsInHand → Type 0
 IsWithout slots tag below rest =
     (mode : Mode) → rest.holds tag mode ≡ (not (nat_lt (number_of mode) below) && slots.holds tag mode)
 
--- The modes with numbers below this one are moved, one a step: the content has them, and the adopt stands recorded, if
+-- The modes with numbers below this one are moved, one per step: the content has them, and the adopt stands recorded, if
 -- there were any.
 pub record MovesBelow (a : Account) (owner place word : ℕ) (tag : Tag) (taken : Content) (below : ℕ) (now : Content)
     (b : Account) : Type 0 where

@@ -14,7 +14,7 @@ use std::sync::Wait;
 
 /// Grants a mode that the session hasn't, on a relation of its database, in one of its slots
 /// (`FastPathGrantRelationLock` in lock.c, and the look at `FastPathStrongRelationLocks` before it in
-/// `LockAcquireExtended`). It waits until the lock of the own slots is free. Refused with `SlotsFull` where the use count is
+/// `LockAcquireExtended`). It waits until the lock of its own slots is free. Refused with `SlotsFull` where the use count is
 /// sixteen, which costs no step, and with `StrongCounted` where a strong lock is counted at the object's counter.
 pub fn grant<T: PartTable, B: Board<T>, R: Wait>(
     rt: &R,
@@ -40,8 +40,8 @@ pub fn grant<T: PartTable, B: Board<T>, R: Wait>(
     grant_with_slots(board, uses, tag, mode)
 }
 
-/// The same without waiting: one attempt to take the lock of the own slots, and `Busy` where that fails
-/// (`LWLockConditionalAcquire` in the place of `LWLockAcquire`).
+/// The same without waiting: one attempt to take the lock of its own slots, and `Busy` where that fails
+/// (`LWLockConditionalAcquire` instead of `LWLockAcquire`).
 pub fn try_grant<T: PartTable, B: Board<T>>(
     board: &mut B,
     uses: &mut u8,
@@ -66,7 +66,7 @@ pub fn try_grant<T: PartTable, B: Board<T>>(
     }
 }
 
-/// Grants it with the lock of the own slots in hand, and puts that lock.
+/// Grants it with the lock of its own slots in hand, and puts that lock.
 fn grant_with_slots<T: PartTable, B: Board<T>>(
     board: &mut B,
     uses: &mut u8,

@@ -16,9 +16,9 @@ use modes_core::{Mode, SessionId, Tag};
 use shared_rule::board::Board;
 use std::sync::Wait;
 
-/// Counts a strong lock, and goes past every session there can be, issued or not and the own one too, once its locks on
+/// Counts a strong lock, and goes past every session there can be, issued or not and its own too, once its locks on
 /// the object are out of its slots and in the lock table (`BeginStrongLockAcquire` and `FastPathTransferRelationLocks` in
-/// lock.c). Where memory for the lock table is wanting it is counted no more; what was moved until then stays moved. Its
+/// lock.c). Where memory for the lock table is missing it is counted no more; what was moved until then stays moved. Its
 /// cost is two atomic steps and a load for each session, and sixteen loads more for each of the object's database.
 pub fn transfer<T: PartTable, B: Board<T>, R: Wait>(
     rt: &R,
@@ -143,7 +143,7 @@ fn adopt<T: PartTable, B: Board<T>, R: Wait>(
     moved
 }
 
-/// Moves them with the partition in hand, one a step.
+/// Moves them with the partition in hand, one per step.
 fn move_modes<T: PartTable, B: Board<T>>(
     board: &mut B,
     content: &mut T,

@@ -2,6 +2,7 @@
 
 mod acquires;
 mod growth;
+mod levels;
 mod long_table;
 mod places;
 mod random_calls;

@@ -8,9 +8,10 @@ ghost use Rattle.shared_rule.specs.Opening.{AreNew};
 use lock_table::{PartTable, PlainPart, empty_parts};
 use modes_core::SessionId;
 use shared_rule::board::Board;
+use shared_rule::kept::Kept;
 use shared_rule::layout::{
-    CONTENT_SLOTS, TABLE_WORDS, content_slot, database_word, fast_word, partition_word, sleep_word,
-    slot_word, strong_word, wait_word,
+    CONTENT_SLOTS, TABLE_SLOTS, TABLE_WORDS, content_slot, database_word, fast_word,
+    partition_word, sleep_word, slot_word, strong_word, wait_word,
 };
 use shared_rule::one_thread::OneThread;
 use shared_rule::table::in_slots;
@@ -74,11 +75,12 @@ fn each_content_has_eight_slots_to_itself(rt: HostRuntime) -> Result<(), Fail> {
     assert_eq!(rt; content_slot(1), 8);
     assert_eq!(rt; content_slot(15), 120);
     assert_eq!(rt; CONTENT_SLOTS, 128);
+    assert_eq!(rt; TABLE_SLOTS, 1152);
     Ok(())
 }
 
 /// Sixteen empty partitions, each in its slot.
-fn empty_slots(alloc: Global) -> Result<Vec<Option<PlainPart>>, Fail>
+fn empty_slots(alloc: Global) -> Result<Vec<Kept<PlainPart>>, Fail>
     ensures new { let T = ⟦<PlainPart as PartTable>⟧ in IfOk result (λ slots. AreNew T.content T.begun slots.items) }
 {
     Ok(in_slots(alloc, empty_parts(alloc, PlainPart::new)?)?)

@@ -5,14 +5,17 @@ use Rattle.std.specs.List.{cons_option}
 use Rattle.std.proofs.lemmas.Bool.{false≢true, cases_Bool, ne_eqb}
 use Rattle.modes_core.specs.declared.sessions.Owner.{Owner}
 use Rattle.modes_core.specs.declared.sessions.Owner.TheVariants.{Session, Transaction}
+use Rattle.modes_core.specs.declared.modes.Mode.{Mode}
+use Rattle.modes_core.specs.declared.tags.Tag.{Tag}
 use Rattle.modes_core.specs.declared.tags.LockMethod.{LockMethod}
 use Rattle.modes_core.specs.declared.tags.LockMethod.TheVariants.{Default, User}
 use Rattle.modes_core.specs.Tag.{method_of}
 use Rattle.local_locks.specs.declared.records.Entry.{Entry}
 use Rattle.local_locks.specs.declared.ends.End.{End}
-use Rattle.local_locks.specs.declared.ends.End.TheVariants.{Commit, Abort, Close}
+use Rattle.local_locks.specs.declared.ends.End.TheVariants.{Commit, Abort, Close, Inner}
 use Rattle.local_locks.specs.Owned.{count_for, count_in_all, lowered, raised, kept_by_abort, is_ended, after_end, ended_by, left_by, with_next_ended}
 use Rattle.local_locks.specs.Slots.{Slots, slot_at, present}
+use Rattle.local_locks.proofs.OpenLaws.{raised-held, lowered-held}
 
 -- ---- what an end does to one entry
 
@@ -35,11 +38,13 @@ pub after_end-after_end : (end : End) (e : Entry) → after_end end (after_end e
 after_end-after_end Commit e = refl
 after_end-after_end Abort e = ap (λ n. record e { transaction = 0; session = n }) (kept_by_abort-twice (method_of e.tag) e.session)
 after_end-after_end Close e = refl
+after_end-after_end Inner e = refl
 
 pub is_ended-after_end : (end : End) (e : Entry) → is_ended end (after_end end e) ≡ is_ended end e
 is_ended-after_end Commit e = refl
 is_ended-after_end Abort e = ap (λ n. 0 + n == 0) (kept_by_abort-twice (method_of e.tag) e.session)
 is_ended-after_end Close e = refl
+is_ended-after_end Inner e = refl
 
 -- The end keeps the entry with its counts.
 abbrev pub Keeps : End → Entry → Type 0
@@ -62,6 +67,7 @@ Keeps-lowered Abort Transaction e keeps some more =
     let none : 0 ≡ e.transaction = ap (λ x. x.transaction) keeps.1 in
     absurd (omega arith)
 Keeps-lowered Close owner e keeps some more = absurd (false≢true (sym keeps.0))
+Keeps-lowered Inner owner e keeps some more = (ne_eqb _ 0 (lowered-held owner e some more), refl)
 
 -- and after one more acquire by an owner that has it
 pub Keeps-raised : (end : End) (owner : Owner) (e : Entry) → Keeps end e → 0 < count_for owner e → Keeps end (raised owner e)
@@ -78,6 +84,7 @@ Keeps-raised Abort Transaction e keeps some =
     let none : 0 ≡ e.transaction = ap (λ x. x.transaction) keeps.1 in
     absurd (omega arith)
 Keeps-raised Close owner e keeps some = absurd (false≢true (sym keeps.0))
+Keeps-raised Inner owner e keeps some = (ne_eqb _ 0 (raised-held owner e), refl)
 
 -- ---- what one step of an end does to a list of entries
 
@@ -138,6 +145,22 @@ with_next_ended-none end (x ∷ es) none =
           ap (λ b. cond b es (after_end end x ∷ with_next_ended end es)) no_end
           ∙ (ap (λ l. after_end end x ∷ l) (with_next_ended-none end es (sym (ap (λ b. cond b (Some x) (find (is_ended end) es)) no_end) ∙ none))
           ∙ sym (left_by-cons end x es no_end))
+    ]
+
+-- where nothing is taken away, what is left is as after a step
+pub with_next_ended-left : (end : End) (es : List Entry) → ended_by end es ≡ [] → with_next_ended end es ≡ left_by end es
+with_next_ended-left end [] none = refl
+with_next_ended-left end (x ∷ es) none =
+    elim (cases_Bool (is_ended end x)) [
+      | inl ends ↦
+          let bad : (x.tag, x.mode) ∷ ended_by end es ≡ [] =
+          sym (ap (λ b. map {B = Tag × Mode} (λ entry. (entry.tag, entry.mode)) (cond b (x ∷ filter (is_ended end) es) (filter (is_ended end) es))) ends) ∙ none in
+          absurd (let no : (x.tag, x.mode) ∷ ended_by end es ≡ [] = bad in cc)
+      | inr no_end ↦
+          let later : ended_by end es ≡ [] =
+          sym (ap (λ b. map {B = Tag × Mode} (λ entry. (entry.tag, entry.mode)) (cond b (x ∷ filter (is_ended end) es) (filter (is_ended end) es))) no_end) ∙ none in
+          ap (λ b. cond b es (after_end end x ∷ with_next_ended end es)) no_end
+          ∙ (ap (λ l. after_end end x ∷ l) (with_next_ended-left end es later) ∙ sym (left_by-cons end x es no_end))
     ]
 
 -- ---- the same on slots

@@ -10,7 +10,7 @@ use Rattle.modes_core.specs.Tag.{method_of}
 use Rattle.place_index.specs.Notes.{Notes, HasSameNotes, times}
 use Rattle.local_locks.specs.declared.records.Entry.{Entry}
 use Rattle.local_locks.specs.declared.ends.End.{End}
-use Rattle.local_locks.specs.declared.ends.End.TheVariants.{Commit, Abort, Close}
+use Rattle.local_locks.specs.declared.ends.End.TheVariants.{Commit, Abort, Close, Inner}
 use Rattle.local_locks.specs.declared.ends.Progress.{Progress}
 use Rattle.local_locks.specs.Owned.{IsCounted, kept_by_abort, is_ended, after_end, with_next_ended}
 use Rattle.local_locks.specs.Slots.{Slots, opened, entry_at, slot_at, present, key_at, IsIndexed, IsPast, IsKept, IsTable, reached, came_to, at_start}
@@ -76,6 +76,7 @@ after_end-key : (end : End) (x : Entry) → ((after_end end x).tag ≡ x.tag) ×
 after_end-key Commit x = (refl, refl)
 after_end-key Abort x = (refl, refl)
 after_end-key Close x = (refl, refl)
+after_end-key Inner x = (refl, refl)
 
 IsCounted-after_end : (end : End) (x : Entry) → is_ended end x ≡ false → IsCounted x → IsCounted (after_end end x)
 IsCounted-after_end Commit x stays counted =
@@ -87,6 +88,7 @@ IsCounted-after_end Abort x stays counted =
     let fewer = kept_by_abort-fewer (method_of x.tag) x.session in
     record { some = omega arith; transaction = omega arith; session = omega (arith, fewer, counted.session) }
 IsCounted-after_end Close x stays counted = absurd (false≢true (sym stays))
+IsCounted-after_end Inner x stays counted = counted
 
 module _ (end : End) (old new : Slots) (place : ℕ) (walked : Walked end old new place) where
   -- an entry stays as it was, or has the counts that the end leaves
@@ -145,7 +147,7 @@ module _ (end : End) (old new : Slots) (place : ℕ) (walked : Walked end old ne
       | inr left ↦ ap (λ o. is_some o) left.0 ∙ sym (ap (λ o. is_some o) was)
     ]
 
-length-present_alike : (a b : Slots) → length b ≡ length a → ((k : ℕ) → is_some (slot_at b k) ≡ is_some (slot_at a k)) → length (present b) ≡ length (present a)
+pub length-present_alike : (a b : Slots) → length b ≡ length a → ((k : ℕ) → is_some (slot_at b k) ≡ is_some (slot_at a k)) → length (present b) ≡ length (present a)
 length-present_alike [] [] number alike = refl
 length-present_alike [] (y ∷ b) number alike = absurd (omega arith)
 length-present_alike (x ∷ a) [] number alike = absurd (omega arith)
@@ -228,10 +230,11 @@ kept-gathered old new index index' len max_local progress progress' kept indexed
       past = past;
     }
 
-past-start : (slots : Slots) (end : End) → IsPast end slots (reached end at_start)
+pub past-start : (slots : Slots) (end : End) → IsPast end slots (reached end at_start)
 past-start slots Commit = past-none Commit slots
 past-start slots Abort = past-none Abort slots
 past-start slots Close = past-none Close slots
+past-start slots Inner = past-none Inner slots
 
 pub kept-compact :
     (old new : Slots) (index index' : Notes) (len max_local : ℕ) (progress : Progress) →

@@ -1,13 +1,15 @@
 -- What the session has an entry for after each change: for callers that keep a shared hold for each entry.
-use Rattle.std.proofs.Common.{◌≡◌, ◌≢◌, ◌<◌, Bool, true, false, not, ◌&&◌, ◌||◌, ◌==◌, List, [], ◌∷◌, arith, refl, sym, ap, ◌∙◌, inl, inr}
-use Rattle.std.specs.Prelude.{All, ◌↔◌, if◌then◌else◌, Option, Some, None, is_some}
+use Rattle.std.proofs.Common.{ℕ, ◌≡◌, ◌≢◌, ◌<◌, Bool, true, false, not, ◌&&◌, ◌||◌, ◌==◌, List, [], ◌∷◌, arith, refl, sym, ap, ◌∙◌, inl, inr}
+use Rattle.std.specs.Prelude.{All, ◌↔◌, if◌then◌else◌, Option, Some, None, is_some, map, length}
 use Rattle.std.specs.Option.{option_map_or}
 use Rattle.std.specs.List.{AllByRecursion, IsDistinct}
 use Rattle.std.proofs.lemmas.Bool.{cases_Bool, cases_lt, false≢true}
+use Rattle.std.proofs.lemmas.List.{get_or_past}
 use Rattle.std.proofs.lemmas.List.Elements.{All-tail}
 use Rattle.modes_core.specs.declared.modes.Mode.{Mode}
 use Rattle.modes_core.specs.declared.tags.Tag.{Tag}
 use Rattle.modes_core.specs.declared.sessions.Owner.{Owner}
+use Rattle.modes_core.specs.declared.sessions.Owner.TheVariants.{Session, Transaction}
 use Rattle.modes_core.specs.Mode.{mode_eq}
 use Rattle.modes_core.specs.Tag.{tag_eq}
 use Rattle.modes_core.proofs.Laws.{both_true, tag_eq-same, tag_eq-refl, mode_eq-same, mode_eq-refl}
@@ -15,8 +17,8 @@ use Rattle.local_locks.specs.declared.records.Entry.{Entry}
 use Rattle.local_locks.specs.declared.answers.Unlocked.{Unlocked}
 use Rattle.local_locks.specs.declared.answers.Unlocked.TheVariants.{Released, StillHeld}
 use Rattle.local_locks.specs.declared.ends.End.{End}
-use Rattle.local_locks.specs.declared.ends.End.TheVariants.{Commit, Abort, Close}
-use Rattle.local_locks.specs.Owned.{is_of, count_for, count_in_all, entry_for, total_of, owner_count_of, has_entry, are_of_same, is_ended, after_end, ended_by, with_next_ended, with_one_more, with_one_less, IsCounted}
+use Rattle.local_locks.specs.declared.ends.End.TheVariants.{Commit, Abort, Close, Inner}
+use Rattle.local_locks.specs.Owned.{Owned, is_of, count_for, count_in_all, entry_for, total_of, owner_count_of, has_entry, are_of_same, is_ended, after_end, ended_by, found_by, count_up_to, own_count_of, with_next_ended, with_one_more, with_one_less, IsCounted}
 use Rattle.local_locks.proofs.OwnedLaws.{has_entry-with_one_more as one_more, has_entry-with_one_less as one_less}
 
 -- An object and mode with no count has no entry.
@@ -126,6 +128,16 @@ owned-entry entries tag mode owner some = at (entry_for entries tag mode) some w
   at None none = absurd (none refl)
   at (Some entry) some = refl
 
+-- So has what an owner can give back.
+pub own-entry : (owned : Owned) (tag : Tag) (mode : Mode) (owner : Owner) → own_count_of owned tag mode owner ≢ 0 → has_entry owned.entries tag mode ≡ true
+own-entry owned tag mode Session some = owned-entry owned.entries tag mode Session some
+own-entry owned tag mode Transaction some =
+    owned-entry owned.entries tag mode Transaction (λ none. some (omega (
+      arith,
+      none,
+      ap (λ (entries : List Entry). owner_count_of entries tag mode Transaction) (get_or_past owned.outer (length owned.outer) owned.entries (omega arith)),
+    )))
+
 -- A release that was not the last left no count of it; which it was, its answer says.
 pub gone-released : (entries : List Entry) (tag : Tag) (mode : Mode) (result : Unlocked) → ((result ≡ StillHeld) ↔ (0 < total_of entries tag mode)) → All IsCounted entries →
     result ≡ Released → has_entry entries tag mode ≡ false
@@ -137,18 +149,13 @@ gone-released entries tag mode result answer counted released =
       other : (let it : Unlocked = Released in it) ≢ StillHeld
       other e = cc
 
-pub none-released : (entries : List Entry) (tag : Tag) (mode : Mode) (result : Unlocked) → ((result ≡ StillHeld) ↔ (0 < total_of entries tag mode)) →
-    result ≡ Released → 0 < total_of entries tag mode → ⊥
-none-released entries tag mode result answer released some = other (sym released ∙ answer.1 some) where
-  other : (let it : Unlocked = Released in it) ≢ StillHeld
-  other e = cc
-
 -- ---- which objects and modes have an entry, after a step of an end
 
 is_of-after_end : (end : End) (entry : Entry) (t : Tag) (m : Mode) → is_of t m (after_end end entry) ≡ is_of t m entry
 is_of-after_end Commit entry t m = refl
 is_of-after_end Abort entry t m = refl
 is_of-after_end Close entry t m = refl
+is_of-after_end Inner entry t m = refl
 
 -- What an end takes away next has an entry.
 pub has_entry-ended :
@@ -209,19 +216,6 @@ has_entry-next end (entry ∷ entries) key rest once is t m =
             | inr apart ↦ apart
           ]
 
--- so the same of a list that is the entries after the step
-pub has_entry-after :
-    (end : End) (old new : List Entry) (tag : Tag) (mode : Mode) → IsDistinct are_of_same old → ended_by end old ≡ (tag, mode) ∷ ended_by end new → new ≡ with_next_ended end old →
-    has_entry new tag mode ≡ false
-has_entry-after end old new tag mode once next is =
-    ap (λ (entries : List Entry). has_entry entries tag mode) is ∙ has_entry-next end old (tag, mode) (ended_by end new) once next tag mode ∙ rw (same_key-refl tag mode) refl
-
-pub others-after :
-    (end : End) (old new : List Entry) (tag : Tag) (mode : Mode) → IsDistinct are_of_same old → ended_by end old ≡ (tag, mode) ∷ ended_by end new → new ≡ with_next_ended end old →
-    (t : Tag) (m : Mode) → same_key t m tag mode ≡ false → has_entry new t m ≡ has_entry old t m
-others-after end old new tag mode once next is t m apart =
-    ap (λ (entries : List Entry). has_entry entries t m) is ∙ has_entry-next end old (tag, mode) (ended_by end new) once next t m ∙ rw apart refl
-
 -- A step that took nothing away leaves the same objects and modes.
 pub has_entry-last :
     (end : End) (entries : List Entry) → ended_by end entries ≡ [] → (t : Tag) (m : Mode) → has_entry (with_next_ended end entries) t m ≡ has_entry entries t m
@@ -235,3 +229,43 @@ has_entry-last end (entry ∷ entries) none t m =
             | inr other ↦ rw (is_of-after_end end entry t m, other) (has_entry-last end entries (rw stays at none) t m)
           ])
     ]
+
+-- ---- the entries as an end finds them
+
+has_entry-recounted :
+    (count : Tag → Mode → ℕ) (entries : List Entry) (t : Tag) (m : Mode)
+    → has_entry (map {A = Entry} {B = Entry} (λ entry. record entry { transaction = count entry.tag entry.mode }) entries) t m ≡ has_entry entries t m
+has_entry-recounted count [] t m = refl
+has_entry-recounted count (entry ∷ entries) t m =
+    elim (cases_Bool (is_of t m entry)) [
+      | inl it ↦ rw it refl
+      | inr other ↦ rw other (has_entry-recounted count entries t m)
+    ]
+
+-- They are of the same objects and modes,
+pub has_entry-found : (end : End) (owned : Owned) (t : Tag) (m : Mode) → has_entry (found_by end owned) t m ≡ has_entry owned.entries t m
+has_entry-found Commit owned t m = refl
+has_entry-found Abort owned t m = refl
+has_entry-found Close owned t m = refl
+has_entry-found Inner owned t m = has_entry-recounted (count_up_to owned (length owned.outer)) owned.entries t m
+
+apart-recounted :
+    (count : Tag → Mode → ℕ) (entry : Entry) (entries : List Entry) → AllByRecursion (λ y. are_of_same entry y ≡ false) entries
+    → AllByRecursion (λ y. are_of_same (record entry { transaction = count entry.tag entry.mode }) y ≡ false)
+    (map {A = Entry} {B = Entry} (λ e. record e { transaction = count e.tag e.mode }) entries)
+apart-recounted count entry [] apart = tt
+apart-recounted count entry (y ∷ entries) apart = (apart.0, apart-recounted count entry entries apart.1)
+
+distinct-recounted :
+    (count : Tag → Mode → ℕ) (entries : List Entry) → IsDistinct are_of_same entries
+    → IsDistinct are_of_same (map {A = Entry} {B = Entry} (λ entry. record entry { transaction = count entry.tag entry.mode }) entries)
+unfolding IsDistinct
+distinct-recounted count [] once = tt
+distinct-recounted count (entry ∷ entries) once = (apart-recounted count entry entries once.0, distinct-recounted count entries once.1)
+
+-- each once.
+pub distinct-found : (end : End) (owned : Owned) → IsDistinct are_of_same owned.entries → IsDistinct are_of_same (found_by end owned)
+distinct-found Commit owned once = once
+distinct-found Abort owned once = once
+distinct-found Close owned once = once
+distinct-found Inner owned once = distinct-recounted (count_up_to owned (length owned.outer)) owned.entries once

@@ -10,15 +10,15 @@ use Rattle.modes_core.specs.declared.tags.Tag.{Tag}
 use Rattle.place_index.specs.Notes.{Notes}
 use Rattle.local_locks.specs.declared.records.Entry.{Entry}
 use Rattle.local_locks.specs.declared.ends.End.{End}
-use Rattle.local_locks.specs.declared.ends.End.TheVariants.{Commit, Abort, Close}
+use Rattle.local_locks.specs.declared.ends.End.TheVariants.{Commit, Abort, Close, Inner}
 use Rattle.local_locks.specs.declared.ends.Progress.{Progress}
-use Rattle.local_locks.specs.Owned.{IsWellOwned, IsCounted, is_of, are_of_same, is_ended, after_end}
+use Rattle.local_locks.specs.Owned.{IsCounted, is_of, are_of_same, is_ended, after_end}
 use Rattle.local_locks.specs.Slots.{Slots, slot_at, present, key_at, IsOnce, IsPast, IsKept, number_of_end, reached, came_to, back_to}
 use Rattle.local_locks.proofs.SlotLaws.{if_some, at_some, is_of-own}
 use Rattle.local_locks.proofs.IndexLaws.{own_key, some_key, none_some}
 use Rattle.local_locks.proofs.EndLaws.{Keeps, after_end-after_end, is_ended-after_end}
 
--- ---- a table is well owned
+-- ---- the entries are distinct
 
 pub all_present : (P : Entry → Type 0) (slots : Slots) → ((k : ℕ) (e : Entry) → slot_at slots k ≡ Some e → P e) → AllByRecursion P (present slots)
 all_present P [] at = tt
@@ -44,14 +44,6 @@ distinct_of slots once = distinct_present slots apart where
             absurd (omega (arith, equal))
         | inr other ↦ other
       ]
-
-pub well_owned : (slots : Slots) (index : Notes) (len max_local : ℕ) (progress : Progress) (room places : ℕ) → IsKept slots index len max_local progress → IsWellOwned (record { entries = present slots; room = room; slots = places; max_local = max_local })
-well_owned slots index len max_local progress room places kept =
-    record {
-      once = distinct_of slots kept.indexed.once;
-      counted = All-from_recursion IsCounted (present slots) (all_present IsCounted slots kept.counted);
-      within = omega (arith, kept.number, kept.within);
-    }
 
 -- and where entries are distinct, each object and mode is in one slot
 pub from_present : (P : Entry → Type 0) (slots : Slots) → AllByRecursion P (present slots) → (k : ℕ) (e : Entry) → slot_at slots k ≡ Some e → P e
@@ -112,12 +104,19 @@ number_of_end-same : (a b : End) → number_of_end a ≡ number_of_end b → a �
 number_of_end-same Commit Commit same = refl
 number_of_end-same Commit Abort same = absurd (omega arith)
 number_of_end-same Commit Close same = absurd (omega arith)
+number_of_end-same Commit Inner same = absurd (omega arith)
 number_of_end-same Abort Commit same = absurd (omega arith)
 number_of_end-same Abort Abort same = refl
 number_of_end-same Abort Close same = absurd (omega arith)
+number_of_end-same Abort Inner same = absurd (omega arith)
 number_of_end-same Close Commit same = absurd (omega arith)
 number_of_end-same Close Abort same = absurd (omega arith)
 number_of_end-same Close Close same = refl
+number_of_end-same Close Inner same = absurd (omega arith)
+number_of_end-same Inner Commit same = absurd (omega arith)
+number_of_end-same Inner Abort same = absurd (omega arith)
+number_of_end-same Inner Close same = absurd (omega arith)
+number_of_end-same Inner Inner same = refl
 
 -- an end has come to a place: before it each entry is kept, with the counts that it leaves
 pub past-settled : (end other : End) (old new : Slots) (place : ℕ) →
@@ -166,12 +165,3 @@ past-all end old new place used past same within other =
           subst (λ b. IsPast other new (cond b used 0)) (sym its) (λ k before. if_some (Keeps other) (slot_at new k) (from_present (Keeps other) new kept k))
       | inr apart ↦ subst (λ b. IsPast other new (cond b used 0)) (sym apart) (past-none other new)
     ]
-
--- nothing at all is well owned
-well_owned-nil : (room places max_local : ℕ) → IsWellOwned (record { entries = []; room = room; slots = places; max_local = max_local })
-unfolding IsDistinct
-well_owned-nil room places max_local = record { once = tt; counted = All-from_recursion IsCounted [] tt; within = omega arith }
-
-pub well_owned-empty : (es : List Entry) (room places max_local : ℕ) → es ≡ [] → IsWellOwned (record { entries = es; room = room; slots = places; max_local = max_local })
-well_owned-empty es room places max_local empty =
-    subst (λ (l : List Entry). IsWellOwned (record { entries = l; room = room; slots = places; max_local = max_local })) (sym empty) (well_owned-nil room places max_local)

@@ -10,3 +10,7 @@ pub mod EndSteps
 pub mod OwnedLaws
 pub mod NewLaws
 pub mod EntryLaws
+pub mod LevelLaws
+pub mod LevelSteps
+pub mod InnerSteps
+pub mod RowLaws

@@ -68,10 +68,10 @@ NoneOf tag mode slots = (k : ℕ) → IfSome (slot_at slots k) (λ entry. is_of 
 abbrev pub NoneElse : Tag → Mode → Slots → ℕ → Type 0
 NoneElse tag mode slots place = (k : ℕ) → k ≢ place → IfSome (slot_at slots k) (λ entry. is_of tag mode entry ≡ false)
 
-rest_none : (tag : Tag) (mode : Mode) (x : Option Entry) (slots : Slots) → NoneElse tag mode (x ∷ slots) zero → NoneOf tag mode slots
+pub rest_none : (tag : Tag) (mode : Mode) (x : Option Entry) (slots : Slots) → NoneElse tag mode (x ∷ slots) zero → NoneOf tag mode slots
 rest_none tag mode x slots none = λ k. none (suc k) (λ e. omega arith)
 
-rest_else : (tag : Tag) (mode : Mode) (x : Option Entry) (slots : Slots) (place : ℕ) → NoneElse tag mode (x ∷ slots) (suc place) → NoneElse tag mode slots place
+pub rest_else : (tag : Tag) (mode : Mode) (x : Option Entry) (slots : Slots) (place : ℕ) → NoneElse tag mode (x ∷ slots) (suc place) → NoneElse tag mode slots place
 rest_else tag mode x slots place none = λ k apart. none (suc k) (λ e. apart (omega arith))
 
 -- then the entry is not found, and changing or removing it changes nothing

@@ -1,4 +1,4 @@
-use Rattle.std.specs.Prelude.{◌≡◌, ◌⊎◌, ℕ, ◌+◌, ◌-◌, ◌*◌, ◌<◌, ◌≤◌, Bool, false, not, ◌&&◌, ◌==◌, List, [], ◌∷◌, ◌++◌, map, filter, find, length, All, Option, is_some, if◌then◌else◌}
+use Rattle.std.specs.Prelude.{◌≡◌, ◌⊎◌, ℕ, zero, suc, ◌+◌, ◌-◌, ◌*◌, ◌<◌, ◌≤◌, Bool, false, not, ◌&&◌, ◌==◌, List, [], ◌∷◌, ◌++◌, map, filter, find, length, take, All, Option, is_some, slice_index_or, if◌then◌else◌}
 use Rattle.std.specs.Option.{option_map_or}
 use Rattle.std.specs.List.{IsDistinct}
 use Rattle.modes_core.specs.declared.modes.Mode.{Mode}
@@ -12,13 +12,16 @@ use Rattle.modes_core.specs.Tag.{tag_eq, method_of}
 use Rattle.local_locks.specs.declared.answers.Acquired.{Acquired}
 use Rattle.local_locks.specs.declared.answers.Acquired.TheVariants.{Granted, AlreadyHeld}
 use Rattle.local_locks.specs.declared.ends.End.{End}
-use Rattle.local_locks.specs.declared.ends.End.TheVariants.{Commit, Abort, Close}
+use Rattle.local_locks.specs.declared.ends.End.TheVariants.{Commit, Abort, Close, Inner}
 use Rattle.local_locks.specs.declared.records.Entry.{Entry}
 
 -- What a session owns: its entries in the order of making, how many more entries can be made with no growth, for how
--- many there are slots, used up or not, and how many it may have.
+-- many there are slots, used up or not, and how many it may have. A transaction has levels, each begun within the one
+-- before it. An entry's count for the transaction is the sum over all of them; `outer` tells them apart: for each level
+-- but the innermost, the first one first, what it and those before it have together, as entries with no session's count.
 pub record Owned : Type 0 where
   pub entries : List Entry
+  pub outer : List (List Entry)
   pub room : ℕ
   pub slots : ℕ
   pub max_local : ℕ
@@ -66,13 +69,49 @@ entry_for entries tag mode = find (is_of tag mode) entries
 abbrev pub has_entry : List Entry → Tag → Mode → Bool
 has_entry entries tag mode = is_some (entry_for entries tag mode)
 
--- how often an owner has the object in the mode
+-- how often an owner has the object in the mode, the transaction in all of its levels
 abbrev pub owner_count_of : List Entry → Tag → Mode → Owner → ℕ
 owner_count_of entries tag mode owner = option_map_or (count_for owner) (entry_for entries tag mode) 0
 
--- how often both owners together have it
+-- how often both owners together have it, in all levels
 abbrev pub total_of : List Entry → Tag → Mode → ℕ
 total_of entries tag mode = option_map_or count_in_all (entry_for entries tag mode) 0
+
+-- ---- levels
+
+-- how many levels a transaction can have
+abbrev pub max_level : ℕ
+max_level = 16
+
+-- the level of the transaction: 1, and one more for each that was begun within it and has not ended
+abbrev pub level_of : Owned → ℕ
+level_of owned = suc (length owned.outer)
+
+-- what the transaction has, in all levels together
+abbrev pub of_transaction : List Entry → List Entry
+of_transaction entries =
+    filter (λ entry. not (entry.transaction == 0)) (map {A = Entry} {B = Entry} (λ entry. record entry { session = 0 }) entries)
+
+-- how often the levels up to this one have an object and mode together
+abbrev pub count_up_to : Owned → ℕ → Tag → Mode → ℕ
+count_up_to owned zero tag mode = 0
+count_up_to owned (suc level) tag mode = owner_count_of (slice_index_or owned.outer level owned.entries) tag mode Transaction
+
+-- how often one level has it
+abbrev pub level_count_of : Owned → Tag → Mode → ℕ → ℕ
+level_count_of owned tag mode zero = 0
+level_count_of owned tag mode (suc level) = count_up_to owned (suc level) tag mode - count_up_to owned level tag mode
+
+-- How often an owner can give it back: the session what it has, and the transaction what its innermost level has.
+abbrev pub own_count_of : Owned → Tag → Mode → Owner → ℕ
+own_count_of owned tag mode Session = owner_count_of owned.entries tag mode Session
+own_count_of owned tag mode Transaction = level_count_of owned tag mode (level_of owned)
+
+-- the entries without what the innermost level has
+abbrev pub without_innermost : Owned → List Entry
+without_innermost owned =
+    map {A = Entry} {B = Entry} (λ entry. record entry { transaction = count_up_to owned (length owned.outer) entry.tag entry.mode })
+    owned.entries
 
 -- ---- what changes
 
@@ -106,11 +145,17 @@ abbrev pub kept_by_abort : LockMethod → ℕ → ℕ
 kept_by_abort Default count = 0
 kept_by_abort User count = count
 
--- what the end leaves of an entry's counts
+-- The entries as an end finds them: that of the innermost level finds them without what this level has.
+abbrev pub found_by : End → Owned → List Entry
+found_by Inner owned = without_innermost owned
+found_by end owned = owned.entries
+
+-- what the end leaves of the counts of an entry that it finds
 abbrev pub after_end : End → Entry → Entry
 after_end Commit entry = record entry { transaction = 0 }
 after_end Abort entry = record entry { transaction = 0; session = kept_by_abort (method_of entry.tag) entry.session }
 after_end Close entry = record entry { transaction = 0; session = 0 }
+after_end Inner entry = entry
 
 -- whether the end takes the entry's total to 0
 abbrev pub is_ended : End → Entry → Bool
@@ -131,6 +176,11 @@ with_next_ended end [] = []
 with_next_ended end (entry ∷ entries) =
     if is_ended end entry then entries else after_end end entry ∷ with_next_ended end entries
 
+-- what is left of the outer levels: all but the last for the end of the innermost level, and none for that of all
+abbrev pub outer_after : End → List (List Entry) → List (List Entry)
+outer_after Inner outer = take (length outer - 1) outer
+outer_after end outer = []
+
 -- ---- what is always so
 
 -- whether two entries are of the same object and mode
@@ -143,11 +193,14 @@ pub record IsCounted (entry : Entry) : Type 0 where
   pub transaction : entry.transaction ≤ max_count
   pub session : entry.session ≤ max_count
 
--- Each object and mode is there once, none with all counts 0, and no more entries are there than may be.
+-- Each object and mode is there once, none with all counts 0, and no more entries are there than may be. The levels are
+-- not too many, and with each one more the transaction has no less.
 pub record IsWellOwned (owned : Owned) : Type 0 where
   pub once : IsDistinct are_of_same owned.entries
   pub counted : All IsCounted owned.entries
   pub within : length owned.entries ≤ owned.max_local
+  pub levels : level_of owned ≤ max_level
+  pub rising : (tag : Tag) (mode : Mode) (level : ℕ) → count_up_to owned level tag mode ≤ count_up_to owned (suc level) tag mode
 
 -- One more acquire of the object and mode by this owner can be entered: the count has room, and where there is no entry
 -- yet one more may be made, and that with no growth.

@@ -12,7 +12,7 @@ use Rattle.local_locks.specs.declared.looks.Glance.TheVariants.{Nothing, Place, 
 use Rattle.local_locks.specs.declared.records.Entry.{Entry}
 use Rattle.local_locks.specs.declared.ends.Progress.{Progress}
 use Rattle.local_locks.specs.declared.ends.End.{End}
-use Rattle.local_locks.specs.declared.ends.End.TheVariants.{Commit, Abort, Close}
+use Rattle.local_locks.specs.declared.ends.End.TheVariants.{Commit, Abort, Close, Inner}
 use Rattle.local_locks.specs.Owned.{count_in_all, entries_but, entry_for, is_of, is_ended, after_end, IsCounted}
 
 -- How the entries are kept: in slots in the order of making, where a slot whose entry is gone is empty, with an index
@@ -136,6 +136,7 @@ abbrev pub number_of_end : End → ℕ
 number_of_end Commit = 0
 number_of_end Abort = 1
 number_of_end Close = 2
+number_of_end Inner = 3
 
 -- how far an end has come: nowhere, unless it took the last step
 abbrev pub reached : End → Progress → ℕ

@@ -13,6 +13,9 @@ pub enum End {
     Abort,
     /// The close of the session drops both.
     Close,
+    /// The end of the innermost level of a transaction, whose counts go; those of the levels outside it and of the session stay
+    /// (`LockReleaseCurrentOwner` in lock.c).
+    Inner,
 }
 
 impl End {
@@ -38,6 +41,7 @@ impl End {
                 LockMethod::User => entry.without_transaction(),
             },
             End::Close => entry.without_counts(),
+            End::Inner => entry,
         }
     }
 }

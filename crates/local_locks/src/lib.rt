@@ -6,6 +6,7 @@
 pub mod answers;
 pub mod ends;
 pub mod entries;
+pub mod levels;
 mod looks;
 pub mod records;
 mod slots;
@@ -14,5 +15,6 @@ pub mod tables;
 pub use answers::{Acquired, AtOnce, Unlocked};
 pub use ends::End;
 pub use entries::Entries;
+pub use levels::MOST_LEVELS;
 pub use records::Entry;
 pub use tables::{LocalTable, MOST_LOCAL};

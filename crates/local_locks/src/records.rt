@@ -173,6 +173,16 @@ impl Entry {
         }
     }
 
+    /// The same where the transaction has so many.
+    pub(crate) fn with_transaction(self, transaction: u16) -> Entry
+        ensures { result ≡ record self { transaction = transaction } }
+    {
+        Entry {
+            transaction,
+            ..self
+        }
+    }
+
     /// The same with no count.
     pub(crate) fn without_counts(self) -> Entry
         ensures { result ≡ after_end Close self }

@@ -1,9 +1,11 @@
-ghost use Rattle.std.specs.Prelude.{◌≡◌, ◌≢◌, ◌↔◌, ◌+◌, ◌-◌, ◌<◌, ◌≤◌, ℕ, IsTrue, true, false, Some, None, IfSome, IsSomeAnd, [], ◌∷◌, ◌++◌, length, slice_set, vec_capacity};
+ghost use Rattle.std.specs.Prelude.{◌≡◌, ◌≢◌, ◌↔◌, ◌+◌, ◌-◌, ◌<◌, ◌≤◌, ℕ, IsTrue, true, false, Some, None, IfSome, IsSomeAnd, [], ◌∷◌, ◌++◌, List, length, slice_set, vec_capacity};
 ghost use Rattle.std.specs.Option.{option_map};
 ghost use Rattle.place_index.specs.Notes.{times, no_place};
 ghost use Rattle.local_locks.specs.Owned.{count_for, raised, lowered, max_count, count_in_all, is_ended, after_end};
+ghost use Rattle.local_locks.specs.Levels.{row_at, had, without_level, AreEmpty, AreMoved, AreSettled};
 ghost use Rattle.local_locks.specs.Slots.{opened, entry_at, slot_at, present, key_at, key_hash, IsCut, IsFull, IsIndexed, IsOnce, IsPast, IsTakenOut};
 
+use crate::levels::{OuterCounts, move_row};
 use crate::looks::key_hash;
 use crate::{End, Entry};
 use modes_core::Owner;
@@ -17,6 +19,7 @@ pub(crate) fn raise(slots: &mut Vec<Entry>, place: usize, owner: Owner)
     ensures slots { opened slots.new.items
         ≡ slice_set (opened slots.old.items) place (Some (raised owner (entry_at slots.old.items place))) }
     ensures room { vec_capacity slots.new - length slots.new.items ≡ vec_capacity slots.old - length slots.old.items }
+    ensures capacity { vec_capacity slots.new ≡ vec_capacity slots.old }
     ensures number { length slots.new.items ≡ length slots.old.items }
 {
     slots[place].raise(owner);
@@ -31,6 +34,7 @@ pub(crate) fn lower(slots: &mut Vec<Entry>, place: usize, owner: Owner)
     ensures slots { opened slots.new.items
         ≡ slice_set (opened slots.old.items) place (Some (lowered owner (entry_at slots.old.items place))) }
     ensures room { vec_capacity slots.new - length slots.new.items ≡ vec_capacity slots.old - length slots.old.items }
+    ensures capacity { vec_capacity slots.new ≡ vec_capacity slots.old }
     ensures number { length slots.new.items ≡ length slots.old.items }
 {
     slots[place].lower(owner);
@@ -47,6 +51,7 @@ pub(crate) fn raise_held(slots: &mut Vec<Entry>, place: usize, owner: Owner) -> 
         ≡ slice_set (opened slots.old.items) place (Some (raised owner (entry_at slots.old.items place))) }
     ensures same { result ≡ false → slots.new ≡ slots.old }
     ensures room { vec_capacity slots.new - length slots.new.items ≡ vec_capacity slots.old - length slots.old.items }
+    ensures capacity { vec_capacity slots.new ≡ vec_capacity slots.old }
     ensures number { length slots.new.items ≡ length slots.old.items }
 {
     match owner {
@@ -65,6 +70,7 @@ fn raise_if_held(slots: &mut Vec<Entry>, place: usize, owner: Owner) -> bool
         ≡ slice_set (opened slots.old.items) place (Some (raised owner (entry_at slots.old.items place))) }
     ensures same { result ≡ false → slots.new ≡ slots.old }
     ensures room { vec_capacity slots.new - length slots.new.items ≡ vec_capacity slots.old - length slots.old.items }
+    ensures capacity { vec_capacity slots.new ≡ vec_capacity slots.old }
     ensures number { length slots.new.items ≡ length slots.old.items }
 {
     if !slots[place].can_raise(owner) {
@@ -84,6 +90,7 @@ pub(crate) fn lower_held(slots: &mut Vec<Entry>, place: usize, owner: Owner) -> 
         ≡ slice_set (opened slots.old.items) place (Some (lowered owner (entry_at slots.old.items place))) }
     ensures same { result ≡ false → slots.new ≡ slots.old }
     ensures room { vec_capacity slots.new - length slots.new.items ≡ vec_capacity slots.old - length slots.old.items }
+    ensures capacity { vec_capacity slots.new ≡ vec_capacity slots.old }
     ensures number { length slots.new.items ≡ length slots.old.items }
 {
     match owner {
@@ -101,6 +108,7 @@ fn lower_if_held(slots: &mut Vec<Entry>, place: usize, owner: Owner) -> bool
         ≡ slice_set (opened slots.old.items) place (Some (lowered owner (entry_at slots.old.items place))) }
     ensures same { result ≡ false → slots.new ≡ slots.old }
     ensures room { vec_capacity slots.new - length slots.new.items ≡ vec_capacity slots.old - length slots.old.items }
+    ensures capacity { vec_capacity slots.new ≡ vec_capacity slots.old }
     ensures number { length slots.new.items ≡ length slots.old.items }
 {
     if !slots[place].can_lower(owner) {
@@ -123,7 +131,7 @@ pub(crate) fn push_entry(slots: &mut Vec<Entry>, index: &mut PlaceIndex, hash: u
     ensures slots { opened slots.new.items ≡ opened slots.old.items ++ Some entry ∷ [] }
     ensures indexed { IsIndexed (opened slots.new.items) index.new }
     ensures number { length slots.new.items ≡ length slots.old.items + 1 }
-    ensures slot_room { vec_capacity slots.old ≤ vec_capacity slots.new }
+    ensures slot_room { vec_capacity slots.new ≡ vec_capacity slots.old }
     ensures index_room { index.new.places ≡ index.old.places }
 {
     let place = slots.len();
@@ -219,6 +227,7 @@ pub(crate) fn settle(slots: &mut [Entry], end: End, from: usize) -> usize
     requires within { from ≤ length slots.old }
     requires past { IsPast end (opened slots.old) from }
     ensures within { result ≤ length slots.old }
+    ensures on { from ≤ result }
     ensures kept { (k : ℕ) → k < result → IfSome (slot_at (opened slots.old) k) (λ entry. is_ended end entry ≡ false) }
     ensures settled { (k : ℕ) → k < result →
         slot_at (opened slots.new) k ≡ option_map (after_end end) (slot_at (opened slots.old) k) }
@@ -239,6 +248,41 @@ pub(crate) fn settle(slots: &mut [Entry], end: End, from: usize) -> usize
     slots.len()
 }
 
+/// Goes on with the end of the innermost of so many inner levels from a place on: takes from each entry what this level has,
+/// up to the first entry that has nothing else, and gives the place of that one, or the number of slots. An end of that level
+/// has nothing to do before it any more.
+pub(crate) fn settle_inner(
+    slots: &mut Vec<Entry>,
+    outer: &mut Vec<OuterCounts>,
+    depth: u8,
+    from: usize,
+) -> usize
+    requires begun { 0 < depth }
+    requires lists { length slots.old.items ≤ length outer.old.items }
+    requires empty { AreEmpty (opened slots.old.items) outer.old.items }
+    requires past { (k : ℕ) → k < from → length (row_at outer.old.items k) ≤ depth - 1 }
+    ensures within { result ≤ length slots.old.items }
+    ensures settled { AreSettled (depth - 1) (opened slots.old.items) outer.old.items
+        (opened slots.new.items) outer.new.items result }
+    ensures stay { (k : ℕ) → k < result → IfSome (slot_at (opened slots.old.items) k)
+        (λ entry. count_in_all (without_level (depth - 1) (row_at outer.old.items k) entry) ≢ 0) }
+    ensures ended { result < length slots.old.items → IsSomeAnd (slot_at (opened slots.old.items) result)
+        (λ entry. count_in_all (without_level (depth - 1) (row_at outer.old.items result) entry) ≡ 0) }
+    ensures number { length slots.new.items ≡ length slots.old.items }
+    ensures capacity { vec_capacity slots.new ≡ vec_capacity slots.old }
+{
+    for place in from..slots.len() {
+        let entry = slots[place];
+        let left = entry.with_transaction(outer[place].at(depth - 1, entry.transaction));
+        if entry.is_held() && left.total() == 0 {
+            return place;
+        }
+        slots[place] = left;
+        outer[place].cut(depth - 1);
+    }
+    slots.len()
+}
+
 /// Moves an entry down over empty slots.
 fn move_down(slots: &mut Vec<Entry>, place: usize, to: usize, entry: Entry)
     requires there { slot_at (opened slots.old.items) place ≡ Some entry }
@@ -248,6 +292,9 @@ fn move_down(slots: &mut Vec<Entry>, place: usize, to: usize, entry: Entry)
     ensures here { slot_at (opened slots.new.items) to ≡ Some entry }
     ensures empty { (k : ℕ) → to < k → k ≤ place → slot_at (opened slots.new.items) k ≡ None }
     ensures before { (k : ℕ) → k < to → slot_at (opened slots.new.items) k ≡ slot_at (opened slots.old.items) k }
+    ensures behind { (k : ℕ) → place < k → slot_at (opened slots.new.items) k ≡ slot_at (opened slots.old.items) k }
+    ensures told { (level : ℕ) (lists left : ℕ → List ℕ) → left to ≡ lists place → ((k : ℕ) → k ≢ to → k ≢ place → left k ≡ lists k) →
+        had level (opened slots.new.items) left ≡ had level (opened slots.old.items) lists }
     ensures number { length slots.new.items ≡ length slots.old.items }
     ensures capacity { vec_capacity slots.new ≡ vec_capacity slots.old }
 {
@@ -255,19 +302,25 @@ fn move_down(slots: &mut Vec<Entry>, place: usize, to: usize, entry: Entry)
     slots[to] = entry;
 }
 
-/// Moves the entries together, so that no slot is empty.
-fn gather(slots: &mut Vec<Entry>)
+/// Moves the entries together, so that no slot is empty, and each one's list with it.
+fn gather(slots: &mut Vec<Entry>, outer: &mut Vec<OuterCounts>)
     requires few { length slots.old.items ≤ no_place }
+    requires lists { length slots.old.items ≤ length outer.old.items }
+    requires empty { AreEmpty (opened slots.old.items) outer.old.items }
     ensures entries { present (opened slots.new.items) ≡ present (opened slots.old.items) }
     ensures full { IsFull slots.new.items }
     ensures number { length slots.new.items ≡ length (present (opened slots.old.items)) }
     ensures slot_room { vec_capacity slots.new ≡ vec_capacity slots.old }
+    ensures moved { AreMoved (opened slots.old.items) outer.old.items (opened slots.new.items) outer.new.items }
+    ensures told { (level : ℕ) → had level (opened slots.new.items) (row_at outer.new.items)
+        ≡ had level (opened slots.old.items) (row_at outer.old.items) }
 {
     let mut kept = 0;
     for place in 0..slots.len() {
         let entry = slots[place];
         if entry.is_held() {
             move_down(slots, place, kept, entry);
+            move_row(outer, place, kept);
             kept += 1;
         }
     }
@@ -292,32 +345,47 @@ fn note_all(slots: &[Entry], index: &mut PlaceIndex)
 /// Moves the entries together, so that no slot is empty, and notes their new places alone.
 #[cold]
 #[inline(never)]
-pub(crate) fn compact(slots: &mut Vec<Entry>, index: &mut PlaceIndex)
+pub(crate) fn compact(slots: &mut Vec<Entry>, index: &mut PlaceIndex, outer: &mut Vec<OuterCounts>)
     requires indexed { IsIndexed (opened slots.old.items) index.old }
     requires few { length slots.old.items ≤ no_place }
+    requires lists { length slots.old.items ≤ length outer.old.items }
+    requires empty { AreEmpty (opened slots.old.items) outer.old.items }
     ensures entries { present (opened slots.new.items) ≡ present (opened slots.old.items) }
     ensures full { length slots.new.items ≡ length (present (opened slots.old.items)) }
     ensures indexed { IsIndexed (opened slots.new.items) index.new }
     ensures slot_room { vec_capacity slots.new ≡ vec_capacity slots.old }
     ensures index_room { index.new.places ≡ index.old.places }
+    ensures moved { AreMoved (opened slots.old.items) outer.old.items (opened slots.new.items) outer.new.items }
+    ensures told { (level : ℕ) → had level (opened slots.new.items) (row_at outer.new.items)
+        ≡ had level (opened slots.old.items) (row_at outer.old.items) }
 {
-    gather(slots);
+    gather(slots, outer);
     index.clear();
     note_all(slots.as_slice(), index);
 }
 
 /// Ends an end that may have left places of empty slots in the index: then the entries are moved together.
 #[inline(always)]
-pub(crate) fn tidy(slots: &mut Vec<Entry>, index: &mut PlaceIndex, len: usize)
+pub(crate) fn tidy(
+    slots: &mut Vec<Entry>,
+    index: &mut PlaceIndex,
+    outer: &mut Vec<OuterCounts>,
+    len: usize,
+)
     requires indexed { IsIndexed (opened slots.old.items) index.old }
     requires few { length slots.old.items ≤ no_place }
+    requires lists { length slots.old.items ≤ length outer.old.items }
+    requires empty { AreEmpty (opened slots.old.items) outer.old.items }
     ensures entries { present (opened slots.new.items) ≡ present (opened slots.old.items) }
     ensures shorter { length slots.new.items ≤ length slots.old.items }
     ensures indexed { IsIndexed (opened slots.new.items) index.new }
     ensures capacity { vec_capacity slots.new ≡ vec_capacity slots.old }
     ensures index_room { index.new.places ≡ index.old.places }
+    ensures moved { AreMoved (opened slots.old.items) outer.old.items (opened slots.new.items) outer.new.items }
+    ensures told { (level : ℕ) → had level (opened slots.new.items) (row_at outer.new.items)
+        ≡ had level (opened slots.old.items) (row_at outer.old.items) }
 {
     if index.len() > len {
-        compact(slots, index);
+        compact(slots, index, outer);
     }
 }

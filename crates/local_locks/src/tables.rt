@@ -1,13 +1,18 @@
-ghost use Rattle.std.specs.Prelude.{◌≡◌, ◌≢◌, ◌+◌, ◌<◌, ◌≤◌, ◌↔◌, ◌⊎◌, ◌∷◌, [], true, false, if◌then◌else◌, Some, None, IsErrOf, IsOkUnless, IfOk, IfErr, OnOk, OnErr, IfSome, IfNone, IsSome, IsNone, IsTrue, length};
+ghost use Rattle.std.specs.Prelude.{◌≡◌, ◌≢◌, ◌+◌, ◌<◌, ◌≤◌, ◌↔◌, ◌⊎◌, ◌∷◌, ◌++◌, [], true, false, if◌then◌else◌, Some, None, IsErrOf, IsOkUnless, IfOk, IfErr, OnOk, OnErr, IfSome, IfNone, IsSome, IsNone, IsTrue, length};
 ghost use Rattle.local_locks.specs.Slots.{key_hash};
+ghost use Rattle.local_locks.specs.Owned.{max_level, level_of, of_transaction, level_count_of, own_count_of};
+ghost use Rattle.local_locks.specs.Owned.{without_innermost, found_by, outer_after};
 ghost use Rattle.local_locks.specs.Owned.{max_count, has_entry, owner_count_of, total_of, with_one_more, with_one_less, acquired_as, ended_by, left_by, with_next_ended};
 ghost use Rattle.local_locks.specs.Owned.{IsWellOwned, IsReserved, IsCrowded};
 
 use crate::ends::Progress;
+use crate::levels::{
+    MOST_INNER, OuterCounts, cut_all, forget, keep, lengthen, level_count, own_count,
+};
 use crate::looks::{Glance, glance_at, hash_of, key_hash, look, look_up, pair_bits};
 use crate::slots::{
-    compact, lower, lower_held, push_entry, raise, raise_held, settle, take_ended, take_last,
-    take_out, tidy,
+    compact, lower, lower_held, push_entry, raise, raise_held, settle, settle_inner, take_ended,
+    take_last, take_out, tidy,
 };
 use crate::{Acquired, AtOnce, End, Entries, Entry, Unlocked};
 use modes_core::{Mode, Owner, Refusal, Tag};
@@ -37,24 +42,33 @@ pub struct LocalTable {
     progress: Progress,
     // Where the entry may be that is asked for next.
     last: usize,
+    // How many levels of the transaction have begun within the first.
+    depth: u8,
+    // Before that slot the innermost of them has counted nothing.
+    touched: usize,
+    // What the transaction had of the entry beside each slot when each of them began.
+    outer: Vec<OuterCounts>,
 }
 
 impl Model for LocalTable {
     ghost use Rattle.std.specs.Prelude.{◌-◌, min, length, vec_capacity};
     ghost use Rattle.place_index.specs.Notes.{no_place};
     ghost use Rattle.local_locks.specs.Owned.{Owned};
-    ghost use Rattle.local_locks.specs.Slots.{opened, present, IsTable};
+    ghost use Rattle.local_locks.specs.Slots.{opened, present};
+    ghost use Rattle.local_locks.specs.Levels.{outer_of, row_at, IsLeveledTable};
 
     ghost Value = { Owned };
 
     ghost view = { λ t. record {
       entries = present (opened t.slots.items);
+      outer = outer_of t.depth (opened t.slots.items) (row_at t.outer.items);
       room = min (min (vec_capacity t.slots) no_place) t.index.places - length t.slots.items;
       slots = min (min (vec_capacity t.slots) no_place) t.index.places;
       max_local = t.max_local;
     } };
 
-    ghost invariant = { λ t. IsTable t.slots.items t.index t.len t.max_local t.progress };
+    ghost invariant = { λ t. IsLeveledTable t.slots.items (vec_capacity t.slots) t.index t.len t.max_local t.progress
+        t.outer.items t.depth t.touched };
 }
 
 impl LocalTable {
@@ -63,6 +77,7 @@ impl LocalTable {
         requires from { 1 ≤ max_local }
         requires to { max_local ≤ 65536 }
         ensures empty { IfOk result (λ table. table.entries ≡ []) }
+        ensures first_level { IfOk result (λ table. table.outer ≡ []) }
         ensures room { IfOk result (λ table. 0 < table.room) }
         ensures max_local { IfOk result (λ table. table.max_local ≡ max_local) }
         ensures well_owned { IfOk result (λ table. IsWellOwned table) }
@@ -74,6 +89,10 @@ impl LocalTable {
         let Ok(index) = PlaceIndex::new(alloc) else {
             return Err(Refusal::NoMemory);
         };
+        let mut outer = Vec::new(alloc);
+        if lengthen(&mut outer, FIRST_SLOTS).is_err() {
+            return Err(Refusal::NoMemory);
+        }
         Ok(LocalTable {
             slots,
             index,
@@ -81,6 +100,9 @@ impl LocalTable {
             max_local,
             progress: Progress::start(),
             last: 0,
+            depth: 0,
+            touched: 0,
+            outer,
         })
     }
 
@@ -95,13 +117,14 @@ impl LocalTable {
         }
     }
 
-    /// How often the owner has the object in the mode.
+    /// How often the owner has the object in the mode and can give it back: the session, or the innermost level of the
+    /// transaction.
     pub fn owner_count(&self, tag: Tag, mode: Mode, owner: Owner) -> u16
-        ensures count { result ≡ owner_count_of self.now.entries tag mode owner }
+        ensures count { result ≡ own_count_of self.now tag mode owner }
         ensures well_owned { IsWellOwned self.now }
     {
         match look(&self.slots, &self.index, self.last, &tag, mode) {
-            Some(place) => self.slots[place].count_for(owner),
+            Some(place) => own_count(&self.slots[place], &self.outer, place, self.depth, owner),
             None => 0,
         }
     }
@@ -126,6 +149,7 @@ impl LocalTable {
         ensures no_other { IsOkUnless result Refusal.CountFull }
         ensures entries { result ≡ Ok true → self.new.entries ≡ with_one_more self.old.entries tag.now mode owner }
         ensures same { result ≢ Ok true → self.new ≡ self.old }
+        ensures outer { self.new.outer ≡ self.old.outer }
         ensures room { self.old.room ≤ self.new.room }
         ensures max_local { self.new.max_local ≡ self.old.max_local }
         ensures well_owned { IsWellOwned self.new }
@@ -148,10 +172,14 @@ impl LocalTable {
         ensures entries { result ≡ AtOnce.AlreadyHeld →
             self.new.entries ≡ with_one_more self.old.entries tag.now mode owner }
         ensures same { result ≢ AtOnce.AlreadyHeld → self.new ≡ self.old }
+        ensures outer { self.new.outer ≡ self.old.outer }
         ensures room { self.old.room ≤ self.new.room }
         ensures max_local { self.new.max_local ≡ self.old.max_local }
         ensures well_owned { IsWellOwned self.new }
     {
+        if self.depth != 0 {
+            return AtOnce::Unknown;
+        }
         match glance_at(&self.slots, &self.index, tag, mode) {
             Glance::Nothing => AtOnce::NotHeld,
             Glance::Place(place) => {
@@ -179,6 +207,7 @@ impl LocalTable {
         ensures no_other { IsOkUnless result Refusal.CountFull }
         ensures entries { result ≡ Ok true → self.new.entries ≡ with_one_more self.old.entries tag.now mode owner }
         ensures same { result ≢ Ok true → self.new ≡ self.old }
+        ensures outer { self.new.outer ≡ self.old.outer }
         ensures room { self.old.room ≤ self.new.room }
         ensures max_local { self.new.max_local ≡ self.old.max_local }
         ensures well_owned { IsWellOwned self.new }
@@ -190,6 +219,8 @@ impl LocalTable {
             return Err(Refusal::CountFull);
         }
         self.last = place;
+        let now = self.slots[place].transaction;
+        keep(&mut self.outer, &mut self.touched, self.depth, place, now);
         raise(&mut self.slots, place, owner);
         self.progress.go_back_to(place);
         Ok(true)
@@ -212,6 +243,7 @@ impl LocalTable {
         // What stands after it, whatever the answer.
         ensures grows { self.new.slots ≢ self.old.slots → IsCrowded self.old.slots self.old.entries }
         ensures entries { self.new.entries ≡ self.old.entries }
+        ensures outer { self.new.outer ≡ self.old.outer }
         ensures room { self.old.room ≤ self.new.room }
         ensures max_local { self.new.max_local ≡ self.old.max_local }
         ensures well_owned { IsWellOwned self.new }
@@ -244,6 +276,7 @@ impl LocalTable {
         // What stands after it, whatever the answer.
         ensures grows { self.new.slots ≢ self.old.slots → IsCrowded self.old.slots self.old.entries }
         ensures entries { self.new.entries ≡ self.old.entries }
+        ensures outer { self.new.outer ≡ self.old.outer }
         ensures room { self.old.room ≤ self.new.room }
         ensures max_local { self.new.max_local ≡ self.old.max_local }
         ensures well_owned { IsWellOwned self.new }
@@ -285,6 +318,7 @@ impl LocalTable {
         ensures no_memory { IsOkUnless result Refusal.NoMemory }
         ensures grows { self.new.slots ≢ self.old.slots → IsCrowded self.old.slots self.old.entries }
         ensures entries { self.new.entries ≡ self.old.entries }
+        ensures outer { self.new.outer ≡ self.old.outer }
         ensures room { self.old.room ≤ self.new.room }
         ensures max_local { self.new.max_local ≡ self.old.max_local }
         ensures well_owned { IsWellOwned self.new }
@@ -296,12 +330,14 @@ impl LocalTable {
         self.grow()
     }
 
-    /// Takes memory for one more entry.
+    /// Takes memory for one more entry, for which there is no room.
     fn grow(&mut self) -> Result<(), Refusal>
+        requires full { self.old.room ≡ 0 }
         ensures ok { OnOk result (0 < self.new.room) }
         ensures err { OnErr result (self.old.room ≡ 0) }
         ensures no_memory { IsOkUnless result Refusal.NoMemory }
         ensures entries { self.new.entries ≡ self.old.entries }
+        ensures outer { self.new.outer ≡ self.old.outer }
         ensures room { self.old.room ≤ self.new.room }
         ensures max_local { self.new.max_local ≡ self.old.max_local }
         ensures well_owned { IsWellOwned self.new }
@@ -309,7 +345,14 @@ impl LocalTable {
         if self.slots.len() == MAX_SLOTS {
             return Err(Refusal::NoMemory);
         }
+        // There is a list for each slot that can be used, whichever of the two grows last.
+        if lengthen(&mut self.outer, self.index.places()).is_err() {
+            return Err(Refusal::NoMemory);
+        }
         if self.slots.reserve(1).is_err() {
+            return Err(Refusal::NoMemory);
+        }
+        if lengthen(&mut self.outer, self.slots.capacity()).is_err() {
             return Err(Refusal::NoMemory);
         }
         if self.index.reserve(self.slots.len() as u32).is_err() {
@@ -323,14 +366,16 @@ impl LocalTable {
         ensures used { self.new.room ≡ 0 → IsCrowded self.old.slots self.old.entries }
         ensures slots { self.new.slots ≡ self.old.slots }
         ensures entries { self.new.entries ≡ self.old.entries }
+        ensures outer { self.new.outer ≡ self.old.outer }
         ensures room { self.old.room ≤ self.new.room }
         ensures max_local { self.new.max_local ≡ self.old.max_local }
         ensures well_owned { IsWellOwned self.new }
     {
         let slots = self.slots.len();
         if slots == MAX_SLOTS || self.len as usize <= slots / 2 {
-            compact(&mut self.slots, &mut self.index);
+            compact(&mut self.slots, &mut self.index, &mut self.outer);
             self.progress = Progress::start();
+            self.touched = 0;
         }
     }
 
@@ -339,6 +384,7 @@ impl LocalTable {
         requires { IsReserved self.old tag mode owner }
         ensures answer { result ≡ acquired_as self.old.entries tag mode }
         ensures entries { self.new.entries ≡ with_one_more self.old.entries tag mode owner }
+        ensures outer { self.new.outer ≡ self.old.outer }
         ensures room { self.old.room ≤ self.new.room + 1 }
         ensures max_local { self.new.max_local ≡ self.old.max_local }
         ensures well_owned { IsWellOwned self.new }
@@ -346,6 +392,8 @@ impl LocalTable {
         match look(&self.slots, &self.index, self.last, &tag, mode) {
             Some(place) => {
                 self.last = place;
+                let now = self.slots[place].transaction;
+                keep(&mut self.outer, &mut self.touched, self.depth, place, now);
                 raise(&mut self.slots, place, owner);
                 self.progress.go_back_to(place);
                 Acquired::AlreadyHeld
@@ -365,6 +413,7 @@ impl LocalTable {
         requires allowed { length self.old.entries < self.old.max_local }
         requires roomy { 0 < self.old.room }
         ensures entries { self.new.entries ≡ with_one_more self.old.entries tag.now mode owner }
+        ensures outer { self.new.outer ≡ self.old.outer }
         ensures room { self.old.room ≤ self.new.room + 1 }
         ensures max_local { self.new.max_local ≡ self.old.max_local }
         ensures well_owned { IsWellOwned self.new }
@@ -385,6 +434,7 @@ impl LocalTable {
         requires allowed { length self.old.entries < self.old.max_local }
         requires roomy { 0 < self.old.room }
         ensures entries { self.new.entries ≡ with_one_more self.old.entries tag.now mode owner }
+        ensures outer { self.new.outer ≡ self.old.outer }
         ensures room { self.old.room ≤ self.new.room + 1 }
         ensures max_local { self.new.max_local ≡ self.old.max_local }
         ensures well_owned { IsWellOwned self.new }
@@ -400,6 +450,7 @@ impl LocalTable {
         requires allowed { length self.old.entries < self.old.max_local }
         requires roomy { 0 < self.old.room }
         ensures entries { self.new.entries ≡ with_one_more self.old.entries tag mode owner }
+        ensures outer { self.new.outer ≡ self.old.outer }
         ensures room { self.old.room ≤ self.new.room + 1 }
         ensures max_local { self.new.max_local ≡ self.old.max_local }
         ensures well_owned { IsWellOwned self.new }
@@ -410,17 +461,19 @@ impl LocalTable {
         self.last = place;
         self.progress.go_back_to(place);
         push_entry(&mut self.slots, &mut self.index, hash, entry);
+        keep(&mut self.outer, &mut self.touched, self.depth, place, 0);
     }
 
     /// Takes one count of this owner back (`LockRelease` in lock.c, where it touches the local lock
     /// alone).
     pub fn drop_one(&mut self, tag: Tag, mode: Mode, owner: Owner) -> Result<Unlocked, Refusal>
-        ensures not_held { IsErrOf result Refusal.NotHeld ↔ (owner_count_of self.old.entries tag mode owner ≡ 0) }
+        ensures not_held { IsErrOf result Refusal.NotHeld ↔ (own_count_of self.old tag mode owner ≡ 0) }
         ensures no_other { IsOkUnless result Refusal.NotHeld }
         ensures answer { IfOk result (λ answer.
             (answer ≡ Unlocked.StillHeld) ↔ (0 < total_of self.new.entries tag mode)) }
         ensures entries { OnOk result (self.new.entries ≡ with_one_less self.old.entries tag mode owner) }
         ensures refused { OnErr result (self.new ≡ self.old) }
+        ensures outer { self.new.outer ≡ self.old.outer }
         ensures room { self.old.room ≤ self.new.room }
         ensures max_local { self.new.max_local ≡ self.old.max_local }
         ensures well_owned { IsWellOwned self.new }
@@ -431,12 +484,13 @@ impl LocalTable {
     /// The same of an object that is lent, as `add_held` takes it.
     #[inline(always)]
     pub fn drop_held(&mut self, tag: &Tag, mode: Mode, owner: Owner) -> Result<Unlocked, Refusal>
-        ensures not_held { IsErrOf result Refusal.NotHeld ↔ (owner_count_of self.old.entries tag.now mode owner ≡ 0) }
+        ensures not_held { IsErrOf result Refusal.NotHeld ↔ (own_count_of self.old tag.now mode owner ≡ 0) }
         ensures no_other { IsOkUnless result Refusal.NotHeld }
         ensures answer { IfOk result (λ answer.
             (answer ≡ Unlocked.StillHeld) ↔ (0 < total_of self.new.entries tag.now mode)) }
         ensures entries { OnOk result (self.new.entries ≡ with_one_less self.old.entries tag.now mode owner) }
         ensures refused { OnErr result (self.new ≡ self.old) }
+        ensures outer { self.new.outer ≡ self.old.outer }
         ensures room { self.old.room ≤ self.new.room }
         ensures max_local { self.new.max_local ≡ self.old.max_local }
         ensures well_owned { IsWellOwned self.new }
@@ -451,15 +505,19 @@ impl LocalTable {
     /// on from there. With neither a loop nor a call in it, it is short enough to stand in the code of each caller.
     #[inline(always)]
     pub fn drop_at_once(&mut self, tag: &Tag, mode: Mode, owner: Owner) -> Option<Unlocked>
-        ensures held { IsSome result → 0 < owner_count_of self.old.entries tag.now mode owner }
+        ensures held { IsSome result → 0 < own_count_of self.old tag.now mode owner }
         ensures answer { IfSome result (λ answer.
             (answer ≡ Unlocked.StillHeld) ↔ (0 < total_of self.new.entries tag.now mode)) }
         ensures entries { IsSome result → self.new.entries ≡ with_one_less self.old.entries tag.now mode owner }
         ensures same { IsNone result → self.new ≡ self.old }
+        ensures outer { self.new.outer ≡ self.old.outer }
         ensures room { self.old.room ≤ self.new.room }
         ensures max_local { self.new.max_local ≡ self.old.max_local }
         ensures well_owned { IsWellOwned self.new }
     {
+        if self.depth != 0 {
+            return None;
+        }
         let last = self.last;
         if last >= self.slots.len() {
             return None;
@@ -486,12 +544,13 @@ impl LocalTable {
     #[cold]
     #[inline(never)]
     fn drop_elsewhere(&mut self, tag: &Tag, mode: Mode, owner: Owner) -> Result<Unlocked, Refusal>
-        ensures not_held { IsErrOf result Refusal.NotHeld ↔ (owner_count_of self.old.entries tag.now mode owner ≡ 0) }
+        ensures not_held { IsErrOf result Refusal.NotHeld ↔ (own_count_of self.old tag.now mode owner ≡ 0) }
         ensures no_other { IsOkUnless result Refusal.NotHeld }
         ensures answer { IfOk result (λ answer.
             (answer ≡ Unlocked.StillHeld) ↔ (0 < total_of self.new.entries tag.now mode)) }
         ensures entries { OnOk result (self.new.entries ≡ with_one_less self.old.entries tag.now mode owner) }
         ensures refused { OnErr result (self.new ≡ self.old) }
+        ensures outer { self.new.outer ≡ self.old.outer }
         ensures room { self.old.room ≤ self.new.room }
         ensures max_local { self.new.max_local ≡ self.old.max_local }
         ensures well_owned { IsWellOwned self.new }
@@ -500,13 +559,14 @@ impl LocalTable {
             return Err(Refusal::NotHeld);
         };
         let entry = &self.slots[place];
-        if entry.count_for(owner) == 0 {
+        if own_count(entry, &self.outer, place, self.depth, owner) == 0 {
             return Err(Refusal::NotHeld);
         }
         let total = entry.sum();
         if total == 1 {
             let hash = key_hash(tag, mode);
             take_out(&mut self.slots, &mut self.index, place, hash);
+            forget(&mut self.outer, self.depth, place, place + 1);
             self.len -= 1;
             // Locks are mostly released in the opposite order of their acquires.
             self.last = place.wrapping_sub(1);
@@ -518,17 +578,46 @@ impl LocalTable {
     }
 
     /// Goes on with an end: gives the next object and mode, in the order of making, that the end takes
-    /// away, or `None` once there is no other (the loop of `LockReleaseAll` in lock.c).
+    /// away, or `None` once there is no other (the loop of `LockReleaseAll` in lock.c). The step that gives `None` ends the
+    /// innermost level, or all of them.
     #[inline(always)]
     pub fn end_next(&mut self, end: End) -> Option<(Tag, Mode)>
-        ensures entries { self.new.entries ≡ with_next_ended end self.old.entries }
+        requires nested { end ≡ End.Inner → 1 < level_of self.old }
+        ensures entries { IsSome result → found_by end self.new ≡ with_next_ended end (found_by end self.old) }
 
         // Called until `None`, it gives just what the end takes away, and leaves what outlives it.
+        ensures next { IfSome result (λ key.
+            ended_by end (found_by end self.old) ≡ key ∷ ended_by end (found_by end self.new)) }
+        ensures last { IfNone result (ended_by end (found_by end self.old) ≡ []) }
+        ensures left { IfNone result (self.new.entries ≡ left_by end (found_by end self.old)) }
+        ensures outlives { IsSome result → left_by end (found_by end self.new) ≡ left_by end (found_by end self.old) }
+
+        // The outer levels have what they had where only the innermost ends. Each has ended whose end it was once it gives `None`.
+        ensures inner { IsSome result → end ≡ End.Inner → self.new.outer ≡ self.old.outer }
+        ensures level { IsSome result → level_of self.new ≡ level_of self.old }
+        ensures ended { IfNone result (self.new.outer ≡ outer_after end self.old.outer) }
+
+        ensures room { self.old.room ≤ self.new.room }
+        ensures max_local { self.new.max_local ≡ self.old.max_local }
+        ensures well_owned { IsWellOwned self.new }
+    {
+        match end {
+            End::Inner => self.end_innermost(),
+            End::Commit | End::Abort | End::Close => self.end_transaction(end),
+        }
+    }
+
+    /// Goes on with the end of the transaction or of the session.
+    #[inline(always)]
+    fn end_transaction(&mut self, end: End) -> Option<(Tag, Mode)>
+        requires whole { end ≢ End.Inner }
+        ensures entries { self.new.entries ≡ with_next_ended end self.old.entries }
         ensures next { IfSome result (λ key. ended_by end self.old.entries ≡ key ∷ ended_by end self.new.entries) }
         ensures last { IfNone result (ended_by end self.old.entries ≡ []) }
         ensures left { IfNone result (self.new.entries ≡ left_by end self.old.entries) }
         ensures outlives { left_by end self.new.entries ≡ left_by end self.old.entries }
-
+        ensures level { IsSome result → level_of self.new ≡ level_of self.old }
+        ensures ended { IfNone result (self.new.outer ≡ []) }
         ensures room { self.old.room ≤ self.new.room }
         ensures max_local { self.new.max_local ≡ self.old.max_local }
         ensures well_owned { IsWellOwned self.new }
@@ -536,7 +625,14 @@ impl LocalTable {
         let from = self.progress.reached(end).min(self.slots.len());
         let place = settle(&mut self.slots, end, from);
         if place == self.slots.len() {
-            tidy(&mut self.slots, &mut self.index, self.len as usize);
+            forget(&mut self.outer, self.depth, 0, place);
+            self.depth = 0;
+            tidy(
+                &mut self.slots,
+                &mut self.index,
+                &mut self.outer,
+                self.len as usize,
+            );
             self.progress.come_to(end, self.slots.len());
             return None;
         }
@@ -544,8 +640,116 @@ impl LocalTable {
         let entry = &self.slots[place];
         let key = (entry.tag, entry.mode);
         let len = self.len as usize;
+        forget(&mut self.outer, self.depth, from, place + 1);
         take_ended(&mut self.slots, &mut self.index, len, place);
         self.len -= 1;
         Some(key)
+    }
+
+    /// Goes on with the end of the innermost level (`LockReleaseCurrentOwner` in lock.c).
+    #[cold]
+    #[inline(never)]
+    fn end_innermost(&mut self) -> Option<(Tag, Mode)>
+        requires nested { 1 < level_of self.old }
+        ensures entries { IsSome result →
+            without_innermost self.new ≡ with_next_ended End.Inner (without_innermost self.old) }
+        ensures next { IfSome result (λ key.
+            ended_by End.Inner (without_innermost self.old) ≡ key ∷ ended_by End.Inner (without_innermost self.new)) }
+        ensures last { IfNone result (ended_by End.Inner (without_innermost self.old) ≡ []) }
+        ensures left { IfNone result (self.new.entries ≡ left_by End.Inner (without_innermost self.old)) }
+        ensures outlives { IsSome result →
+            left_by End.Inner (without_innermost self.new) ≡ left_by End.Inner (without_innermost self.old) }
+        ensures outer { IsSome result → self.new.outer ≡ self.old.outer }
+        ensures ended { IfNone result (self.new.outer ≡ outer_after End.Inner self.old.outer) }
+        ensures room { self.old.room ≤ self.new.room }
+        ensures max_local { self.new.max_local ≡ self.old.max_local }
+        ensures well_owned { IsWellOwned self.new }
+    {
+        let place = settle_inner(&mut self.slots, &mut self.outer, self.depth, self.touched);
+        self.progress = Progress::start();
+        if place == self.slots.len() {
+            self.depth -= 1;
+            self.touched = 0;
+            tidy(
+                &mut self.slots,
+                &mut self.index,
+                &mut self.outer,
+                self.len as usize,
+            );
+            return None;
+        }
+        self.touched = place + 1;
+        let entry = &self.slots[place];
+        let key = (entry.tag, entry.mode);
+        let len = self.len as usize;
+        forget(&mut self.outer, self.depth, place, place + 1);
+        take_ended(&mut self.slots, &mut self.index, len, place);
+        self.len -= 1;
+        Some(key)
+    }
+
+    /// The level of the transaction: 1, and one more for each that was begun within it.
+    pub fn level(&self) -> u8
+        ensures level { result ≡ level_of self.now }
+        ensures well_owned { IsWellOwned self.now }
+    {
+        self.depth + 1
+    }
+
+    /// How often one level has the object in the mode.
+    pub fn level_count(&self, tag: Tag, mode: Mode, level: u8) -> u16
+        requires from { 1 ≤ level }
+        requires to { level ≤ level_of self.now }
+        ensures count { result ≡ level_count_of self.now tag mode level }
+        ensures well_owned { IsWellOwned self.now }
+    {
+        match look(&self.slots, &self.index, self.last, &tag, mode) {
+            Some(place) => level_count(&self.slots[place], &self.outer[place], level),
+            None => 0,
+        }
+    }
+
+    /// Begins a level within the innermost one, which has nothing yet, and answers the new level (`PushTransaction` in
+    /// xact.c). It takes no memory, and looks at no entry.
+    pub fn begin_nested(&mut self) -> Result<u8, Refusal>
+        ensures too_deep { IsErrOf result Refusal.TooDeep ↔ (level_of self.old ≡ max_level) }
+        ensures no_other { IsOkUnless result Refusal.TooDeep }
+        ensures level { IfOk result (λ level. level ≡ level_of self.new) }
+        ensures outer { OnOk result
+            (self.new.outer ≡ self.old.outer ++ of_transaction self.old.entries ∷ []) }
+        ensures entries { self.new.entries ≡ self.old.entries }
+        ensures refused { OnErr result (self.new ≡ self.old) }
+        ensures room { self.new.room ≡ self.old.room }
+        ensures max_local { self.new.max_local ≡ self.old.max_local }
+        ensures well_owned { IsWellOwned self.new }
+    {
+        if self.depth == MOST_INNER {
+            return Err(Refusal::TooDeep);
+        }
+        self.depth += 1;
+        self.touched = self.slots.len();
+        Ok(self.depth + 1)
+    }
+
+    /// Ends the innermost level, gives what it has to the one that it was begun in, and answers the new level
+    /// (`LockReassignCurrentOwner` in lock.c). It takes no memory.
+    pub fn hand_up(&mut self) -> Result<u8, Refusal>
+        ensures no_nested { IsErrOf result Refusal.NoNested ↔ (level_of self.old ≡ 1) }
+        ensures no_other { IsOkUnless result Refusal.NoNested }
+        ensures level { IfOk result (λ level. level ≡ level_of self.new) }
+        ensures outer { OnOk result (self.new.outer ≡ outer_after End.Inner self.old.outer) }
+        ensures entries { self.new.entries ≡ self.old.entries }
+        ensures refused { OnErr result (self.new ≡ self.old) }
+        ensures room { self.new.room ≡ self.old.room }
+        ensures max_local { self.new.max_local ≡ self.old.max_local }
+        ensures well_owned { IsWellOwned self.new }
+    {
+        if self.depth == 0 {
+            return Err(Refusal::NoNested);
+        }
+        self.depth -= 1;
+        cut_all(&mut self.outer, self.touched, self.slots.len(), self.depth);
+        self.touched = 0;
+        Ok(self.depth + 1)
     }
 }

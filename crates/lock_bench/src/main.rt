@@ -14,7 +14,7 @@ mod session_page;
 mod threads_page;
 mod turns;
 
-use bench_base::local_page;
+use bench_base::{levels_page, local_page};
 use clap::{Arg, ArgAction, Command};
 use modes_core::Owner;
 use std::alloc::Global;
@@ -140,6 +140,7 @@ fn print_pages<R: Threads + Wait + Clock + CpuClock + AllocGlobal + Print + Sync
     let [local, manager, fast, threads, handover] = wanted.pages;
     if local {
         local_page::print(rt, database, owner, check)?;
+        levels_page::print(rt, database, check)?;
     }
     if manager {
         manager_page::print(rt, database, owner, check)?;

@@ -13,7 +13,7 @@ pub struct Pool<B: Board<Part>> {
     idle: Vec<OwnSession<Part, B>>,
 }
 
-/// Puts it behind the others. Where memory is wanting it comes back, and the list is as before: a session can't be let go.
+/// Puts it behind the others. Where memory runs out it comes back, and the list is as before: a session can't be let go.
 pub fn append<S>(list: &mut Vec<S>, session: S) -> Result<(), S>
     ensures { MatchResult result (λ _. list.new.items ≡ list.old.items ++ session ∷ [])
         (λ back. (back ≡ session) × (list.new.items ≡ list.old.items)) }

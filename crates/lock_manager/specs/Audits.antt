@@ -1,6 +1,5 @@
-use Rattle.std.specs.Prelude.{◌≡◌, ℕ, ◌+◌, List, [], ◌∷◌, ◌++◌, map, reverse, filter, length, sum_by, None, Result, Ok, IfOk}
+use Rattle.std.specs.Prelude.{◌≡◌, ℕ, ◌+◌, List, [], ◌∷◌, ◌++◌, map, reverse, filter, length, sum_by, Result, Ok, IfOk}
 use Rattle.std.specs.List.{AllZip, AllByRecursion}
-use Rattle.modes_core.specs.declared.refusals.Refusal.{Refusal}
 use Rattle.modes_core.specs.Tag.{is_strong_on}
 use Rattle.lock_table.specs.declared.no_memory.NoMemory.{NoMemory}
 use Rattle.lock_manager.specs.Keeper.{PartView, content_of}

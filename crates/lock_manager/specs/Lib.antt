@@ -1,11 +1,13 @@
 pub mod Keeper
 pub mod Rest
 pub mod Requests
+pub mod Acquires
 pub mod Releases
 pub mod Sessions
 pub mod Managers
 pub mod Listings
 pub mod Waiting
-pub mod Waits
+pub mod WaitingSessions
 pub mod Crews
 pub mod Audits
+pub mod Queues

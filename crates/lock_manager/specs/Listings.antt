@@ -1,15 +1,14 @@
-use Rattle.std.specs.Prelude.{◌≡◌, ◌⊎◌, ℕ, ◌<◌, ◌≤◌, ◌+◌, ◌^◌, ◌==◌, ◌&&◌, Bool, true, false, List, [], ◌∷◌, ◌++◌, length, count_by, slice_index_or}
+use Rattle.std.specs.Prelude.{◌≡◌, ◌⊎◌, ℕ, ◌<◌, ◌≤◌, ◌+◌, ◌^◌, ◌==◌, ◌&&◌, Bool, true, false, List, [], ◌∷◌, ◌++◌, length, count_by}
 use Rattle.std.specs.Prelude.{if◌then◌else◌, slice_get, Option, Some, None, Result, Err, IfOk, OnOk}
 use Rattle.modes_core.specs.declared.modes.Mode.{Mode}
 use Rattle.modes_core.specs.declared.tags.Tag.{Tag}
 use Rattle.modes_core.specs.declared.tags.Tag.TheVariants.{Relation}
 use Rattle.modes_core.specs.declared.refusals.Refusal.{Refusal}
 use Rattle.modes_core.specs.declared.refusals.Refusal.TheVariants.{NoMemory}
-use Rattle.modes_core.specs.Tag.{partition_of}
 use Rattle.lock_table.specs.declared.no_memory.NoMemory as no_memory
 use Rattle.lock_table.specs.declared.rows.TableRow.{TableRow}
-use Rattle.lock_table.specs.Content.{Content, empty_content}
-use Rattle.lock_table.specs.Listing.{row_eq, has_row, IsListing}
+use Rattle.lock_table.specs.Content.{Content}
+use Rattle.lock_table.specs.Listing.{row_eq, IsListing}
 use Rattle.lock_table.specs.Queue.{waits_there}
 use Rattle.lock_table.specs.WholeContent.{whole_of, content_at, times_had, AreOfPartitions}
 use Rattle.lock_table.specs.OwnWait.{OwnWait, is_for}

@@ -74,6 +74,7 @@ module _ {B : Type 0} (seat : B → Seated) (view : B → Account) (stack : B �
     pub database_ : session.database ≡ database
     pub no_slot : session.uses ≡ 0
     pub nothing : session.owned.entries ≡ []
+    pub first_level : session.owned.outer ≡ []
     pub room : 0 < session.owned.room
     pub max_local : session.owned.max_local ≡ manager.max_local
     pub no_step : (view session.board).trace ≡ []

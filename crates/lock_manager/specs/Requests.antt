@@ -3,15 +3,12 @@ use Rattle.std.specs.Prelude.{Result, Ok, Err, OnErr, IfOk, IfErr, Some, if◌th
 use Rattle.modes_core.specs.declared.modes.Mode.{Mode}
 use Rattle.modes_core.specs.declared.tags.Tag.{Tag}
 use Rattle.modes_core.specs.declared.refusals.Refusal.{Refusal}
-use Rattle.modes_core.specs.declared.refusals.Refusal.TheVariants.{NoMemory, LocalFull, CountFull, NotEligible}
+use Rattle.modes_core.specs.declared.refusals.Refusal.TheVariants.{NoMemory}
 use Rattle.modes_core.specs.Tag.{partition_of, index_of, is_strong_on, is_eligible_for}
-use Rattle.local_locks.specs.declared.answers.Acquired.{Acquired}
-use Rattle.local_locks.specs.declared.answers.Acquired.TheVariants.{Granted, AlreadyHeld}
-use Rattle.local_locks.specs.Owned.{Owned, has_entry}
+use Rattle.local_locks.specs.declared.answers.Acquired.TheVariants.{Granted}
 use Rattle.lock_table.specs.declared.moves.Move.TheVariants as move_
 use Rattle.lock_table.specs.Content.{Content}
 use Rattle.wait_queue.specs.declared.requests.Kind.{Kind}
-use Rattle.wait_queue.specs.declared.requests.Kind.TheVariants.{Conditional}
 use Rattle.wait_queue.specs.declared.requests.Decision.{Decision}
 use Rattle.wait_queue.specs.declared.requests.Decision.TheVariants as decision
 use Rattle.wait_queue.specs.Decide.{IsDecided, RefusedFor}
@@ -22,7 +19,7 @@ use Rattle.lock_world.specs.AccountSteps.{own_with}
 use Rattle.lock_world.specs.Counted.{Counted}
 use Rattle.lock_world.specs.SlotHolds.{slot_count}
 use Rattle.lock_world.specs.World.{TraceEntry, Took, Episode, Loaded}
-use Rattle.fast_path.specs.Grants.{GrantsInSlot, TriesGrant}
+use Rattle.fast_path.specs.Grants.{GrantsInSlot}
 use Rattle.fast_path.specs.Transfers.{AreTurns, CutsShort}
 use Rattle.shared_rule.specs.Boards.{Seated}
 use Rattle.shared_rule.specs.Episodes.{account_episode}
@@ -85,7 +82,7 @@ account_decided number a tag mode taken put (Ok decision.Queued) =
     account_awaiting (account_episode a (partition_of tag) taken put move_.Keep) tag mode (taken.holds number tag)
 account_decided number a tag mode taken put (Err refusal) = account_episode a (partition_of tag) taken put move_.Keep
 
--- The episode that decides: the content put is the one taken with a hold or a wait more, as was decided by it, and
+-- The episode that decides: the content put is the one taken with one more hold or wait, as was decided by it, and
 -- after a refusal as it was. The content taken has each own hold of its partition that is in no slot.
 pub record DecidesInPart (kind : Kind) (number : ℕ) (a : Account) (tag : Tag) (mode : Mode)
     (result : Result Decision Refusal) (b : Account) : Type 0 where
@@ -114,7 +111,7 @@ pub record Decides (kind : Kind) (seat : Seated) (a : Account) (uses : ℕ) (tag
   pub trace : b.trace ≡ a.trace ++ steps ++ Took (partition_of tag) taken ∷ Episode (partition_of tag) taken put ∷ []
   pub same : left ≡ uses
 
--- The mode is strong, and memory is wanting in the turn of a session, before all is moved that stands in its way:
+-- The mode is strong, and memory runs out in the turn of a session, before all is moved that stands in its way:
 -- there is no episode that decides.
 pub record StopsMoving (limit : ℕ) (a : Account) (uses : ℕ) (tag : Tag) (mode : Mode) (b : Account) (left : ℕ) :
     Type 0 where
@@ -166,31 +163,3 @@ IsRequested limit a tag mode (Ok decision.Queued) b =
     (held : Mode → Bool) × (b ≡ account_queued limit a tag mode held b.fast.remembered b.trace)
 IsRequested limit a tag mode (Err refusal) b =
     b ≡ record a { fast = record (a.fast) { remembered = b.fast.remembered }; trace = b.trace }
-
--- What joins the trace of an acquire, by its answer. One of a mode with an entry makes no step, nor does one that its
--- own limits refuse, or want of memory for its entry. Every other one is a request.
-abbrev pub Acquires : Seated → Owned → Account → ℕ → Tag → Mode → Result Acquired Refusal → Account → ℕ → Type 0
-Acquires seat owned a uses tag mode (Ok AlreadyHeld) b left = (b ≡ a) × (left ≡ uses)
-Acquires seat owned a uses tag mode (Ok Granted) b left =
-    Requests Conditional seat a uses tag mode (Ok decision.Granted) b left
-Acquires seat owned a uses tag mode (Err CountFull) b left = (b ≡ a) × (left ≡ uses)
-Acquires seat owned a uses tag mode (Err LocalFull) b left = (b ≡ a) × (left ≡ uses)
-Acquires seat owned a uses tag mode (Err NoMemory) b left =
-    ((has_entry owned.entries tag mode ≡ false) × (owned.room ≡ 0) × (b ≡ a) × (left ≡ uses))
-    ⊎ Requests Conditional seat a uses tag mode (Err NoMemory) b left
-Acquires seat owned a uses tag mode (Err refusal) b left =
-    Requests Conditional seat a uses tag mode (Err refusal) b left
-
--- What joins the trace of an acquire by the fast path alone, by its answer. One of a mode with an entry makes no
--- step, nor does one that may not go by a slot, nor one that its own limits refuse, or want of memory for its entry.
--- Every other one is tried once, and waits for nobody.
-abbrev pub AcquiresBySlot : ℕ → Owned → Account → ℕ → Tag → Mode → Result Acquired Refusal → Account → ℕ → Type 0
-AcquiresBySlot number owned a uses tag mode (Ok AlreadyHeld) b left = (b ≡ a) × (left ≡ uses)
-AcquiresBySlot number owned a uses tag mode (Ok Granted) b left = TriesGrant number a uses tag mode (Ok tt) b left
-AcquiresBySlot number owned a uses tag mode (Err CountFull) b left = (b ≡ a) × (left ≡ uses)
-AcquiresBySlot number owned a uses tag mode (Err NotEligible) b left = (b ≡ a) × (left ≡ uses)
-AcquiresBySlot number owned a uses tag mode (Err LocalFull) b left = (b ≡ a) × (left ≡ uses)
-AcquiresBySlot number owned a uses tag mode (Err NoMemory) b left =
-    (has_entry owned.entries tag mode ≡ false) × (owned.room ≡ 0) × (b ≡ a) × (left ≡ uses)
-AcquiresBySlot number owned a uses tag mode (Err refusal) b left =
-    TriesGrant number a uses tag mode (Err refusal) b left

@@ -3,9 +3,10 @@ use Rattle.modes_core.specs.declared.modes.Mode.{Mode}
 use Rattle.modes_core.specs.declared.tags.Tag.{Tag}
 use Rattle.modes_core.specs.Conflict.{conflict}
 use Rattle.local_locks.specs.declared.records.Entry.{Entry}
-use Rattle.local_locks.specs.Owned.{Owned, has_entry}
+use Rattle.local_locks.specs.Owned.{Owned, has_entry, IsWellOwned}
 use Rattle.lock_world.specs.Account.{Account}
 use Rattle.shared_rule.specs.Boards.{Seated, Stack}
+use Rattle.lock_manager.specs.declared.sessions.Own.{Own}
 use Rattle.lock_manager.specs.Rest.{IsAtRest}
 
 -- What contracts see of a session: its board, its database, its use count of its fast-path slots, and what it owns.
@@ -14,6 +15,13 @@ pub record SessionView (B : Type 0) : Type 0 where
   pub database : ℕ
   pub uses : ℕ
   pub owned : Owned
+
+-- A call keeps whose session it is made on: its seat, its database, and how many entries it may have. What it owns is well owned after it.
+pub record KeepsOwn (seat : Seated) (old : Own) (seat_after : Seated) (new : Own) : Type 0 where
+  pub seat_ : seat_after ≡ seat
+  pub database : new.database ≡ old.database
+  pub max_local : new.locals.max_local ≡ old.locals.max_local
+  pub well_owned : IsWellOwned new.locals
 
 -- No entry of the one is of a mode that conflicts with the mode of an entry of the other on the same object.
 abbrev pub DontConflict : List Entry → List Entry → Type 0

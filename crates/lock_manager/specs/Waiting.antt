@@ -1,13 +1,11 @@
 use Rattle.std.specs.Prelude.{◌≡◌, ◌⊎◌, ◌↔◌, ℕ, ◌==◌, Bool, true, false, List, [], ◌∷◌, ◌++◌, Result, Ok, Err, Some, None, if◌then◌else◌}
 use Rattle.modes_core.specs.declared.modes.Mode.{Mode}
 use Rattle.modes_core.specs.declared.tags.Tag.{Tag}
-use Rattle.modes_core.specs.declared.sessions.Owner.{Owner}
 use Rattle.modes_core.specs.declared.refusals.Refusal.{Refusal}
-use Rattle.modes_core.specs.declared.refusals.Refusal.TheVariants.{NoMemory, LocalFull, CountFull}
 use Rattle.modes_core.specs.declared.refusals.Refusal.TheVariants as refusal_
 use Rattle.modes_core.specs.Tag.{partition_of}
 use Rattle.local_locks.specs.declared.records.Entry.{Entry}
-use Rattle.local_locks.specs.Owned.{Owned, has_entry, with_one_more}
+use Rattle.local_locks.specs.Owned.{has_entry}
 use Rattle.lock_table.specs.Content.{Content}
 use Rattle.lock_table.specs.Content as content
 use Rattle.lock_table.specs.declared.moves.Move.TheVariants.{Leave}
@@ -20,17 +18,13 @@ use Rattle.lock_world.specs.WaitWord.{wait_state, is_asked}
 use Rattle.lock_world.specs.World.{TraceEntry, Took, Episode, AskedToCancel, Loaded}
 use Rattle.lock_world.specs.Account.{Account}
 use Rattle.lock_world.specs.AccountSteps.{account_tracing, own_with}
-use Rattle.shared_rule.specs.Boards.{Seated, Stack, nothing_due}
-use Rattle.lock_manager.specs.declared.waiting.Started.{Started}
-use Rattle.lock_manager.specs.declared.waiting.Started.TheVariants.{Granted, AlreadyHeld, Queued}
+use Rattle.shared_rule.specs.Boards.{Stack, nothing_due}
 use Rattle.lock_manager.specs.declared.waiting.Asked.{Asked}
 use Rattle.lock_manager.specs.declared.waiting.Asked.TheVariants as asked
-use Rattle.lock_manager.specs.declared.waiting.Polled.{Polled}
-use Rattle.lock_manager.specs.declared.waiting.Polled.TheVariants as polled
-use Rattle.lock_manager.specs.declared.waiting.Cancelled.{Cancelled}
-use Rattle.lock_manager.specs.declared.waiting.Cancelled.TheVariants as cancelled
+use Rattle.lock_manager.specs.declared.waiting.Looked.{Looked}
+use Rattle.lock_manager.specs.declared.waiting.Looked.TheVariants as looked
 use Rattle.lock_manager.specs.Rest.{counted_for, account_at_rest, IsUseCount}
-use Rattle.lock_manager.specs.Requests.{Requests, counted_granted}
+use Rattle.lock_manager.specs.Requests.{counted_granted}
 
 -- Waits of a session, as its account and its trace have them.
 
@@ -75,30 +69,6 @@ pub record IsInWait (a : Account) (stack : Stack) (tag : Tag) (mode : Mode) : Ty
   pub no_content : a.hand ≡ (λ _. None)
   pub nothing_left : stack ≡ nothing_due
 
--- ---- an acquire that may wait
-
--- the entries after it
-abbrev pub entries_started : Started → List Entry → Tag → Mode → Owner → List Entry
-entries_started Granted entries tag mode owner = with_one_more entries tag mode owner
-entries_started AlreadyHeld entries tag mode owner = with_one_more entries tag mode owner
-entries_started Queued entries tag mode owner = entries
-
--- What joins the trace of an acquire that may wait, by its answer. One of a mode with an entry makes no step, nor
--- does one that its own limits refuse, or want of memory for its entry. Every other one is a request.
-abbrev pub Starts : Seated → Owned → Account → ℕ → Tag → Mode → Result Started Refusal → Account → ℕ → Type 0
-Starts seat owned a uses tag mode (Ok AlreadyHeld) b left = (b ≡ a) × (left ≡ uses)
-Starts seat owned a uses tag mode (Ok Granted) b left =
-    Requests kind.Waiting seat a uses tag mode (Ok decision.Granted) b left
-Starts seat owned a uses tag mode (Ok Queued) b left =
-    Requests kind.Waiting seat a uses tag mode (Ok decision.Queued) b left
-Starts seat owned a uses tag mode (Err CountFull) b left = (b ≡ a) × (left ≡ uses)
-Starts seat owned a uses tag mode (Err LocalFull) b left = (b ≡ a) × (left ≡ uses)
-Starts seat owned a uses tag mode (Err NoMemory) b left =
-    ((has_entry owned.entries tag mode ≡ false) × (owned.room ≡ 0) × (b ≡ a) × (left ≡ uses))
-    ⊎ Requests kind.Waiting seat a uses tag mode (Err NoMemory) b left
-Starts seat owned a uses tag mode (Err refusal) b left =
-    Requests kind.Waiting seat a uses tag mode (Err refusal) b left
-
 -- ---- asking and looking
 
 -- The session asks another to cancel its wait, whose wait word showed this before, and says whether it waited.
@@ -116,13 +86,13 @@ pub record LooksForWaiters (before : List TraceEntry) (tag : Tag) (mode : Mode) 
   pub trace : after ≡ before ++ Took (partition_of tag) taken ∷ Episode (partition_of tag) taken taken ∷ []
 
 -- what a wait word tells its session
-abbrev pub polled_as : ℕ → Polled
+abbrev pub polled_as : ℕ → Looked
 polled_as shown =
-    if wait_state shown == 2 then polled.Granted
-    else (if is_asked shown then polled.CancelAsked else polled.Still)
+    if wait_state shown == 2 then looked.Granted
+    else (if is_asked shown then looked.CancelAsked else looked.Still)
 
--- One load of the own wait word gives the answer.
-pub record Polls (number : ℕ) (before : List TraceEntry) (answer : Polled) (after : List TraceEntry) : Type 0 where
+-- One load of its own wait word gives the answer.
+pub record Polls (number : ℕ) (before : List TraceEntry) (answer : Looked) (after : List TraceEntry) : Type 0 where
   pub shown : ℕ
   pub answered : answer ≡ polled_as shown
   pub trace : after ≡ before ++ Loaded (Wait number) shown ∷ []
@@ -146,15 +116,15 @@ pub record FindsGrant (number : ℕ) (before : List TraceEntry) (tag : Tag) (mod
   pub held : taken.holds number tag mode ≡ true
   pub trace : after ≡ before ++ Took (partition_of tag) taken ∷ Episode (partition_of tag) taken taken ∷ []
 
--- What joins the trace of a cancel, by its answer.
-abbrev pub Cancels : ℕ → List TraceEntry → Tag → Mode → Cancelled → List TraceEntry → Type 0
-Cancels number before tag mode cancelled.Removed after = Leaves number before tag after
-Cancels number before tag mode cancelled.WasGranted after = FindsGrant number before tag mode after
+-- What joins the trace of a cancel, by whether the wait was granted.
+abbrev pub Cancels : ℕ → List TraceEntry → Tag → Mode → Bool → List TraceEntry → Type 0
+Cancels number before tag mode false after = Leaves number before tag after
+Cancels number before tag mode true after = FindsGrant number before tag mode after
 
 -- the account once the wait is over, by how it ended
-abbrev pub account_cancelled : Account → Tag → Mode → Cancelled → List TraceEntry → Account
-account_cancelled a tag mode cancelled.Removed trace = record a { awaited = None; seen = false; trace = trace }
-account_cancelled a tag mode cancelled.WasGranted trace = record a {
+abbrev pub account_cancelled : Account → Tag → Mode → Bool → List TraceEntry → Account
+account_cancelled a tag mode false trace = record a { awaited = None; seen = false; trace = trace }
+account_cancelled a tag mode true trace = record a {
   own = own_with a.own tag mode true;
   awaited = None;
   seen = false;
@@ -163,20 +133,20 @@ account_cancelled a tag mode cancelled.WasGranted trace = record a {
 
 -- ---- waiting
 
--- These are loads of the own wait word that show neither a grant nor that the session was asked to cancel.
+-- These are loads of its own wait word that show neither a grant nor that the session was asked to cancel.
 abbrev pub IsWatch : ℕ → List TraceEntry → Type 0
 IsWatch number [] = Unit {0}
 IsWatch number (entry ∷ entries) =
-    (shown : ℕ) × (entry ≡ Loaded (Wait number) shown) × (polled_as shown ≡ polled.Still) × IsWatch number entries
+    (shown : ℕ) × (entry ≡ Loaded (Wait number) shown) × (polled_as shown ≡ looked.Still) × IsWatch number entries
 
 -- How a wait ends, after the load that showed this: granted, or asked to cancel, which the session does itself; then
 -- it may find that the grant was first.
 abbrev pub EndsWait : ℕ → List TraceEntry → Tag → Mode → ℕ → Result (Unit {0}) Refusal → List TraceEntry → Type 0
 EndsWait number before tag mode shown (Ok done) after =
-    ((polled_as shown ≡ polled.Granted) × (after ≡ before))
-    ⊎ ((polled_as shown ≡ polled.CancelAsked) × Cancels number before tag mode cancelled.WasGranted after)
+    ((polled_as shown ≡ looked.Granted) × (after ≡ before))
+    ⊎ ((polled_as shown ≡ looked.CancelAsked) × Cancels number before tag mode true after)
 EndsWait number before tag mode shown (Err refusal_.Cancelled) after =
-    (polled_as shown ≡ polled.CancelAsked) × Cancels number before tag mode cancelled.Removed after
+    (polled_as shown ≡ looked.CancelAsked) × Cancels number before tag mode false after
 EndsWait number before tag mode shown (Err refusal) after = ⊥
 
 -- A whole wait: it looks before each sleep, and ends by what the last look showed.

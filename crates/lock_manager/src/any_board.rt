@@ -16,7 +16,7 @@ use std::sync::Wait;
 
 impl<T: PartTable, B: Board<T>> OwnSession<T, B> {
     /// A session of this database over a board on which nothing was done: for tests of a session's calls over boards of
-    /// their own, since a manager's sessions are opened by its opener. Where memory is wanting the board comes back.
+    /// their own, since a manager's sessions are opened by its opener. Where memory runs out the board comes back.
     pub fn over(alloc: Global, board: B, database: u32, max_local: u32) -> Result<Self, B>
         requires limit { (B.seat board).limit ≤ 64 }
         requires blank { B.view board ≡ blank_account }
@@ -26,6 +26,7 @@ impl<T: PartTable, B: Board<T>> OwnSession<T, B> {
         ensures seat { IfOk result (λ session. B.seat session.board ≡ B.seat board) }
         ensures database { IfOk result (λ session. session.database ≡ database) }
         ensures nothing { IfOk result (λ session. session.owned.entries ≡ []) }
+        ensures first_level { IfOk result (λ session. session.owned.outer ≡ []) }
         ensures back { IfErr result (λ back. back ≡ board) }
     {
         match Own::new(alloc, database, max_local) {

@@ -33,7 +33,7 @@ impl Manager {
     /// counters, takes the partitions in rising order, loads with all in hand each slot of each session that there can be, and
     /// puts the partitions back. With no session it makes no step and counts nothing.
     ///
-    /// Memory is taken for the rows of the partitions alone. Where it is wanting the audit is refused; then, too, opener,
+    /// Memory is taken for the rows of the partitions alone. Where it is missing the audit is refused; then, too, opener,
     /// sessions and table are as before, but for the first session's trace. PostgreSQL has no such call; nearest is a sum
     /// over the view `pg_locks`.
     pub fn audit<'a, R: Wait>(
@@ -104,7 +104,7 @@ fn audit_all<'a, R: Wait>(
     counted
 }
 
-// Gathers one session more, with these left.
+// Gathers one more session, with these left.
 fn gather_next<'a>(
     table: &Top<Part>,
     numbers: &mut NumberOpener<Part>,

@@ -27,7 +27,7 @@ pub trait Desk<S> {
     // At which table a session is, and under which number.
     ghost seat: { S → Seated };
 
-    /// Opens a session of this database. It is refused where all numbers are given out, and then where memory is wanting.
+    /// Opens a session of this database. It is refused where all numbers are given out, and then where memory runs out.
     fn open(&mut self, database: u32) -> Result<S, Refusal>
         ensures manager { manager self.new ≡ manager self.old }
         ensures own { IfOk result (λ session. (seat session).table ≡ (manager self.old).table) }

@@ -40,7 +40,7 @@ pub fn list<T: PartTable, B: Board<T>, R: Wait>(
         (B.view board.new) (B.stack board.new) own.now.locals.entries }
     ensures seat { B.seat board.new ≡ B.seat board.old }
 {
-    // The own slots are among those that are read, and a row has room for the own database.
+    // Its own slots are among those that are read, and a row has room for its own database.
     let is_among = board.number().number() < board.sessions();
     let has_room = own.database <= u32::MAX;
     prove!(is_among && has_room);

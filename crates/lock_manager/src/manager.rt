@@ -81,7 +81,7 @@ impl Model for Opener {
 
 impl Manager {
     /// A manager with no session yet, and its opener (`InitLocks` in lock.c with `InitProcGlobal` in proc.c). It is refused
-    /// where a number of the configuration is out of its range, and then where memory is wanting.
+    /// where a number of the configuration is out of its range, and then where memory runs out.
     pub fn new(alloc: Global, config: Config) -> Result<(Manager, Opener), Refusal>
         ensures ok { IfOk result (λ made. IsNew made.0 made.1 config) }
         ensures bad_config { IsErrOf result Refusal.BadConfig ↔ (is_in_range config ≡ false) }
@@ -140,7 +140,7 @@ impl Opener {
 
     /// A new session of this database, with room for one local entry (`InitProcess` in proc.c, with `databaseId`
     /// stored as `InitPostgres` in postinit.c does). Numbers are given in rising order and never again. It is refused
-    /// where all are given out, and then where memory is wanting; the opener is then as before.
+    /// where all are given out, and then where memory runs out; the opener is then as before.
     pub fn session<'a>(
         &mut self,
         manager: &'a Manager,

@@ -3,7 +3,7 @@
 ghost use Rattle.std.specs.Prelude.{◌≡◌, ◌<◌, ℕ, true, false, List, [], ◌∷◌, None};
 ghost use Rattle.modes_core.specs.Tag.{is_strong_on};
 ghost use Rattle.lock_world.specs.SlotHolds.{slot_holds};
-ghost use Rattle.local_locks.specs.Owned.{ended_by, left_by, IsWellOwned};
+ghost use Rattle.local_locks.specs.Owned.{level_of, found_by, ended_by, left_by, outer_after, IsWellOwned};
 ghost use Rattle.lock_world.specs.AccountSteps.{account_putting};
 ghost use Rattle.lock_world.specs.Counted.{is_counted};
 ghost use Rattle.lock_world.specs.Happens.Partitions.{WaitIsOver};
@@ -11,6 +11,7 @@ ghost use Rattle.shared_rule.specs.History.{taken_of};
 ghost use Rattle.shared_rule.specs.Lawful.{IsGrantingIn};
 ghost use Rattle.shared_rule.specs.Boards.{stack_putting};
 ghost use Rattle.lock_manager.specs.Rest.{IsIdle, IsUseCount, IsAtRest};
+ghost use Rattle.lock_manager.specs.Sessions.{KeepsOwn};
 ghost use Rattle.lock_manager.specs.Releases.{Tells, MayWake, WakesAndPuts, ReleasesInPart, ReleasesHold, Releases, ReleasesAll};
 ghost use Rattle.lock_manager.specs.Releases.{account_released};
 
@@ -23,21 +24,20 @@ use shared_rule::board::Board;
 use std::sync::Wait;
 use wait_queue::take_hold_out;
 
-/// Releases all that the end of a transaction or of the session takes away, in the order of making (`LockReleaseAll` in
-/// lock.c).
+/// Releases all that the end of a transaction, of its innermost level or of the session takes away, in the order of making
+/// (`LockReleaseAll` in lock.c, and `LockReleaseCurrentOwner` there).
 pub fn end_all<T: PartTable, B: Board<T>, R: Wait>(rt: &R, board: &mut B, own: &mut Own, end: End)
     requires rest { IsAtRest (B.seat board.old).limit own.old.database own.old.uses
         (B.view board.old) (B.stack board.old) own.old.locals.entries }
     requires well_owned { IsWellOwned own.old.locals }
+    requires nested { end ≡ End.Inner → 1 < level_of own.old.locals }
     ensures rest { IsAtRest (B.seat board.old).limit own.old.database own.new.uses
         (B.view board.new) (B.stack board.new) own.new.locals.entries }
-    ensures seat { B.seat board.new ≡ B.seat board.old }
     ensures steps { ReleasesAll (B.seat board.old).number (B.view board.old) own.old.uses
-        (ended_by end own.old.locals.entries) (B.view board.new) own.new.uses }
-    ensures entries { own.new.locals.entries ≡ left_by end own.old.locals.entries }
-    ensures database { own.new.database ≡ own.old.database }
-    ensures max_local { own.new.locals.max_local ≡ own.old.locals.max_local }
-    ensures well_owned { IsWellOwned own.new.locals }
+        (ended_by end (found_by end own.old.locals)) (B.view board.new) own.new.uses }
+    ensures entries { own.new.locals.entries ≡ left_by end (found_by end own.old.locals) }
+    ensures levels { own.new.locals.outer ≡ outer_after end own.old.locals.outer }
+    ensures kept { KeepsOwn (B.seat board.old) own.old (B.seat board.new) own.new }
 {
     'entries: while let Some((tag, mode)) = own.locals.end_next(end) {
         release_hold(rt, board, own.database, &mut own.uses, &tag, mode);

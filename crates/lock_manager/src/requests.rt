@@ -1,12 +1,15 @@
-//! Acquires without waiting, and requests of either kind, over any board.
+//! Acquires and requests, of either kind, over any board.
 
-ghost use Rattle.std.specs.Prelude.{◌≡◌, ◌<◌, ◌≤◌, ◌↔◌, ℕ, false, true, length, IsErrOf, OnOk, OnErr};
+ghost use Rattle.std.specs.Prelude.{◌≡◌, ◌≢◌, ◌<◌, ◌≤◌, ◌↔◌, ℕ, false, true, length, IsErrOf, IfOk, OnOk, OnErr};
 ghost use Rattle.modes_core.specs.Tag.{is_strong_on, is_eligible_for};
-ghost use Rattle.local_locks.specs.Owned.{has_entry, owner_count_of, max_count, with_one_more, IsWellOwned};
+ghost use Rattle.local_locks.specs.Owned.{has_entry, with_one_more, IsReserved};
 ghost use Rattle.lock_world.specs.Counted.{is_counted, is_done};
 ghost use Rattle.lock_world.specs.Happens.Counters.{most_counted};
 ghost use Rattle.lock_manager.specs.Rest.{IsIdle, IsUseCount, IsAtRest};
-ghost use Rattle.lock_manager.specs.Requests.{DecidesInPart, Requests, Acquires, AcquiresBySlot, IsRequested};
+ghost use Rattle.lock_manager.specs.Sessions.{KeepsOwn};
+ghost use Rattle.lock_manager.specs.Requests.{DecidesInPart, Requests, IsRequested};
+ghost use Rattle.lock_manager.specs.Acquires.{AnswersByOwned, entries_begun, Begins, AcquiresBySlot};
+ghost use Rattle.lock_manager.specs.Waiting.{IsWaiting};
 
 use crate::sessions::Own;
 use fast_path::{grant, transfer, try_grant};
@@ -17,9 +20,20 @@ use shared_rule::board::Board;
 use std::sync::Wait;
 use wait_queue::{Decision, Kind, decide};
 
-/// Acquires a mode on an object for an owner, or refuses at once (`LockAcquire` in lock.c with `dontWait`). What the
-/// session has already is counted once more, with no step on shared state; a new mode is granted in a slot, or
-/// decided in the object's partition.
+/// How an acquire begins that is not refused.
+#[derive(Clone, Copy, Debug, PartialEq, Eq)]
+pub enum Begun {
+    /// The session has the mode newly.
+    Granted,
+    /// The session had the mode before, and has it once more.
+    AlreadyHeld,
+    /// The session waits for it.
+    Queued,
+}
+
+/// Acquires a mode on an object for an owner, or begins to wait for it where the request may wait (`LockAcquire` in lock.c, up to
+/// `WaitOnLock`). What the session has already is counted once more, with no step on shared state; a new mode is granted in
+/// a slot, or decided in the object's partition. While the session waits room is reserved for the entry.
 pub fn acquire<T: PartTable, B: Board<T>, R: Wait>(
     rt: &R,
     board: &mut B,
@@ -27,52 +41,43 @@ pub fn acquire<T: PartTable, B: Board<T>, R: Wait>(
     tag: Tag,
     mode: Mode,
     owner: Owner,
-) -> Result<Acquired, Refusal>
+    kind: Kind,
+) -> Result<Begun, Refusal>
     requires few { (B.seat board.old).limit ≤ 64 }
     requires few_entries { own.old.locals.max_local ≤ 65536 }
     requires rest { IsAtRest (B.seat board.old).limit own.old.database own.old.uses
         (B.view board.old) (B.stack board.old) own.old.locals.entries }
-    ensures already_held { (result ≡ Ok Acquired.AlreadyHeld) ↔ ((has_entry own.old.locals.entries tag mode ≡ true)
-        × (owner_count_of own.old.locals.entries tag mode owner < max_count)) }
-    ensures count_full { IsErrOf result Refusal.CountFull
-        ↔ (owner_count_of own.old.locals.entries tag mode owner ≡ max_count) }
-    ensures local_full { IsErrOf result Refusal.LocalFull
-        ↔ ((has_entry own.old.locals.entries tag mode ≡ false)
-        × (length own.old.locals.entries ≡ own.old.locals.max_local)) }
-    ensures steps { Acquires (B.seat board.old) own.old.locals (B.view board.old) own.old.uses tag mode result
+    ensures answers { AnswersByOwned own.old.locals tag mode owner Begun.AlreadyHeld true result }
+    ensures at_once { kind ≡ Kind.Conditional → result ≢ Ok Begun.Queued }
+    ensures steps { Begins kind (B.seat board.old) own.old.locals (B.view board.old) own.old.uses tag mode result
         (B.view board.new) own.new.uses }
-    ensures entries { OnOk result (own.new.locals.entries ≡ with_one_more own.old.locals.entries tag mode owner) }
+    ensures entries { IfOk result (λ begun.
+        own.new.locals.entries ≡ entries_begun begun own.old.locals.entries tag mode owner) }
     ensures same_entries { OnErr result (own.new.locals.entries ≡ own.old.locals.entries) }
-    ensures rest { IsAtRest (B.seat board.old).limit own.old.database own.new.uses
+    ensures rest { result ≢ Ok Begun.Queued → IsAtRest (B.seat board.old).limit own.old.database own.new.uses
         (B.view board.new) (B.stack board.new) own.new.locals.entries }
-    ensures seat { B.seat board.new ≡ B.seat board.old }
-    ensures database { own.new.database ≡ own.old.database }
-    ensures max_local { own.new.locals.max_local ≡ own.old.locals.max_local }
-    ensures well_owned { IsWellOwned own.new.locals }
+    ensures waiting { result ≡ Ok Begun.Queued → IsWaiting (B.seat board.old).limit own.old.database own.new.uses
+        (B.view board.new) (B.stack board.new) own.new.locals.entries tag mode }
+    ensures reserved { result ≡ Ok Begun.Queued → IsReserved own.new.locals tag mode owner }
+    ensures levels { own.new.locals.outer ≡ own.old.locals.outer }
+    ensures kept { KeepsOwn (B.seat board.old) own.old (B.seat board.new) own.new }
 {
     if own.locals.add_held(&tag, mode, owner)? {
-        return Ok(Acquired::AlreadyHeld);
+        return Ok(Begun::AlreadyHeld);
     }
     own.locals.reserve_new()?;
-    match request(
-        rt,
-        board,
-        own.database,
-        &mut own.uses,
-        &tag,
-        mode,
-        Kind::Conditional,
-    ) {
-        Ok(_) => {
+    match request(rt, board, own.database, &mut own.uses, &tag, mode, kind) {
+        Ok(Decision::Granted) => {
             own.locals.add_new(&tag, mode, owner);
-            Ok(Acquired::Granted)
+            Ok(Begun::Granted)
         }
+        Ok(Decision::Queued) => Ok(Begun::Queued),
         Err(refusal) => Err(refusal),
     }
 }
 
 /// Acquires a mode on an object for an owner by the fast path alone, waiting for nobody (`FastPathGrantRelationLock`
-/// in lock.c, with the own slots' lock taken conditionally). What the session has already is counted once more, with
+/// in lock.c, with its own slots' lock taken conditionally). What the session has already is counted once more, with
 /// no step on shared state.
 pub fn acquire_by_slot<T: PartTable, B: Board<T>>(
     board: &mut B,
@@ -83,25 +88,18 @@ pub fn acquire_by_slot<T: PartTable, B: Board<T>>(
 ) -> Result<Acquired, Refusal>
     requires rest { IsAtRest (B.seat board.old).limit own.old.database own.old.uses
         (B.view board.old) (B.stack board.old) own.old.locals.entries }
-    ensures already_held { (result ≡ Ok Acquired.AlreadyHeld) ↔ ((has_entry own.old.locals.entries tag mode ≡ true)
-        × (owner_count_of own.old.locals.entries tag mode owner < max_count)) }
-    ensures count_full { IsErrOf result Refusal.CountFull
-        ↔ (owner_count_of own.old.locals.entries tag mode owner ≡ max_count) }
+    ensures answers { AnswersByOwned own.old.locals tag mode owner Acquired.AlreadyHeld
+        (is_eligible_for own.old.database tag mode) result }
     ensures not_eligible { IsErrOf result Refusal.NotEligible ↔ ((has_entry own.old.locals.entries tag mode ≡ false)
         × (is_eligible_for own.old.database tag mode ≡ false)) }
-    ensures local_full { IsErrOf result Refusal.LocalFull ↔ ((has_entry own.old.locals.entries tag mode ≡ false)
-        × (is_eligible_for own.old.database tag mode ≡ true)
-        × (length own.old.locals.entries ≡ own.old.locals.max_local)) }
     ensures steps { AcquiresBySlot (B.seat board.old).number own.old.locals (B.view board.old) own.old.uses
         tag mode result (B.view board.new) own.new.uses }
     ensures entries { OnOk result (own.new.locals.entries ≡ with_one_more own.old.locals.entries tag mode owner) }
     ensures same_entries { OnErr result (own.new.locals.entries ≡ own.old.locals.entries) }
     ensures rest { IsAtRest (B.seat board.old).limit own.old.database own.new.uses
         (B.view board.new) (B.stack board.new) own.new.locals.entries }
-    ensures seat { B.seat board.new ≡ B.seat board.old }
-    ensures database { own.new.database ≡ own.old.database }
-    ensures max_local { own.new.locals.max_local ≡ own.old.locals.max_local }
-    ensures well_owned { IsWellOwned own.new.locals }
+    ensures levels { own.new.locals.outer ≡ own.old.locals.outer }
+    ensures kept { KeepsOwn (B.seat board.old) own.old (B.seat board.new) own.new }
 {
     if own.locals.add_held(&tag, mode, owner)? {
         return Ok(Acquired::AlreadyHeld);
@@ -192,7 +190,7 @@ fn request_strong<T: PartTable, B: Board<T>, R: Wait>(
     }
 }
 
-/// Decides it there, and where it has to wait stores so in the own wait word (`LockCheckConflicts` with `GrantLock` in
+/// Decides it there, and where it has to wait stores so in its own wait word (`LockCheckConflicts` with `GrantLock` in
 /// lock.c, and `ProcSleep` in proc.c).
 fn decide_in_part<T: PartTable, B: Board<T>, R: Wait>(
     rt: &R,

@@ -1,10 +1,10 @@
 //! Sessions: the calls that a server's thread makes.
 
-ghost use Rattle.std.specs.Prelude.{◌≡◌, ◌≢◌, ◌<◌, ◌≤◌, ◌-◌, ◌↔◌, [], ◌∷◌, ◌++◌, length, true, false};
+ghost use Rattle.std.specs.Prelude.{◌≡◌, ◌≢◌, ◌<◌, ◌≤◌, ◌-◌, ◌↔◌, [], ◌∷◌, ◌++◌, true, false};
 ghost use Rattle.std.specs.Prelude.{IsErrOf, IsOkUnless, IfOk, OnOk, OnErr};
 ghost use Rattle.modes_core.specs.ModeSet.{set_has};
 ghost use Rattle.modes_core.specs.Tag.{is_eligible_for};
-ghost use Rattle.local_locks.specs.Owned.{has_entry, owner_count_of, total_of, max_count, with_one_more, with_one_less, ended_by, left_by, IsWellOwned};
+ghost use Rattle.local_locks.specs.Owned.{max_level, level_of, of_transaction, own_count_of, level_count_of, without_innermost, outer_after, has_entry, total_of, with_one_more, with_one_less, ended_by, left_by, IsWellOwned};
 ghost use Rattle.lock_world.specs.declared.events.Word.TheVariants.{Strong};
 ghost use Rattle.lock_world.specs.AccountSteps.{account_storing};
 ghost use Rattle.lock_world.specs.World.{Loaded};
@@ -13,14 +13,14 @@ ghost use Rattle.shared_rule.specs.Boards.{nothing_due};
 ghost use Rattle.lock_manager.specs.Sessions.{IsSame, IsUnchanged, DontConflict};
 ghost use Rattle.lock_manager.specs.Listings.{Lists};
 ghost use Rattle.lock_manager.specs.Managers.{HasClosed};
-ghost use Rattle.lock_manager.specs.Requests.{Acquires, AcquiresBySlot};
+ghost use Rattle.lock_manager.specs.Acquires.{AnswersByOwned, Acquires, AcquiresBySlot};
 ghost use Rattle.lock_manager.specs.Releases.{Releases, ReleasesAll};
 
 use crate::keeper::Part;
 use crate::listing::{Listing, list};
 use crate::manager::Opener;
 use crate::releases::{end_all, release_hold};
-use crate::requests::{acquire, acquire_by_slot};
+use crate::requests::{Begun, acquire, acquire_by_slot};
 use crossbeam_utils::CachePadded;
 use local_locks::{Acquired, End, LocalTable, Unlocked};
 use lock_table::PartTable;
@@ -30,6 +30,7 @@ use shared_rule::seat_board::SeatBoard;
 use std::alloc::Global;
 use std::marker::{Model, PhantomData};
 use std::sync::Wait;
+use wait_queue::Kind;
 
 /// A session of a manager.
 pub type Session<'a> = OwnSession<Part, SeatBoard<'a, Part>>;
@@ -57,6 +58,7 @@ impl Own {
         ensures database { IfOk result (λ own. own.value.database ≡ database) }
         ensures no_slot { IfOk result (λ own. own.value.uses ≡ 0) }
         ensures nothing { IfOk result (λ own. own.value.locals.entries ≡ []) }
+        ensures first_level { IfOk result (λ own. own.value.locals.outer ≡ []) }
         ensures room { IfOk result (λ own. 0 < own.value.locals.room) }
         ensures max_local { IfOk result (λ own. own.value.locals.max_local ≡ max_local) }
         ensures well_owned { IfOk result (λ own. IsWellOwned own.value.locals) }
@@ -163,9 +165,10 @@ impl<T: PartTable, B: Board<T>> OwnSession<T, B> {
         held
     }
 
-    /// How often the owner has the object in the mode (`LOCALLOCKOWNER` in lock.h).
+    /// How often the owner has the object in the mode and can give it back (`LOCALLOCKOWNER` in lock.h): the session, or the innermost
+    /// level of its transaction.
     pub fn owner_count(&self, tag: Tag, mode: Mode, owner: Owner) -> u16
-        ensures { result ≡ owner_count_of self.now.owned.entries tag mode owner }
+        ensures { result ≡ own_count_of self.now.owned tag mode owner }
     {
         self.own.locals.owner_count(tag, mode, owner)
     }
@@ -174,7 +177,7 @@ impl<T: PartTable, B: Board<T>> OwnSession<T, B> {
     /// `dontWait`). What the session has already is counted once more, with no step on shared state. A weak mode on a
     /// relation of the session's database is granted in one of its fast-path slots, unless all are in use or a strong
     /// lock is counted. It is refused, in this order, where the owner's count is full, the local table is full,
-    /// memory is wanting, or the request conflicts with a hold or wait of another session. After a refusal the
+    /// memory runs out, or the request conflicts with a hold or wait of another session. After a refusal the
     /// session holds what it held.
     pub fn try_lock<R: Wait>(
         &mut self,
@@ -184,12 +187,7 @@ impl<T: PartTable, B: Board<T>> OwnSession<T, B> {
         owner: Owner,
     ) -> Result<Acquired, Refusal>
         // What it is answered.
-        ensures already_held { (result ≡ Ok Acquired.AlreadyHeld) ↔ ((has_entry self.old.owned.entries tag mode ≡ true)
-            × (owner_count_of self.old.owned.entries tag mode owner < max_count)) }
-        ensures count_full { IsErrOf result Refusal.CountFull
-            ↔ (owner_count_of self.old.owned.entries tag mode owner ≡ max_count) }
-        ensures local_full { IsErrOf result Refusal.LocalFull ↔ ((has_entry self.old.owned.entries tag mode ≡ false)
-            × (length self.old.owned.entries ≡ self.old.owned.max_local)) }
+        ensures answers { AnswersByOwned self.old.owned tag mode owner Acquired.AlreadyHeld true result }
         ensures steps { Acquires (B.seat self.old.board) self.old.owned (B.view self.old.board) self.old.uses tag mode
             result (B.view self.new.board) self.new.uses }
 
@@ -197,28 +195,37 @@ impl<T: PartTable, B: Board<T>> OwnSession<T, B> {
         ensures entries { OnOk result (self.new.owned.entries
             ≡ with_one_more self.old.owned.entries tag mode owner) }
         ensures same_entries { OnErr result (self.new.owned.entries ≡ self.old.owned.entries) }
+        ensures levels { self.new.owned.outer ≡ self.old.owned.outer }
         ensures same { IsSame B.seat B.view B.stack self.old self.new }
     {
-        acquire(rt, &mut self.board, &mut self.own, tag, mode, owner)
+        match acquire(
+            rt,
+            &mut self.board,
+            &mut self.own,
+            tag,
+            mode,
+            owner,
+            Kind::Conditional,
+        ) {
+            Ok(Begun::AlreadyHeld) => Ok(Acquired::AlreadyHeld),
+            Ok(Begun::Granted) => Ok(Acquired::Granted),
+            Ok(Begun::Queued) => unreachable!(),
+            Err(refusal) => Err(refusal),
+        }
     }
 
     /// Takes a mode on an object for an owner in one of the session's fast-path slots, or refuses, and waits for
-    /// nobody (`FastPathGrantRelationLock` in lock.c, where the lock of the own slots is free). What the session has
+    /// nobody (`FastPathGrantRelationLock` in lock.c, where the lock of its own slots is free). What the session has
     /// already is counted once more, wherever it stands, unless the owner's count is full. It is refused, in this
-    /// order, where the mode on the object may not go by a slot, the local table is full, memory is wanting, all
-    /// sixteen slots are in use, somebody has the lock of the own slots, or a strong lock is counted. After a refusal
+    /// order, where the mode on the object may not go by a slot, the local table is full, memory runs out, all
+    /// sixteen slots are in use, somebody has the lock of its own slots, or a strong lock is counted. After a refusal
     /// the session holds what it held.
     pub fn try_fast(&mut self, tag: Tag, mode: Mode, owner: Owner) -> Result<Acquired, Refusal>
         // What it is answered.
-        ensures already_held { (result ≡ Ok Acquired.AlreadyHeld) ↔ ((has_entry self.old.owned.entries tag mode ≡ true)
-            × (owner_count_of self.old.owned.entries tag mode owner < max_count)) }
-        ensures count_full { IsErrOf result Refusal.CountFull
-            ↔ (owner_count_of self.old.owned.entries tag mode owner ≡ max_count) }
+        ensures answers { AnswersByOwned self.old.owned tag mode owner Acquired.AlreadyHeld
+            (is_eligible_for self.old.database tag mode) result }
         ensures not_eligible { IsErrOf result Refusal.NotEligible ↔ ((has_entry self.old.owned.entries tag mode ≡ false)
             × (is_eligible_for self.old.database tag mode ≡ false)) }
-        ensures local_full { IsErrOf result Refusal.LocalFull ↔ ((has_entry self.old.owned.entries tag mode ≡ false)
-            × (is_eligible_for self.old.database tag mode ≡ true)
-            × (length self.old.owned.entries ≡ self.old.owned.max_local)) }
         ensures steps { AcquiresBySlot (B.seat self.old.board).number self.old.owned (B.view self.old.board)
             self.old.uses tag mode result (B.view self.new.board) self.new.uses }
 
@@ -226,6 +233,7 @@ impl<T: PartTable, B: Board<T>> OwnSession<T, B> {
         ensures entries { OnOk result (self.new.owned.entries
             ≡ with_one_more self.old.owned.entries tag mode owner) }
         ensures same_entries { OnErr result (self.new.owned.entries ≡ self.old.owned.entries) }
+        ensures levels { self.new.owned.outer ≡ self.old.owned.outer }
         ensures same { IsSame B.seat B.view B.stack self.old self.new }
     {
         acquire_by_slot(&mut self.board, &mut self.own, tag, mode, owner)
@@ -242,10 +250,10 @@ impl<T: PartTable, B: Board<T>> OwnSession<T, B> {
     ) -> Result<Unlocked, Refusal>
         // What it is answered.
         ensures not_held { IsErrOf result Refusal.NotHeld
-            ↔ (owner_count_of self.old.owned.entries tag mode owner ≡ 0) }
+            ↔ (own_count_of self.old.owned tag mode owner ≡ 0) }
         ensures no_other { IsOkUnless result Refusal.NotHeld }
         ensures still_held { (result ≡ Ok Unlocked.StillHeld)
-            ↔ ((0 < owner_count_of self.old.owned.entries tag mode owner)
+            ↔ ((0 < own_count_of self.old.owned tag mode owner)
             × (0 < total_of self.new.owned.entries tag mode)) }
         ensures released { result ≡ Ok Unlocked.Released → Releases (B.seat self.old.board).number
             (B.view self.old.board) self.old.uses tag mode (B.view self.new.board) self.new.uses }
@@ -257,6 +265,7 @@ impl<T: PartTable, B: Board<T>> OwnSession<T, B> {
         ensures entries { OnOk result (self.new.owned.entries
             ≡ with_one_less self.old.owned.entries tag mode owner) }
         ensures same_entries { OnErr result (self.new.owned.entries ≡ self.old.owned.entries) }
+        ensures levels { self.new.owned.outer ≡ self.old.owned.outer }
         ensures same { IsSame B.seat B.view B.stack self.old self.new }
     {
         let own: &mut Own = &mut self.own;
@@ -269,37 +278,114 @@ impl<T: PartTable, B: Board<T>> OwnSession<T, B> {
         }
     }
 
-    /// Ends a transaction that succeeded: what it owns goes, and what the session owns stays (`LockReleaseAll` in lock.c
+    /// Ends a transaction that succeeded, with all its levels: what it owns goes, and what the session owns stays (`LockReleaseAll` in lock.c
     /// without `allLocks`). Holds are released in the order of making.
     pub fn commit<R: Wait>(&mut self, rt: &R)
         ensures entries { self.new.owned.entries ≡ left_by End.Commit self.old.owned.entries }
         ensures released { ReleasesAll (B.seat self.old.board).number (B.view self.old.board) self.old.uses
             (ended_by End.Commit self.old.owned.entries) (B.view self.new.board) self.new.uses }
+        ensures first_level { self.new.owned.outer ≡ [] }
         ensures same { IsSame B.seat B.view B.stack self.old self.new }
     {
         end_all(rt, &mut self.board, &mut self.own, End::Commit);
     }
 
-    /// Ends a transaction that failed: all that it and the session own goes, but for the session's advisory locks, which stay
+    /// Ends a transaction that failed, with all its levels: all that it and the session own goes, but for the session's advisory locks, which stay
     /// (`LockReleaseAll` in lock.c, with `allLocks` for the default lock method and without for the user method).
     pub fn abort<R: Wait>(&mut self, rt: &R)
         ensures entries { self.new.owned.entries ≡ left_by End.Abort self.old.owned.entries }
         ensures released { ReleasesAll (B.seat self.old.board).number (B.view self.old.board) self.old.uses
             (ended_by End.Abort self.old.owned.entries) (B.view self.new.board) self.new.uses }
+        ensures first_level { self.new.owned.outer ≡ [] }
         ensures same { IsSame B.seat B.view B.stack self.old self.new }
     {
         end_all(rt, &mut self.board, &mut self.own, End::Abort);
     }
 
+    /// Begins a level of the transaction within the innermost one, and answers the new level (a savepoint: `PushTransaction` in
+    /// xact.c, with a resource owner of its own in resowner.c). What is acquired for the transaction from then on is that
+    /// level's, until it ends. A transaction begins at level 1, and has at most 16. It makes no step, and takes no memory.
+    pub fn begin_nested(&mut self) -> Result<u8, Refusal>
+        ensures too_deep { IsErrOf result Refusal.TooDeep ↔ (level_of self.old.owned ≡ max_level) }
+        ensures no_other { IsOkUnless result Refusal.TooDeep }
+        ensures level { IfOk result (λ level. level ≡ level_of self.new.owned) }
+        ensures begun { OnOk result
+            (self.new.owned.outer ≡ self.old.owned.outer ++ of_transaction self.old.owned.entries ∷ []) }
+        ensures entries { self.new.owned.entries ≡ self.old.owned.entries }
+        ensures refused { OnErr result (self.new.owned ≡ self.old.owned) }
+        ensures no_step { B.view self.new.board ≡ B.view self.old.board }
+        ensures uses { self.new.uses ≡ self.old.uses }
+        ensures same { IsSame B.seat B.view B.stack self.old self.new }
+    {
+        self.own.locals.begin_nested()
+    }
+
+    /// Ends the innermost level, which succeeded, and answers the new level: what it has is that of the level that it was begun in
+    /// (`LockReassignCurrentOwner` in lock.c). Refused at level 1; nothing has changed then. It makes no step, and takes no
+    /// memory.
+    pub fn commit_nested(&mut self) -> Result<u8, Refusal>
+        ensures no_nested { IsErrOf result Refusal.NoNested ↔ (level_of self.old.owned ≡ 1) }
+        ensures no_other { IsOkUnless result Refusal.NoNested }
+        ensures level { IfOk result (λ level. level ≡ level_of self.new.owned) }
+        ensures handed_up { OnOk result (self.new.owned.outer ≡ outer_after End.Inner self.old.owned.outer) }
+        ensures entries { self.new.owned.entries ≡ self.old.owned.entries }
+        ensures refused { OnErr result (self.new.owned ≡ self.old.owned) }
+        ensures no_step { B.view self.new.board ≡ B.view self.old.board }
+        ensures uses { self.new.uses ≡ self.old.uses }
+        ensures same { IsSame B.seat B.view B.stack self.old self.new }
+    {
+        self.own.locals.hand_up()
+    }
+
+    /// Ends the innermost level, which failed, and answers the new level: what it has goes, and what the levels outside it and the
+    /// session have stays (`LockReleaseCurrentOwner` in lock.c). Holds that nobody else has are released, in the order of
+    /// making, whatever their lock method. Refused at level 1; nothing has changed then.
+    pub fn abort_nested<R: Wait>(&mut self, rt: &R) -> Result<u8, Refusal>
+        ensures no_nested { IsErrOf result Refusal.NoNested ↔ (level_of self.old.owned ≡ 1) }
+        ensures no_other { IsOkUnless result Refusal.NoNested }
+        ensures level { IfOk result (λ level. level ≡ level_of self.new.owned) }
+        ensures entries { OnOk result
+            (self.new.owned.entries ≡ left_by End.Inner (without_innermost self.old.owned)) }
+        ensures released { OnOk result (ReleasesAll (B.seat self.old.board).number (B.view self.old.board) self.old.uses
+            (ended_by End.Inner (without_innermost self.old.owned)) (B.view self.new.board) self.new.uses) }
+        ensures levels { OnOk result (self.new.owned.outer ≡ outer_after End.Inner self.old.owned.outer) }
+        ensures refused { OnErr result (self.new.owned ≡ self.old.owned) }
+        ensures no_step { OnErr result (B.view self.new.board ≡ B.view self.old.board) }
+        ensures same_uses { OnErr result (self.new.uses ≡ self.old.uses) }
+        ensures same { IsSame B.seat B.view B.stack self.old self.new }
+    {
+        if self.own.locals.level() == 1 {
+            return Err(Refusal::NoNested);
+        }
+        end_all(rt, &mut self.board, &mut self.own, End::Inner);
+        Ok(self.own.locals.level())
+    }
+
+    /// The level of the transaction: 1, and one more for each that was begun within it (`GetCurrentTransactionNestLevel` in xact.c).
+    pub fn level(&self) -> u8
+        ensures { result ≡ level_of self.now.owned }
+    {
+        self.own.locals.level()
+    }
+
+    /// How often one level of the transaction has the object in the mode.
+    pub fn level_count(&self, tag: Tag, mode: Mode, level: u8) -> u16
+        requires from { 1 ≤ level }
+        requires to { level ≤ level_of self.now.owned }
+        ensures { result ≡ level_count_of self.now.owned tag mode level }
+    {
+        self.own.locals.level_count(tag, mode, level)
+    }
+
     /// All that is held and awaited (`GetLockStatusData` in lock.c): first what the slots show, session by session, then the
     /// lock table at one moment, at which the session has all partitions in hand. A hold that is moved from a slot to the table
     /// meanwhile may be in both; one that stands all the while is in one of them. Only the lists of the answer take memory; where
-    /// that is wanting it is refused.
+    /// that is missing it is refused.
     pub fn list<R: Wait>(&mut self, rt: &R) -> Result<Listing, Refusal>
         ensures listed { Lists (B.seat self.old.board).limit (B.seat self.old.board).number (B.view self.old.board)
             result (B.view self.new.board) }
         ensures no_memory { IsOkUnless result Refusal.NoMemory }
-        ensures entries { self.new.owned.entries ≡ self.old.owned.entries }
+        ensures owned { self.new.owned ≡ self.old.owned }
         ensures uses { self.new.uses ≡ self.old.uses }
         ensures same { IsSame B.seat B.view B.stack self.old self.new }
     {

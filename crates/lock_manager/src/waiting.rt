@@ -1,15 +1,17 @@
-//! Acquires that may wait, and their waits, over any board.
+//! Acquires that wait where they must, and their waits, over any board.
 
-ghost use Rattle.std.specs.Prelude.{◌≡◌, ◌≢◌, ◌<◌, ◌≤◌, ◌↔◌, ◌==◌, [], false, true, length, None};
+ghost use Rattle.std.specs.Prelude.{◌≡◌, ◌≢◌, ◌≤◌, ◌↔◌, ◌==◌, [], false, true, None};
 ghost use Rattle.std.specs.Prelude.{IsErrOf, IsOkUnless, IfOk, OnOk, OnErr};
-ghost use Rattle.local_locks.specs.Owned.{has_entry, owner_count_of, max_count, with_one_more, IsReserved, IsWellOwned};
+ghost use Rattle.local_locks.specs.Owned.{has_entry, with_one_more, IsReserved, IsWellOwned};
 ghost use Rattle.lock_manager.specs.Rest.{IsAtRest};
-ghost use Rattle.lock_manager.specs.Waiting.{IsWaiting, HasLooked, entries_started, Starts, Asks, LooksForWaiters};
+ghost use Rattle.lock_manager.specs.Sessions.{KeepsOwn};
+ghost use Rattle.lock_manager.specs.Acquires.{AnswersByOwned};
+ghost use Rattle.lock_manager.specs.Waiting.{IsWaiting, HasLooked, Asks, LooksForWaiters};
 ghost use Rattle.lock_manager.specs.Waiting.{IsInWait, polled_as, Polls, Cancels, Waits, account_cancelled};
-ghost use Rattle.lock_manager.specs.Waits.{Locks};
+ghost use Rattle.lock_manager.specs.WaitingSessions.{Locks};
 
 use crate::releases::put_with_woken;
-use crate::requests::request;
+use crate::requests::{Begun, acquire};
 use crate::sessions::Own;
 use local_locks::Acquired;
 use lock_table::{Move, PartTable};
@@ -17,18 +19,7 @@ use lw_word::{is_asked, wait_state};
 use modes_core::{Mode, Owner, Refusal, SessionId, Tag, is_strong};
 use shared_rule::board::Board;
 use std::sync::Wait;
-use wait_queue::{Decision, Kind, awaited_in_conflict, remove_waiter};
-
-/// How an acquire that may wait began.
-#[derive(Clone, Copy, Debug, PartialEq, Eq)]
-pub enum Started {
-    /// The session has the mode newly.
-    Granted,
-    /// The session had the mode before, and has it once more.
-    AlreadyHeld,
-    /// The session waits for it.
-    Queued,
-}
+use wait_queue::{Kind, awaited_in_conflict, remove_waiter};
 
 /// What an asked session was doing.
 #[derive(Clone, Copy, Debug, PartialEq, Eq)]
@@ -41,81 +32,13 @@ pub enum Asked {
 
 /// What a session that waits finds when it looks.
 #[derive(Clone, Copy, Debug, PartialEq, Eq)]
-pub enum Polled {
+pub enum Looked {
     /// Its wait was granted, and has ended.
     Granted,
     /// It waits still.
     Still,
     /// It waits still, and was asked to cancel.
     CancelAsked,
-}
-
-/// What became of a wait that was to be cancelled.
-#[derive(Clone, Copy, Debug, PartialEq, Eq)]
-pub enum Cancelled {
-    /// It is out of the queue.
-    Removed,
-    /// It had been granted, and the session has the mode.
-    WasGranted,
-}
-
-/// Acquires a mode on an object for an owner, or begins to wait for it (`LockAcquire` in lock.c, up to `WaitOnLock`).
-/// What the session has already is counted once more, with no step on shared state; a new mode is granted in a slot, or
-/// decided in the object's partition. While the session waits room is reserved for the entry.
-pub fn start<T: PartTable, B: Board<T>, R: Wait>(
-    rt: &R,
-    board: &mut B,
-    own: &mut Own,
-    tag: Tag,
-    mode: Mode,
-    owner: Owner,
-) -> Result<Started, Refusal>
-    requires few { (B.seat board.old).limit ≤ 64 }
-    requires few_entries { own.old.locals.max_local ≤ 65536 }
-    requires rest { IsAtRest (B.seat board.old).limit own.old.database own.old.uses
-        (B.view board.old) (B.stack board.old) own.old.locals.entries }
-    ensures already_held { (result ≡ Ok Started.AlreadyHeld) ↔ ((has_entry own.old.locals.entries tag mode ≡ true)
-        × (owner_count_of own.old.locals.entries tag mode owner < max_count)) }
-    ensures count_full { IsErrOf result Refusal.CountFull
-        ↔ (owner_count_of own.old.locals.entries tag mode owner ≡ max_count) }
-    ensures local_full { IsErrOf result Refusal.LocalFull
-        ↔ ((has_entry own.old.locals.entries tag mode ≡ false)
-        × (length own.old.locals.entries ≡ own.old.locals.max_local)) }
-    ensures steps { Starts (B.seat board.old) own.old.locals (B.view board.old) own.old.uses tag mode result
-        (B.view board.new) own.new.uses }
-    ensures entries { IfOk result (λ started.
-        own.new.locals.entries ≡ entries_started started own.old.locals.entries tag mode owner) }
-    ensures same_entries { OnErr result (own.new.locals.entries ≡ own.old.locals.entries) }
-    ensures rest { result ≢ Ok Started.Queued → IsAtRest (B.seat board.old).limit own.old.database own.new.uses
-        (B.view board.new) (B.stack board.new) own.new.locals.entries }
-    ensures waiting { result ≡ Ok Started.Queued → IsWaiting (B.seat board.old).limit own.old.database own.new.uses
-        (B.view board.new) (B.stack board.new) own.new.locals.entries tag mode }
-    ensures reserved { result ≡ Ok Started.Queued → IsReserved own.new.locals tag mode owner }
-    ensures seat { B.seat board.new ≡ B.seat board.old }
-    ensures max_local { own.new.locals.max_local ≡ own.old.locals.max_local }
-    ensures well_owned { IsWellOwned own.new.locals }
-    ensures database { own.new.database ≡ own.old.database }
-{
-    if own.locals.add_held(&tag, mode, owner)? {
-        return Ok(Started::AlreadyHeld);
-    }
-    own.locals.reserve_new()?;
-    match request(
-        rt,
-        board,
-        own.database,
-        &mut own.uses,
-        &tag,
-        mode,
-        Kind::Waiting,
-    ) {
-        Ok(Decision::Granted) => {
-            own.locals.add_new(&tag, mode, owner);
-            Ok(Started::Granted)
-        }
-        Ok(Decision::Queued) => Ok(Started::Queued),
-        Err(refusal) => Err(refusal),
-    }
 }
 
 /// Asks a session to cancel its wait, and wakes it where it waits (`pg_cancel_backend` in signalfuncs.c).
@@ -173,22 +96,23 @@ pub fn poll<T: PartTable, B: Board<T>>(
     tag: Tag,
     mode: Mode,
     owner: Owner,
-) -> Polled
+) -> Looked
     requires waiting { IsWaiting (B.seat board.old).limit own.old.database own.old.uses
         (B.view board.old) (B.stack board.old) own.old.locals.entries tag mode }
     requires reserved { IsReserved own.old.locals tag mode owner }
     ensures polled { Polls (B.seat board.old).number (B.view board.old).trace result (B.view board.new).trace }
-    ensures rest { result ≡ Polled.Granted →
+    ensures rest { result ≡ Looked.Granted →
         IsAtRest (B.seat board.old).limit own.old.database own.old.uses
         (B.view board.new) (B.stack board.new) own.new.locals.entries }
-    ensures entries { result ≡ Polled.Granted →
+    ensures entries { result ≡ Looked.Granted →
         own.new.locals.entries ≡ with_one_more own.old.locals.entries tag mode owner }
-    ensures max_local { result ≡ Polled.Granted → own.new.locals.max_local ≡ own.old.locals.max_local }
-    ensures well_owned { result ≡ Polled.Granted → IsWellOwned own.new.locals }
-    ensures waiting { result ≢ Polled.Granted →
+    ensures max_local { result ≡ Looked.Granted → own.new.locals.max_local ≡ own.old.locals.max_local }
+    ensures levels { result ≡ Looked.Granted → own.new.locals.outer ≡ own.old.locals.outer }
+    ensures well_owned { result ≡ Looked.Granted → IsWellOwned own.new.locals }
+    ensures waiting { result ≢ Looked.Granted →
         IsWaiting (B.seat board.old).limit own.old.database own.old.uses
         (B.view board.new) (B.stack board.new) own.new.locals.entries tag mode }
-    ensures same_own { result ≢ Polled.Granted → own.new ≡ own.old }
+    ensures same_own { result ≢ Looked.Granted → own.new ≡ own.old }
     ensures seat { B.seat board.new ≡ B.seat board.old }
     ensures database { own.new.database ≡ own.old.database }
     ensures uses { own.new.uses ≡ own.old.uses }
@@ -197,7 +121,7 @@ pub fn poll<T: PartTable, B: Board<T>>(
     take_up(board, own, tag, mode, owner, shown)
 }
 
-/// Takes up what the own wait word showed: ends the wait where that was granted.
+/// Takes up what its own wait word showed: ends the wait where that was granted.
 fn take_up<T: PartTable, B: Board<T>>(
     board: &mut B,
     own: &mut Own,
@@ -205,23 +129,24 @@ fn take_up<T: PartTable, B: Board<T>>(
     mode: Mode,
     owner: Owner,
     shown: u64,
-) -> Polled
+) -> Looked
     requires looked { HasLooked (B.seat board.old).limit own.old.database own.old.uses
         (B.view board.old) (B.stack board.old) own.old.locals.entries tag mode shown }
     requires reserved { IsReserved own.old.locals tag mode owner }
     ensures answer { result ≡ polled_as shown }
     ensures no_step { (B.view board.new).trace ≡ (B.view board.old).trace }
-    ensures rest { result ≡ Polled.Granted →
+    ensures rest { result ≡ Looked.Granted →
         IsAtRest (B.seat board.old).limit own.old.database own.old.uses
         (B.view board.new) (B.stack board.new) own.new.locals.entries }
-    ensures entries { result ≡ Polled.Granted →
+    ensures entries { result ≡ Looked.Granted →
         own.new.locals.entries ≡ with_one_more own.old.locals.entries tag mode owner }
-    ensures max_local { result ≡ Polled.Granted → own.new.locals.max_local ≡ own.old.locals.max_local }
-    ensures well_owned { result ≡ Polled.Granted → IsWellOwned own.new.locals }
-    ensures waiting { result ≢ Polled.Granted →
+    ensures max_local { result ≡ Looked.Granted → own.new.locals.max_local ≡ own.old.locals.max_local }
+    ensures levels { result ≡ Looked.Granted → own.new.locals.outer ≡ own.old.locals.outer }
+    ensures well_owned { result ≡ Looked.Granted → IsWellOwned own.new.locals }
+    ensures waiting { result ≢ Looked.Granted →
         IsWaiting (B.seat board.old).limit own.old.database own.old.uses
         (B.view board.new) (B.stack board.new) own.new.locals.entries tag mode }
-    ensures same_own { result ≢ Polled.Granted → own.new ≡ own.old }
+    ensures same_own { result ≢ Looked.Granted → own.new ≡ own.old }
     ensures seat { B.seat board.new ≡ B.seat board.old }
     ensures database { own.new.database ≡ own.old.database }
     ensures uses { own.new.uses ≡ own.old.uses }
@@ -229,17 +154,17 @@ fn take_up<T: PartTable, B: Board<T>>(
     if wait_state(shown) == 2 {
         board.clear_wait();
         own.locals.add(tag, mode, owner);
-        return Polled::Granted;
+        return Looked::Granted;
     }
     if is_asked(shown) {
-        return Polled::CancelAsked;
+        return Looked::CancelAsked;
     }
-    Polled::Still
+    Looked::Still
 }
 
 /// Ends the session's wait: it is taken out of the queue, where it still stands there, and those are granted who may
 /// go then; where it had been granted the session has the mode (`LockErrorCleanup` in proc.c). The count of a strong
-/// mode goes back with the wait (`AbortStrongLockAcquire` in lock.c).
+/// mode goes back with the wait (`AbortStrongLockAcquire` in lock.c). It says whether it had been granted.
 pub fn cancel<T: PartTable, B: Board<T>, R: Wait>(
     rt: &R,
     board: &mut B,
@@ -247,7 +172,7 @@ pub fn cancel<T: PartTable, B: Board<T>, R: Wait>(
     tag: Tag,
     mode: Mode,
     owner: Owner,
-) -> Cancelled
+) -> bool
     requires waiting { IsWaiting (B.seat board.old).limit own.old.database own.old.uses
         (B.view board.old) (B.stack board.old) own.old.locals.entries tag mode }
     requires reserved { IsReserved own.old.locals tag mode owner }
@@ -255,32 +180,29 @@ pub fn cancel<T: PartTable, B: Board<T>, R: Wait>(
         (B.view board.new).trace }
     ensures rest { IsAtRest (B.seat board.old).limit own.old.database own.old.uses
         (B.view board.new) (B.stack board.new) own.new.locals.entries }
-    ensures entries { result ≡ Cancelled.WasGranted →
+    ensures entries { result ≡ true →
         own.new.locals.entries ≡ with_one_more own.old.locals.entries tag mode owner }
-    ensures max_local { result ≡ Cancelled.WasGranted → own.new.locals.max_local ≡ own.old.locals.max_local }
-    ensures well_owned { result ≡ Cancelled.WasGranted → IsWellOwned own.new.locals }
-    ensures same_own { result ≡ Cancelled.Removed → own.new ≡ own.old }
+    ensures max_local { result ≡ true → own.new.locals.max_local ≡ own.old.locals.max_local }
+    ensures levels { result ≡ true → own.new.locals.outer ≡ own.old.locals.outer }
+    ensures well_owned { result ≡ true → IsWellOwned own.new.locals }
+    ensures same_own { result ≡ false → own.new ≡ own.old }
     ensures seat { B.seat board.new ≡ B.seat board.old }
     ensures database { own.new.database ≡ own.old.database }
     ensures uses { own.new.uses ≡ own.old.uses }
 {
-    match leave_in_part(rt, board, &tag, mode) {
-        Cancelled::WasGranted => {
-            own.locals.add(tag, mode, owner);
-            Cancelled::WasGranted
-        }
-        Cancelled::Removed => {
-            if !is_strong(tag, mode) {
-                return Cancelled::Removed;
-            }
-            board.sub_strong(&tag, mode);
-            Cancelled::Removed
-        }
+    if leave_in_part(rt, board, &tag, mode) {
+        own.locals.add(tag, mode, owner);
+        return true;
     }
+    if !is_strong(tag, mode) {
+        return false;
+    }
+    board.sub_strong(&tag, mode);
+    false
 }
 
 /// Waits until the wait is granted, or another session asks to cancel it (`ProcSleep` in proc.c, with
-/// `LockErrorCleanup` where it is interrupted). It looks at the own wait word before each sleep. Where it was asked
+/// `LockErrorCleanup` where it is interrupted). It looks at its own wait word before each sleep. Where it was asked
 /// to cancel, and the grant was first, the session has the mode.
 pub fn wait<T: PartTable, B: Board<T>, R: Wait>(
     rt: &R,
@@ -299,6 +221,7 @@ pub fn wait<T: PartTable, B: Board<T>, R: Wait>(
         (B.view board.new) (B.stack board.new) own.new.locals.entries }
     ensures entries { OnOk result (own.new.locals.entries ≡ with_one_more own.old.locals.entries tag mode owner) }
     ensures max_local { OnOk result (own.new.locals.max_local ≡ own.old.locals.max_local) }
+    ensures levels { OnOk result (own.new.locals.outer ≡ own.old.locals.outer) }
     ensures well_owned { OnOk result (IsWellOwned own.new.locals) }
     ensures same_own { OnErr result (own.new ≡ own.old) }
     ensures seat { B.seat board.new ≡ B.seat board.old }
@@ -308,19 +231,21 @@ pub fn wait<T: PartTable, B: Board<T>, R: Wait>(
     for _ in rt.forever() {
         let shown = board.load_wait();
         match take_up(board, own, tag, mode, owner, shown) {
-            Polled::Granted => return Ok(()),
-            Polled::CancelAsked => match cancel(rt, board, own, tag, mode, owner) {
-                Cancelled::WasGranted => return Ok(()),
-                Cancelled::Removed => return Err(Refusal::Cancelled),
-            },
-            Polled::Still => board.sleep(rt, shown),
+            Looked::Granted => return Ok(()),
+            Looked::CancelAsked => {
+                if cancel(rt, board, own, tag, mode, owner) {
+                    return Ok(());
+                }
+                return Err(Refusal::Cancelled);
+            }
+            Looked::Still => board.sleep(rt, shown),
         }
     }
     unreachable!()
 }
 
 /// Acquires a mode on an object for an owner, and waits for it where it must (`LockAcquire` in lock.c without
-/// `dontWait`): `start`, and `wait` where that queued the request.
+/// `dontWait`): `acquire`, and `wait` where that queued the request.
 pub fn lock<T: PartTable, B: Board<T>, R: Wait>(
     rt: &R,
     board: &mut B,
@@ -333,28 +258,20 @@ pub fn lock<T: PartTable, B: Board<T>, R: Wait>(
     requires few_entries { own.old.locals.max_local ≤ 65536 }
     requires rest { IsAtRest (B.seat board.old).limit own.old.database own.old.uses
         (B.view board.old) (B.stack board.old) own.old.locals.entries }
-    ensures already_held { (result ≡ Ok Acquired.AlreadyHeld) ↔ ((has_entry own.old.locals.entries tag mode ≡ true)
-        × (owner_count_of own.old.locals.entries tag mode owner < max_count)) }
-    ensures count_full { IsErrOf result Refusal.CountFull
-        ↔ (owner_count_of own.old.locals.entries tag mode owner ≡ max_count) }
-    ensures local_full { IsErrOf result Refusal.LocalFull
-        ↔ ((has_entry own.old.locals.entries tag mode ≡ false)
-        × (length own.old.locals.entries ≡ own.old.locals.max_local)) }
+    ensures answers { AnswersByOwned own.old.locals tag mode owner Acquired.AlreadyHeld true result }
     ensures steps { Locks (B.seat board.old) own.old.locals (B.view board.old) own.old.uses tag mode result
         (B.view board.new) own.new.uses }
     ensures entries { OnOk result (own.new.locals.entries ≡ with_one_more own.old.locals.entries tag mode owner) }
     ensures same_entries { OnErr result (own.new.locals.entries ≡ own.old.locals.entries) }
     ensures rest { IsAtRest (B.seat board.old).limit own.old.database own.new.uses
         (B.view board.new) (B.stack board.new) own.new.locals.entries }
-    ensures seat { B.seat board.new ≡ B.seat board.old }
-    ensures max_local { own.new.locals.max_local ≡ own.old.locals.max_local }
-    ensures well_owned { IsWellOwned own.new.locals }
-    ensures database { own.new.database ≡ own.old.database }
+    ensures levels { own.new.locals.outer ≡ own.old.locals.outer }
+    ensures kept { KeepsOwn (B.seat board.old) own.old (B.seat board.new) own.new }
 {
-    match start(rt, board, own, tag, mode, owner) {
-        Ok(Started::Granted) => Ok(Acquired::Granted),
-        Ok(Started::AlreadyHeld) => Ok(Acquired::AlreadyHeld),
-        Ok(Started::Queued) => match wait(rt, board, own, tag, mode, owner) {
+    match acquire(rt, board, own, tag, mode, owner, Kind::Waiting) {
+        Ok(Begun::Granted) => Ok(Acquired::Granted),
+        Ok(Begun::AlreadyHeld) => Ok(Acquired::AlreadyHeld),
+        Ok(Begun::Queued) => match wait(rt, board, own, tag, mode, owner) {
             Ok(()) => Ok(Acquired::Granted),
             Err(refusal) => Err(refusal),
         },
@@ -363,13 +280,13 @@ pub fn lock<T: PartTable, B: Board<T>, R: Wait>(
 }
 
 /// Takes the wait out of the queue in the object's partition, or finds there that it was granted
-/// (`RemoveFromWaitQueue` in lock.c).
+/// (`RemoveFromWaitQueue` in lock.c), and says which: whether it was granted.
 fn leave_in_part<T: PartTable, B: Board<T>, R: Wait>(
     rt: &R,
     board: &mut B,
     tag: &Tag,
     mode: Mode,
-) -> Cancelled
+) -> bool
     requires waiting { IsInWait (B.view board.old) (B.stack board.old) tag.now mode }
     ensures steps { Cancels (B.seat board.old).number (B.view board.old).trace tag.now mode result
         (B.view board.new).trace }
@@ -385,7 +302,7 @@ fn leave_in_part<T: PartTable, B: Board<T>, R: Wait>(
     if removed.was_granted {
         board.clear_wait();
         board.put_part(part, &Move::Keep, content);
-        return Cancelled::WasGranted;
+        return true;
     }
     board.leave_queue(&removed.woken, &content);
     put_with_woken(
@@ -395,5 +312,5 @@ fn leave_in_part<T: PartTable, B: Board<T>, R: Wait>(
         &removed.woken,
         content,
     );
-    Cancelled::Removed
+    false
 }

@@ -8,8 +8,8 @@ use Rattle.place_index.specs.Notes.{Notes}
 use Rattle.lock_table.specs.Put.{put}
 use Rattle.lock_table.specs.Content.{Wait, set_hold}
 use Rattle.lock_table.specs.Queue.{awaits_mode, waits_there, queue_without, joined}
-use Rattle.lock_table.specs.declared.part_waits.PartWait.{PartWait}
-use Rattle.lock_table.specs.PartWaits.{queues_in}
+use Rattle.lock_records.specs.declared.wait_queues.QueueRecord.{QueueRecord}
+use Rattle.lock_records.specs.Queues.{queue_on}
 use Rattle.lock_table.proofs.PutLemmas.{put_here, put_else}
 use Rattle.lock_table.proofs.HoldLemmas.{set_hold-at, here, elsewhere, set_hold-here}
 use Rattle.lock_records.specs.Tally.{counts_in, one_more, one_less}
@@ -84,19 +84,19 @@ queue-joined holders queue place w t small absent not_held waiting = record {
 
 -- A hold is granted at the record that was found or made.
 pub objects-granted :
-    (locks mid locks' : List (Option LockRecord)) (holders holders' : List (Option HolderRecord)) (waits : List PartWait) (s : ℕ) (t : Tag) (m : Mode) (place : ℕ) (index : Notes) →
+    (locks mid locks' : List (Option LockRecord)) (holders holders' : List (Option HolderRecord)) (waits : List (Option QueueRecord)) (s : ℕ) (t : Tag) (m : Mode) (place : ℕ) (index : Notes) →
     AreObjects locks holders waits → HasMadeLock locks mid t place → AreNoted mid index → (r : IsRelocked mid locks' t place) → IsHeldLock holders' t r.is.lock →
-    ((n : Mode) → counts_in r.is.lock.awaited n ≡ counts_in r.was.lock.awaited n) → SetsHold holders holders' s t m true → awaits_mode (queues_in waits t) s m ≡ false → AreObjects locks' holders' waits
+    ((n : Mode) → counts_in r.is.lock.awaited n ≡ counts_in r.was.lock.awaited n) → SetsHold holders holders' s t m true → awaits_mode (queue_on waits t) s m ≡ false → AreObjects locks' holders' waits
 objects-granted locks mid locks' holders holders' waits s t m place index are made noted r held awaited sets not_awaited =
     objects-close locks locks' holders holders' waits waits t (same-then locks mid locks' t made.same (same-relocked mid locks' t place r)) sets.same (λ o apart. refl) are
-    (object-at locks' holders' (queues_in waits t) t place r.is ((noted-relocked mid locks' index t place r noted).once t) is
+    (object-at locks' holders' (queue_on waits t) t place r.is ((noted-relocked mid locks' index t place r noted).once t) is
     (inl (s, m, ap (λ holds. holds s t m) sets.holds ∙ set_hold-here (holds_in holders) s t m true)) sets.are
-    (queue-more holders holders' (queues_in waits t) s t m sets.holds not_awaited (are t).waiting)) where
-      is : IsLock holders' (queues_in waits t) t r.is.lock
+    (queue-more holders holders' (queue_on waits t) s t m sets.holds not_awaited (are t).waiting)) where
+      is : IsLock holders' (queue_on waits t) t r.is.lock
       is = record {
         held = held;
         awaited = λ n.
-            let was = made-lock locks mid holders (queues_in waits t) t place (are t) made in
+            let was = made-lock locks mid holders (queue_on waits t) t place (are t) made in
             awaited n ∙ ap (λ (l : LockRecord). counts_in l.awaited n) (same-lock mid place r.was.lock made.at.lock r.was.there made.at.there) ∙ was.awaited n;
       }
 
@@ -116,14 +116,14 @@ object-dropped mid locks' holders queue t place i once is are waiting dropped =
 
 -- A hold is taken out.
 pub objects-ungranted :
-    (locks mid locks' : List (Option LockRecord)) (holders holders' : List (Option HolderRecord)) (waits : List PartWait) (s : ℕ) (t : Tag) (m : Mode) (place : ℕ) (index : Notes) →
+    (locks mid locks' : List (Option LockRecord)) (holders holders' : List (Option HolderRecord)) (waits : List (Option QueueRecord)) (s : ℕ) (t : Tag) (m : Mode) (place : ℕ) (index : Notes) →
     AreObjects locks holders waits → AreNoted locks index → (r : IsRelocked locks mid t place) → IsHeldLock holders' t r.is.lock →
     ((n : Mode) → counts_in r.is.lock.awaited n ≡ counts_in r.was.lock.awaited n) → SetsHold holders holders' s t m false → IsDropped mid locks' t place → AreObjects locks' holders' waits
 objects-ungranted locks mid locks' holders holders' waits s t m place index are noted r held awaited sets dropped =
     objects-close locks locks' holders holders' waits waits t (same-then locks mid locks' t (same-relocked locks mid t place r) dropped.same) sets.same (λ o apart. refl) are
-    (object-dropped mid locks' holders' (queues_in waits t) t place r.is ((noted-relocked locks mid index t place r noted).once t)
+    (object-dropped mid locks' holders' (queue_on waits t) t place r.is ((noted-relocked locks mid index t place r noted).once t)
     (record { held = held; awaited = λ n. awaited n ∙ ((are t).lock place r.was).awaited n }) sets.are
-    (queue-less holders holders' (queues_in waits t) s t m sets.holds (are t).waiting) dropped)
+    (queue-less holders holders' (queue_on waits t) s t m sets.holds (are t).waiting) dropped)
 
 -- The record of an object that only waits more or less for it.
 pub held-awaited : (holders : List (Option HolderRecord)) (t : Tag) (l l' : LockRecord) → IsHeldLock holders t l → l'.holders ≡ l.holders → l'.granted ≡ l.granted → IsHeldLock holders t l'
@@ -142,48 +142,48 @@ is-awaited holders queue queue' t l l' is same_holders same_granted awaited = re
 }
 
 -- Queues of which one changed.
-pub queues-put : (waits waits' : List PartWait) (t : Tag) (queue : List Wait) → queues_in waits' ≡ put tag_eq (queues_in waits) t queue → queues_in waits' t ≡ queue
-queues-put waits waits' t queue is = ap (λ f. f t) is ∙ put_here tag_eq (queues_in waits) t queue t (tag_eq-refl t)
+pub queues-put : (waits waits' : List (Option QueueRecord)) (t : Tag) (queue : List Wait) → queue_on waits' ≡ put tag_eq (queue_on waits) t queue → queue_on waits' t ≡ queue
+queues-put waits waits' t queue is = ap (λ f. f t) is ∙ put_here tag_eq (queue_on waits) t queue t (tag_eq-refl t)
 
-pub queues-else : (waits waits' : List PartWait) (t : Tag) (queue : List Wait) → queues_in waits' ≡ put tag_eq (queues_in waits) t queue → (o : Tag) → tag_eq o t ≡ false → queues_in waits' o ≡ queues_in waits o
-queues-else waits waits' t queue is o other = ap (λ f. f o) is ∙ put_else tag_eq (queues_in waits) t queue o other
+pub queues-else : (waits waits' : List (Option QueueRecord)) (t : Tag) (queue : List Wait) → queue_on waits' ≡ put tag_eq (queue_on waits) t queue → (o : Tag) → tag_eq o t ≡ false → queue_on waits' o ≡ queue_on waits o
+queues-else waits waits' t queue is o other = ap (λ f. f o) is ∙ put_else tag_eq (queue_on waits) t queue o other
 
 -- A wait joins at the record that was found or made.
 pub objects-joined :
-    (locks mid locks' : List (Option LockRecord)) (holders : List (Option HolderRecord)) (waits waits' : List PartWait) (w : Wait) (t : Tag) (at place : ℕ) (index : Notes) →
+    (locks mid locks' : List (Option LockRecord)) (holders : List (Option HolderRecord)) (waits waits' : List (Option QueueRecord)) (w : Wait) (t : Tag) (at place : ℕ) (index : Notes) →
     AreObjects locks holders waits → HasMadeLock locks mid t place → AreNoted mid index → (r : IsRelocked mid locks' t place) → r.is.lock.holders ≡ r.was.lock.holders → r.is.lock.granted ≡ r.was.lock.granted →
-    counts_in r.is.lock.awaited ≡ one_more (counts_in r.was.lock.awaited) w.mode → queues_in waits' ≡ put tag_eq (queues_in waits) t (joined at w (queues_in waits t)) →
-    w.session < 64 → waits_there (queues_in waits t) w.session ≡ false → holds_in holders w.session t w.mode ≡ false → AreObjects locks' holders waits'
+    counts_in r.is.lock.awaited ≡ one_more (counts_in r.was.lock.awaited) w.mode → queue_on waits' ≡ put tag_eq (queue_on waits) t (joined at w (queue_on waits t)) →
+    w.session < 64 → waits_there (queue_on waits t) w.session ≡ false → holds_in holders w.session t w.mode ≡ false → AreObjects locks' holders waits'
 objects-joined locks mid locks' holders waits waits' w t at place index are made noted r same_holders same_granted raised queues small absent not_held =
     objects-close locks locks' holders holders waits waits' t (same-then locks mid locks' t made.same (same-relocked mid locks' t place r)) (same-holders holders t)
-    (queues-else waits waits' t (joined at w (queues_in waits t)) queues) are
-    (subst (λ queue. IsObject locks' holders queue t) (sym (queues-put waits waits' t (joined at w (queues_in waits t)) queues))
-    (object-at locks' holders (joined at w (queues_in waits t)) t place r.is ((noted-relocked mid locks' index t place r noted).once t) is (inr (joined-some (queues_in waits t) at w)) (are t).are
-    (queue-joined holders (queues_in waits t) at w t small absent not_held (are t).waiting))) where
+    (queues-else waits waits' t (joined at w (queue_on waits t)) queues) are
+    (subst (λ queue. IsObject locks' holders queue t) (sym (queues-put waits waits' t (joined at w (queue_on waits t)) queues))
+    (object-at locks' holders (joined at w (queue_on waits t)) t place r.is ((noted-relocked mid locks' index t place r noted).once t) is (inr (joined-some (queue_on waits t) at w)) (are t).are
+    (queue-joined holders (queue_on waits t) at w t small absent not_held (are t).waiting))) where
       same : r.was.lock ≡ made.at.lock
       same = same-lock mid place r.was.lock made.at.lock r.was.there made.at.there
 
-      was : IsLock holders (queues_in waits t) t r.was.lock
-      was = subst (IsLock holders (queues_in waits t) t) (sym same) (made-lock locks mid holders (queues_in waits t) t place (are t) made)
+      was : IsLock holders (queue_on waits t) t r.was.lock
+      was = subst (IsLock holders (queue_on waits t) t) (sym same) (made-lock locks mid holders (queue_on waits t) t place (are t) made)
 
-      is : IsLock holders (joined at w (queues_in waits t)) t r.is.lock
+      is : IsLock holders (joined at w (queue_on waits t)) t r.is.lock
       is =
-          is-awaited holders (queues_in waits t) (joined at w (queues_in waits t)) t r.was.lock r.is.lock was same_holders same_granted
-          (λ n. ap (λ f. f n) raised ∙ ap (λ (counts : Mode → ℕ). one_more counts w.mode n) (λ i k. was.awaited k i) ∙ sym (awaited-joined (queues_in waits t) at w n))
+          is-awaited holders (queue_on waits t) (joined at w (queue_on waits t)) t r.was.lock r.is.lock was same_holders same_granted
+          (λ n. ap (λ f. f n) raised ∙ ap (λ (counts : Mode → ℕ). one_more counts w.mode n) (λ i k. was.awaited k i) ∙ sym (awaited-joined (queue_on waits t) at w n))
 
 -- A wait leaves.
 pub objects-left :
-    (locks mid locks' : List (Option LockRecord)) (holders : List (Option HolderRecord)) (waits waits' : List PartWait) (s : ℕ) (m : Mode) (t : Tag) (place : ℕ) (index : Notes) →
+    (locks mid locks' : List (Option LockRecord)) (holders : List (Option HolderRecord)) (waits waits' : List (Option QueueRecord)) (s : ℕ) (m : Mode) (t : Tag) (place : ℕ) (index : Notes) →
     AreObjects locks holders waits → AreNoted locks index → (r : IsRelocked locks mid t place) → r.is.lock.holders ≡ r.was.lock.holders → r.is.lock.granted ≡ r.was.lock.granted →
-    counts_in r.is.lock.awaited ≡ one_less (counts_in r.was.lock.awaited) m → queues_in waits' ≡ put tag_eq (queues_in waits) t (queue_without (queues_in waits t) s) →
-    awaits_mode (queues_in waits t) s m ≡ true → IsDropped mid locks' t place → AreObjects locks' holders waits'
+    counts_in r.is.lock.awaited ≡ one_less (counts_in r.was.lock.awaited) m → queue_on waits' ≡ put tag_eq (queue_on waits) t (queue_without (queue_on waits t) s) →
+    awaits_mode (queue_on waits t) s m ≡ true → IsDropped mid locks' t place → AreObjects locks' holders waits'
 objects-left locks mid locks' holders waits waits' s m t place index are noted r same_holders same_granted lowered queues awaits dropped =
     objects-close locks locks' holders holders waits waits' t (same-then locks mid locks' t (same-relocked locks mid t place r) dropped.same) (same-holders holders t)
-    (queues-else waits waits' t (queue_without (queues_in waits t) s) queues) are
-    (subst (λ queue. IsObject locks' holders queue t) (sym (queues-put waits waits' t (queue_without (queues_in waits t) s) queues))
-    (object-dropped mid locks' holders (queue_without (queues_in waits t) s) t place r.is ((noted-relocked locks mid index t place r noted).once t)
-    (is-less holders (queues_in waits t) s m t r.was.lock r.is.lock ((are t).lock place r.was) same_holders same_granted lowered (around (queues_in waits t) s m (are t).waiting.one_each awaits)) (are t).are
-    (queue-without holders (queues_in waits t) s t (are t).waiting) dropped)) where
+    (queues-else waits waits' t (queue_without (queue_on waits t) s) queues) are
+    (subst (λ queue. IsObject locks' holders queue t) (sym (queues-put waits waits' t (queue_without (queue_on waits t) s) queues))
+    (object-dropped mid locks' holders (queue_without (queue_on waits t) s) t place r.is ((noted-relocked locks mid index t place r noted).once t)
+    (is-less holders (queue_on waits t) s m t r.was.lock r.is.lock ((are t).lock place r.was) same_holders same_granted lowered (around (queue_on waits t) s m (are t).waiting.one_each awaits)) (are t).are
+    (queue-without holders (queue_on waits t) s t (are t).waiting) dropped)) where
       is-less : (holders : List (Option HolderRecord)) (queue : List Wait) (s : ℕ) (m : Mode) (t : Tag) (l l' : LockRecord) → IsLock holders queue t l → l'.holders ≡ l.holders → l'.granted ≡ l.granted →
           counts_in l'.awaited ≡ one_less (counts_in l.awaited) m → IsAround queue s m → IsLock holders (queue_without queue s) t l'
       is-less holders queue s m t l l' was same_holders same_granted lowered at =
@@ -192,23 +192,23 @@ objects-left locks mid locks' holders waits waits' s m t place index are noted r
 
 -- A wait becomes a hold.
 pub objects-woken :
-    (locks mid locks' : List (Option LockRecord)) (holders holders' : List (Option HolderRecord)) (waits waits' : List PartWait) (s : ℕ) (m : Mode) (t : Tag) (place : ℕ) (index : Notes) →
+    (locks mid locks' : List (Option LockRecord)) (holders holders' : List (Option HolderRecord)) (waits waits' : List (Option QueueRecord)) (s : ℕ) (m : Mode) (t : Tag) (place : ℕ) (index : Notes) →
     AreObjects locks holders waits → AreNoted locks index → (r : IsRelocked locks mid t place) →
-    counts_in r.is.lock.awaited ≡ one_less (counts_in r.was.lock.awaited) m → queues_in waits' ≡ put tag_eq (queues_in waits) t (queue_without (queues_in waits t) s) →
-    awaits_mode (queues_in waits t) s m ≡ true → (q : IsRelocked mid locks' t place) → IsHeldLock holders' t q.is.lock →
+    counts_in r.is.lock.awaited ≡ one_less (counts_in r.was.lock.awaited) m → queue_on waits' ≡ put tag_eq (queue_on waits) t (queue_without (queue_on waits t) s) →
+    awaits_mode (queue_on waits t) s m ≡ true → (q : IsRelocked mid locks' t place) → IsHeldLock holders' t q.is.lock →
     ((n : Mode) → counts_in q.is.lock.awaited n ≡ counts_in q.was.lock.awaited n) → SetsHold holders holders' s t m true → AreObjects locks' holders' waits'
 objects-woken locks mid locks' holders holders' waits waits' s m t place index are noted r lowered queues awaits q held same_awaited sets =
     objects-close locks locks' holders holders' waits waits' t (same-then locks mid locks' t (same-relocked locks mid t place r) (same-relocked mid locks' t place q)) sets.same
-    (queues-else waits waits' t (queue_without (queues_in waits t) s) queues) are
-    (subst (λ queue. IsObject locks' holders' queue t) (sym (queues-put waits waits' t (queue_without (queues_in waits t) s) queues))
-    (object-at locks' holders' (queue_without (queues_in waits t) s) t place q.is ((noted-relocked mid locks' index t place q (noted-relocked locks mid index t place r noted)).once t) is
+    (queues-else waits waits' t (queue_without (queue_on waits t) s) queues) are
+    (subst (λ queue. IsObject locks' holders' queue t) (sym (queues-put waits waits' t (queue_without (queue_on waits t) s) queues))
+    (object-at locks' holders' (queue_without (queue_on waits t) s) t place q.is ((noted-relocked mid locks' index t place q (noted-relocked locks mid index t place r noted)).once t) is
     (inl (s, m, ap (λ holds. holds s t m) sets.holds ∙ set_hold-here (holds_in holders) s t m true)) sets.are
-    (queue-more holders holders' (queue_without (queues_in waits t) s) s t m sets.holds (awaits-left (queues_in waits t) s m) (queue-without holders (queues_in waits t) s t (are t).waiting)))) where
-      is : IsLock holders' (queue_without (queues_in waits t) s) t q.is.lock
+    (queue-more holders holders' (queue_without (queue_on waits t) s) s t m sets.holds (awaits-left (queue_on waits t) s m) (queue-without holders (queue_on waits t) s t (are t).waiting)))) where
+      is : IsLock holders' (queue_without (queue_on waits t) s) t q.is.lock
       is = record {
         held = held;
         awaited = λ n.
             same_awaited n ∙ ap (λ (l : LockRecord). counts_in l.awaited n) (same-lock mid place q.was.lock r.is.lock q.was.there r.is.there)
             ∙ ap (λ f. f n) lowered ∙ ap (λ (counts : Mode → ℕ). one_less counts m n) (λ i k. ((are t).lock place r.was).awaited k i)
-            ∙ sym (awaited-without (queues_in waits t) s m (around (queues_in waits t) s m (are t).waiting.one_each awaits) n);
+            ∙ sym (awaited-without (queue_on waits t) s m (around (queue_on waits t) s m (are t).waiting.one_each awaits) n);
       }

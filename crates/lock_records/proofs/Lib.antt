@@ -9,6 +9,7 @@ pub mod Lowest
 pub mod IndexLaws
 pub mod Relocked
 pub mod Queues
+pub mod QueueRecords
 pub mod ObjectLaws
 pub mod Changes
 pub mod Parts

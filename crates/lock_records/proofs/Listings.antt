@@ -13,18 +13,19 @@ use Rattle.modes_core.specs.Tag.{tag_eq}
 use Rattle.modes_core.specs.ModeSet.{set_has}
 use Rattle.modes_core.proofs.Laws.{number_of-same, mode_eq-refl, tag_eq-refl}
 use Rattle.lock_table.specs.declared.rows.TableRow.{TableRow}
-use Rattle.lock_table.specs.declared.part_waits.PartWait.{PartWait}
-use Rattle.lock_table.specs.Request.{is_request_of}
-use Rattle.lock_table.specs.PartWaits.{awaited_row_of, request_of, queues_in}
+use Rattle.lock_records.specs.declared.wait_queues.QueueRecord.{QueueRecord}
+use Rattle.lock_table.specs.declared.waits.Waiter.{Waiter}
+use Rattle.lock_table.specs.Content.{Wait}
+use Rattle.lock_records.specs.Queues.{queue_at, waits_at, queue_on}
 use Rattle.lock_table.specs.Listing.{row_eq, has_row}
 use Rattle.lock_table.specs.Waiter.{shown_wait}
 use Rattle.lock_table.proofs.HoldLists.{count_by-cons, count_by-append, count_by-none, take_one_more}
 use Rattle.lock_table.proofs.ListLemmas.{any-counted}
 use Rattle.lock_table.proofs.ListingLemmas.{count_by-same, once_or_not}
-use Rattle.lock_table.proofs.WaitLists.{awaits-in}
+use Rattle.lock_table.proofs.WaitLists.{eqb_comm}
 use Rattle.lock_records.specs.declared.holders.HolderRecord.{HolderRecord}
 use Rattle.lock_records.specs.Holders.{holder_at, slot_holds, holds_in, IsHolderAt, AreHolders}
-use Rattle.lock_records.specs.Rows.{AppendsRows, HasMoreRows, shown_by, shown_below, awaited_in}
+use Rattle.lock_records.specs.Rows.{AppendsRows, HasMoreRows, shown_by, shown_below, awaited_row, awaited_in, awaited_at, awaited_below}
 use Rattle.lock_records.specs.View.{RecordView, content_of}
 use Rattle.lock_records.proofs.Held.{ShowsHold, slot-shows, slot-at, held-from, held-to}
 use Rattle.lock_records.proofs.Tallies.{number-within}
@@ -229,21 +230,7 @@ shown-granted slots row are granted =
 pub shown-awaited : (slots : List (Option HolderRecord)) (n : ℕ) (row : TableRow) → row.granted ≡ false → shown_below slots n row ≡ 0
 shown-awaited slots n row awaited = below-silent slots n row (λ k h. ap (λ b. if b && slot_holds row.session row.tag row.mode (holder_at slots k) then 1 else 0) awaited)
 
--- How often the waits show one: once where it is there.
-count-kept : {X Y : Type 0} (p : Y → Bool) (f : X → Y) (q : X → Bool) (xs : List X) → count_by p (map f (filter q xs)) ≡ count_by (λ x. q x && p (f x)) xs
-count-kept p f q [] = refl
-count-kept p f q (x ∷ xs) =
-    elim (cases_Bool (q x)) [
-      | inl kept ↦
-          ap (λ ys. count_by p (map f ys)) (cond-true (q x) (x ∷ filter q xs) (filter q xs) kept)
-          ∙ count_by-cons p (f x) (map f (filter q xs)) ∙ ap (λ k. (if p (f x) then 1 else 0) + k) (count-kept p f q xs)
-          ∙ ap (λ b. (if b && p (f x) then 1 else 0) + count_by (λ y. q y && p (f y)) xs) (sym kept) ∙ sym (count_by-cons (λ y. q y && p (f y)) x xs)
-      | inr dropped ↦
-          ap (λ ys. count_by p (map f ys)) (cond-false (q x) (x ∷ filter q xs) (filter q xs) dropped) ∙ count-kept p f q xs
-          ∙ (let add : count_by (λ y. q y && p (f y)) xs ≡ 0 + count_by (λ y. q y && p (f y)) xs = omega arith in add)
-          ∙ ap (λ b. (if b && p (f x) then 1 else 0) + count_by (λ y. q y && p (f y)) xs) (sym dropped) ∙ sym (count_by-cons (λ y. q y && p (f y)) x xs)
-    ]
-
+-- How often the waits of places show a row.
 fewer-pass : {X : Type 0} (p q : X → Bool) (xs : List X) → ((x : X) → p x ≡ true → q x ≡ true) → count_by p xs ≤ count_by q xs
 fewer-pass p q [] weaker = omega arith
 fewer-pass p q (x ∷ xs) weaker =
@@ -260,69 +247,143 @@ fewer-pass p q (x ∷ xs) weaker =
           omega arith
     ]
 
-awaited-once : (waits : List PartWait) (s : ℕ) (t : Tag) (m : Mode) → count_by (λ wait. wait.session == s) (queues_in waits t) ≤ 1 → count_by (λ wait. is_request_of (request_of wait) s t m) waits ≤ 1
-awaited-once waits s t m one =
-    let all : count_by (λ wait. wait.session == s) (queues_in waits t) ≡ count_by (λ (wait : PartWait). tag_eq t wait.tag && (wait.waiter.session == s)) waits =
-    count-kept (λ wait. wait.session == s) (λ (wait : PartWait). shown_wait wait.waiter) (λ wait. tag_eq t wait.tag) waits in
-    let fewer = fewer-pass (λ (wait : PartWait). is_request_of (request_of wait) s t m) (λ (wait : PartWait). tag_eq t wait.tag && (wait.waiter.session == s)) waits
-    (λ wait is.
-    let a = and_parts _ _ is in
-    and_from _ _ (and_parts _ _ a.1).0 (eq-eqb wait.waiter.session s (sym (eqb-true s wait.waiter.session a.0)))) in
+-- how often a session waits for a mode in a queue
+abbrev times_of : ℕ → Mode → List Wait → ℕ
+times_of s m queue = count_by (λ wait. (wait.session == s) && mode_eq wait.mode m) queue
+
+row-granted : (row : TableRow) (tag : Tag) (w : Waiter) → row.granted ≡ true → row_eq row (awaited_row tag w) ≡ false
+row-granted row tag w granted =
+    ap (λ b. (row.session == w.session) && (tag_eq row.tag tag && (mode_eq row.mode w.mode && (if b then false else true)))) granted
+    ∙ ap (λ b. (row.session == w.session) && (tag_eq row.tag tag && b)) (and-false _)
+    ∙ ap (λ b. (row.session == w.session) && b) (and-false _) ∙ and-false _
+
+row-elsewhere : (row : TableRow) (tag : Tag) (w : Waiter) → tag_eq row.tag tag ≡ false → row_eq row (awaited_row tag w) ≡ false
+row-elsewhere row tag w other =
+    ap (λ b. (row.session == w.session) && (b && (mode_eq row.mode w.mode && (if row.granted then false else true)))) other ∙ and-false _
+
+row-awaited : (row : TableRow) (tag : Tag) (w : Waiter) → row.granted ≡ false → tag_eq row.tag tag ≡ true → row_eq row (awaited_row tag w) ≡ ((w.session == row.session) && mode_eq w.mode row.mode)
+row-awaited row tag w awaited same =
+    ap (λ b. (row.session == w.session) && (tag_eq row.tag tag && (mode_eq row.mode w.mode && (if b then false else true)))) awaited
+    ∙ ap (λ b. (row.session == w.session) && (b && (mode_eq row.mode w.mode && true))) same
+    ∙ ap (λ b. (row.session == w.session) && b) (and-true _)
+    ∙ ap (λ b. b && mode_eq row.mode w.mode) (eqb_comm row.session w.session)
+    ∙ ap (λ b. (w.session == row.session) && b) (eqb_comm (number_of row.mode) (number_of w.mode))
+
+none-shown : (row : TableRow) (tag : Tag) (ws : List Waiter) → ((w : Waiter) → row_eq row (awaited_row tag w) ≡ false) → awaited_in tag ws row ≡ 0
+none-shown row tag [] none = refl
+none-shown row tag (w ∷ ws) none =
+    let sum : awaited_in tag (w ∷ ws) row ≡ (if row_eq row (awaited_row tag w) then 1 else 0) + awaited_in tag ws row = count_by-cons (λ (x : Waiter). row_eq row (awaited_row tag x)) w ws in
+    let here : ◌≡◌ {A = ℕ} (if row_eq row (awaited_row tag w) then 1 else 0) 0 = ap (λ b. if b then 1 else 0) (none w) in
+    let rest = none-shown row tag ws none in
     omega arith
 
-granted-not-awaited : (waits : List PartWait) (row : TableRow) → row.granted ≡ true → awaited_in waits row ≡ 0
-granted-not-awaited waits row granted =
-    count_by-none (λ (wait : PartWait). row_eq row (awaited_row_of wait)) waits (false_from_ne_true _ (λ any. let some = any-counted (λ (wait : PartWait). row_eq row (awaited_row_of wait)) waits any in
-    let none = all-fail waits in omega arith)) where
-      fails : (wait : PartWait) → row_eq row (awaited_row_of wait) ≡ false
-      fails wait =
-          ap (λ b. (row.session == wait.waiter.session) && (tag_eq row.tag wait.tag && (mode_eq row.mode wait.waiter.mode && (if b then false else true)))) granted
-          ∙ ap (λ b. (row.session == wait.waiter.session) && (tag_eq row.tag wait.tag && b)) (and-false _)
-          ∙ ap (λ b. (row.session == wait.waiter.session) && b) (and-false _) ∙ and-false _
+some-shown : (row : TableRow) (tag : Tag) (ws : List Waiter) → row.granted ≡ false → tag_eq row.tag tag ≡ true → awaited_in tag ws row ≡ times_of row.session row.mode (map shown_wait ws)
+some-shown row tag [] awaited same = refl
+some-shown row tag (w ∷ ws) awaited same =
+    let sum : awaited_in tag (w ∷ ws) row ≡ (if row_eq row (awaited_row tag w) then 1 else 0) + awaited_in tag ws row = count_by-cons (λ (x : Waiter). row_eq row (awaited_row tag x)) w ws in
+    let all : times_of row.session row.mode (shown_wait w ∷ map shown_wait ws) ≡ (if (w.session == row.session) && mode_eq w.mode row.mode then 1 else 0) + times_of row.session row.mode (map shown_wait ws) =
+    count_by-cons (λ (wait : Wait). (wait.session == row.session) && mode_eq wait.mode row.mode) (shown_wait w) (map shown_wait ws) in
+    let here : ◌≡◌ {A = ℕ} (if row_eq row (awaited_row tag w) then 1 else 0) (if (w.session == row.session) && mode_eq w.mode row.mode then 1 else 0) = ap (λ b. if b then 1 else 0) (row-awaited row tag w awaited same) in
+    let rest = some-shown row tag ws awaited same in
+    omega arith
 
-      all-fail : (waits : List PartWait) → count_by (λ (wait : PartWait). row_eq row (awaited_row_of wait)) waits ≡ 0
-      all-fail [] = refl
-      all-fail (w ∷ ws) =
-          let sum : count_by (λ (wait : PartWait). row_eq row (awaited_row_of wait)) (w ∷ ws) ≡ (if row_eq row (awaited_row_of w) then 1 else 0) + count_by (λ (wait : PartWait). row_eq row (awaited_row_of wait)) ws =
-          count_by-cons (λ (wait : PartWait). row_eq row (awaited_row_of wait)) w ws in
-          let none : ◌≡◌ {A = ℕ} (if row_eq row (awaited_row_of w) then 1 else 0) 0 = ap (λ b. if b then 1 else 0) (fails w) in
-          let rest = all-fail ws in
-          omega arith
+place-shows : (slot : Option QueueRecord) (row : TableRow) → row.granted ≡ false → awaited_at row slot ≡ times_of row.session row.mode (waits_at row.tag slot)
+place-shows None row awaited = refl
+place-shows (Some q) row awaited =
+    elim (cases_Bool (tag_eq row.tag q.tag)) [
+      | inl same ↦
+          some-shown row q.tag q.waiters.items awaited same
+          ∙ sym (ap (times_of row.session row.mode) (cond-true (tag_eq row.tag q.tag) (map shown_wait q.waiters.items) [] same))
+      | inr other ↦
+          none-shown row q.tag q.waiters.items (λ w. row-elsewhere row q.tag w other)
+          ∙ sym (ap (times_of row.session row.mode) (cond-false (tag_eq row.tag q.tag) (map shown_wait q.waiters.items) [] other))
+    ]
 
-awaited-shown : (waits : List PartWait) (row : TableRow) → row.granted ≡ false → count_by (λ wait. wait.session == row.session) (queues_in waits row.tag) ≤ 1 →
-    awaited_in waits row ≡ (if list_any (λ w. (w.session == row.session) && mode_eq w.mode row.mode) (queues_in waits row.tag) then 1 else 0)
-awaited-shown waits row awaited one =
-    count_by-same (λ (wait : PartWait). row_eq row (awaited_row_of wait)) (λ wait. is_request_of (request_of wait) row.session row.tag row.mode) waits
-    (λ wait. ap (λ b. (row.session == wait.waiter.session) && (tag_eq row.tag wait.tag && (mode_eq row.mode wait.waiter.mode && (if b then false else true)))) awaited
-    ∙ ap (λ b. (row.session == wait.waiter.session) && (tag_eq row.tag wait.tag && b)) (and-true _))
-    ∙ once_or_not (λ wait. is_request_of (request_of wait) row.session row.tag row.mode) waits (awaited-once waits row.session row.tag row.mode one)
-    ∙ ap (λ b. if b then 1 else 0) (sym (awaits-in waits row.session row.tag row.mode))
+places-front : (s : Option QueueRecord) (slots : List (Option QueueRecord)) (n : ℕ) (row : TableRow) → awaited_below (s ∷ slots) (suc n) row ≡ awaited_at row s + awaited_below slots n row
+unfolding awaited_below
+places-front s slots zero row = let sum : 0 + awaited_at row s ≡ awaited_at row s + 0 = omega arith in sum
+places-front s slots (suc n) row =
+    let before = places-front s slots n row in
+    let sum : awaited_below (s ∷ slots) (suc n) row + awaited_at row (queue_at slots n) ≡ awaited_at row s + (awaited_below slots n row + awaited_at row (queue_at slots n)) = omega arith in
+    sum
+
+all-awaited : (slots : List (Option QueueRecord)) (row : TableRow) → row.granted ≡ false → awaited_below slots (length slots) row ≡ times_of row.session row.mode (queue_on slots row.tag)
+unfolding awaited_below queue_on
+all-awaited [] row awaited = refl
+all-awaited (s ∷ slots) row awaited =
+    let front : awaited_below (s ∷ slots) (suc (length slots)) row ≡ awaited_at row s + awaited_below slots (length slots) row = places-front s slots (length slots) row in
+    let here = place-shows s row awaited in
+    let rest : awaited_below slots (length slots) row ≡ times_of row.session row.mode (queue_on slots row.tag) = all-awaited slots row awaited in
+    let all : times_of row.session row.mode (waits_at row.tag s ++ queue_on slots row.tag) ≡ times_of row.session row.mode (waits_at row.tag s) + times_of row.session row.mode (queue_on slots row.tag) =
+    count_by-append (λ (wait : Wait). (wait.session == row.session) && mode_eq wait.mode row.mode) (waits_at row.tag s) (queue_on slots row.tag) in
+    front ∙ (let sum : awaited_at row s + awaited_below slots (length slots) row ≡ times_of row.session row.mode (waits_at row.tag s) + times_of row.session row.mode (queue_on slots row.tag) = omega arith in sum) ∙ sym all
+
+granted-at : (slot : Option QueueRecord) (row : TableRow) → row.granted ≡ true → awaited_at row slot ≡ 0
+granted-at None row granted = refl
+granted-at (Some q) row granted = none-shown row q.tag q.waiters.items (λ w. row-granted row q.tag w granted)
+
+all-granted : (slots : List (Option QueueRecord)) (n : ℕ) (row : TableRow) → row.granted ≡ true → awaited_below slots n row ≡ 0
+unfolding awaited_below
+all-granted slots zero row granted = refl
+all-granted slots (suc n) row granted = let a = all-granted slots n row granted in let b = granted-at (queue_at slots n) row granted in omega arith
+
+-- Places without a queue show nothing, and places past the last one.
+pub waits-start : (slots : List (Option QueueRecord)) (row : TableRow) → awaited_below slots 0 row ≡ 0
+unfolding awaited_below
+waits-start slots row = refl
+
+pub waits-next : (slots : List (Option QueueRecord)) (n : ℕ) (row : TableRow) → awaited_below slots (n + 1) row ≡ awaited_below slots n row + awaited_at row (queue_at slots n)
+unfolding awaited_below
+waits-next slots n row = ap (λ k. awaited_below slots k row) (add-one n)
+
+pub waits-none : (slots : List (Option QueueRecord)) (n : ℕ) (row : TableRow) → queue_at slots n ≡ None → awaited_below slots n row ≡ awaited_below slots (n + 1) row
+waits-none slots n row none =
+    let next = waits-next slots n row in
+    let zero_more : awaited_at row (queue_at slots n) ≡ 0 = ap (awaited_at row) none in
+    omega arith
+
+waits-past : (slots : List (Option QueueRecord)) (n k : ℕ) (row : TableRow) → length slots ≤ n → awaited_below slots (n + k) row ≡ awaited_below slots n row
+waits-past slots n zero row past = ap (λ j. awaited_below slots j row) (let e : n + 0 ≡ n = omega arith in e)
+waits-past slots n (suc k) row past =
+    ap (λ j. awaited_below slots j row) (let e : n + suc k ≡ n + k + 1 = omega arith in e)
+    ∙ sym (waits-none slots (n + k) row (get_or_past slots (n + k) None (omega arith))) ∙ waits-past slots n k row past
+
+pub waits-all : (slots : List (Option QueueRecord)) (n : ℕ) (row : TableRow) → length slots ≤ n → awaited_below slots n row ≡ awaited_below slots (length slots) row
+waits-all slots n row past =
+    ap (λ j. awaited_below slots j row) (let e : n ≡ length slots + (n - length slots) = omega arith in e) ∙ waits-past slots (length slots) (n - length slots) row (omega arith)
+
+awaited-shown : (slots : List (Option QueueRecord)) (row : TableRow) → row.granted ≡ false → count_by (λ wait. wait.session == row.session) (queue_on slots row.tag) ≤ 1 →
+    awaited_below slots (length slots) row ≡ (if list_any (λ w. (w.session == row.session) && mode_eq w.mode row.mode) (queue_on slots row.tag) then 1 else 0)
+awaited-shown slots row awaited one =
+    let fewer = fewer-pass (λ (wait : Wait). (wait.session == row.session) && mode_eq wait.mode row.mode) (λ (wait : Wait). wait.session == row.session) (queue_on slots row.tag) (λ wait both. (and_parts _ _ both).0) in
+    all-awaited slots row awaited
+    ∙ once_or_not (λ (wait : Wait). (wait.session == row.session) && mode_eq wait.mode row.mode) (queue_on slots row.tag) (omega arith)
 
 -- Together they show each row of the content once.
-pub shown-once : (view : RecordView) (row : TableRow) → AreHolders view.holders row.tag → count_by (λ wait. wait.session == row.session) (queues_in view.waits row.tag) ≤ 1 →
-    shown_below view.holders (length view.holders) row + awaited_in view.waits row ≡ (if has_row (content_of view) row then 1 else 0)
+pub shown-once : (view : RecordView) (row : TableRow) → AreHolders view.holders row.tag → count_by (λ wait. wait.session == row.session) (queue_on view.queues row.tag) ≤ 1 →
+    shown_below view.holders (length view.holders) row + awaited_below view.queues (length view.queues) row ≡ (if has_row (content_of view) row then 1 else 0)
 shown-once view row are one =
     elim (cases_Bool row.granted) [
       | inl granted ↦
           let a = shown-granted view.holders row are granted in
-          let b = granted-not-awaited view.waits row granted in
-          (let sum : shown_below view.holders (length view.holders) row + awaited_in view.waits row ≡ shown_below view.holders (length view.holders) row = omega arith in sum)
+          let b = all-granted view.queues (length view.queues) row granted in
+          (let sum : shown_below view.holders (length view.holders) row + awaited_below view.queues (length view.queues) row ≡ shown_below view.holders (length view.holders) row = omega arith in sum)
           ∙ a ∙ ap (λ b. if (if b then (content_of view).holds row.session row.tag row.mode else list_any (λ w. (w.session == row.session) && mode_eq w.mode row.mode) ((content_of view).waits row.tag)) then 1 else 0) (sym granted)
       | inr awaited ↦
           let a = shown-awaited view.holders (length view.holders) row awaited in
-          let b = awaited-shown view.waits row awaited one in
-          (let sum : shown_below view.holders (length view.holders) row + awaited_in view.waits row ≡ awaited_in view.waits row = omega arith in sum)
+          let b = awaited-shown view.queues row awaited one in
+          (let sum : shown_below view.holders (length view.holders) row + awaited_below view.queues (length view.queues) row ≡ awaited_below view.queues (length view.queues) row = omega arith in sum)
           ∙ b ∙ ap (λ b. if (if b then (content_of view).holds row.session row.tag row.mode else list_any (λ w. (w.session == row.session) && mode_eq w.mode row.mode) ((content_of view).waits row.tag)) then 1 else 0) (sym awaited)
     ]
 
 -- One wait more.
-pub awaited-more : (waits : List PartWait) (i : ℕ) (w : PartWait) (row : TableRow) → i < length waits → w ≡ get_or waits i w →
-    awaited_in (take i waits) row + (if row_eq row (awaited_row_of w) then 1 else 0) ≡ awaited_in (take (i + 1) waits) row
-awaited-more waits i w row within is =
-    let all : awaited_in (take (i + 1) waits) row ≡ awaited_in (take i waits) row + count_by (λ (wait : PartWait). row_eq row (awaited_row_of wait)) (w ∷ []) =
-    ap (λ ws. awaited_in ws row) (take_one_more waits i w within is) ∙ count_by-append (λ (wait : PartWait). row_eq row (awaited_row_of wait)) (take i waits) (w ∷ []) in
-    let one : count_by (λ (wait : PartWait). row_eq row (awaited_row_of wait)) (w ∷ []) ≡ (if row_eq row (awaited_row_of w) then 1 else 0) + 0 =
-    count_by-cons (λ (wait : PartWait). row_eq row (awaited_row_of wait)) w [] in
+pub awaited-more : (tag : Tag) (waiters : List Waiter) (i : ℕ) (w : Waiter) (row : TableRow) → i < length waiters → w ≡ get_or waiters i w →
+    awaited_in tag (take i waiters) row + (if row_eq row (awaited_row tag w) then 1 else 0) ≡ awaited_in tag (take (i + 1) waiters) row
+awaited-more tag waiters i w row within is =
+    let all : awaited_in tag (take (i + 1) waiters) row ≡ awaited_in tag (take i waiters) row + count_by (λ (x : Waiter). row_eq row (awaited_row tag x)) (w ∷ []) =
+    ap (λ ws. awaited_in tag ws row) (take_one_more waiters i w within is) ∙ count_by-append (λ (x : Waiter). row_eq row (awaited_row tag x)) (take i waiters) (w ∷ []) in
+    let one : count_by (λ (x : Waiter). row_eq row (awaited_row tag x)) (w ∷ []) ≡ (if row_eq row (awaited_row tag w) then 1 else 0) + 0 =
+    count_by-cons (λ (x : Waiter). row_eq row (awaited_row tag x)) w [] in
     omega arith
 
 -- What holds at an `Ok`.

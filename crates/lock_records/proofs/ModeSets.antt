@@ -58,3 +58,10 @@ pub none-met : (set all : ℕ) → set_has all ≡ conflict AccessExclusive → 
 none-met set all is none m =
     false_from_ne_true (set_has set m) (λ has.
     false≢true (sym none ∙ any-mode (λ n. set_has set n && set_has all n) m (rw (has, ap (λ f. f m) is ∙ all-conflict m) refl)))
+
+-- A mode that is in both sets, where they meet.
+pub meet-some : (a b : ℕ) → list_any (λ m. set_has a m && set_has b m) all_modes ≡ true → (m : Mode) × (set_has a m ≡ true) × (set_has b m ≡ true)
+meet-some a b met =
+    let found = any_found (λ m. set_has a m && set_has b m) all_modes met in
+    let both = and_parts _ _ found.4 in
+    (found.1, both.0, both.1)

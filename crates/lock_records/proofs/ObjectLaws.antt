@@ -5,8 +5,8 @@ use Rattle.modes_core.specs.declared.tags.Tag.{Tag}
 use Rattle.modes_core.specs.Tag.{tag_eq}
 use Rattle.modes_core.proofs.Laws.{tag_eq-same, tag_eq-refl}
 use Rattle.lock_table.specs.Content.{Wait}
-use Rattle.lock_table.specs.declared.part_waits.PartWait.{PartWait}
-use Rattle.lock_table.specs.PartWaits.{queues_in}
+use Rattle.lock_records.specs.declared.wait_queues.QueueRecord.{QueueRecord}
+use Rattle.lock_records.specs.Queues.{queue_on}
 use Rattle.lock_records.specs.Tally.{counts_in}
 use Rattle.lock_records.specs.Counting.{awaited_of}
 use Rattle.lock_records.specs.declared.holders.HolderRecord.{HolderRecord}
@@ -120,15 +120,15 @@ made-lock old new holders queue tag place is made =
 
 -- The records of all objects, after a change of one.
 pub objects-close :
-    (locks locks' : List (Option LockRecord)) (holders holders' : List (Option HolderRecord)) (waits waits' : List PartWait) (tag : Tag) →
-    HasSameLocks locks locks' tag → HasSameElse holders holders' tag → ((t : Tag) → tag_eq t tag ≡ false → queues_in waits' t ≡ queues_in waits t) →
-    AreObjects locks holders waits → IsObject locks' holders' (queues_in waits' tag) tag → AreObjects locks' holders' waits'
+    (locks locks' : List (Option LockRecord)) (holders holders' : List (Option HolderRecord)) (waits waits' : List (Option QueueRecord)) (tag : Tag) →
+    HasSameLocks locks locks' tag → HasSameElse holders holders' tag → ((t : Tag) → tag_eq t tag ≡ false → queue_on waits' t ≡ queue_on waits t) →
+    AreObjects locks holders waits → IsObject locks' holders' (queue_on waits' tag) tag → AreObjects locks' holders' waits'
 objects-close locks locks' holders holders' waits waits' tag same_locks same same_queues are here t =
     elim (cases_Bool (tag_eq t tag)) [
-      | inl e ↦ let it : t ≡ tag = tag_eq-same t tag e in subst (λ x. IsObject locks' holders' (queues_in waits' x) x) (sym it) here
+      | inl e ↦ let it : t ≡ tag = tag_eq-same t tag e in subst (λ x. IsObject locks' holders' (queue_on waits' x) x) (sym it) here
       | inr apart ↦
           subst (λ ws. IsObject locks' holders' ws t) (sym (same_queues t apart))
-          (object-else locks locks' holders holders' tag t (λ e. both_ways _ apart (ap (λ x. tag_eq x tag) e ∙ tag_eq-refl tag)) same_locks same (queues_in waits t) (are t))
+          (object-else locks locks' holders holders' tag t (λ e. both_ways _ apart (ap (λ x. tag_eq x tag) e ∙ tag_eq-refl tag)) same_locks same (queue_on waits t) (are t))
     ]
 
 -- A lock record that counts somebody is used, and one that counts nobody is of an object that nobody holds or awaits.

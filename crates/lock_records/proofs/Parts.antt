@@ -7,11 +7,9 @@ use Rattle.modes_core.specs.declared.tags.Tag.{Tag}
 use Rattle.place_index.specs.Notes.{Notes, times, HasSameNotes}
 use Rattle.lock_table.specs.Content.{Holds, Wait, set_hold}
 use Rattle.lock_table.specs.Queue.{awaits_mode}
-use Rattle.lock_table.specs.declared.part_waits.PartWait.{PartWait}
-use Rattle.lock_table.specs.Request.{is_request_on}
-use Rattle.lock_table.specs.PartWaits.{request_of, queues_in}
+use Rattle.lock_records.specs.declared.wait_queues.QueueRecord.{QueueRecord}
+use Rattle.lock_records.specs.Queues.{queue_on}
 use Rattle.lock_table.proofs.HoldLemmas.{set_hold-at, here, elsewhere}
-use Rattle.lock_table.proofs.WaitLists.{there-in, waits-left, awaited-mode}
 use Rattle.lock_records.specs.declared.holders.HolderRecord.{HolderRecord}
 use Rattle.lock_records.specs.declared.locks.LockRecord.{LockRecord}
 use Rattle.lock_records.specs.Holders.{holds_in}
@@ -42,23 +40,23 @@ noted-grown slots index index' same more are = record {
 }
 
 -- An object that is held has a record, and one that is awaited.
-pub held-has : (locks : List (Option LockRecord)) (holders : List (Option HolderRecord)) (waits : List PartWait) (s : ℕ) (t : Tag) (m : Mode) →
+pub held-has : (locks : List (Option LockRecord)) (holders : List (Option HolderRecord)) (waits : List (Option QueueRecord)) (s : ℕ) (t : Tag) (m : Mode) →
     AreObjects locks holders waits → holds_in holders s t m ≡ true → HasNoLock locks t → ⊥
 held-has locks holders waits s t m are has no_lock =
     let shows = held-from holders s t m has in
-    no-holder locks holders (queues_in waits t) t (are t) no_lock s shows.place shows.at
+    no-holder locks holders (queue_on waits t) t (are t) no_lock s shows.place shows.at
 
-pub awaited-has : (locks : List (Option LockRecord)) (holders : List (Option HolderRecord)) (waits : List PartWait) (s : ℕ) (t : Tag) (m : Mode) →
-    AreObjects locks holders waits → awaits_mode (queues_in waits t) s m ≡ true → HasNoLock locks t → ⊥
+pub awaited-has : (locks : List (Option LockRecord)) (holders : List (Option HolderRecord)) (waits : List (Option QueueRecord)) (s : ℕ) (t : Tag) (m : Mode) →
+    AreObjects locks holders waits → awaits_mode (queue_on waits t) s m ≡ true → HasNoLock locks t → ⊥
 awaited-has locks holders waits s t m are awaits no_lock =
-    false≢true (ap (λ queue. awaits_mode queue s m) (sym (no-wait locks holders (queues_in waits t) t (are t) no_lock)) ∙ awaits)
+    false≢true (ap (λ queue. awaits_mode queue s m) (sym (no-wait locks holders (queue_on waits t) t (are t) no_lock)) ∙ awaits)
 
 -- The record that was found or made counts the holds.
 pub made-held :
-    (locks mid : List (Option LockRecord)) (holders : List (Option HolderRecord)) (waits : List PartWait) (t : Tag) (place : ℕ) → AreObjects locks holders waits → HasMadeLock locks mid t place →
-    (i : IsLockAt mid t place) → IsLock holders (queues_in waits t) t i.lock
+    (locks mid : List (Option LockRecord)) (holders : List (Option HolderRecord)) (waits : List (Option QueueRecord)) (t : Tag) (place : ℕ) → AreObjects locks holders waits → HasMadeLock locks mid t place →
+    (i : IsLockAt mid t place) → IsLock holders (queue_on waits t) t i.lock
 made-held locks mid holders waits t place are made i =
-    subst (IsLock holders (queues_in waits t) t) (same-lock mid place made.at.lock i.lock made.at.there i.there) (made-lock locks mid holders (queues_in waits t) t place (are t) made)
+    subst (IsLock holders (queue_on waits t) t) (same-lock mid place made.at.lock i.lock made.at.there i.there) (made-lock locks mid holders (queue_on waits t) t place (are t) made)
 
 -- A hold that isn't there is not there with one less, nor with another one more.
 pub not-held-less : (holds : Holds) (s : ℕ) (t : Tag) (m : Mode) (k : ℕ) (o : Tag) (n : Mode) → holds k o n ≡ false → set_hold holds s t m false k o n ≡ false
@@ -75,116 +73,66 @@ not-held-more holds s t m k o n apart none =
       | elsewhere not_it is ↦ is ∙ none
     ]
 
--- A list with some left out is no longer.
-not-more : {X : Type 0} (p : X → Bool) (xs : List X) → length (filter (λ x. not (p x)) xs) ≤ length xs
-not-more p [] = omega arith
-not-more {X} p (x ∷ xs) =
-    elim (cases_Bool (p x)) [
-      | inl pass ↦
-          let e : length (filter (λ x. not (p x)) (x ∷ xs)) ≡ length (filter (λ x. not (p x)) xs) =
-          ap length (cond-false (not (p x)) (x ∷ filter (λ x. not (p x)) xs) (filter (λ x. not (p x)) xs) (ap not pass)) in
-          let less = not-more p xs in
-          omega arith
-      | inr fail ↦
-          let e : length (filter (λ x. not (p x)) (x ∷ xs)) ≡ suc (length (filter (λ x. not (p x)) xs)) =
-          ap length (cond-true (not (p x)) (x ∷ filter (λ x. not (p x)) xs) (filter (λ x. not (p x)) xs) (ap not fail)) in
-          let less = not-more p xs in
-          omega arith
-    ]
-
--- A list without those that pass a test is shorter where one passes.
-pub fewer-left : {X : Type 0} (p : X → Bool) (xs : List X) → list_any p xs ≡ true → length (filter (λ x. not (p x)) xs) + 1 ≤ length xs
-fewer-left p [] any = absurd (false≢true any)
-fewer-left {X} p (x ∷ xs) any =
-    elim (cases_Bool (p x)) [
-      | inl pass ↦
-          let e : length (filter (λ x. not (p x)) (x ∷ xs)) ≡ length (filter (λ x. not (p x)) xs) =
-          ap length (cond-false (not (p x)) (x ∷ filter (λ x. not (p x)) xs) (filter (λ x. not (p x)) xs) (ap not pass)) in
-          let less = not-more p xs in
-          omega arith
-      | inr fail ↦
-          let e : length (filter (λ x. not (p x)) (x ∷ xs)) ≡ suc (length (filter (λ x. not (p x)) xs)) =
-          ap length (cond-true (not (p x)) (x ∷ filter (λ x. not (p x)) xs) (filter (λ x. not (p x)) xs) (ap not fail)) in
-          let less = fewer-left p xs (sym (ap (λ b. b || list_any p xs) fail) ∙ any) in
-          omega arith
-    ]
-
-pub session-waits : (waits : List PartWait) (s : ℕ) (t : Tag) (m : Mode) → awaits_mode (queues_in waits t) s m ≡ true → list_any (λ wait. is_request_on (request_of wait) s t) waits ≡ true
-session-waits waits s t m awaits = sym (there-in waits s t) ∙ awaits-there (queues_in waits t) s m awaits
-
 -- What nobody awaits is not awaited after a wait has left.
-pub not-awaited-left : (waits waits' : List PartWait) (s : ℕ) (t : Tag) → queues_in waits' ≡ put tag_eq (queues_in waits) t (queue_without (queues_in waits t) s) → (k : ℕ) (o : Tag) (n : Mode) →
-    awaits_mode (queues_in waits o) k n ≡ false → awaits_mode (queues_in waits' o) k n ≡ false
+pub not-awaited-left : (waits waits' : List (Option QueueRecord)) (s : ℕ) (t : Tag) → queue_on waits' ≡ put tag_eq (queue_on waits) t (queue_without (queue_on waits t) s) → (k : ℕ) (o : Tag) (n : Mode) →
+    awaits_mode (queue_on waits o) k n ≡ false → awaits_mode (queue_on waits' o) k n ≡ false
 not-awaited-left waits waits' s t left k o n none =
     elim (cases_Bool (tag_eq o t)) [
       | inl same ↦
           let e : o ≡ t = tag_eq-same o t same in
           false_from_ne_true _ (λ awaits.
-          both_ways _ none (ap (λ x. awaits_mode (queues_in waits x) k n) e
-          ∙ any-filter (λ (wait : Wait). (wait.session == k) && mode_eq wait.mode n) (λ (wait : Wait). not (wait.session == s)) (queues_in waits t)
-          (ap (λ queue. awaits_mode queue k n) (sym (ap (queues_in waits') e ∙ queues-put waits waits' t (queue_without (queues_in waits t) s) left)) ∙ awaits)))
-      | inr other ↦ ap (λ queue. awaits_mode queue k n) (queues-else waits waits' t (queue_without (queues_in waits t) s) left o other) ∙ none
+          both_ways _ none (ap (λ x. awaits_mode (queue_on waits x) k n) e
+          ∙ any-filter (λ (wait : Wait). (wait.session == k) && mode_eq wait.mode n) (λ (wait : Wait). not (wait.session == s)) (queue_on waits t)
+          (ap (λ queue. awaits_mode queue k n) (sym (ap (queue_on waits') e ∙ queues-put waits waits' t (queue_without (queue_on waits t) s) left)) ∙ awaits)))
+      | inr other ↦ ap (λ queue. awaits_mode queue k n) (queues-else waits waits' t (queue_without (queue_on waits t) s) left o other) ∙ none
     ]
 
--- Without its wait the list is shorter.
-pub left-fewer : (waits waits' : List PartWait) (s : ℕ) (t : Tag) (m : Mode) → waits' ≡ filter (λ wait. not (is_request_on (request_of wait) s t)) waits → awaits_mode (queues_in waits t) s m ≡ true → length waits' + 1 ≤ length waits
-left-fewer waits waits' s t m is awaits = rw is (fewer-left (λ wait. is_request_on (request_of wait) s t) waits (session-waits waits s t m awaits))
-
-pub queues-left : (waits waits' : List PartWait) (s : ℕ) (t : Tag) → waits' ≡ filter (λ wait. not (is_request_on (request_of wait) s t)) waits → queues_in waits' ≡ put tag_eq (queues_in waits) t (queue_without (queues_in waits t) s)
-queues-left waits waits' s t is = ap queues_in is ∙ waits-left waits s t
-
 -- The record of an object that somebody awaits counts it.
-pub counts-awaited : (locks : List (Option LockRecord)) (holders : List (Option HolderRecord)) (waits : List PartWait) (s : ℕ) (t : Tag) (m : Mode) (place : ℕ) → AreObjects locks holders waits →
-    awaits_mode (queues_in waits t) s m ≡ true → (i : IsLockAt locks t place) → 0 < counts_in i.lock.awaited m
+pub counts-awaited : (locks : List (Option LockRecord)) (holders : List (Option HolderRecord)) (waits : List (Option QueueRecord)) (s : ℕ) (t : Tag) (m : Mode) (place : ℕ) → AreObjects locks holders waits →
+    awaits_mode (queue_on waits t) s m ≡ true → (i : IsLockAt locks t place) → 0 < counts_in i.lock.awaited m
 counts-awaited locks holders waits s t m place are awaits i =
     let is = ((are t).lock place i).awaited m in
-    let some = awaited-some (queues_in waits t) s m (around (queues_in waits t) s m (are t).waiting.one_each awaits) in
+    let some = awaited-some (queue_on waits t) s m (around (queue_on waits t) s m (are t).waiting.one_each awaits) in
     omega arith
 
--- For which mode a session waits.
-pub leaving-mode : (waits slice : List PartWait) (found : Option Mode) (s : ℕ) (t : Tag) → found ≡ option_map (λ (wait : PartWait). wait.waiter.mode) (find (λ wait. is_request_on (request_of wait) s t) slice) →
-    slice ≡ waits → found ≡ option_map (λ wait. wait.mode) (wait_in (queues_in waits t) s)
-leaving-mode waits slice found s t is same =
-    is ∙ ap (λ ws. option_map (λ (wait : PartWait). wait.waiter.mode) (find (λ wait. is_request_on (request_of wait) s t) ws)) same ∙ awaited-mode waits s t
-
 -- Where a session doesn't wait, nothing changes as it leaves.
-pub unchanged-left : (waits : List PartWait) (s : ℕ) (t : Tag) → option_map (λ wait. wait.mode) (wait_in (queues_in waits t) s) ≡ None →
-    queues_in waits ≡ put tag_eq (queues_in waits) t (queue_without (queues_in waits t) s)
+pub unchanged-left : (waits : List (Option QueueRecord)) (s : ℕ) (t : Tag) → option_map (λ wait. wait.mode) (wait_in (queue_on waits t) s) ≡ None →
+    queue_on waits ≡ put tag_eq (queue_on waits) t (queue_without (queue_on waits t) s)
 unchanged-left waits s t none = λ i o. at o i where
-  at : (o : Tag) → queues_in waits o ≡ put tag_eq (queues_in waits) t (queue_without (queues_in waits t) s) o
+  at : (o : Tag) → queue_on waits o ≡ put tag_eq (queue_on waits) t (queue_without (queue_on waits t) s) o
   at o =
       elim (cases_Bool (tag_eq o t)) [
         | inl same ↦
-            ap (queues_in waits) (tag_eq-same o t same) ∙ sym (without-nobody (queues_in waits t) s (wait-none (queues_in waits t) s none))
-            ∙ sym (put_here tag_eq (queues_in waits) t (queue_without (queues_in waits t) s) o same)
-        | inr other ↦ sym (put_else tag_eq (queues_in waits) t (queue_without (queues_in waits t) s) o other)
+            ap (queue_on waits) (tag_eq-same o t same) ∙ sym (without-nobody (queue_on waits t) s (wait-none (queue_on waits t) s none))
+            ∙ sym (put_here tag_eq (queue_on waits) t (queue_without (queue_on waits t) s) o same)
+        | inr other ↦ sym (put_else tag_eq (queue_on waits) t (queue_without (queue_on waits t) s) o other)
       ]
 
 -- An object with no record is held by nobody.
-pub nothing-held : (locks : List (Option LockRecord)) (holders : List (Option HolderRecord)) (waits : List PartWait) (s : ℕ) (t : Tag) (m : Mode) → AreObjects locks holders waits → HasNoLock locks t → holds_in holders s t m ≡ false
-nothing-held locks holders waits s t m are no_lock = holds-none holders s t (no-holder locks holders (queues_in waits t) t (are t) no_lock s) m
+pub nothing-held : (locks : List (Option LockRecord)) (holders : List (Option HolderRecord)) (waits : List (Option QueueRecord)) (s : ℕ) (t : Tag) (m : Mode) → AreObjects locks holders waits → HasNoLock locks t → holds_in holders s t m ≡ false
+nothing-held locks holders waits s t m are no_lock = holds-none holders s t (no-holder locks holders (queue_on waits t) t (are t) no_lock s) m
 
 -- A queue has no more waits than there are sessions.
-pub queue-countable : (locks : List (Option LockRecord)) (holders : List (Option HolderRecord)) (waits : List PartWait) (t : Tag) → AreObjects locks holders waits → length (queues_in waits t) ≤ 64
-queue-countable locks holders waits t are = queue-short (queues_in waits t) (are t).waiting.one_each (are t).waiting.below
+pub queue-countable : (locks : List (Option LockRecord)) (holders : List (Option HolderRecord)) (waits : List (Option QueueRecord)) (t : Tag) → AreObjects locks holders waits → length (queue_on waits t) ≤ 64
+queue-countable locks holders waits t are = queue-short (queue_on waits t) (are t).waiting.one_each (are t).waiting.below
 
 -- The record of an object that is awaited by few counts few.
-pub counts-few : (locks mid : List (Option LockRecord)) (holders : List (Option HolderRecord)) (waits : List PartWait) (t : Tag) (m : Mode) (place : ℕ) → AreObjects locks holders waits → HasMadeLock locks mid t place →
+pub counts-few : (locks mid : List (Option LockRecord)) (holders : List (Option HolderRecord)) (waits : List (Option QueueRecord)) (t : Tag) (m : Mode) (place : ℕ) → AreObjects locks holders waits → HasMadeLock locks mid t place →
     (i : IsLockAt mid t place) → counts_in i.lock.awaited m < 255
 counts-few locks mid holders waits t m place are made i =
     let is = (made-held locks mid holders waits t place are made i).awaited m in
-    let few = awaited-few (queues_in waits t) m (are t).waiting.one_each (are t).waiting.below in
+    let few = awaited-few (queue_on waits t) m (are t).waiting.one_each (are t).waiting.below in
     omega arith
 
 -- The records with more room are the same.
-pub objects-same : (locks locks' : List (Option LockRecord)) (holders holders' : List (Option HolderRecord)) (waits waits' : List PartWait) → locks' ≡ locks → holders' ≡ holders → waits' ≡ waits →
+pub objects-same : (locks locks' : List (Option LockRecord)) (holders holders' : List (Option HolderRecord)) (waits waits' : List (Option QueueRecord)) → locks' ≡ locks → holders' ≡ holders → waits' ≡ waits →
     AreObjects locks holders waits → AreObjects locks' holders' waits'
 objects-same locks locks' holders holders' waits waits' a b e are =
     subst (λ x. AreObjects x holders' waits') (sym a) (subst (λ y. AreObjects locks y waits') (sym b) (subst (λ z. AreObjects locks holders z) (sym e) are))
 
 -- With no record there is nothing right or wrong.
 pub objects-none : AreObjects [] [] []
-unfolding holds_in
+unfolding holds_in queue_on
 objects-none t = object-none [] [] [] t (λ k i. nothing-there [] k ⊥ i.lock refl i.there) (λ s k i. let there = i.there in let no_way : ⊥ = cc in no_way) refl
 
 pub noted-none : (index : Notes) → ((h p : ℕ) → times index h p ≡ 0) → AreNoted [] index

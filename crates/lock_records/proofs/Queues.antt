@@ -1,4 +1,4 @@
-use Rattle.std.proofs.Common.{◌≡◌, ◌≢◌, ◌⊎◌, ℕ, ◌+◌, ◌-◌, ◌<◌, ◌≤◌, Bool, true, false, not, ◌&&◌, ◌||◌, ◌==◌, eqb, List, [], ◌∷◌, ◌++◌, length, take, drop, map, Some, None, arith, refl, sym, ap, ◌∙◌, inl, inr}
+use Rattle.std.proofs.Common.{◌≡◌, ◌≢◌, ◌⊎◌, ℕ, ◌+◌, ◌-◌, ◌<◌, ◌≤◌, Bool, true, false, not, ◌&&◌, ◌||◌, ◌==◌, eqb, List, [], ◌∷◌, ◌++◌, length, take, drop, map, Some, None, arith, refl, sym, ap, ◌∙◌, subst, inl, inr}
 use Rattle.std.specs.Prelude.{filter, count_by, option_map, if◌then◌else◌}
 use Rattle.std.specs.List.{list_any, IsDistinct, AllByRecursion}
 use Rattle.std.proofs.lemmas.Bool.{cases_Bool, false≢true, both_ways, eqb-true, eq-eqb, ne_eqb, false_from_ne_true, or_cases, and_parts, and_from, cond-true, cond-false}
@@ -9,7 +9,8 @@ use Rattle.modes_core.specs.declared.modes.Mode.{Mode}
 use Rattle.modes_core.specs.Mode.{mode_eq}
 use Rattle.modes_core.proofs.Laws.{mode_eq-same, mode_eq-refl}
 use Rattle.lock_table.specs.Content.{Wait}
-use Rattle.lock_table.specs.Queue.{waits_there, awaits_mode, wait_in, queue_without, joined}
+use Rattle.modes_core.specs.Conflict.{conflict}
+use Rattle.lock_table.specs.Queue.{waits_there, awaits_mode, wait_in, queue_without, joined, some_awaits_conflict}
 use Rattle.lock_table.proofs.PutLemmas.{put_here, put_else}
 use Rattle.lock_table.proofs.ListLemmas.{any-counted, counted-any, any_weaker}
 use Rattle.lock_table.proofs.HoldLists.{count_by-cons, count_by-filter, count_by-none}
@@ -290,3 +291,49 @@ wait-none (w ∷ queue) s is =
           let found : wait_in (w ∷ queue) s ≡ wait_in queue s = cond-false (w.session == s) (Some w) (wait_in queue s) other in
           ap (λ b. b || waits_there queue s) other ∙ wait-none queue s (ap (option_map (λ (wait : Wait). wait.mode)) (sym found) ∙ is)
     ]
+
+-- Whether somebody awaits a mode in conflict, by the counts.
+pub none-awaits : (queue : List Wait) (mode : Mode) → ((its : Mode) → conflict mode its ≡ true → awaited_of queue its ≡ 0) → some_awaits_conflict queue mode ≡ false
+none-awaits [] mode none = refl
+none-awaits (w ∷ queue) mode none =
+    elim (cases_Bool (conflict mode w.mode)) [
+      | inl hit ↦
+          let sum : awaited_of (w ∷ queue) w.mode ≡ (if mode_eq w.mode w.mode then 1 else 0) + awaited_of queue w.mode = count_by-cons (λ (wait : Wait). mode_eq wait.mode w.mode) w queue in
+          let one : ◌≡◌ {A = ℕ} (if mode_eq w.mode w.mode then 1 else 0) 1 = ap (λ b. if b then 1 else 0) (mode_eq-refl w.mode) in
+          let no : awaited_of (w ∷ queue) w.mode ≡ 0 = none w.mode hit in
+          absurd (omega arith)
+      | inr free ↦
+          ap (λ b. b || some_awaits_conflict queue mode) free
+          ∙ none-awaits queue mode (λ its hit.
+          let sum : awaited_of (w ∷ queue) its ≡ (if mode_eq w.mode its then 1 else 0) + awaited_of queue its = count_by-cons (λ (wait : Wait). mode_eq wait.mode its) w queue in
+          let no : awaited_of (w ∷ queue) its ≡ 0 = none its hit in
+          omega arith)
+    ]
+
+pub some-awaits : (queue : List Wait) (mode its : Mode) → conflict mode its ≡ true → 0 < awaited_of queue its → some_awaits_conflict queue mode ≡ true
+some-awaits queue mode its hit some =
+    any_weaker (λ (wait : Wait). mode_eq wait.mode its) (λ (wait : Wait). conflict mode wait.mode) queue (λ w same. ap (conflict mode) (mode_eq-same w.mode its same) ∙ hit) (counted-any (λ (wait : Wait). mode_eq wait.mode its) queue some)
+
+-- Where a session doesn't wait there is room for it.
+pub queue-room : (queue : List Wait) (w : Wait) → OneEach queue → ((s : ℕ) → waits_there queue s ≡ true → s < 64) → w.session < 64 → waits_there queue w.session ≡ false → length queue < 64
+queue-room queue w one below small absent = let all : length (w ∷ queue) ≤ 64 = queue-short (w ∷ queue) one_more below_more in omega arith where
+  one_more : OneEach (w ∷ queue)
+  one_more k =
+      let all : count_by (λ (wait : Wait). wait.session == k) (w ∷ queue) ≡ (if w.session == k then 1 else 0) + count_by (λ (wait : Wait). wait.session == k) queue = count_by-cons (λ (wait : Wait). wait.session == k) w queue in
+      elim (cases_Bool (w.session == k)) [
+        | inl own ↦
+            let none : count_by (λ (wait : Wait). wait.session == k) queue ≡ 0 =
+            count_by-none (λ (wait : Wait). wait.session == k) queue (ap (waits_there queue) (sym (eqb-true _ _ own)) ∙ absent) in
+            let it : ◌≡◌ {A = ℕ} (if w.session == k then 1 else 0) 1 = ap (λ b. if b then 1 else 0) own in
+            omega arith
+        | inr other ↦
+            let it : ◌≡◌ {A = ℕ} (if w.session == k then 1 else 0) 0 = ap (λ b. if b then 1 else 0) other in
+            omega (arith, one k)
+      ]
+
+  below_more : (s : ℕ) → waits_there (w ∷ queue) s ≡ true → s < 64
+  below_more s there =
+      elim (or_cases _ _ there) [
+        | inl its ↦ subst (λ x. x < 64) (eqb-true _ _ its) small
+        | inr was ↦ below s was
+      ]

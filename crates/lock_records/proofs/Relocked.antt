@@ -3,7 +3,7 @@ use Rattle.std.proofs.Math.ListN.{set}
 use Rattle.std.specs.Prelude.{count_by, is_some}
 use Rattle.std.proofs.Common.{cond}
 use Rattle.std.proofs.lemmas.List.Sums.{sum_by-set}
-use Rattle.std.proofs.lemmas.Bool.{cases_lt, ne_eqb}
+use Rattle.std.proofs.lemmas.Bool.{cases_lt, false_from_ne_true}
 use Rattle.std.proofs.lemmas.List.{get_or-set_same, get_or-set_other, get_or_past}
 use Rattle.modes_core.specs.declared.modes.Mode.{Mode}
 use Rattle.modes_core.specs.declared.tags.Tag.{Tag}
@@ -14,7 +14,7 @@ use Rattle.lock_table.specs.Content.{Holds, set_hold}
 use Rattle.lock_table.specs.Clash.{IsConflictingHolder}
 use Rattle.lock_records.specs.Tally.{counts_in, one_more, one_less}
 use Rattle.lock_records.specs.Counting.{granted_of}
-use Rattle.lock_records.specs.Lowest.{meet, IsLowestHolder}
+use Rattle.lock_records.specs.Lowest.{IsLowestHolder}
 use Rattle.lock_records.specs.declared.holders.HolderRecord.{HolderRecord}
 use Rattle.lock_records.specs.declared.locks.LockRecord.{LockRecord}
 use Rattle.lock_records.specs.Holders.{holds_in, AreHolders}
@@ -22,7 +22,6 @@ use Rattle.lock_records.specs.Locks.{lock_at, IsRelocked}
 use Rattle.lock_records.proofs.IndexLaws.{nothing-there}
 use Rattle.lock_records.proofs.GrantedCounts.{granted-more, granted-less, granted-some}
 use Rattle.lock_records.proofs.Held.{held-from}
-use Rattle.lock_records.proofs.Lowest.{unmet}
 
 -- A place with a record is within the list.
 pub place-within : (old : List (Option LockRecord)) (place : ℕ) (l : LockRecord) → lock_at old place ≡ Some l → place < length old
@@ -65,16 +64,17 @@ counts-lowered before after s t m old new small was is counted lowered n =
     ap (λ f. f n) lowered ∙ ap (λ (counts : Mode → ℕ). one_less counts m n) (λ i k. counted k i)
     ∙ sym (granted-less before s t m small was n) ∙ ap (λ holds. granted_of holds t n) (sym is)
 
--- Where the mask meets no mode of a set, nobody holds one.
-pub none-granted :
-    (holders : List (Option HolderRecord)) (t : Tag) (counts : List ℕ) (mask set : ℕ) → AreHolders holders t → ((n : Mode) → counts_in counts n ≡ granted_of (holds_in holders) t n) →
-    ((n : Mode) → set_has mask n ≡ not (counts_in counts n == 0)) → meet mask set ≡ false → (other : ℕ) (n : Mode) → holds_in holders other t n ≡ true → set_has set n ≡ false
-none-granted holders t counts mask set are counted masked none other n has =
+-- Where no mode in conflict with a mode is counted, nobody holds one.
+pub nobody-holds :
+    (holders : List (Option HolderRecord)) (t : Tag) (counts : List ℕ) (mode : Mode) → AreHolders holders t → ((n : Mode) → counts_in counts n ≡ granted_of (holds_in holders) t n) →
+    ((n : Mode) → conflict mode n ≡ true → counts_in counts n ≡ 0) → (other : ℕ) (n : Mode) → holds_in holders other t n ≡ true → conflict mode n ≡ false
+nobody-holds holders t counts mode are counted none other n has =
+    false_from_ne_true _ (λ hit.
     let shows = held-from holders other t n has in
     let some : 0 < granted_of (holds_in holders) t n = granted-some (holds_in holders) other t n (are.below other shows.place shows.at) has in
     let is = counted n in
-    let more : counts_in counts n ≢ 0 = λ e. omega arith in
-    unmet mask set n none (masked n ∙ ap not (ne_eqb (counts_in counts n) 0 more))
+    let zero_of : counts_in counts n ≡ 0 = none n hit in
+    omega arith)
 
 -- The lowest holder with its lowest mode is what a request conflicts with.
 pub conflict-found :

@@ -3,6 +3,7 @@ pub mod Counting
 pub mod Holders
 pub mod Lowest
 pub mod Locks
+pub mod Queues
 pub mod Rows
 pub mod Objects
 pub mod View

@@ -3,16 +3,16 @@ use Rattle.modes_core.specs.declared.modes.Mode.{Mode}
 use Rattle.modes_core.specs.declared.tags.Tag.{Tag}
 use Rattle.lock_table.specs.Content.{Wait}
 use Rattle.lock_table.specs.Queue.{awaits_mode, waits_there}
-use Rattle.lock_table.specs.PartWaits.{queues_in}
-use Rattle.lock_table.specs.declared.part_waits.PartWait.{PartWait}
 use Rattle.slab.specs.Slab.{Slab, slab_len, HasRoomFor}
 use Rattle.place_index.specs.Notes.{Notes}
 use Rattle.lock_records.specs.Tally.{counts_in}
 use Rattle.lock_records.specs.Counting.{granted_of, awaited_of}
 use Rattle.lock_records.specs.Holders.{holds_in, IsHolderAt, AreHolders, IsHolderChain}
 use Rattle.lock_records.specs.Locks.{IsLockAt, HasLock}
+use Rattle.lock_records.specs.Queues.{queue_on, waiting_in}
 use Rattle.lock_records.specs.declared.holders.HolderRecord.{HolderRecord}
 use Rattle.lock_records.specs.declared.locks.LockRecord.{LockRecord}
+use Rattle.lock_records.specs.declared.wait_queues.QueueRecord.{QueueRecord}
 
 -- What the records of a partition have of one object.
 
@@ -46,12 +46,12 @@ pub record IsObject (locks : List (Option LockRecord)) (holders : List (Option H
   pub awaited_locked : queue ≢ [] → HasLock locks tag
 
 -- The records of all objects of a partition.
-abbrev pub AreObjects : List (Option LockRecord) → List (Option HolderRecord) → List PartWait → Type 0
-AreObjects locks holders waits = (tag : Tag) → IsObject locks holders (queues_in waits tag) tag
+abbrev pub AreObjects : List (Option LockRecord) → List (Option HolderRecord) → List (Option QueueRecord) → Type 0
+AreObjects locks holders queues = (tag : Tag) → IsObject locks holders (queue_on queues tag) tag
 
 -- There is room for a request, as a hold or as a wait, and for a lock record.
-pub record HasRoom (locks : Slab LockRecord) (holders : Slab HolderRecord) (waiting limit : ℕ) (index : Notes) : Type 0 where
+pub record HasRoom (locks : Slab LockRecord) (holders : Slab HolderRecord) (queues : Slab QueueRecord) (index : Notes) : Type 0 where
   pub lock : HasRoomFor locks 1
   pub noted : locks.vacant_key < index.places
-  pub holder : slab_len holders + waiting < holders.capacity
-  pub wait : waiting < limit
+  pub holder : slab_len holders + waiting_in queues.slots < holders.capacity
+  pub queue : HasRoomFor queues 1

@@ -1,24 +1,24 @@
-use Rattle.std.specs.Prelude.{◌≡◌, ◌+◌, ◌≤◌, true, false, vec_len, vec_capacity}
+use Rattle.std.specs.Prelude.{◌≡◌, ◌+◌, ◌≤◌, true, false}
 use Rattle.std.specs.Option.{ForSome}
 use Rattle.lock_table.specs.Queue.{awaits_mode}
-use Rattle.lock_table.specs.PartWaits.{queues_in}
 use Rattle.slab.specs.Slab.{slab_len}
 use Rattle.lock_records.specs.Holders.{holds_in}
 use Rattle.lock_records.specs.Locks.{AreNoted, HasNoLock}
+use Rattle.lock_records.specs.Queues.{queue_on, waiting_in}
 use Rattle.lock_records.specs.Objects.{AreObjects, HasRoom}
 use Rattle.lock_records.specs.View.{RecordView}
 use Rattle.lock_records.specs.declared.records.Records.TheInside.{Inside}
 
 abbrev pub view_of : Inside → RecordView
-view_of part = record { holders = part.holders.slots; waits = part.waits.items; begun = part.begun }
+view_of part = record { holders = part.holders.slots; queues = part.queues.slots; begun = part.begun }
 
 -- The records of each object are right, the index finds the lock records, and there is room for the hold that each wait becomes; a begun
 -- request is new, and has room.
 pub record AreRecords (part : Inside) : Type 0 where
-  pub objects : AreObjects part.locks.slots part.holders.slots part.waits.items
+  pub objects : AreObjects part.locks.slots part.holders.slots part.queues.slots
   pub noted : AreNoted part.locks.slots part.index
-  pub room : slab_len part.holders + vec_len part.waits ≤ part.holders.capacity
+  pub room : slab_len part.holders + waiting_in part.queues.slots ≤ part.holders.capacity
   pub begun_new : ForSome part.begun (λ request. holds_in part.holders.slots request.session request.tag request.mode ≡ false)
-  pub begun_not_awaited : ForSome part.begun (λ request. awaits_mode (queues_in part.waits.items request.tag) request.session request.mode ≡ false)
-  pub begun_room : ForSome part.begun (λ request. HasRoom part.locks part.holders (vec_len part.waits) (vec_capacity part.waits) part.index)
+  pub begun_not_awaited : ForSome part.begun (λ request. awaits_mode (queue_on part.queues.slots request.tag) request.session request.mode ≡ false)
+  pub begun_room : ForSome part.begun (λ request. HasRoom part.locks part.holders part.queues part.index)
   pub begun_absent : part.absent ≡ true → ForSome part.begun (λ request. HasNoLock part.locks.slots request.tag)

@@ -11,6 +11,7 @@ pub mod part;
 pub mod records;
 mod sets;
 pub mod tally;
+pub mod wait_queues;
 
 pub use counts::Counts;
 pub use part::RecordPart;

@@ -5,9 +5,8 @@ ghost use Rattle.lock_table.specs.Listing.{row_eq};
 ghost use Rattle.lock_records.specs.Rows.{AppendsRows, HasMoreRows, shown_by, shown_below, awaited_in};
 
 use crate::holders::HolderRecord;
-use lock_table::part_waits::PartWait;
-use lock_table::{NoMemory, TableRow};
-use modes_core::Mode;
+use lock_table::{NoMemory, TableRow, Waiter};
+use modes_core::{Mode, Tag};
 use slab::Slab;
 
 /// Appends a row for each mode of a holder record.
@@ -51,13 +50,23 @@ pub(crate) fn push_holds(
     Ok(())
 }
 
-/// Appends a row for each wait.
-pub(crate) fn push_waits(waits: &[PartWait], rows: &mut Vec<TableRow>) -> Result<(), NoMemory>
-    ensures ok { OnOk result (AppendsRows rows.old.items rows.new.items (awaited_in waits.now)) }
+/// Appends a row for each of these waits on the object.
+pub(crate) fn push_waits(
+    tag: &Tag,
+    waiters: &[Waiter],
+    rows: &mut Vec<TableRow>,
+) -> Result<(), NoMemory>
+    ensures ok { OnOk result (AppendsRows rows.old.items rows.new.items (awaited_in tag.now waiters.now)) }
     ensures err { OnErr result (HasMoreRows rows.old.items rows.new.items) }
 {
-    for wait in waits {
-        if rows.push(wait.row()).is_err() {
+    for waiter in waiters {
+        let row = TableRow {
+            session: waiter.session,
+            tag: *tag,
+            mode: waiter.mode,
+            granted: false,
+        };
+        if rows.push(row).is_err() {
             return Err(NoMemory);
         }
     }

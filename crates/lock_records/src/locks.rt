@@ -1,10 +1,13 @@
 ghost use Rattle.std.specs.Prelude.{◌≡◌, ◌<◌, ◌≤◌, false, true, IfSome, IfNone, Some};
+ghost use Rattle.modes_core.specs.declared.modes.Mode.{Mode};
+ghost use Rattle.modes_core.specs.Conflict.{conflict};
 ghost use Rattle.slab.specs.Slab.{slab_len, HasRoomFor};
+ghost use Rattle.lock_records.specs.Tally.{counts_in};
 ghost use Rattle.lock_records.specs.Locks.{lock_at, is_on, key_of, IsLockAt, HasNoLock, AreNoted, HasSameLocks, HasMadeLock, IsNewLock, IsIdle, IsCounting, IsDropped};
 
 use crate::holders::Holders;
 use crate::tally::Tally;
-use modes_core::Tag;
+use modes_core::{Mode, Tag, conflicts};
 use place_index::PlaceIndex;
 use slab::Slab;
 
@@ -16,6 +19,8 @@ pub struct LockRecord {
     pub holders: Holders,
     pub granted: Tally,
     pub awaited: Tally,
+    /// Where its queue record is, while somebody awaits it.
+    pub queue: usize,
 }
 
 impl LockRecord {
@@ -28,11 +33,31 @@ impl LockRecord {
             holders: Holders { first: 0, count: 0 },
             granted: Tally::new(),
             awaited: Tally::new(),
+            queue: 0,
         }
     }
 }
 
 impl LockRecord {
+    /// Whether a mode in conflict with this one is held or awaited, by whomever.
+    #[inline(always)]
+    pub(crate) fn may_conflict(&self, mode: Mode) -> bool
+        ensures granted { result ≡ false → (its : Mode) → conflict mode its ≡ true → counts_in self.now.granted its ≡ 0 }
+        ensures awaited { result ≡ false → (its : Mode) → conflict mode its ≡ true → counts_in self.now.awaited its ≡ 0 }
+    {
+        let conflicting = conflicts(mode);
+        self.awaited.meets(conflicting) || self.granted.meets(conflicting)
+    }
+
+    /// Whether a mode in conflict with this one is awaited.
+    #[inline(always)]
+    pub(crate) fn is_awaited(&self, mode: Mode) -> bool
+        ensures some { result ≡ true → (its : Mode) × (conflict mode its ≡ true) × (0 < counts_in self.now.awaited its) }
+        ensures none { result ≡ false → (its : Mode) → conflict mode its ≡ true → counts_in self.now.awaited its ≡ 0 }
+    {
+        self.awaited.meets(conflicts(mode))
+    }
+
     /// Whether nobody holds or awaits the object.
     #[inline(always)]
     pub(crate) fn is_empty(&self) -> bool

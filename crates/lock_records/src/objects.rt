@@ -1,49 +1,52 @@
 //! What a call does to the records of one object, whose lock record stands at a known place.
 
-ghost use Rattle.std.specs.Prelude.{◌≡◌, ◌<◌, ◌≤◌, ◌+◌, false, true, vec_len, vec_capacity, OnOk};
+ghost use Rattle.std.specs.Prelude.{◌≡◌, ◌<◌, ◌≤◌, ◌+◌, [], false, true, OnOk, IfSome, IfNone};
 ghost use Rattle.modes_core.specs.declared.modes.Mode.{Mode};
 ghost use Rattle.slab.specs.Slab.{slab_len, HasRoomFor};
 ghost use Rattle.place_index.specs.Notes.{HasSameNotes};
 ghost use Rattle.lock_table.specs.Clash.{HolderInTheWay};
 ghost use Rattle.lock_records.specs.Tally.{counts_in, one_more, one_less};
+ghost use Rattle.lock_records.specs.Counting.{awaited_of};
 ghost use Rattle.lock_records.specs.Holders.{holds_in, AreHolders, SetsHold};
+ghost use Rattle.lock_records.specs.Queues.{queue_on, IsQueueAt};
 ghost use Rattle.lock_records.specs.Locks.{IsLockAt, IsRelocked};
 ghost use Rattle.lock_records.specs.Objects.{IsHeldLock, HasRoom};
 
 use crate::holders::{HolderRecord, lower_holder, lowest_holder, lowest_mode, raise_holder};
 use crate::locks::LockRecord;
+use crate::wait_queues::WaitQueues;
 use lock_table::NoMemory;
-use lock_table::part_waits::PartWait;
 use modes_core::{Mode, SessionId, Tag, conflicts};
 use place_index::PlaceIndex;
 use slab::Slab;
 
 /// Makes room for a request: in the index for one lock record more, for that record, for the hold that it and each wait
-/// becomes, and for its wait. No record changes.
+/// becomes, and for a queue record more. No record changes.
 #[inline(always)]
 pub(crate) fn make_room(
     locks: &mut Slab<LockRecord>,
     holders: &mut Slab<HolderRecord>,
-    waits: &mut Vec<PartWait>,
+    queues: &mut WaitQueues,
     index: &mut PlaceIndex,
 ) -> Result<(), NoMemory>
-    ensures room { OnOk result (HasRoom locks.new holders.new (vec_len waits.new) (vec_capacity waits.new) index.new) }
+    ensures room { OnOk result (HasRoom locks.new holders.new queues.new index.new) }
     ensures locks { locks.new ≡ record locks.old { capacity = locks.new.capacity } }
     ensures holders { holders.new ≡ record holders.old { capacity = holders.new.capacity } }
     ensures capacity { holders.old.capacity ≤ holders.new.capacity }
-    ensures waits { waits.new.items ≡ waits.old.items }
-    ensures len { vec_len waits.new ≡ vec_len waits.old }
+    ensures queues { queues.new.slots ≡ queues.old.slots }
     ensures notes { HasSameNotes index.old index.new }
     ensures places { index.old.places ≤ index.new.places }
 {
     let Ok(place) = u32::try_from(locks.vacant_key()) else {
         return Err(NoMemory);
     };
+    let Some(holds) = queues.waiting().checked_add(1) else {
+        return Err(NoMemory);
+    };
     index.reserve(place)?;
     locks.reserve(1)?;
-    holders.reserve(waits.len() + 1)?;
-    waits.reserve(1)?;
-    Ok(())
+    holders.reserve(holds)?;
+    queues.reserve()
 }
 
 /// Adds a hold that is not there.
@@ -123,7 +126,7 @@ pub(crate) fn holder_in_the_way(
 {
     let lock = &locks[place];
     let conflicting = conflicts(mode);
-    if !lock.granted.mask().meets(conflicting) {
+    if !lock.granted.meets(conflicting) {
         return None;
     }
     match lowest_holder(holders, lock.holders, tag, session, conflicting) {
@@ -132,9 +135,27 @@ pub(crate) fn holder_in_the_way(
     }
 }
 
-/// Counts a wait more for the mode.
+/// Where the queue record of an object is, which its lock record notes; there is none where nobody awaits it.
 #[inline(always)]
-pub(crate) fn raise_awaited(locks: &mut Slab<LockRecord>, place: usize, tag: &Tag, mode: Mode)
+pub(crate) fn queue_place(lock: &LockRecord, queues: &WaitQueues, tag: &Tag) -> Option<usize>
+    requires { (mode : Mode) → counts_in lock.now.awaited mode ≡ awaited_of (queue_on queues.now.slots tag.now) mode }
+    ensures found { IfSome result (IsQueueAt queues.now.slots tag.now) }
+    ensures absent { IfNone result (queue_on queues.now.slots tag.now ≡ []) }
+{
+    if lock.awaited.is_empty() {
+        return None;
+    }
+    queues.find(lock.queue, tag)
+}
+
+/// Counts a wait more for the mode, and notes where the object's queue record is.
+pub(crate) fn raise_awaited(
+    locks: &mut Slab<LockRecord>,
+    place: usize,
+    tag: &Tag,
+    mode: Mode,
+    queue: usize,
+)
     requires there { IsLockAt locks.old.slots tag.now place }
     requires few { (i : IsLockAt locks.old.slots tag.now place) → counts_in i.lock.awaited mode < 255 }
     ensures lock { (r : IsRelocked locks.old.slots locks.new.slots tag.now place)
@@ -143,11 +164,12 @@ pub(crate) fn raise_awaited(locks: &mut Slab<LockRecord>, place: usize, tag: &Ta
     ensures room { HasRoomFor locks.old 1 → HasRoomFor locks.new 1 }
     ensures key { locks.new.vacant_key ≡ locks.old.vacant_key }
 {
-    locks[place].awaited.raise(mode);
+    let lock = &mut locks[place];
+    lock.queue = queue;
+    lock.awaited.raise(mode);
 }
 
 /// Counts a wait less for the mode.
-#[inline(always)]
 pub(crate) fn lower_awaited(locks: &mut Slab<LockRecord>, place: usize, tag: &Tag, mode: Mode)
     requires there { IsLockAt locks.old.slots tag.now place }
     requires some { (i : IsLockAt locks.old.slots tag.now place) → 0 < counts_in i.lock.awaited mode }

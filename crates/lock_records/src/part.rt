@@ -72,13 +72,18 @@ impl PartTable for RecordPart {
     }
 
     #[inline(always)]
-    fn ungrant(&mut self, session: SessionId, tag: &Tag, mode: Mode) {
-        self.records.ungrant(session, tag, mode);
+    fn ungrant(&mut self, session: SessionId, tag: &Tag, mode: Mode) -> bool {
+        self.records.ungrant(session, tag, mode)
     }
 
     #[inline(always)]
     fn held(&self, session: SessionId, tag: &Tag) -> ModeSet {
         self.records.held(session, tag)
+    }
+
+    #[inline(always)]
+    fn may_conflict(&self, tag: &Tag, mode: Mode) -> bool {
+        self.records.may_conflict(tag, mode)
     }
 
     #[inline(always)]

@@ -2,13 +2,13 @@ ghost use Rattle.std.specs.Prelude.{◌≡◌, ◌<◌, ◌≤◌, false, true, 
 
 use crate::counts::{Counts, counts_of};
 use crate::holders::{HolderRecord, find_holder};
-use crate::listing::{push_holds, push_waits};
+use crate::listing::push_holds;
 use crate::locks::{LockRecord, drop_empty, look, look_or_make};
 use crate::objects::{
-    add_hold, holder_in_the_way, lower_awaited, make_room, raise_awaited, remove_hold,
+    add_hold, holder_in_the_way, lower_awaited, make_room, queue_place, raise_awaited, remove_hold,
 };
+use crate::wait_queues::{WaitQueues, queue_up};
 use lock_table::answering::walk::is_against;
-use lock_table::part_waits::{PartWait, awaited_mode, index_of_place, take_wait_out, waiter_at};
 use lock_table::rows::sort_rows;
 use lock_table::{NoMemory, PartTable, Request, TableRow, Waiter, Woken};
 use modes_core::{Mode, ModeSet, SessionId, Tag};
@@ -18,12 +18,12 @@ use std::alloc::Global;
 use std::marker::Model;
 
 /// One partition of the lock table as lock.c keeps it: lock records, found through an index by the hash of the tag, holder
-/// records, and the waits of all its objects.
+/// records, and queue records of the objects that somebody awaits.
 #[derive(Drop)]
 pub struct Records {
     locks: Slab<LockRecord>,
     holders: Slab<HolderRecord>,
-    waits: Vec<PartWait>,
+    queues: WaitQueues,
     index: PlaceIndex,
     begun: Option<Request>,
     /// Where a lock record was found last: the call that follows mostly wants the same one.
@@ -57,7 +57,7 @@ impl Records {
         Ok(Records {
             locks: Slab::new(alloc),
             holders: Slab::new(alloc),
-            waits: Vec::new(alloc),
+            queues: WaitQueues::new(alloc),
             index,
             begun: None,
             hint: 0,
@@ -87,8 +87,9 @@ impl Records {
 
 /// What a wakeup does at one wait, and what a listing has of the records.
 impl Records {
-    ghost use Rattle.std.specs.Prelude.{ℕ, ◌==◌, count_by, OnOk, OnErr, if◌then◌else◌};
+    ghost use Rattle.std.specs.Prelude.{ℕ, [], ◌==◌, count_by, OnOk, OnErr, IfSome, IfNone, if◌then◌else◌};
     ghost use Rattle.lock_table.specs.Listing.{has_row};
+    ghost use Rattle.lock_records.specs.Queues.{IsQueueAt};
     ghost use Rattle.lock_records.specs.Rows.{AppendsRows, HasMoreRows};
     ghost use Rattle.modes_core.specs.declared.modes.Mode.{Mode};
     ghost use Rattle.modes_core.specs.ModeSet.{set_has};
@@ -113,7 +114,8 @@ impl Records {
     /// Whether the object is known to have no lock record, since the request that is begun is on it and found none.
     #[inline(always)]
     fn is_absent(&self, tag: &Tag) -> bool
-        ensures { result ≡ true → (session : ℕ) (mode : Mode) → (content_of self.now).holds session tag.now mode ≡ false }
+        ensures held { result ≡ true → (session : ℕ) (mode : Mode) → (content_of self.now).holds session tag.now mode ≡ false }
+        ensures awaited { result ≡ true → (content_of self.now).waits tag.now ≡ [] }
     {
         if !self.absent {
             return false;
@@ -129,7 +131,18 @@ impl Records {
         ensures one_each { (session : ℕ) → count_by (λ wait. wait.session == session) ((content_of self.now).waits tag.now) ≤ 1 }
     {
         let _tag = *tag;
-        let _waits = self.waits.len();
+        let _waiting = self.queues.waiting();
+    }
+
+    /// Where the object's queue record is, if somebody awaits it.
+    fn queue_of(&self, tag: &Tag) -> Option<usize>
+        ensures found { IfSome result (IsQueueAt self.now.queues tag.now) }
+        ensures absent { IfNone result ((content_of self.now).waits tag.now ≡ []) }
+    {
+        match look(&self.locks, &self.index, self.hint, tag) {
+            Some(place) => queue_place(&self.locks[place], &self.queues, tag),
+            None => None,
+        }
     }
 
     /// Makes the session's wait a hold.
@@ -139,11 +152,14 @@ impl Records {
             ≡ add_hold (remove_wait (content_of self.old) session tag.now) session tag.now mode }
         ensures begun { self.new.begun ≡ self.old.begun }
     {
-        self.absent = false;
+        let Some(at) = self.queue_of(tag) else {
+            unreachable!()
+        };
         let Some(place) = look(&self.locks, &self.index, self.hint, tag) else {
             unreachable!()
         };
-        take_wait_out(&mut self.waits, session, tag);
+        self.absent = false;
+        self.queues.leave(at, tag, session);
         lower_awaited(&mut self.locks, place, tag, mode);
         add_hold(
             &mut self.locks,
@@ -163,7 +179,7 @@ impl Records {
         if push_holds(&self.holders, rows).is_err() {
             return Err(NoMemory);
         }
-        push_waits(self.waits.as_slice(), rows)
+        self.queues.push_rows(rows)
     }
 }
 
@@ -179,7 +195,7 @@ impl PartTable for Records {
         make_room(
             &mut self.locks,
             &mut self.holders,
-            &mut self.waits,
+            &mut self.queues,
             &mut self.index,
         )?;
         let found = look(&self.locks, &self.index, self.hint, tag);
@@ -217,12 +233,13 @@ impl PartTable for Records {
     }
 
     #[inline(always)]
-    fn ungrant(&mut self, session: SessionId, tag: &Tag, mode: Mode) {
+    fn ungrant(&mut self, session: SessionId, tag: &Tag, mode: Mode) -> bool {
         self.absent = false;
         let Some(place) = look(&self.locks, &self.index, self.hint, tag) else {
             unreachable!()
         };
         self.hint = place;
+        let awaited = self.locks[place].is_awaited(mode);
         remove_hold(
             &mut self.locks,
             &mut self.holders,
@@ -232,6 +249,7 @@ impl PartTable for Records {
             mode,
         );
         drop_empty(&mut self.locks, &mut self.index, tag, place);
+        awaited
     }
 
     #[inline(always)]
@@ -242,6 +260,17 @@ impl PartTable for Records {
         match find_holder(&self.holders, self.locks[place].holders, tag, session) {
             Some(holder) => self.holders[holder].modes,
             None => ModeSet::empty(),
+        }
+    }
+
+    #[inline(always)]
+    fn may_conflict(&self, tag: &Tag, mode: Mode) -> bool {
+        if self.is_absent(tag) {
+            return false;
+        }
+        match look(&self.locks, &self.index, self.hint, tag) {
+            Some(place) => self.locks[place].may_conflict(mode),
+            None => false,
         }
     }
 
@@ -258,14 +287,17 @@ impl PartTable for Records {
 
     #[inline(always)]
     fn waiter(&self, tag: &Tag, place: usize) -> Option<Waiter> {
-        // No list is longer than a number of its length can say.
-        let _len = self.waits.len();
-        waiter_at(self.waits.as_slice(), tag, place)
+        match self.queue_of(tag) {
+            Some(at) => self.queues.waiters(at, tag).get(place).copied(),
+            None => None,
+        }
     }
 
     fn join(&mut self, session: SessionId, tag: &Tag, mode: Mode, place: usize) {
         let _number = session.number();
         let held = self.held(session, tag);
+        let queue = self.queue_of(tag);
+        let _most = self.holders.capacity();
         self.begun = None;
         let at = look_or_make(
             &mut self.locks,
@@ -275,28 +307,24 @@ impl PartTable for Records {
             tag,
         );
         self.hint = at;
-        raise_awaited(&mut self.locks, at, tag, mode);
-        let index = index_of_place(self.waits.as_slice(), tag, place);
         let waiter = Waiter {
             session,
             mode,
             held,
         };
-        match self.waits.insert(index, PartWait { tag: *tag, waiter }) {
-            Ok(()) => {}
-            Err(_) => unreachable!(),
-        }
+        let queue = queue_up(&mut self.queues, queue, tag, place, waiter);
+        raise_awaited(&mut self.locks, at, tag, mode, queue);
     }
 
     fn leave(&mut self, session: SessionId, tag: &Tag) -> Option<Mode> {
-        let Some(mode) = awaited_mode(self.waits.as_slice(), session, tag) else {
-            return None;
-        };
-        self.absent = false;
+        let at = self.queue_of(tag)?;
+        let mode = self.queues.awaited_mode(at, tag, session)?;
         let Some(place) = look(&self.locks, &self.index, self.hint, tag) else {
             unreachable!()
         };
-        take_wait_out(&mut self.waits, session, tag);
+        self.absent = false;
+        self.hint = place;
+        self.queues.leave(at, tag, session);
         lower_awaited(&mut self.locks, place, tag, mode);
         drop_empty(&mut self.locks, &mut self.index, tag, place);
         Some(mode)

@@ -71,6 +71,15 @@ impl Tally {
         self.mask
     }
 
+    /// Whether there is one of these modes.
+    #[inline(always)]
+    pub fn meets(&self, modes: ModeSet) -> bool
+        ensures some { result ≡ true → (mode : _) × (set_has modes mode ≡ true) × (0 < counts_in self.now mode) }
+        ensures none { result ≡ false → (mode : _) → set_has modes mode ≡ true → counts_in self.now mode ≡ 0 }
+    {
+        self.mask.meets(modes)
+    }
+
     /// Whether there is nothing of any mode.
     #[inline(always)]
     pub fn is_empty(&self) -> bool

@@ -1,7 +1,7 @@
 //! `lock_scenario`: runs scripts against the lock manager.
 #![tactic(auto)]
 
-use scenario::{Source, run_program};
+use scenario::{Errors, Source, run_program};
 use std::io::IsTerminal;
 use std::process::ExitCode;
 use std::{env, io};
@@ -14,7 +14,11 @@ fn main(rt: HostRuntime) -> ExitCode {
         is_terminal: reader.is_terminal(),
         reader,
     };
-    let mut errors = rt.stderr();
+    let mut writer = rt.stderr();
+    let mut errors = Errors {
+        is_terminal: writer.is_terminal(),
+        writer: &mut writer,
+    };
     let status = run_program(&rt, read_words(&rt), input, rt.stdout(), &mut errors);
     ExitCode::from(status)
 }

@@ -6,12 +6,13 @@ use Rattle.std.specs.List.{HoldsAt}
 use Rattle.std.proofs.lemmas.Bool.Decides.{nat_tests}
 use Rattle.std.proofs.lemmas.List.{get_or_default}
 use Rattle.modes_core.specs.declared.sessions.Owner.{Owner}
+use Rattle.modes_core.specs.declared.tags.Tag.{Tag}
 use Rattle.lock_script.specs.Command.{Addresses, IsBarred, IsUnnamed, NamesCounter}
 use Rattle.lock_script.specs.Sessions.{IsAt, IsThere, MayAct}
-use Rattle.lock_script.specs.Meaning.{IsCommandOf, NamesActor, NamesBoth, NamesCount, NamesLone, NamesOwned}
+use Rattle.lock_script.specs.Meaning.{IsCommandOf, NamesActor, NamesBlocked, NamesBoth, NamesCount, NamesLone, NamesOwned, NamesQueue}
 use Rattle.lock_script.specs.Words.{number_in, strong_index}
 use Rattle.lock_script.specs.declared.command.Command.{Command}
-use Rattle.lock_script.specs.declared.command.Command.TheVariants.{Session, Try, Fast, Lock, Unlock, Commit, Abort, Owned, Waiters, Cancel, Count, Hash, Close}
+use Rattle.lock_script.specs.declared.command.Command.TheVariants.{Session, Try, Fast, Lock, Unlock, Commit, Abort, Begin, SubCommit, SubAbort, Owned, Waiters, Queue, Blockers, Cancel, Count, Hash, Close}
 use Rattle.lock_script.specs.declared.command.Command.TheVariants as command
 use Rattle.lock_script.specs.declared.command.Target.{Target}
 use Rattle.lock_script.specs.declared.sessions.OpenSessions.{OpenSessions}
@@ -96,6 +97,19 @@ module _ {S W : Type 0} where
   both-there sessions (name ∷ word ∷ []) by other h = (h.0.0.0, is_there sessions word other.place h.1.0)
   both-there sessions (name ∷ word ∷ more ∷ words) by other h = absurd h
 
+  queue-may_act : (sessions : OpenSessions S W) (words : List (List ℕ)) (caller : Caller) (tag : Tag) → NamesQueue sessions words caller tag → MayAct sessions caller.place
+  queue-may_act sessions [] caller tag h = absurd h
+  queue-may_act sessions (name ∷ []) caller tag h = absurd h
+  queue-may_act sessions (name ∷ word ∷ []) caller tag h = h.0.0.0
+  queue-may_act sessions (name ∷ word ∷ more ∷ words) caller tag h = absurd h
+
+  blocked-there : (sessions : OpenSessions S W) (words : List (List ℕ)) (by : Caller) (other : Opened) (tag : Tag) → NamesBlocked sessions words by other tag → MayAct sessions by.place × IsThere sessions other.place
+  blocked-there sessions [] by other tag h = absurd h
+  blocked-there sessions (name ∷ []) by other tag h = absurd h
+  blocked-there sessions (name ∷ word ∷ []) by other tag h = absurd h
+  blocked-there sessions (name ∷ word ∷ object ∷ []) by other tag h = (h.0.0.0, is_there sessions word other.place h.1.0)
+  blocked-there sessions (name ∷ word ∷ object ∷ more ∷ words) by other tag h = absurd h
+
   count-below : (sessions : OpenSessions S W) (words : List (List ℕ)) (caller : Caller) (index : ℕ) → NamesCount sessions words caller index → MayAct sessions caller.place × (index < 1024)
   count-below sessions [] caller index h = absurd h
   count-below sessions (name ∷ []) caller index h = absurd h
@@ -111,8 +125,13 @@ module _ {S W : Type 0} where
   command-Addresses sessions verb words (Unlock target owner) h = owned-may_act sessions words target owner h.1
   command-Addresses sessions verb words (Commit caller) h = actor-may_act sessions words caller h.1
   command-Addresses sessions verb words (Abort caller) h = actor-may_act sessions words caller h.1
+  command-Addresses sessions verb words (Begin caller) h = actor-may_act sessions words caller h.1
+  command-Addresses sessions verb words (SubCommit caller) h = actor-may_act sessions words caller h.1
+  command-Addresses sessions verb words (SubAbort caller) h = actor-may_act sessions words caller h.1
   command-Addresses sessions verb words (Owned target) h = lone-may_act sessions words target h.1
   command-Addresses sessions verb words (Waiters target) h = lone-may_act sessions words target h.1
+  command-Addresses sessions verb words (Queue caller tag) h = queue-may_act sessions words caller tag h.1
+  command-Addresses sessions verb words (Blockers by other tag) h = blocked-there sessions words by other tag h.1
   command-Addresses sessions verb words (Cancel by other) h = both-there sessions words by other h.1
   command-Addresses sessions verb words (command.List caller) h = actor-may_act sessions words caller h.1
   command-Addresses sessions verb words (Count caller index) h = (count-below sessions words caller index h.1).0
@@ -129,8 +148,13 @@ module _ {S W : Type 0} where
   command-NamesCounter sessions verb words (Unlock target owner) h = tt
   command-NamesCounter sessions verb words (Commit caller) h = tt
   command-NamesCounter sessions verb words (Abort caller) h = tt
+  command-NamesCounter sessions verb words (Begin caller) h = tt
+  command-NamesCounter sessions verb words (SubCommit caller) h = tt
+  command-NamesCounter sessions verb words (SubAbort caller) h = tt
   command-NamesCounter sessions verb words (Owned target) h = tt
   command-NamesCounter sessions verb words (Waiters target) h = tt
+  command-NamesCounter sessions verb words (Queue caller tag) h = tt
+  command-NamesCounter sessions verb words (Blockers by other tag) h = tt
   command-NamesCounter sessions verb words (Cancel by other) h = tt
   command-NamesCounter sessions verb words (command.List caller) h = tt
   command-NamesCounter sessions verb words (Hash tag) h = tt

@@ -73,7 +73,7 @@ filter_first word parts = go (is_word word) where
   go true = refl
   go false = refl
 
--- a part more is kept of those that stand before the rest
+-- one more part is kept of those that stand before the rest
 pub kept-more : (kept kept' : List (List ℕ)) (word : List ℕ) (parts : List (List ℕ)) → kept' ≡ take 6 (kept ++ filter is_word (word ∷ [])) → take 6 (kept' ++ filter is_word parts) ≡ take 6 (kept ++ filter is_word (word ∷ parts))
 kept-more kept kept' word parts e = ap (λ l. take 6 (l ++ filter is_word parts)) e ∙ take_again 6 (kept ++ filter is_word (word ∷ [])) (filter is_word parts) ∙ ap (λ l. take 6 l) (append_assoc kept (filter is_word (word ∷ [])) (filter is_word parts) ∙ ap (λ l. kept ++ l) (filter_first word parts))
 

@@ -10,7 +10,7 @@ use Rattle.lock_script.specs.declared.sessions.Opened.{Opened}
 use Rattle.lock_script.specs.declared.faults.Defect.{Defect}
 use Rattle.lock_script.specs.declared.faults.Defect.TheVariants.{BadName, NoSuchSession, SessionWaits, BadObject, BadMode}
 use Rattle.lock_script.specs.declared.command.Command.{Command}
-use Rattle.lock_script.specs.declared.command.Command.TheVariants.{Session, Try, Fast, Lock, Unlock, Commit, Abort, Owned, Waiters, Cancel, Count, Hash, Close}
+use Rattle.lock_script.specs.declared.command.Command.TheVariants.{Session, Try, Fast, Lock, Unlock, Commit, Abort, Begin, SubCommit, SubAbort, Owned, Waiters, Queue, Blockers, Cancel, Count, Hash, Close}
 use Rattle.lock_script.specs.declared.command.Command.TheVariants as command
 
 -- The strong lock counter that a command names is one of the 1,024.
@@ -28,8 +28,13 @@ module _ {S W : Type 0} where
   Addresses sessions (Unlock target owner) = MayAct sessions target.caller.place
   Addresses sessions (Commit caller) = MayAct sessions caller.place
   Addresses sessions (Abort caller) = MayAct sessions caller.place
+  Addresses sessions (Begin caller) = MayAct sessions caller.place
+  Addresses sessions (SubCommit caller) = MayAct sessions caller.place
+  Addresses sessions (SubAbort caller) = MayAct sessions caller.place
   Addresses sessions (Owned target) = MayAct sessions target.caller.place
   Addresses sessions (Waiters target) = MayAct sessions target.caller.place
+  Addresses sessions (Queue caller tag) = MayAct sessions caller.place
+  Addresses sessions (Blockers by other tag) = MayAct sessions by.place × IsThere sessions other.place
   Addresses sessions (Cancel by other) = MayAct sessions by.place × IsThere sessions other.place
   Addresses sessions (command.List caller) = MayAct sessions caller.place
   Addresses sessions (Count caller index) = MayAct sessions caller.place

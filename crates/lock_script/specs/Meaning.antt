@@ -12,7 +12,7 @@ use Rattle.lock_script.specs.declared.sessions.Caller.{Caller}
 use Rattle.lock_script.specs.declared.sessions.Opened.{Opened}
 use Rattle.lock_script.specs.declared.command.Target.{Target}
 use Rattle.lock_script.specs.declared.command.Command.{Command}
-use Rattle.lock_script.specs.declared.command.Command.TheVariants.{Session, Try, Fast, Lock, Unlock, Commit, Abort, Owned, Waiters, Cancel, Count, Hash, Close}
+use Rattle.lock_script.specs.declared.command.Command.TheVariants.{Session, Try, Fast, Lock, Unlock, Commit, Abort, Begin, SubCommit, SubAbort, Owned, Waiters, Queue, Blockers, Cancel, Count, Hash, Close}
 use Rattle.lock_script.specs.declared.command.Command.TheVariants as command
 
 -- What the words of a line mean.
@@ -61,6 +61,17 @@ module _ {S W : Type 0} where
   NamesBoth sessions (by ∷ other ∷ []) caller opened = NamesCaller sessions by caller × NamesOpen sessions other opened
   NamesBoth sessions _ caller opened = ⊥
 
+  -- the words behind `queue`: who looks, and at the queue of which object
+  abbrev pub NamesQueue : OpenSessions S W → List (List ℕ) → Caller → Tag → Type 0
+  NamesQueue sessions (name ∷ word ∷ []) caller tag = NamesCaller sessions name caller × (tag_of word ≡ Some tag)
+  NamesQueue sessions _ caller tag = ⊥
+
+  -- the words behind `blockers`: who looks, in whose way others stand, and on which object
+  abbrev pub NamesBlocked : OpenSessions S W → List (List ℕ) → Caller → Opened → Tag → Type 0
+  NamesBlocked sessions (by ∷ other ∷ word ∷ []) caller opened tag =
+      NamesCaller sessions by caller × NamesOpen sessions other opened × (tag_of word ≡ Some tag)
+  NamesBlocked sessions _ caller opened tag = ⊥
+
   -- the words behind `count`: who looks, and at which strong lock counter
   abbrev pub NamesCount : OpenSessions S W → List (List ℕ) → Caller → ℕ → Type 0
   NamesCount sessions (name ∷ number ∷ []) caller index =
@@ -76,8 +87,13 @@ module _ {S W : Type 0} where
   IsCommandOf sessions verb words (Unlock target owner) = (verb ≡ codes "unlock") × NamesOwned sessions words target owner
   IsCommandOf sessions verb words (Commit caller) = (verb ≡ codes "commit") × NamesActor sessions words caller
   IsCommandOf sessions verb words (Abort caller) = (verb ≡ codes "abort") × NamesActor sessions words caller
+  IsCommandOf sessions verb words (Begin caller) = (verb ≡ codes "begin") × NamesActor sessions words caller
+  IsCommandOf sessions verb words (SubCommit caller) = (verb ≡ codes "subcommit") × NamesActor sessions words caller
+  IsCommandOf sessions verb words (SubAbort caller) = (verb ≡ codes "subabort") × NamesActor sessions words caller
   IsCommandOf sessions verb words (Owned target) = (verb ≡ codes "owned") × NamesLone sessions words target
   IsCommandOf sessions verb words (Waiters target) = (verb ≡ codes "waiters") × NamesLone sessions words target
+  IsCommandOf sessions verb words (Queue caller tag) = (verb ≡ codes "queue") × NamesQueue sessions words caller tag
+  IsCommandOf sessions verb words (Blockers by other tag) = (verb ≡ codes "blockers") × NamesBlocked sessions words by other tag
   IsCommandOf sessions verb words (Cancel by other) = (verb ≡ codes "cancel") × NamesBoth sessions words by other
   IsCommandOf sessions verb words (command.List caller) = (verb ≡ codes "list") × NamesActor sessions words caller
   IsCommandOf sessions verb words (Count caller index) = (verb ≡ codes "count") × NamesCount sessions words caller index

@@ -3,7 +3,7 @@ ghost use Rattle.std.specs.Prelude.{◌≡◌, ◌≢◌, ◌↔◌, ◌⊎◌, 
 ghost use Rattle.std.specs.List.{HoldsAt};
 ghost use Rattle.modes_core.specs.Mode.{name_of};
 ghost use Rattle.lock_script.specs.Command.{Addresses, IsBarred, IsNoTarget, IsUnnamed, NamesCounter, NamesOneThatMayAct, NamesOpen, NamesCaller};
-ghost use Rattle.lock_script.specs.Meaning.{IsCommandOf, IsSilent, Means, NamesActor, NamesBoth, NamesCount, NamesLone, NamesNew, NamesOwned, NamesTag};
+ghost use Rattle.lock_script.specs.Meaning.{IsCommandOf, IsSilent, Means, NamesActor, NamesBlocked, NamesBoth, NamesCount, NamesLone, NamesNew, NamesOwned, NamesQueue, NamesTag};
 ghost use Rattle.lock_script.specs.Words.{strong_index_in, tag_of, words_of};
 
 use crate::faults::Defect;
@@ -39,10 +39,20 @@ pub enum Command {
     Commit(Caller),
     /// `abort NAME`
     Abort(Caller),
+    /// `begin NAME`
+    Begin(Caller),
+    /// `subcommit NAME`
+    SubCommit(Caller),
+    /// `subabort NAME`
+    SubAbort(Caller),
     /// `owned NAME TAG MODE`
     Owned(Target),
     /// `waiters NAME TAG MODE`
     Waiters(Target),
+    /// `queue NAME TAG`
+    Queue(Caller, Tag),
+    /// `blockers NAME OTHER TAG`
+    Blockers(Caller, Opened, Tag),
     /// `cancel BY NAME`
     Cancel(Caller, Opened),
     /// `list NAME`
@@ -74,8 +84,8 @@ pub fn parse<S, W>(line: &str, sessions: &OpenSessions<S, W>) -> Result<Option<C
     Ok(Some(command))
 }
 
-/// The command of this first word and the words behind it. Here are those that open or close a session or end a
-/// transaction.
+/// The command of this first word and the words behind it. Here are those that open or close a session, and that
+/// begin or end a transaction's levels.
 fn parse_command<S, W>(
     verb: &str,
     words: &[&str],
@@ -90,6 +100,9 @@ fn parse_command<S, W>(
         }
         "commit" => Ok(Command::Commit(parse_lone_caller(words, sessions)?)),
         "abort" => Ok(Command::Abort(parse_lone_caller(words, sessions)?)),
+        "begin" => Ok(Command::Begin(parse_lone_caller(words, sessions)?)),
+        "subcommit" => Ok(Command::SubCommit(parse_lone_caller(words, sessions)?)),
+        "subabort" => Ok(Command::SubAbort(parse_lone_caller(words, sessions)?)),
         "close" => Ok(Command::Close(parse_lone_caller(words, sessions)?)),
         _ => parse_lock_command(verb, words, sessions),
     }
@@ -139,6 +152,14 @@ fn parse_look_command<S, W>(
     match verb {
         "owned" => Ok(Command::Owned(parse_lone_target(words, sessions)?)),
         "waiters" => Ok(Command::Waiters(parse_lone_target(words, sessions)?)),
+        "queue" => {
+            let (caller, tag) = parse_queue(words, sessions)?;
+            Ok(Command::Queue(caller, tag))
+        }
+        "blockers" => {
+            let (by, other, tag) = parse_blockers(words, sessions)?;
+            Ok(Command::Blockers(by, other, tag))
+        }
         "list" => Ok(Command::List(parse_lone_caller(words, sessions)?)),
         "count" => {
             let (caller, index) = parse_count(words, sessions)?;
@@ -233,6 +254,36 @@ fn parse_hash(words: &[&str]) -> Result<Tag, Defect>
         return Err(Defect::WrongNumberOfWords);
     };
     parse_tag(tag).ok_or(Defect::BadObject)
+}
+
+/// The words behind `queue`: who looks, and at the queue of which object.
+fn parse_queue<S, W>(words: &[&str], sessions: &OpenSessions<S, W>) -> Result<(Caller, Tag), Defect>
+    ensures named { IfOk result (λ parsed.
+        NamesQueue sessions.now (map (λ word. word.now) words.now) parsed.0 parsed.1) }
+{
+    let [name, object] = words else {
+        return Err(Defect::WrongNumberOfWords);
+    };
+    let caller = parse_caller(name, sessions)?;
+    let object = parse_tag(object).ok_or(Defect::BadObject)?;
+    Ok((caller, object))
+}
+
+/// The words behind `blockers`: who looks, in whose way others stand, and on which object.
+fn parse_blockers<S, W>(
+    words: &[&str],
+    sessions: &OpenSessions<S, W>,
+) -> Result<(Caller, Opened, Tag), Defect>
+    ensures named { IfOk result (λ parsed.
+        NamesBlocked sessions.now (map (λ word. word.now) words.now) parsed.0 parsed.1 parsed.2) }
+{
+    let [by, other, object] = words else {
+        return Err(Defect::WrongNumberOfWords);
+    };
+    let by = parse_caller(by, sessions)?;
+    let other = parse_opened(other, sessions)?;
+    let object = parse_tag(object).ok_or(Defect::BadObject)?;
+    Ok((by, other, object))
 }
 
 /// The words behind `count`: who looks, and at which strong lock counter.

@@ -16,8 +16,9 @@ use Rattle.lock_table.specs.Request.{is_request_of, is_request_on}
 use Rattle.lock_table.specs.Content.{Wait}
 use Rattle.lock_table.specs.Waiter.{shown_wait}
 use Rattle.lock_table.specs.PartView.{holds_in}
-use Rattle.lock_table.specs.PartWaits.{request_of, queues_in, times_in, EachOnce, OneWaitEach}
-use Rattle.lock_table.specs.Queue.{waits_there, awaits_mode, wait_in, queue_without}
+use Rattle.modes_core.specs.Conflict.{conflict}
+use Rattle.lock_table.specs.PartWaits.{request_of, queues_in, times_in, EachOnce, OneWaitEach, awaits_one_of}
+use Rattle.lock_table.specs.Queue.{waits_there, awaits_mode, wait_in, queue_without, some_awaits_conflict}
 use Rattle.lock_table.specs.Put.{put}
 use Rattle.lock_table.proofs.PutLemmas.{put_here, put_else}
 use Rattle.lock_table.proofs.Same.{SameTriple-from}
@@ -314,3 +315,7 @@ pub waits-inserted : (ws : List PartWait) (i : ℕ) (w : PartWait) (place : ℕ)
 waits-inserted ws i w place before =
     waits-joined (take i ws) w (drop i ws) place before
     ∙ ap (λ xs. put tag_eq (queues_in xs) w.tag (take place (queues_in xs w.tag) ++ shown_wait w.waiter ∷ drop place (queues_in xs w.tag))) (take-append-drop i ws)
+
+-- Whether a wait of the object's queue is for a mode in conflict with the mode.
+pub awaited-against : (ws : List PartWait) (o : Tag) (mode : Mode) → some_awaits_conflict (queues_in ws o) mode ≡ list_any (λ wait. awaits_one_of wait o (conflict mode)) ws
+awaited-against ws o mode = any-kept (λ (wait : Wait). conflict mode wait.mode) (λ (wait : PartWait). shown_wait wait.waiter) (λ (wait : PartWait). tag_eq o wait.tag) ws

@@ -1,4 +1,4 @@
-use Rattle.std.proofs.Common.{◌≡◌, Bool, true, false, ◌||◌, ◌&&◌, List, [], ◌∷◌, ◌++◌, take, Option, Some, None, sym, ap, subst, ◌∙◌}
+use Rattle.std.proofs.Common.{◌≡◌, ℕ, Bool, true, false, ◌||◌, ◌&&◌, List, [], ◌∷◌, ◌++◌, take, Option, Some, None, sym, ap, subst, ◌∙◌}
 use Rattle.std.specs.Prelude.{slice_get, is_some, option_map, IfSome}
 use Rattle.std.specs.List.{list_any}
 use Rattle.std.proofs.lemmas.List.{take_all}
@@ -9,11 +9,12 @@ use Rattle.modes_core.specs.Mode.{mode_eq}
 use Rattle.modes_core.specs.ModeSet.{all_modes}
 use Rattle.modes_core.specs.Conflict.{conflict}
 use Rattle.modes_core.proofs.Laws.{conflict_comm}
-use Rattle.lock_table.specs.Content.{Wait}
+use Rattle.modes_core.specs.declared.tags.Tag.{Tag}
+use Rattle.lock_table.specs.Content.{Wait, Content}
 use Rattle.lock_table.proofs.FindLemmas.{or-false, or-comm, same_any, either_of, find-at, find-none, all-before, is_some-find, is_some-option_map}
 use Rattle.lock_table.specs.declared.waits.Waiter.{Waiter}
 use Rattle.lock_table.specs.Waiter.{shown_wait}
-use Rattle.lock_table.specs.Clash.{first_waiter}
+use Rattle.lock_table.specs.Clash.{NoConflictingHolder, first_waiter, ClashAfterWaiters, ClashIs}
 use Rattle.lock_table.specs.Queue.{conflicts_with_some, some_awaits_conflict}
 use Rattle.lock_table.specs.Walk.{StandFor, NoneAgainst, WalksUntil}
 use Rattle.lock_table.specs.declared.answering.walk.Walk.{Walk}
@@ -69,3 +70,8 @@ first-met mode set queue walk is walks = at walk.met walks.met walks.against whe
 -- Somebody awaits a mode in conflict exactly where there is a first one who does.
 pub awaited-first : (mode : Mode) (queue : List Wait) (found : Option Waiter) → option_map shown_wait found ≡ first_waiter queue mode → is_some found ≡ some_awaits_conflict queue mode
 awaited-first mode queue found is = sym (is_some-option_map shown_wait found) ∙ ap is_some is ∙ is_some-find (λ w. conflict mode w.mode) queue
+
+-- Where nobody awaits a mode in conflict and nobody else holds one, a request clashes with nothing.
+pub clashes-nothing : (content : Content) (session : ℕ) (tag : Tag) (mode : Mode) → some_awaits_conflict (content.waits tag) mode ≡ false → NoConflictingHolder content.holds session tag mode → ClashIs content session tag mode None
+clashes-nothing content session tag mode none nobody =
+    subst (λ first. ClashAfterWaiters first content session tag mode None) (sym (find-none (λ (wait : Wait). conflict mode wait.mode) (content.waits tag) none)) nobody

@@ -32,6 +32,9 @@ pub fn clash_with<P: PartTable>(
 ) -> Option<Clash>
     ensures { ClashIs (P.content part.now) session tag.now mode result }
 {
+    if !part.may_conflict(tag, mode) {
+        return None;
+    }
     if let Some(waiter) = first_against(part, tag, mode) {
         return Some(Clash {
             session: waiter.session,

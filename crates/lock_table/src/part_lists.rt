@@ -9,7 +9,7 @@ ghost use Rattle.lock_table.specs.Request.{is_request_of};
 use crate::no_memory::NoMemory;
 use crate::part_table::PartTable;
 use crate::part_waits::{
-    PartWait, awaited_mode, index_of_place, take_wait_out, waiter_at, wake_queue,
+    PartWait, awaited_mode, index_of_place, is_awaited, take_wait_out, waiter_at, wake_queue,
 };
 use crate::request::Request;
 use crate::rows::{TableRow, sort_rows};
@@ -113,9 +113,10 @@ impl PartTable for PartLists {
         self.holds.push_reserved(Request { session, tag, mode });
     }
 
-    fn ungrant(&mut self, session: SessionId, tag: &Tag, mode: Mode) {
+    fn ungrant(&mut self, session: SessionId, tag: &Tag, mode: Mode) -> bool {
         let index = index_of_hold(self.holds.as_slice(), session, tag, mode);
         self.holds.swap_remove(index);
+        is_awaited(self.waits.as_slice(), tag, conflicts(mode))
     }
 
     fn held(&self, session: SessionId, tag: &Tag) -> ModeSet {
@@ -127,6 +128,11 @@ impl PartTable for PartLists {
             }
         }
         modes
+    }
+
+    // Lists have no masks.
+    fn may_conflict(&self, _tag: &Tag, _mode: Mode) -> bool {
+        true
     }
 
     fn conflict_of(&self, session: SessionId, tag: &Tag, mode: Mode) -> Option<(SessionId, Mode)> {

@@ -1,9 +1,9 @@
-ghost use Rattle.std.specs.Prelude.{◌≡◌, ◌≤◌, false, true, List, length, map, slice_get, Option, Some, None, option_map, OnOk, OnErr};
+ghost use Rattle.std.specs.Prelude.{◌≡◌, ◌≤◌, ℕ, false, true, List, length, map, slice_get, Option, Some, None, option_map, OnOk, OnErr};
 ghost use Rattle.modes_core.specs.ModeSet.{set_has};
 ghost use Rattle.lock_table.specs.Content.{Wait, Content, add_hold, remove_hold};
-ghost use Rattle.lock_table.specs.Clash.{HolderInTheWay};
+ghost use Rattle.lock_table.specs.Clash.{NoConflictingHolder, HolderInTheWay};
 ghost use Rattle.lock_table.specs.Listing.{AppendsListing};
-ghost use Rattle.lock_table.specs.Queue.{Wakes, awaits_mode, waits_there, wait_in, add_wait, remove_wait};
+ghost use Rattle.lock_table.specs.Queue.{Wakes, some_awaits_conflict, awaits_mode, waits_there, wait_in, add_wait, remove_wait};
 ghost use Rattle.lock_table.specs.Waiter.{shown_wait, whose_and_mode};
 ghost use Rattle.lock_table.specs.declared.request.Request.{Request};
 
@@ -45,15 +45,24 @@ pub trait PartTable {
         ensures content { content self.new ≡ add_hold (content self.old) session tag.now mode }
         ensures ended { begun self.new ≡ None };
 
-    /// Takes a hold out (`UnGrantLock` in lock.c).
-    fn ungrant(&mut self, session: SessionId, tag: &Tag, mode: Mode)
+    /// Takes a hold out, and says whether somebody awaits the object in a mode in conflict with this one
+    /// (`UnGrantLock` in lock.c, whose answer is whether a wakeup is needed).
+    fn ungrant(&mut self, session: SessionId, tag: &Tag, mode: Mode) -> bool
         requires held { (content self.old).holds session tag.now mode ≡ true }
+        ensures awaited { result ≡ some_awaits_conflict ((content self.old).waits tag.now) mode }
         ensures content { content self.new ≡ remove_hold (content self.old) session tag.now mode }
         ensures begun { begun self.new ≡ begun self.old };
 
     /// The modes that the session holds the object in (`holdMask` of `PROCLOCK` in lock.h).
     fn held(&self, session: SessionId, tag: &Tag) -> ModeSet
         ensures { set_has result ≡ (content self.now).holds session tag.now };
+
+    /// Whether a hold or a wait of the object may be in conflict with the mode (the looks at `grantMask` and
+    /// `waitMask` in lock.c). `false` says that none is, not even one of the session that asks; `true` says
+    /// nothing, and a keeper with no masks always answers it.
+    fn may_conflict(&self, tag: &Tag, mode: Mode) -> bool
+        ensures awaited { result ≡ false → some_awaits_conflict ((content self.now).waits tag.now) mode ≡ false }
+        ensures held { result ≡ false → (session : ℕ) → NoConflictingHolder (content self.now).holds session tag.now mode };
 
     /// The lowest-numbered other session that holds the object in a conflicting mode, with its lowest
     /// such mode (`LockCheckConflicts` in lock.c).

@@ -149,7 +149,7 @@ fn is_held_by_another(holds: &[Request], session: SessionId, tag: &Tag, modes: M
 }
 
 /// Whether the object is awaited in one of these modes.
-fn is_awaited(waits: &[PartWait], tag: &Tag, modes: ModeSet) -> bool
+pub(crate) fn is_awaited(waits: &[PartWait], tag: &Tag, modes: ModeSet) -> bool
     ensures { result ≡ list_any (λ wait. awaits_one_of wait tag.now (set_has modes)) waits.now }
 {
     let tag = *tag;

@@ -108,12 +108,16 @@ impl PartTable for PlainPart {
         self.lists.grant(session, tag, mode);
     }
 
-    fn ungrant(&mut self, session: SessionId, tag: &Tag, mode: Mode) {
-        self.lists.ungrant(session, tag, mode);
+    fn ungrant(&mut self, session: SessionId, tag: &Tag, mode: Mode) -> bool {
+        self.lists.ungrant(session, tag, mode)
     }
 
     fn held(&self, session: SessionId, tag: &Tag) -> ModeSet {
         self.lists.held(session, tag)
+    }
+
+    fn may_conflict(&self, tag: &Tag, mode: Mode) -> bool {
+        self.lists.may_conflict(tag, mode)
     }
 
     fn conflict_of(&self, session: SessionId, tag: &Tag, mode: Mode) -> Option<(SessionId, Mode)> {

@@ -12,6 +12,17 @@ pub struct Waiter {
     pub held: ModeSet,
 }
 
+/// What stands in a list at a place without a wait.
+impl Default for Waiter {
+    fn default() -> Self {
+        Waiter {
+            session: SessionId::default(),
+            mode: Mode::default(),
+            held: ModeSet::empty(),
+        }
+    }
+}
+
 /// Those whom a wakeup granted, with their modes, in the order of granting. There are at most 64
 /// sessions, and each waits once at most.
 pub type Woken = ArrayVec<(SessionId, Mode), 64>;

@@ -151,7 +151,7 @@ setting_has_waiters w s (Wait q) n v k o m h shown = absurd h
 setting_has_waiters w s (Strong i) n v k o m h shown = absurd h
 setting_has_waiters w s (Sleep q) n v k o m h shown = absurd h
 
--- A slot set shows one hold more, which was new.
+-- A slot set shows one more hold, which was new.
 setting : (w : World) (s i : ℕ) (t : Tag) (n : Mode) → SafeWorld w → MaySetSlot w s i t n → (k : ℕ) (o : Tag) (m : Mode) → shown_in (after_setting_slot w s i t n) k o m ≡ true → IsOldOrNew w k o m
 setting w s i t n safe may k o m shown = at (set_hold-at (shown_in w) s t n true k o m) where
   now : set_hold (shown_in w) s t n true k o m ≡ true

@@ -15,7 +15,7 @@ use Rattle.lock_world.proofs.FromSafeWorld.{held-in_table, shown-in_no_content}
 use Rattle.lock_world.proofs.Slots.Bits.{shown-held}
 use Rattle.lock_world.proofs.Slots.Eligible.{held-is_in, is_in-held, shown-in_use}
 
--- Where the own holds of a session stand that waits for nothing: in its slots, or in contents.
+-- Where the holds of a session stand that waits for nothing: in its slots, or in contents.
 
 module _ (w : World) (safe : SafeWorld w) (k : ℕ) where
   abbrev left : Tag → Mode → Bool

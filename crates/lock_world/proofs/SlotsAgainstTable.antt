@@ -38,7 +38,7 @@ slot-no_conflict limit counted database slot session other tag mode its past bel
     let gone = past other session tag mode (is_at-past (counted other) tag its limit session below (done strong)) in
     both_ways (slot_holds (database session) (slot session) tag mode) gone held)
 
--- So where all strong modes are done, no hold in a slot conflicts with an own hold of a session, nor with what it awaits.
+-- So where all strong modes are done, no hold in a slot conflicts with a hold of a session, nor with what it awaits.
 pub slot-no_conflict_own :
     (limit : ℕ) (counted : ℕ → List Counted) (own : Holds) (awaited : ℕ → Option OwnWait) (database : ℕ → ℕ) (slot : ℕ → ℕ → ℕ) →
     StrongIsDone limit counted own awaited → PastHasNoSlot counted (λ k. slot_holds (database k) (slot k)) →

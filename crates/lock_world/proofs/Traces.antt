@@ -17,7 +17,7 @@ use Rattle.lock_table.proofs.PutLemmas.{set_at-here, set_at-else, set_at-each}
 use Rattle.lock_table.proofs.HoldLemmas.{set_hold-still}
 use Rattle.lock_world.proofs.Moves.Adopted.{adopted-more}
 
--- A trace with one entry more.
+-- A trace with one more entry.
 
 taken_by-push : (taken : ℕ → Option Content) (trace : List TraceEntry) (entry : TraceEntry) → taken_by taken (trace ++ entry ∷ []) ≡ taken_after (taken_by taken trace) entry
 taken_by-push taken [] entry = refl
@@ -61,7 +61,7 @@ module _ (contents : Contents) (trace : ℕ → List TraceEntry) (issued : ℕ) 
     new = λ k past. tell.new k (omega (arith, up, past));
   }
 
-  -- A session that was given out has one entry more; so much of it holds whatever the hands are then.
+  -- A session that was given out has one more entry; so much of it holds whatever the hands are then.
   module _ (s : ℕ) (given : s < issued) (entry : TraceEntry) where
     longer : ℕ → List TraceEntry
     longer = set_at trace s (trace s ++ entry ∷ [])

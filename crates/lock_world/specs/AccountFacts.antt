@@ -8,7 +8,7 @@ use Rattle.lock_table.specs.Queue.{waits_there, awaits_mode}
 use Rattle.lock_world.specs.SlotHolds.{slot_holds, ShowsNoMore, OneSlotEach, InUseHasDatabase}
 use Rattle.lock_world.specs.Account.{Account, SlotsInHand}
 
--- Where the own holds stand of the session of this number, which has this database and remembers its slots so, as a partition has this
+-- Where the holds stand of the session of this number, which has this database and remembers its slots so, as a partition has this
 -- content: there are words of its slots, which show no more than it remembers, by which each own hold of the partition is in a slot
 -- or in the content, and not in both.
 pub record OwnHoldsStand (number : ℕ) (own : Tag → Mode → Bool) (database : ℕ) (remembered : ℕ → ℕ) (p : ℕ) (content : Content) : Type 0 where
@@ -16,7 +16,7 @@ pub record OwnHoldsStand (number : ℕ) (own : Tag → Mode → Bool) (database 
   pub no_more : ShowsNoMore slot remembered
   -- what the slots show is own, and not in the content
   pub in_slot : (tag : Tag) (mode : Mode) → slot_holds database slot tag mode ≡ true → (own tag mode ≡ true) × (content.holds number tag mode ≡ false)
-  -- an own hold of the partition that they don't show is in the content
+  -- one of its own holds in the partition that they don't show is in the content
   pub in_content :
       (tag : Tag) (mode : Mode) → partition_of tag ≡ p → own tag mode ≡ true → slot_holds database slot tag mode ≡ false
       → content.holds number tag mode ≡ true

@@ -51,7 +51,7 @@ pub record MayMarkNextBy (a : Account) (p : ℕ) (mine : InHand) (done : Move) (
   pub recorded : mine.recorded ≡ Some done
   pub still_unmarked : mine.unmarked other ≡ true
 
--- Clearing the own wait word: a grant was seen, or the wait is gone from the content in hand, or this step takes it out.
+-- Clearing one's own wait word: a grant was seen, or the wait is gone from the content in hand, or this step takes it out.
 pub record MayClearSeenBy (a : Account) (wait : OwnWait) : Type 0 where
   pub is_wait : a.awaited ≡ Some wait
   pub has_seen : a.seen ≡ true
@@ -82,7 +82,7 @@ pub record MayPassBy (a : Account) (owner : ℕ) (slots : SlotsInHand) (tag : Ta
   pub next : is_at owner a.fast.counted tag mode ≡ true
   pub no_slot : (its : Mode) → slots.holds tag its ≡ false
 
--- Setting a mode in an own slot, and clearing one.
+-- Setting a mode in one of one's own slots, and clearing one.
 pub record MaySetSlotBy (number : ℕ) (a : Account) (mine : SlotsInHand) (place : ℕ) (tag : Tag) (mode : Mode) : Type 0 where
   pub in_hand : a.fast.slots number ≡ Some mine
   pub eligible : is_eligible_for a.fast.database tag mode ≡ true

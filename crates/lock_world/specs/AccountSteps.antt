@@ -59,7 +59,7 @@ account_putting a p taken content done = record a {
 abbrev pub hand_recording : InHand → Content → Move → (ℕ → Bool) → InHand
 hand_recording mine content done unmarked = record { taken = mine.taken; now = content; recorded = Some done; unmarked = unmarked }
 
--- setting the own wait word to waiting
+-- setting one's own wait word to waiting
 abbrev pub account_waiting : Account → InHand → Tag → Mode → Content → (Mode → Bool) → Account
 account_waiting a mine tag mode content held = record a {
   awaited = Some (record { tag = tag; mode = mode; held = held });
@@ -74,7 +74,7 @@ account_marking a p mine content made done unmarked = record a {
   hand = set_at a.hand p (Some (hand_recording mine content done unmarked));
 }
 
--- clearing the own wait word, what the wait was for being own from then on where it was granted
+-- clearing one's own wait word: where it was granted, what the wait was for is the session's own from then on
 abbrev pub account_clearing : Account → OwnWait → Bool → Account
 account_clearing a wait granted = record a {
   own = if granted then own_with a.own wait.tag wait.mode true else a.own;
@@ -139,7 +139,7 @@ account_counting a tag mode = record a { fast = record (a.fast) { counted = coun
 abbrev pub account_uncounting : Account → Tag → Mode → Account
 account_uncounting a tag mode = record a { fast = record (a.fast) { counted = uncounting a.fast.counted tag mode } }
 
--- storing the own database
+-- storing one's own database
 abbrev pub account_storing : Account → ℕ → Account
 account_storing a database = record a { fast = record (a.fast) { database = database } }
 
@@ -150,7 +150,7 @@ account_reading number a index shown = record a {
   trace = a.trace ++ Loaded (Strong index) shown ∷ [];
 }
 
--- setting a mode in an own slot, and clearing one, with the own slots in hand
+-- setting a mode in one of one's own slots, and clearing one, with one's own slots in hand
 abbrev pub account_setting : ℕ → Account → SlotsInHand → ℕ → Tag → Mode → Account
 account_setting number a mine place tag mode = record a {
   own = own_with a.own tag mode true;
@@ -217,6 +217,6 @@ account_taking_off a mine other = record a {
 abbrev pub account_telling : Account → ℕ → Account
 account_telling a other = record a { lists = record (a.lists) { off = set_at a.lists.off other false } }
 
--- loading the own sleep word
+-- loading one's own sleep word
 abbrev pub account_loading_sleep : Account → ℕ → Account
 account_loading_sleep a shown = record a { lists = record (a.lists) { stands = if shown == 0 then None else a.lists.stands } }

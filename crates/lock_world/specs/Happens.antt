@@ -64,7 +64,7 @@ HappensUnsharing w session (Wait owner) v = ⊥
 HappensUnsharing w session (Strong index) v = ⊥
 HappensUnsharing w session (Sleep owner) v = ⊥
 
--- Loads that only join the trace: of a session's slots and database, and of the lock of the own slots.
+-- Loads that only join the trace: of a session's slots and database, and of the lock of its own slots.
 abbrev pub HappensLoading : World → ℕ → Word → ℕ → World → Type 0
 HappensLoading w session (Partition partition) shown v = ⊥
 HappensLoading w session (Fast owner) shown v =

@@ -47,7 +47,7 @@ pub record AreSoMany (own : Tag → Mode → Bool) (many : ℕ) : Type 0 where
 abbrev pub left_in_slots : (Tag → Mode → Bool) → (ℕ → Content) → ℕ → Tag → Mode → Bool
 left_in_slots own contents number tag mode = own tag mode && not ((contents (partition_of tag)).holds number tag mode)
 
--- Where the own holds of the session of this number stand, as the partitions have these contents: what contents have of it is own,
+-- Where the holds of the session of this number stand, as the partitions have these contents: what contents have of it is own,
 -- and what they haven't shows in its slots as it remembers them, where a relation has one slot at most.
 pub record OwnStand (number : ℕ) (a : Account) (contents : ℕ → Content) : Type 0 where
   pub one_each : OneSlotEach a.fast.remembered
@@ -57,7 +57,7 @@ pub record OwnStand (number : ℕ) (a : Account) (contents : ℕ → Content) : 
   pub in_contents :
       (tag : Tag) (mode : Mode) → (contents (partition_of tag)).holds number tag mode ≡ true → a.own tag mode ≡ true
 
--- What the word of the session's slot at this place shows: of what the session remembers there, the own holds that no content has.
+-- What the word of the session's slot at this place shows: of what the session remembers there, its own holds that no content has.
 abbrev pub ShowsLeft : ℕ → Account → (ℕ → Content) → ℕ → ℕ → Type 0
 ShowsLeft number a contents place word =
     (relation : ℕ) (mode : Mode) →

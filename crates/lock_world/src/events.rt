@@ -64,17 +64,17 @@ pub enum Step {
         joiner: Option<SessionId>,
     },
     /// Ask a session to cancel its wait, by a fetch-or of bit 2 of its wait word: any session number,
-    /// issued or not, closed or not, the own too (`pg_cancel_backend` in signalfuncs.c, which leads to the
+    /// issued or not, closed or not, its own too (`pg_cancel_backend` in signalfuncs.c, which leads to the
     /// flag `QueryCancelPending` that is looked at while `ProcSleep` waits).
     AskCancel {
         other: SessionId,
     },
-    /// Load the own wait word, which shows this value (`waitStatus` in proc.h, as `ProcSleep` in proc.c
+    /// Load its own wait word, which shows this value (`waitStatus` in proc.h, as `ProcSleep` in proc.c
     /// reads it).
     LoadWait {
         shown: u8,
     },
-    /// Store in the own wait word that the session waits, with the object's partition in hand: its join is
+    /// Store in its own wait word that the session waits, with the object's partition in hand: its join is
     /// made (`ProcSleep` in proc.c sets `waitStatus` so).
     SetWaiting {
         tag: Tag,
@@ -86,7 +86,7 @@ pub enum Step {
         other: SessionId,
         done: Move,
     },
-    /// Clear the own wait word: the wait is over, and what was granted is the session's own from then on.
+    /// Clear its own wait word: the wait is over, and what was granted is the session's own from then on.
     /// With `leaving` this very step takes the wait out of the queue, with the partition in hand
     /// (`LockErrorCleanup` in proc.c).
     ClearWait {
@@ -98,27 +98,27 @@ pub enum Step {
         index: u16,
         shown: u64,
     },
-    /// Load a word, which shows this value: any slot, any session's database, or the lock of the own fast-path
+    /// Load a word, which shows this value: any slot, any session's database, or the lock of its own fast-path
     /// slots.
     LoadWord {
         word: Word,
         shown: u64,
     },
-    /// Store in an own fast-path slot that the session holds the mode, with the lock of its slots held
+    /// Store in one of its own fast-path slots that the session holds the mode, with the lock of its slots held
     /// (`FastPathGrantRelationLock` in lock.c).
     SetSlot {
         slot: u8,
         tag: Tag,
         mode: Mode,
     },
-    /// Store in an own fast-path slot that the session holds the mode no more, with the lock of its slots held
+    /// Store in one of its own fast-path slots that the session holds the mode no more, with the lock of its slots held
     /// (`FastPathUnGrantRelationLock` in lock.c).
     ClearSlot {
         slot: u8,
         tag: Tag,
         mode: Mode,
     },
-    /// Store the own database, once, with no slot in use (`InitPostgres` in postinit.c).
+    /// Store its own database, once, with no slot in use (`InitPostgres` in postinit.c).
     StoreDatabase {
         database: u32,
     },
@@ -156,12 +156,12 @@ pub enum Step {
         has_waiters: bool,
         release_ok: bool,
     },
-    /// Store in the own sleep word that the session waits, and join the wait list in hand, behind all others
+    /// Store in its own sleep word that the session waits, and join the wait list in hand, behind all others
     /// (`LWLockQueueSelf` in lwlock.c).
     JoinList {
         mode: LwMode,
     },
-    /// Store in the own sleep word that the session waits no more, and leave the wait list in hand, where it still
+    /// Store in its own sleep word that the session waits no more, and leave the wait list in hand, where it still
     /// stands in it (`LWLockDequeueSelf` in lwlock.c).
     LeaveList,
     /// Store in another session's sleep word that it is taken off and to be told, and take it off the wait list in hand
@@ -174,7 +174,7 @@ pub enum Step {
     Tell {
         other: SessionId,
     },
-    /// Load the own sleep word, which shows this value (the sleep in `LWLockAcquire`).
+    /// Load its own sleep word, which shows this value (the sleep in `LWLockAcquire`).
     LoadSleep {
         shown: u8,
     },

@@ -298,7 +298,7 @@ pub fn closed_numbers_are_forgotten()
 
 /// In a safe World each episode of a trace put what one move of its session, on an object of that partition, makes of
 /// the content that it took: an earlier entry took just that content, and the session had it in hand until then. Of an
-/// adopt that is this content with holds of one session more, which slots can have, on objects of that partition.
+/// adopt that is this content with holds of one more session, which slots can have, on objects of that partition.
 pub fn each_episode_is_one_move()
     ensures moved { (w : World) → SafeWorld w →
         (session p : ℕ) (taken put_back : Content) (before after : List TraceEntry) →
@@ -391,8 +391,8 @@ pub fn others_are_untouched()
         ⊎ ((wait_state (w.words.wait other) ≡ 1) × (v.words.wait other ≡ granted_word (w.words.wait other)))) }
 {}
 
-/// In each World of a run the own holds of a session that waits for nothing stand in its slots or in contents: what
-/// contents have of it is own, and the word of each of its slots shows just the own holds that it remembers there and that
+/// In each World of a run the holds of a session that waits for nothing stand in its slots or in contents: what
+/// contents have of it is own, and the word of each of its slots shows just its own holds that it remembers there and that
 /// no content has. What it remembers has one slot at most for a relation.
 pub fn own_holds_are_in_slots_or_contents()
     ensures stand { (limit : ℕ) (events : List Event) (w : World) (session : ℕ) → limit < 2 ^ 24 →

@@ -2,7 +2,7 @@ use Rattle.std.specs.Prelude.{◌≡◌, All, List}
 use Rattle.shared_rule.specs.Boards.{Seated}
 use Rattle.lock_manager.specs.Managers.{ManagerView}
 use Rattle.lock_manager.specs.Sessions.{SessionView}
-use Rattle.lock_manager.specs.Waits.{WaitingView}
+use Rattle.lock_manager.specs.WaitingSessions.{WaitingView}
 
 -- Whose sessions those of a list are, by the seats of their boards.
 

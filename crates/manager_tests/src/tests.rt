@@ -5,11 +5,13 @@ ghost use Rattle.lock_manager.specs.Managers.{IsNew};
 ghost use Rattle.manager_tests.specs.Crews.{SeatsAre};
 
 mod answers;
+mod audits;
 mod busy;
 mod conflicts;
 mod counted;
 mod deeds;
 mod desk;
+mod limits;
 mod listings;
 mod memory;
 mod pair;
@@ -24,6 +26,7 @@ mod wakes;
 mod watches;
 
 use desk::{Desk, ManagerDesk};
+use limits::Limits;
 use lock_manager::{Config, Final, Manager, Mode, Opener, OwnSession, Part, Refusal};
 use pair::Pair;
 use races::Race;
@@ -43,6 +46,10 @@ enum Story<'a> {
     OfTwo(Scene<'a>),
     /// One takes many modes and gives them back, where memory may be wanting once.
     GoesOn,
+    /// Three are lent to audits, where memory may be wanting once.
+    Audits,
+    /// So many have as many local entries as they may.
+    Holds(Limits),
     /// So many ask for the same objects, each in a thread of its own.
     Asks(u32, Plan),
     /// They sleep in one queue for this mode, each in a thread of its own.
@@ -71,14 +78,16 @@ fn tell<B: Board<Part> + Send, D: Desk<OwnSession<Part, B>>, R: Abort + Threads 
             let pair = Pair::open(rt, desk);
             assert_eq!(rt; desk.live(), 2);
             let pair = perform(rt, pair, scene).meet(desk);
-            pair.close(rt, desk);
+            pair.close(rt, alloc, desk);
         }
         Story::GoesOn => memory::go_on(rt, desk),
+        Story::Audits => audits::audit_often(rt, alloc, desk),
+        Story::Holds(limits) => limits::hold_all(rt, alloc, desk, limits),
         Story::Asks(number, plan) => threads::ask_in_threads(rt, alloc, desk, number, plan),
         Story::Queue(mode) => queues::wake_sleepers(rt, alloc, desk, mode),
         Story::Watch => watches::list_beside(rt, alloc, desk),
-        Story::LetGoByCancel => wakes::let_go_by_a_cancel(rt, desk),
-        Story::WokenAsAsked => wakes::woken_as_asked(rt, desk),
+        Story::LetGoByCancel => wakes::let_go_by_a_cancel(rt, alloc, desk),
+        Story::WokenAsAsked => wakes::woken_as_asked(rt, alloc, desk),
     }
 }
 
@@ -255,6 +264,30 @@ fn many_sessions_do_as_the_stories_say(rt: HostRuntime) -> Result<(), Fail> {
     Ok(())
 }
 
+/// How many sessions there are, with how many entries each: all that one may have, and all that so many may have.
+static LIMITS: [Limits; 2] = [
+    Limits {
+        sessions: 1,
+        entries: 65_536,
+    },
+    Limits {
+        sessions: 64,
+        entries: 1_024,
+    },
+];
+
+#[test]
+fn all_local_entries_can_be_held_at_once(rt: HostRuntime) -> Result<(), Fail> {
+    for limits in &LIMITS {
+        let config = Config {
+            sessions: limits.sessions,
+            max_local: limits.entries,
+        };
+        run(&rt, rt.alloc(), config, Story::Holds(*limits))?;
+    }
+    Ok(())
+}
+
 /// Run it under `rt try --test --fail-alloc N` for an allocation that fails.
 #[test]
 fn sessions_go_on_where_memory_was_wanting_once(rt: HostRuntime) -> Result<(), Fail> {
@@ -262,8 +295,13 @@ fn sessions_go_on_where_memory_was_wanting_once(rt: HostRuntime) -> Result<(), F
         sessions: 1,
         max_local: memory::MANY,
     };
+    let three = Config {
+        sessions: audits::SESSIONS,
+        max_local: 8,
+    };
     for (config, story) in [
         (one, Story::GoesOn),
+        (three, Story::Audits),
         (two(memory::MOVED), Story::OfTwo(Scene::MovesAtLast)),
     ] {
         run(&rt, rt.alloc(), config, story)?;

@@ -1,9 +1,10 @@
 //! The words of the command line.
 ghost use Rattle.std.specs.Prelude.{◌≤◌, IfOk};
-ghost use Rattle.scenario.specs.Tasks.{OfRun};
+ghost use Rattle.scenario.specs.Tasks.{OfHammer, OfRun};
 
+use crate::style::{DRAWINGS, Drawing, Style};
 use clap::error::ErrorKind;
-use clap::{Arg, ArgMatches, Command, Error, value_parser};
+use clap::{Arg, ArgAction, ArgMatches, Command, Error, value_parser};
 use local_locks::MOST_LOCAL;
 use modes_core::sessions::SESSIONS;
 use std::alloc::{AllocError, Global};
@@ -26,7 +27,8 @@ const VERSION: &str = "0.1.0";
 
 /// What `--help` shows of the script language, and of a run.
 const LINES_AND_EXAMPLE: &str = "Lines of a script begin with:
-  session, try, fast, lock, unlock, commit, abort, owned, waiters, cancel, list, count, hash, close
+  session, try, fast, lock, unlock, commit, abort, begin, subcommit, subabort, owned, waiters, queue,
+  blockers, cancel, list, count, hash, close
 
 Example:
   lock_scenario run --sessions 2 < scenarios/object_lock.scn";
@@ -41,8 +43,14 @@ const FORMS: &str = "Lines of a script, after lock_scenario run < FILE:
   commit NAME                     drop what the transaction owns
   abort NAME                      drop what the transaction and the session own,
                                   but for the session's advisory locks
-  owned NAME TAG MODE             say how often each of the two owns a lock
+  begin NAME                      begin a level of the transaction, a savepoint
+  subcommit NAME                  end it, and give what it owns to the level outside it
+  subabort NAME                   end it, and drop what it owns
+  owned NAME TAG MODE             say how often each of the two owns a lock: the
+                                  transaction's innermost level, and the session
   waiters NAME TAG MODE           say whether somebody waits for a conflicting mode
+  queue NAME TAG                  list who waits for an object, in order
+  blockers NAME OTHER TAG         list who stands in the way of a session that waits for an object
   cancel BY NAME                  ask a session to stop waiting
   list NAME                       list all locks
   count NAME INDEX                say how many strong locks are counted at a counter
@@ -54,7 +62,12 @@ TAG is DB/REL for a relation, DB/CLASS/OBJ/SUB for another object, and
   adv/DB/K1/K2/SUB for an advisory lock.
 MODE is AccessShareLock, RowShareLock, RowExclusiveLock, ShareUpdateExclusiveLock,
   ShareLock, ShareRowExclusiveLock, ExclusiveLock or AccessExclusiveLock.
-A lock is the transaction's, and with the word session at the end of its line the session's.";
+A lock is the transaction's, and with the word session at the end of its line the session's.
+
+Examples:
+  lock_scenario run < scenarios/object_lock.scn
+  lock_scenario run --echo --graph mermaid < scenarios/a_convoy_behind_an_idle_transaction.scn
+  lock_scenario run --json < scenarios/object_lock.scn | jq .";
 
 /// What `modes --help` shows beside its options.
 const MASKS: &str =
@@ -64,10 +77,66 @@ hexadecimal number, whose bit 1 << NUMBER stands for the mode of that number.
 Example:
   lock_scenario modes";
 
+/// What `hammer --help` shows beside its options.
+const BLOWS: &str =
+    "Each session locks and unlocks relations 5/16384 to 5/16387 in every mode, in a thread of
+its own. Then each takes AccessShareLock on 5/16384, and the first one ShareLock on
+5/16385. Two lines tell what stands in fast-path slots and in the table, and the sum of
+the strong lock counters: by an audit then, and when all sessions are closed.
+
+Example:
+  lock_scenario hammer --sessions 4 --rounds 1000";
+
 /// The subcommand that prints the conflict table.
 const MODES: &str = "modes";
 
-/// The command line: `run [--sessions N] [--max-local M]`, or `modes`.
+/// The subcommand that has sessions lock and unlock in threads.
+const HAMMER: &str = "hammer";
+
+/// How many rounds a hammer plays at most.
+const MOST_ROUNDS: u32 = 1_000_000;
+
+/// The subcommand `hammer --sessions N --rounds K`.
+fn hammer_command<'a>(alloc: Global) -> Result<Command<'a>, AllocError> {
+    let sessions = Arg::new(alloc, "sessions")
+        .long("sessions")
+        .value_name("N")
+        .help("How many sessions, each in a thread of its own")
+        .value_parser(value_parser!(u32).range(1..=i64::from(MOST_SESSIONS)))
+        .required(true);
+    let rounds = Arg::new(alloc, "rounds")
+        .long("rounds")
+        .value_name("K")
+        .help("How many locks each asks for")
+        .value_parser(value_parser!(u32).range(1..=i64::from(MOST_ROUNDS)))
+        .required(true);
+    Command::new(alloc, HAMMER)
+        .about("Lock and unlock in many threads, and count what is left")
+        .after_help(BLOWS)
+        .arg(sessions)?
+        .arg(rounds)
+}
+
+/// The subcommand with the options of what a run shows.
+fn with_styles<'a>(alloc: Global, run: Command<'a>) -> Result<Command<'a>, AllocError> {
+    let echo = Arg::new(alloc, "echo")
+        .long("echo")
+        .help("Print each line of the script before its answers")
+        .action(ArgAction::SetTrue);
+    let json = Arg::new(alloc, "json")
+        .long("json")
+        .help("Print an object of JSON for each line, instead of its text")
+        .action(ArgAction::SetTrue);
+    let graph = Arg::new(alloc, "graph")
+        .long("graph")
+        .value_name("LANGUAGE")
+        .help("Draw who waits for whom behind the rows of each list")
+        .value_parser(DRAWINGS.as_slice());
+    run.arg(echo)?.arg(json)?.arg(graph)
+}
+
+/// The command line: `run [--sessions N] [--max-local M] [--echo] [--json] [--graph LANGUAGE]`, `modes`, or
+/// `hammer --sessions N --rounds K`.
 fn command<'a>(alloc: Global) -> Result<Command<'a>, AllocError> {
     let sessions = Arg::new(alloc, "sessions")
         .long("sessions")
@@ -86,6 +155,7 @@ fn command<'a>(alloc: Global) -> Result<Command<'a>, AllocError> {
         .after_help(FORMS)
         .arg(sessions)?
         .arg(max_local)?;
+    let run = with_styles(alloc, run)?;
     let modes = Command::new(alloc, MODES)
         .about("Print which lock modes conflict")
         .after_help(MASKS);
@@ -95,7 +165,8 @@ fn command<'a>(alloc: Global) -> Result<Command<'a>, AllocError> {
         .after_help(LINES_AND_EXAMPLE)
         .subcommand_required(true)
         .subcommand(run)?
-        .subcommand(modes)
+        .subcommand(modes)?
+        .subcommand(hammer_command(alloc)?)
 }
 
 /// How large a lock manager the words ask for.
@@ -107,11 +178,22 @@ pub struct Limits {
     pub max_local: u32,
 }
 
+/// How long a hammer the words ask for.
+#[derive(Clone, Copy, Debug, PartialEq, Eq)]
+pub struct Hammer {
+    /// How many sessions, each in a thread of its own.
+    pub sessions: u32,
+    /// How many rounds each plays.
+    pub rounds: u32,
+}
+
 /// What the words ask for.
 #[derive(Clone, Copy, Debug, PartialEq, Eq)]
 pub enum Task {
-    /// To run the script on standard input.
-    Run(Limits),
+    /// To run the script on standard input, and to show it in this style.
+    Run(Limits, Style),
+    /// To have sessions lock and unlock in threads.
+    Hammer(Hammer),
     /// To print the conflict table.
     Modes,
 }
@@ -141,12 +223,16 @@ impl NoRun {
     }
 }
 
-/// What the words ask for, with each limit in its range: 1 to 64 sessions, 1 to 65,536 local entries. The first word is the program's
-/// name.
+/// What the words ask for, with each limit in its range: 1 to 64 sessions, 1 to 65,536 local entries, 1 to 1,000,000 rounds. The first word is the
+/// program's name.
 pub fn parse_arguments(alloc: Global, words: &[String]) -> Result<Task, NoRun>
     ensures sessions { IfOk result (λ task. OfRun task (λ limits. (1 ≤ limits.sessions) × (limits.sessions ≤ 64))) }
     ensures max_local { IfOk result (λ task. OfRun task
         (λ limits. (1 ≤ limits.max_local) × (limits.max_local ≤ 65536))) }
+    ensures hammer { IfOk result (λ task. OfHammer task
+        (λ hammer. (1 ≤ hammer.sessions) × (hammer.sessions ≤ 64))) }
+    ensures rounds { IfOk result (λ task. OfHammer task
+        (λ hammer. (1 ≤ hammer.rounds) × (hammer.rounds ≤ 1000000))) }
 {
     match task_of(alloc, words) {
         Ok(task) => Ok(task),
@@ -159,18 +245,47 @@ fn task_of<'a>(alloc: Global, words: &'a [String]) -> Result<Task, Error>
     ensures sessions { IfOk result (λ task. OfRun task (λ limits. (1 ≤ limits.sessions) × (limits.sessions ≤ 64))) }
     ensures max_local { IfOk result (λ task. OfRun task
         (λ limits. (1 ≤ limits.max_local) × (limits.max_local ≤ 65536))) }
+    ensures hammer { IfOk result (λ task. OfHammer task
+        (λ hammer. (1 ≤ hammer.sessions) × (hammer.sessions ≤ 64))) }
+    ensures rounds { IfOk result (λ task. OfHammer task
+        (λ hammer. (1 ≤ hammer.rounds) × (hammer.rounds ≤ 1000000))) }
 {
     let matches = command(alloc)?.try_get_matches_from(words)?;
-    let (sessions, max_local) = match matches.subcommand() {
+    let (sessions, max_local, style) = match matches.subcommand() {
         Some((name, _)) if name == MODES => return Ok(Task::Modes),
+        Some((name, hammer)) if name == HAMMER => return Ok(Task::Hammer(hammer_of(hammer))),
         Some((_, run)) => (
             run.get_one::<u32>("sessions").unwrap_or(USUAL_SESSIONS),
             run.get_one::<u32>("max-local").unwrap_or(USUAL_LOCAL),
+            style_of(run),
         ),
-        None => (USUAL_SESSIONS, USUAL_LOCAL),
+        None => (USUAL_SESSIONS, USUAL_LOCAL, Style::PLAIN),
     };
-    Ok(Task::Run(Limits {
+    let limits = Limits {
         sessions: sessions.clamp(1, MOST_SESSIONS),
         max_local: max_local.clamp(1, MOST_LOCAL),
-    }))
+    };
+    Ok(Task::Run(limits, style))
+}
+
+/// The style that the words of a run ask for.
+fn style_of(words: &ArgMatches) -> Style {
+    Style {
+        echo: words.get_flag("echo"),
+        json: words.get_flag("json"),
+        graph: words.get_one::<Drawing>("graph"),
+    }
+}
+
+/// The numbers of a hammer.
+fn hammer_of(words: &ArgMatches) -> Hammer
+    ensures sessions { (1 ≤ result.sessions) × (result.sessions ≤ 64) }
+    ensures rounds { (1 ≤ result.rounds) × (result.rounds ≤ 1000000) }
+{
+    let sessions = words.get_one::<u32>("sessions").unwrap_or(1);
+    let rounds = words.get_one::<u32>("rounds").unwrap_or(1);
+    Hammer {
+        sessions: sessions.clamp(1, MOST_SESSIONS),
+        rounds: rounds.clamp(1, MOST_ROUNDS),
+    }
 }

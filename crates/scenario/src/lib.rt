@@ -3,17 +3,28 @@
 #![tactic(auto)]
 
 mod arguments;
+mod counting;
 mod desk;
+mod hammer;
+mod json;
 mod modes;
 mod output;
+mod picture;
 mod program;
+mod progress;
 mod run;
 mod sessions;
+mod style;
+mod workers;
 
-pub use arguments::{Limits, NoRun, Task, parse_arguments};
+pub use arguments::{Hammer, Limits, NoRun, Task, parse_arguments};
 pub use desk::{Desk, SharedDesk};
+pub use hammer::{run_hammer, run_watched_hammer};
 pub use modes::print_modes;
 pub use output::Output;
-pub use program::{Source, run_program};
-pub use run::{Scene, run_script};
+pub use program::{Errors, Source, run_program};
+pub use progress::{Progress, ProgressLine, Unwatched};
+pub use run::{Scene, run_script, run_styled_script};
 pub use sessions::{Began, Looked, Stage};
+pub use style::{Drawing, Style};
+pub use workers::{Gate, OpenGate};

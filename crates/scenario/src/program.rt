@@ -1,13 +1,18 @@
 //! The program as a function of its words and its streams.
 ghost use Rattle.std.specs.Prelude.{◌≤◌, IfOk};
 
-use crate::arguments::{NoRun, Task, parse_arguments};
+use crate::arguments::{Hammer, NoRun, Task, parse_arguments};
+use crate::hammer::{run_hammer, run_watched_hammer};
 use crate::modes::print_modes;
-use crate::run::run_script;
+use crate::progress::ProgressLine;
+use crate::run::run_styled_script;
+use crate::workers::OpenGate;
 use lock_manager::Config;
 use lock_script::Fault;
 use std::io::{self, BufWriter, Read, Write};
 use std::sync::Wait;
+use std::thread::Threads;
+use std::time::Clock;
 
 /// The status of a script that ran to its end, and of a text that was asked for.
 const SUCCESS: u8 = 0;
@@ -23,37 +28,49 @@ pub struct Source<R: Drop> {
     pub is_terminal: bool,
 }
 
+/// Where the program says why it ends early, and somebody who waits what it does meanwhile.
+#[derive(Drop)]
+pub struct Errors<'a, E> {
+    pub writer: &'a mut E,
+    /// Whether somebody reads it at a terminal.
+    pub is_terminal: bool,
+}
+
 /// Runs the program. The words are those of the command line, or the error of reading them; the script
 /// comes from `input`, what it prints goes to `output`, as the texts do that are asked for, and why the
-/// program ends early to `errors`, with a word that it reads a terminal where it does. Answers the status: 0, 3 for a
-/// bad line of the script, 2 for refused words, and 1 for any other fault.
-pub fn run_program<H: AllocGlobal + Wait, R: Read + Drop, W: Write + Drop, E: Write>(
-    rt: &H,
-    words: io::Result<Vec<String>>,
-    input: Source<R>,
-    output: W,
-    errors: &mut E,
-) -> u8
+/// program ends early to `errors`, with a word that it reads a terminal where it does, and how far a hammer is where that is
+/// read at one. Answers the status: 0, 3 for a bad line of the script, 2 for refused words, and 1 for any other fault.
+pub fn run_program<
+    H: AllocGlobal + Clock + Threads + Wait + Sync,
+    R: Read + Drop,
+    W: Write + Drop,
+    E: Write + Send,
+>(rt: &H, words: io::Result<Vec<String>>, input: Source<R>, output: W, errors: &mut Errors<E>) -> u8
     ensures { result ≤ 3 }
 {
     let ended = match words {
         Ok(words) => run_words(rt, words.as_slice(), input, output, errors),
         Err(error) if error.kind() == io::ErrorKind::OutOfMemory => Err(Fault::NoMemory),
-        Err(_) => Ok(refuse_words(errors)),
+        Err(_) => Ok(refuse_words(errors.writer)),
     };
     match ended {
         Ok(status) => status,
-        Err(fault) => fail(errors, fault),
+        Err(fault) => fail(errors.writer, fault),
     }
 }
 
 /// Does what the words ask for.
-fn run_words<H: AllocGlobal + Wait, R: Read + Drop, W: Write + Drop, E: Write>(
+fn run_words<
+    H: AllocGlobal + Clock + Threads + Wait + Sync,
+    R: Read + Drop,
+    W: Write + Drop,
+    E: Write + Send,
+>(
     rt: &H,
     words: &[String],
     input: Source<R>,
     output: W,
-    errors: &mut E,
+    errors: &mut Errors<E>,
 ) -> Result<u8, Fault>
     ensures { IfOk result (λ status. status ≤ 2) }
 {
@@ -63,16 +80,20 @@ fn run_words<H: AllocGlobal + Wait, R: Read + Drop, W: Write + Drop, E: Write>(
             print_modes(output)?;
             Ok(SUCCESS)
         }
-        Ok(Task::Run(limits)) => {
+        Ok(Task::Hammer(hammer)) => {
+            swing(rt, hammer, output, errors)?;
+            Ok(SUCCESS)
+        }
+        Ok(Task::Run(limits, style)) => {
             let output = BufWriter::new(alloc, output).map_err(|_| Fault::NoMemory)?;
             let config = Config {
                 sessions: limits.sessions,
                 max_local: limits.max_local,
             };
             if input.is_terminal {
-                invite(errors);
+                invite(errors.writer);
             }
-            run_script(rt, input.reader, output, config)?;
+            run_styled_script(rt, input.reader, output, config, style)?;
             Ok(SUCCESS)
         }
         Err(NoRun::Text(text)) => {
@@ -81,11 +102,30 @@ fn run_words<H: AllocGlobal + Wait, R: Read + Drop, W: Write + Drop, E: Write>(
         }
         Err(NoRun::Refused(text)) => {
             // Where the errors can't be written, the status says it alone.
-            let _ = write!(errors, "{text}");
+            let _ = write!(errors.writer, "{text}");
             Ok(REFUSED_WORDS)
         }
         Err(NoRun::NoMemory) => Err(Fault::NoMemory),
     }
+}
+
+/// Has a hammer run, and shows to somebody at a terminal how far it is.
+fn swing<H: AllocGlobal + Clock + Threads + Wait + Sync, W: Write + Drop, E: Write + Send>(
+    rt: &H,
+    hammer: Hammer,
+    output: W,
+    errors: &mut Errors<E>,
+) -> Result<(), Fault>
+    requires sessions { (1 ≤ hammer.sessions) × (hammer.sessions ≤ 64) }
+    requires rounds { (1 ≤ hammer.rounds) × (hammer.rounds ≤ 1000000) }
+{
+    let all = u64::from(hammer.sessions) * u64::from(hammer.rounds);
+    if errors.is_terminal {
+        if let Ok(line) = ProgressLine::new(rt, errors.writer, all) {
+            return run_watched_hammer(rt, &OpenGate, &line, output, hammer);
+        }
+    }
+    run_hammer(rt, &OpenGate, output, hammer.sessions, hammer.rounds)
 }
 
 /// Says to somebody at a terminal that the script is read from there.

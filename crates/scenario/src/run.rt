@@ -8,7 +8,8 @@ ghost use Rattle.scenario.specs.Stage.{SeatsAre};
 use crate::desk::{Desk, SharedDesk};
 use crate::output::Output;
 use crate::sessions::{Began, Looked, Stage};
-use lock_manager::{Config, Manager, Opener, OwnSession, Owner, Refusal};
+use crate::style::Style;
+use lock_manager::{Config, Manager, Opener, OwnSession, Owner, Refusal, TableRow, Tag};
 use lock_script::{Caller, Command, Fault, LineReader, Name, Opened, Target, parse};
 use lock_table::PartTable;
 use shared_rule::board::Board;
@@ -28,11 +29,26 @@ pub fn run_script<H: AllocGlobal + Wait, R: Read + Drop, W: Write + Drop>(
     requires sessions { (1 ≤ config.sessions) × (config.sessions ≤ 64) }
     requires max_local { (1 ≤ config.max_local) × (config.max_local ≤ 65536) }
 {
+    run_styled_script(rt, reader, writer, config, Style::PLAIN)
+}
+
+/// The same, with what the script does shown in this style.
+pub fn run_styled_script<H: AllocGlobal + Wait, R: Read + Drop, W: Write + Drop>(
+    rt: &H,
+    reader: R,
+    writer: W,
+    config: Config,
+    style: Style,
+) -> Result<(), Fault>
+    requires sessions { (1 ≤ config.sessions) × (config.sessions ≤ 64) }
+    requires max_local { (1 ≤ config.max_local) × (config.max_local ≤ 65536) }
+{
     let alloc = rt.alloc();
     let Ok((manager, opener)) = Manager::new(alloc, config) else {
         return Err(Fault::NoMemory);
     };
-    let played = play(rt, alloc, &SharedDesk, &manager, opener, reader, writer);
+    let output = Output::styled(alloc, writer, style);
+    let played = play(rt, alloc, &SharedDesk, &manager, opener, reader, output);
     let Ok((opener, ended)) = played else {
         return Err(Fault::NoMemory);
     };
@@ -57,7 +73,7 @@ fn play<
     manager: &'a Manager,
     opener: Opener,
     reader: R,
-    writer: W,
+    output: Output<W>,
 ) -> Result<(Opener, Result<(), Fault>), AllocError>
     requires seats { SeatsAre B.seat D.seat }
     requires own { IsOpenerOf opener manager.now }
@@ -67,7 +83,7 @@ fn play<
     ensures none_live { IfOk result (λ played. played.0.live ≡ 0) }
 {
     let stage = Stage::new(alloc, manager, opener)?;
-    let mut scene = Scene::new(stage, writer);
+    let mut scene = Scene { stage, output };
     let ended = scene.play(desk, rt, reader);
     Ok((scene.into_stage().into_opener(), ended))
 }
@@ -131,6 +147,7 @@ impl<'a, T: PartTable, B: Board<T>, W: Write + Drop> Scene<'a, T, B, W> {
             let Some(line) = lines.next_line()? else {
                 break;
             };
+            self.output.begin_line(lines.number, line.as_str())?;
             let command = parse(line.as_str(), &self.stage.sessions).map_err(
                 |what| Fault::BadLine {
                     line: lines.number,
@@ -225,10 +242,15 @@ impl<'a, T: PartTable, B: Board<T>, W: Write + Drop> Scene<'a, T, B, W> {
             Command::Unlock(target, owner) => self.unlock(rt, target, owner),
             Command::Commit(caller) => self.commit(rt, caller),
             Command::Abort(caller) => self.abort(rt, caller),
+            Command::Begin(caller) => self.begin(caller),
+            Command::SubCommit(caller) => self.commit_nested(caller),
+            Command::SubAbort(caller) => self.abort_nested(rt, caller),
             Command::Owned(target) => self.owned(target),
             Command::Waiters(target) => self.waiters(rt, target),
             Command::Cancel(by, other) => self.cancel(by, other),
             Command::List(caller) => self.list(rt, caller),
+            Command::Queue(caller, tag) => self.queue(rt, caller, tag),
+            Command::Blockers(by, other, tag) => self.blockers(rt, by, other, tag),
             Command::Count(caller, index) => self.count(caller, index),
             Command::Hash(tag) => self.output.hash(tag),
             Command::Session { .. } | Command::Close(_) => Ok(()),
@@ -376,6 +398,40 @@ impl<'a, T: PartTable, B: Board<T>, W: Write + Drop> Scene<'a, T, B, W> {
         self.output.aborted(&caller.name)
     }
 
+    fn begin(&mut self, caller: Caller) -> Result<(), Fault>
+        requires { MayAct self.old.stage.sessions caller.place }
+        ensures manager { self.new.stage.manager.now ≡ self.old.stage.manager.now }
+    {
+        let answer = self.stage.begin_nested(caller.place);
+        self.say_level(&caller.name, answer)
+    }
+
+    fn commit_nested(&mut self, caller: Caller) -> Result<(), Fault>
+        requires { MayAct self.old.stage.sessions caller.place }
+        ensures manager { self.new.stage.manager.now ≡ self.old.stage.manager.now }
+    {
+        let answer = self.stage.commit_nested(caller.place);
+        self.say_level(&caller.name, answer)
+    }
+
+    fn abort_nested<H: Wait>(&mut self, rt: &H, caller: Caller) -> Result<(), Fault>
+        requires { MayAct self.old.stage.sessions caller.place }
+        ensures manager { self.new.stage.manager.now ≡ self.old.stage.manager.now }
+    {
+        let answer = self.stage.abort_nested(rt, caller.place);
+        self.say_level(&caller.name, answer)
+    }
+
+    /// The level that a session's transaction is at now, or why it is as it was.
+    fn say_level(&mut self, name: &Name, answer: Result<u8, Refusal>) -> Result<(), Fault>
+        ensures manager { self.new.stage.manager.now ≡ self.old.stage.manager.now }
+    {
+        match answer {
+            Ok(level) => self.output.level(name, level),
+            Err(refusal) => self.refuse(name, refusal),
+        }
+    }
+
     fn owned(&mut self, target: Target) -> Result<(), Fault>
         requires { MayAct self.old.stage.sessions target.caller.place }
         ensures manager { self.new.stage.manager.now ≡ self.old.stage.manager.now }
@@ -394,9 +450,61 @@ impl<'a, T: PartTable, B: Board<T>, W: Write + Drop> Scene<'a, T, B, W> {
         match self.stage.list(rt, caller.place) {
             Ok(listing) => {
                 let stage = &self.stage;
-                self.output.listing(&stage.names, &listing)
+                self.output.listing(&stage.names, &listing)?;
+                self.draw(rt, caller, listing.table.as_slice())
             }
             Err(refusal) => self.refuse(&caller.name, refusal),
+        }
+    }
+
+    /// Draws who waits for whom, by the rows of the table, if that is wanted.
+    fn draw<H: Wait>(&mut self, rt: &H, caller: Caller, rows: &[TableRow]) -> Result<(), Fault>
+        requires { MayAct self.old.stage.sessions caller.place }
+        ensures manager { self.new.stage.manager.now ≡ self.old.stage.manager.now }
+    {
+        let Some(pen) = self.output.pen() else {
+            return Ok(());
+        };
+        match self.stage.picture(rt, caller.place, pen, rows) {
+            Ok(picture) => {
+                let stage = &self.stage;
+                self.output.picture(&stage.names, &picture)
+            }
+            Err(refusal) => self.refuse(&caller.name, refusal),
+        }
+    }
+
+    fn queue<H: Wait>(&mut self, rt: &H, caller: Caller, tag: Tag) -> Result<(), Fault>
+        requires { MayAct self.old.stage.sessions caller.place }
+        ensures manager { self.new.stage.manager.now ≡ self.old.stage.manager.now }
+    {
+        match self.stage.queue(rt, caller.place, tag) {
+            Ok(rows) => {
+                let stage = &self.stage;
+                self.output.queue(&stage.names, rows.as_slice())
+            }
+            Err(refusal) => self.refuse(&caller.name, refusal),
+        }
+    }
+
+    fn blockers<H: Wait>(
+        &mut self,
+        rt: &H,
+        by: Caller,
+        other: Opened,
+        tag: Tag,
+    ) -> Result<(), Fault>
+        requires by { MayAct self.old.stage.sessions by.place }
+        requires other { IsThere self.old.stage.sessions other.place }
+        ensures manager { self.new.stage.manager.now ≡ self.old.stage.manager.now }
+    {
+        match self.stage.blockers(rt, by.place, other.place, tag) {
+            Ok(found) => {
+                let stage = &self.stage;
+                self.output
+                    .blockers(&stage.names, &other.name, found.as_slice())
+            }
+            Err(refusal) => self.refuse(&by.name, refusal),
         }
     }
 

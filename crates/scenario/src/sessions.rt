@@ -5,9 +5,11 @@ ghost use Rattle.lock_manager.specs.Managers.{IsOpenerOf};
 ghost use Rattle.scenario.specs.Stage.{SeatsAre, going_on};
 
 use crate::desk::Desk;
+use crate::picture::Picture;
+use crate::style::Pen;
 use lock_manager::{
-    Acquired, Asked, Cancelled, Listing, Manager, Mode, Opener, OwnSession, OwnWaiting, Owner,
-    Polled, Refusal, SessionId, Started, Tag, Unlocked,
+    Acquired, Asked, Blocker, Cancelled, Listing, Manager, Mode, Opener, OwnSession, OwnWaiting,
+    Owner, Polled, QueueRow, Refusal, SessionId, Started, TableRow, Tag, Unlocked,
 };
 use lock_script::{Name, Named, Names, OpenSessions, Place};
 use lock_table::PartTable;
@@ -245,7 +247,31 @@ impl<'a, T: PartTable, B: Board<T>> Stage<'a, T, B> {
         self.sessions.resting.session_mut(place).abort(rt);
     }
 
-    /// How often the owner has the object in the mode.
+    /// Begins a level of the transaction, and answers which.
+    pub fn begin_nested(&mut self, place: usize) -> Result<u8, Refusal>
+        requires { MayAct self.old.sessions place }
+        ensures manager { self.new.manager.now ≡ self.old.manager.now }
+    {
+        self.sessions.resting.session_mut(place).begin_nested()
+    }
+
+    /// Ends the innermost level with success, and answers which is left.
+    pub fn commit_nested(&mut self, place: usize) -> Result<u8, Refusal>
+        requires { MayAct self.old.sessions place }
+        ensures manager { self.new.manager.now ≡ self.old.manager.now }
+    {
+        self.sessions.resting.session_mut(place).commit_nested()
+    }
+
+    /// Ends the innermost level with failure, and answers which is left.
+    pub fn abort_nested<H: Wait>(&mut self, rt: &H, place: usize) -> Result<u8, Refusal>
+        requires { MayAct self.old.sessions place }
+        ensures manager { self.new.manager.now ≡ self.old.manager.now }
+    {
+        self.sessions.resting.session_mut(place).abort_nested(rt)
+    }
+
+    /// How often the owner has the object in the mode, of a transaction the innermost level.
     pub fn owner_count(&self, place: usize, tag: Tag, mode: Mode, owner: Owner) -> u16
         requires { MayAct self.now.sessions place }
     {
@@ -260,8 +286,56 @@ impl<'a, T: PartTable, B: Board<T>> Stage<'a, T, B> {
     pub fn list<H: Wait>(&mut self, rt: &H, place: usize) -> Result<Listing, Refusal>
         requires { MayAct self.old.sessions place }
         ensures manager { self.new.manager.now ≡ self.old.manager.now }
+        ensures may_act { MayAct self.new.sessions place }
     {
         self.sessions.resting.session_mut(place).list(rt)
+    }
+
+    /// The waits on an object, in the order of its queue.
+    pub fn queue<H: Wait>(
+        &mut self,
+        rt: &H,
+        place: usize,
+        tag: Tag,
+    ) -> Result<Vec<QueueRow>, Refusal>
+        requires { MayAct self.old.sessions place }
+        ensures manager { self.new.manager.now ≡ self.old.manager.now }
+    {
+        self.sessions.resting.session_mut(place).queue(rt, tag)
+    }
+
+    /// Those who stand in the way of another session's wait on an object.
+    pub fn blockers<H: Wait>(
+        &mut self,
+        rt: &H,
+        place: usize,
+        other: Place,
+        tag: Tag,
+    ) -> Result<Vec<Blocker>, Refusal>
+        requires by { MayAct self.old.sessions place }
+        requires other { IsThere self.old.sessions other }
+        ensures manager { self.new.manager.now ≡ self.old.manager.now }
+    {
+        let number = self.number_at(other);
+        self.sessions
+            .resting
+            .session_mut(place)
+            .blockers(rt, tag, number)
+    }
+
+    /// Who waits for whom, by the rows of the table in a listing.
+    pub fn picture<H: Wait>(
+        &mut self,
+        rt: &H,
+        place: usize,
+        pen: Pen,
+        rows: &[TableRow],
+    ) -> Result<Picture, Refusal>
+        requires { MayAct self.old.sessions place }
+        ensures manager { self.new.manager.now ≡ self.old.manager.now }
+    {
+        let session = self.sessions.resting.session_mut(place);
+        draw(rt, session, pen, rows)
     }
 
     /// What the strong lock counter with this index shows.
@@ -323,6 +397,28 @@ impl<'a, T: PartTable, B: Board<T>> Stage<'a, T, B> {
             self.sessions.resting.put(name, session);
         }
     }
+}
+
+/// The picture of who waits for whom, by the rows of the table in a listing, as a session finds those in each one's way.
+fn draw<T: PartTable, B: Board<T>, H: Wait>(
+    rt: &H,
+    session: &mut OwnSession<T, B>,
+    pen: Pen,
+    rows: &[TableRow],
+) -> Result<Picture, Refusal>
+    ensures seat { B.seat session.new.board ≡ B.seat session.old.board }
+{
+    let mut picture = Picture::new(pen);
+    'rows: for row in rows {
+        if row.granted {
+            continue;
+        }
+        let found = session.blockers(rt, row.tag, row.session)?;
+        if picture.add(row, found.as_slice()).is_err() {
+            return Err(Refusal::NoMemory);
+        }
+    }
+    Ok(picture)
 }
 
 /// A request that may wait: the session with its answer, or what it is while it waits.

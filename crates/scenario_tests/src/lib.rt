@@ -5,9 +5,17 @@
 #[cfg(test)]
 mod advisory;
 #[cfg(test)]
+mod hammers;
+#[cfg(test)]
+mod inputs;
+#[cfg(test)]
+mod nested;
+#[cfg(test)]
 mod pipes;
 #[cfg(test)]
 mod programs;
+#[cfg(test)]
+mod queues;
 #[cfg(test)]
 mod rows;
 #[cfg(test)]
@@ -16,6 +24,10 @@ mod scenarios;
 mod scenes;
 #[cfg(test)]
 mod scripts;
+#[cfg(test)]
+mod streams;
+#[cfg(test)]
+mod styles;
 #[cfg(test)]
 mod texts;
 #[cfg(test)]

@@ -1,11 +1,13 @@
 //! The program's own words, its statuses, and what it writes to its output and its errors.
 use crate::pipes::Pipe;
-use scenario::{NoRun, Source, Task, parse_arguments, run_program};
+use scenario::{Errors, NoRun, Source, Task, parse_arguments, run_program};
 use std::alloc::Global;
 use std::io::{self, ErrorKind, Read};
 use std::process::Abort;
 use std::sync::Wait;
 use std::test::Fail;
+use std::thread::Threads;
+use std::time::Clock;
 
 /// A reader of a text, which fails where that ends if it is to.
 #[derive(Drop)]
@@ -31,8 +33,8 @@ fn words_of(alloc: Global, line: &str) -> Result<Vec<String>, Fail> {
     Ok(words)
 }
 
-/// Words, and how many sessions and local entries they ask for, where they aren't refused.
-static WORDS: [(&str, Option<(u32, u32)>); 18] = [
+/// Words, and how many sessions and local entries or rounds they ask for, where they aren't refused.
+static WORDS: [(&str, Option<(u32, u32)>); 26] = [
     ("lock_scenario run", Some((8, 1024))),
     ("lock_scenario run --sessions 1", Some((1, 1024))),
     ("lock_scenario run --sessions=64", Some((64, 1024))),
@@ -42,7 +44,21 @@ static WORDS: [(&str, Option<(u32, u32)>); 18] = [
         Some((2, 65_536)),
     ),
     ("lock_scenario", None),
+    (
+        "lock_scenario hammer --sessions 4 --rounds 1000",
+        Some((4, 1000)),
+    ),
+    (
+        "lock_scenario hammer --rounds 1000000 --sessions 64",
+        Some((64, 1_000_000)),
+    ),
     ("lock_scenario hammer", None),
+    ("lock_scenario hammer --sessions 4", None),
+    ("lock_scenario hammer --rounds 4", None),
+    ("lock_scenario hammer --sessions 65 --rounds 1", None),
+    ("lock_scenario hammer --sessions 0 --rounds 1", None),
+    ("lock_scenario hammer --sessions 1 --rounds 1000001", None),
+    ("lock_scenario hammer --sessions 1 --rounds 0", None),
     ("lock_scenario modes", Some((0, 0))),
     ("lock_scenario modes more", None),
     ("lock_scenario modes --sessions 1", None),
@@ -63,7 +79,8 @@ fn reads_its_own_words(rt: HostRuntime) -> Result<(), Fail> {
         let (line, expected) = *row;
         let words = words_of(alloc, line)?;
         let limits = match parse_arguments(alloc, words.as_slice()) {
-            Ok(Task::Run(limits)) => Some((limits.sessions, limits.max_local)),
+            Ok(Task::Run(limits, _)) => Some((limits.sessions, limits.max_local)),
+            Ok(Task::Hammer(hammer)) => Some((hammer.sessions, hammer.rounds)),
             Err(NoRun::Refused(_)) => None,
             // The conflict table, which has no limits.
             Ok(Task::Modes) => Some((0, 0)),
@@ -82,16 +99,18 @@ Run scripts against PostgreSQL's lock manager
 Usage: lock_scenario <COMMAND>
 
 Commands:
-  run    Run the script on standard input
-  modes  Print which lock modes conflict
-  help   Print this message or the help of the given subcommand(s)
+  run     Run the script on standard input
+  modes   Print which lock modes conflict
+  hammer  Lock and unlock in many threads, and count what is left
+  help    Print this message or the help of the given subcommand(s)
 
 Options:
   -h, --help     Print help
   -V, --version  Print version
 
 Lines of a script begin with:
-  session, try, fast, lock, unlock, commit, abort, owned, waiters, cancel, list, count, hash, close
+  session, try, fast, lock, unlock, commit, abort, begin, subcommit, subabort, owned, waiters, queue,
+  blockers, cancel, list, count, hash, close
 
 Example:
   lock_scenario run --sessions 2 < scenarios/object_lock.scn
@@ -104,9 +123,12 @@ Run the script on standard input
 Usage: lock_scenario run [OPTIONS]
 
 Options:
-      --sessions <N>   How many sessions the script may open [default: 8]
-      --max-local <M>  How many different locks a session may have [default: 1024]
-  -h, --help           Print help
+      --sessions <N>      How many sessions the script may open [default: 8]
+      --max-local <M>     How many different locks a session may have [default: 1024]
+      --echo              Print each line of the script before its answers
+      --json              Print an object of JSON for each line, instead of its text
+      --graph <LANGUAGE>  Draw who waits for whom behind the rows of each list [possible values: mermaid, dot]
+  -h, --help              Print help
 
 Lines of a script, after lock_scenario run < FILE:
   session NAME DB                 open a session of a database
@@ -117,8 +139,14 @@ Lines of a script, after lock_scenario run < FILE:
   commit NAME                     drop what the transaction owns
   abort NAME                      drop what the transaction and the session own,
                                   but for the session's advisory locks
-  owned NAME TAG MODE             say how often each of the two owns a lock
+  begin NAME                      begin a level of the transaction, a savepoint
+  subcommit NAME                  end it, and give what it owns to the level outside it
+  subabort NAME                   end it, and drop what it owns
+  owned NAME TAG MODE             say how often each of the two owns a lock: the
+                                  transaction's innermost level, and the session
   waiters NAME TAG MODE           say whether somebody waits for a conflicting mode
+  queue NAME TAG                  list who waits for an object, in order
+  blockers NAME OTHER TAG         list who stands in the way of a session that waits for an object
   cancel BY NAME                  ask a session to stop waiting
   list NAME                       list all locks
   count NAME INDEX                say how many strong locks are counted at a counter
@@ -131,6 +159,11 @@ TAG is DB/REL for a relation, DB/CLASS/OBJ/SUB for another object, and
 MODE is AccessShareLock, RowShareLock, RowExclusiveLock, ShareUpdateExclusiveLock,
   ShareLock, ShareRowExclusiveLock, ExclusiveLock or AccessExclusiveLock.
 A lock is the transaction's, and with the word session at the end of its line the session's.
+
+Examples:
+  lock_scenario run < scenarios/object_lock.scn
+  lock_scenario run --echo --graph mermaid < scenarios/a_convoy_behind_an_idle_transaction.scn
+  lock_scenario run --json < scenarios/object_lock.scn | jq .
 ";
 
 /// The text of `modes --help`.
@@ -161,6 +194,26 @@ const MODES: &str = "\
 8 AccessExclusiveLock 1fe
 ";
 
+/// The text of `hammer --help`.
+const HAMMER_HELP: &str = "\
+Lock and unlock in many threads, and count what is left
+
+Usage: lock_scenario hammer --sessions <N> --rounds <K>
+
+Options:
+      --sessions <N>  How many sessions, each in a thread of its own
+      --rounds <K>    How many locks each asks for
+  -h, --help          Print help
+
+Each session locks and unlocks relations 5/16384 to 5/16387 in every mode, in a thread of
+its own. Then each takes AccessShareLock on 5/16384, and the first one ShareLock on
+5/16385. Two lines tell what stands in fast-path slots and in the table, and the sum of
+the strong lock counters: by an audit then, and when all sessions are closed.
+
+Example:
+  lock_scenario hammer --sessions 4 --rounds 1000
+";
+
 /// What the errors take where the script is typed.
 const INVITATION: &str = "reading a script from the terminal; run --help shows its lines\n";
 
@@ -173,7 +226,7 @@ const RUN: &str = "lock_scenario run";
 const OPENED: &str = "a: session 0 database 5\n";
 
 /// Words with a run of the program on them.
-static RUNS: [(&str, Run); 12] = [
+static RUNS: [(&str, Run); 15] = [
     ("lock_scenario modes", ("frob", false, 0, MODES, "")),
     ("lock_scenario modes --help", ("", false, 0, MODES_HELP, "")),
     (RUN, ("session a 5\n", false, 0, OPENED, "")),
@@ -226,13 +279,73 @@ static RUNS: [(&str, Run); 12] = [
         ),
     ),
     (
-        "lock_scenario hammer",
+        "lock_scenario storm",
         (
             "",
             false,
             2,
             "",
-            "error: unrecognized subcommand 'hammer'\n\nUsage: lock_scenario <COMMAND>\n\n\
+            "error: unrecognized subcommand 'storm'\n\nUsage: lock_scenario <COMMAND>\n\n\
+             For more information, try '--help'.\n",
+        ),
+    ),
+    (
+        "lock_scenario hammer --help",
+        ("", false, 0, HAMMER_HELP, ""),
+    ),
+    (
+        "lock_scenario hammer --sessions 4 --rounds 1000",
+        (
+            "frob",
+            false,
+            0,
+            "audit fast 4 table 1 strong 1\nfinal fast 0 table 0 strong 0\n",
+            "",
+        ),
+    ),
+    (
+        "lock_scenario hammer --sessions 1 --rounds 1",
+        (
+            "",
+            false,
+            0,
+            "audit fast 1 table 1 strong 1\nfinal fast 0 table 0 strong 0\n",
+            "",
+        ),
+    ),
+];
+
+/// Words that say what a run shows, with a run of the program on them.
+static SHOWN: [(&str, Run); 3] = [
+    (
+        "lock_scenario run --echo",
+        (
+            "session a 5\nfrob",
+            false,
+            3,
+            "> session a 5\na: session 0 database 5\n> frob\n",
+            "line 2: unknown command\n",
+        ),
+    ),
+    (
+        "lock_scenario run --json --graph=dot --echo",
+        (
+            "session a 5\n",
+            false,
+            0,
+            "{\"echo\":\"session a 5\",\"line\":1}\n\
+             {\"answer\":\"opened\",\"database\":5,\"line\":1,\"number\":0,\"session\":\"a\"}\n",
+            "",
+        ),
+    ),
+    (
+        "lock_scenario run --graph svg",
+        (
+            "session a 5\n",
+            false,
+            2,
+            "",
+            "error: invalid value 'svg' for '--graph <LANGUAGE>'\n  [possible values: mermaid, dot]\n\n\
              For more information, try '--help'.\n",
         ),
     ),
@@ -256,8 +369,19 @@ static UNREAD: [(ErrorKind, Run); 2] = [
     ),
 ];
 
-/// Words with a run of the program on them, where the script is typed.
-static TYPED: [(&str, Run); 3] = [
+/// Words with a run of the program on them, where the script is typed and the errors are read at a terminal.
+static TYPED: [(&str, Run); 4] = [
+    // A hammer that is over before its line's time has come.
+    (
+        "lock_scenario hammer --sessions 1 --rounds 1",
+        (
+            "",
+            false,
+            0,
+            "audit fast 1 table 1 strong 1\nfinal fast 0 table 0 strong 0\n",
+            "",
+        ),
+    ),
     (RUN, ("session a 5\n", false, 0, OPENED, INVITATION)),
     (
         RUN,
@@ -277,7 +401,7 @@ static TYPED: [(&str, Run); 3] = [
 
 /// Runs the program on these words, and checks its status and both its texts.
 fn expect_program(
-    rt: &(impl Abort + AllocGlobal + Wait),
+    rt: &(impl Abort + AllocGlobal + Clock + Threads + Wait + Sync),
     words: io::Result<Vec<String>>,
     is_terminal: bool,
     run: Run,
@@ -292,7 +416,11 @@ fn expect_program(
     };
     let alloc: Global = rt.alloc();
     let (mut output, mut errors) = (Vec::new(alloc), Vec::new(alloc));
-    let answer = run_program(rt, words, reader, &mut output, &mut errors);
+    let mut said_to = Errors {
+        writer: &mut errors,
+        is_terminal,
+    };
+    let answer = run_program(rt, words, reader, &mut output, &mut said_to);
     assert_eq!(rt; answer, status, "the status of {script:?}");
     assert_eq!(rt;
         output.as_slice(),
@@ -312,6 +440,10 @@ fn answers_its_words(rt: HostRuntime) -> Result<(), Fail> {
         let (line, run) = *row;
         expect_program(&rt, Ok(words_of(rt.alloc(), line)?), false, run);
     }
+    for row in &SHOWN {
+        let (line, run) = *row;
+        expect_program(&rt, Ok(words_of(rt.alloc(), line)?), false, run);
+    }
     for row in &TYPED {
         let (line, run) = *row;
         expect_program(&rt, Ok(words_of(rt.alloc(), line)?), true, run);
@@ -328,7 +460,7 @@ fn answers_its_words(rt: HostRuntime) -> Result<(), Fail> {
 type Closed = (&'static str, &'static str, u32, bool, u8, u32);
 
 /// Runs with writers that fail. A line that the errors don't take changes no status.
-static CLOSED: [Closed; 12] = [
+static CLOSED: [Closed; 13] = [
     ("lock_scenario modes", "", 7, true, 1, 1),
     ("lock_scenario modes", "", 1000, false, 1, 1),
     (RUN, "session a 5\n", 0, true, 1, 1),
@@ -339,17 +471,33 @@ static CLOSED: [Closed; 12] = [
     ("lock_scenario --version", "", 1000, false, 1, 1),
     (RUN, "frob\n", 1000, true, 3, 0),
     (RUN, "\u{e9}\n", 1000, true, 3, 0),
-    ("lock_scenario hammer", "", 1000, true, 2, 0),
+    (
+        "lock_scenario hammer --sessions 2 --rounds 3",
+        "",
+        1,
+        true,
+        1,
+        1,
+    ),
+    ("lock_scenario storm", "", 1000, true, 2, 0),
     ("lock_scenario run --sessions 65", "", 1000, true, 2, 0),
 ];
 
 /// Runs the program with these writers, and checks its status, and that it writes what the errors take.
-fn expect_closed(rt: &(impl Abort + AllocGlobal + Wait), words: Vec<String>, run: Closed) {
+fn expect_closed(
+    rt: &(impl Abort + AllocGlobal + Clock + Threads + Wait + Sync),
+    words: Vec<String>,
+    run: Closed,
+) {
     let (line, script, lines, flushes, status, said) = run;
     let output = Pipe { lines, flushes };
-    let mut errors = Pipe {
+    let mut pipe = Pipe {
         lines: said,
         flushes: false,
+    };
+    let mut errors = Errors {
+        writer: &mut pipe,
+        is_terminal: false,
     };
     let input = Source {
         reader: script.as_bytes(),
@@ -357,7 +505,7 @@ fn expect_closed(rt: &(impl Abort + AllocGlobal + Wait), words: Vec<String>, run
     };
     let answer = run_program(rt, Ok(words), input, output, &mut errors);
     assert_eq!(rt; answer, status, "the status of {line:?}");
-    assert_eq!(rt; errors.lines, 0, "the errors of {line:?}");
+    assert_eq!(rt; pipe.lines, 0, "the errors of {line:?}");
 }
 
 #[test]

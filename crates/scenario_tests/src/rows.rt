@@ -86,7 +86,7 @@ pub static BAD_LINES: [BadRow<'static>; 71] = [
     ("Lock a 5/16384 ShareLock", "line 2: unknown command"),
     ("Fast a 5/16384 AccessShareLock", "line 2: unknown command"),
     ("counts a 796", "line 2: unknown command"),
-    ("begin a b c d e f", "line 2: unknown command"),
+    ("start a b c d e f", "line 2: unknown command"),
     ("commit", "line 2: wrong number of words"),
     ("abort a a", "line 2: wrong number of words"),
     ("close A a", "line 2: wrong number of words"),
@@ -525,7 +525,7 @@ const NOTHING: Copies<'static> = ("", 0, "", "");
 const TOO_LONG: &str = "line 1: line too long";
 
 /// The bounds of lines: a script, what it prints, and the fault that ends it.
-pub static BOUNDS: [(Copies<'static>, Copies<'static>, &str); 8] = [
+pub static BOUNDS: [(Copies<'static>, Copies<'static>, &str); 13] = [
     (("hash 5/16384", 1_012, " ", ""), HASHED, ""),
     (("hash 5/16384", 1_012, " ", "\n"), HASHED, ""),
     (("hash 5/16384", 1_011, " ", "\r\n"), HASHED, ""),
@@ -533,7 +533,13 @@ pub static BOUNDS: [(Copies<'static>, Copies<'static>, &str); 8] = [
     (("hash 5/16384", 1_013, " ", "\n"), NOTHING, TOO_LONG),
     (("hash 5/16384", 1_012, " ", "\r\n"), NOTHING, TOO_LONG),
     (("hash 5/16384", 1_013, " ", "\u{e9}\n"), NOTHING, TOO_LONG),
+    // comments and blank lines have the same bounds, and a carriage return at the end counts among the bytes
+    (("", 1_024, "#", "\n"), NOTHING, ""),
     (("", 1_025, "#", "\n"), NOTHING, TOO_LONG),
+    (("", 1_023, "#", "\r\n"), NOTHING, ""),
+    (("", 1_024, "#", "\r\n"), NOTHING, TOO_LONG),
+    (("", 1_024, " ", "\n"), NOTHING, ""),
+    (("", 1_025, "\t", ""), NOTHING, TOO_LONG),
 ];
 
 /// An owner takes a lock more often than it may.
@@ -552,8 +558,14 @@ pub const COUNTED: Copies<'static> = (
     "a: refused 4 count full\na: already held\na: committed\na: transaction 0 session 1\n",
 );
 
-/// More lines than there may be.
-pub const TOO_MANY_LINES: Copies<'static> = ("", 1_000_000, "\n", "\u{e9}");
+/// As many lines as there may be.
+pub const ALL_LINES: Copies<'static> = ("", 1_000_000, "\n", "");
+
+/// One line more, which is no text, and an empty one more.
+pub static TOO_MANY_LINES: [Copies<'static>; 2] = [
+    ("", 1_000_000, "\n", "\u{e9}"),
+    ("", 1_000_001, "\n", ""),
+];
 
 /// A script whose third line is cut short.
 pub const CUT_SHORT: &str = "session a 5\nhash 5/16384\nsess";

@@ -1,8 +1,9 @@
 //! Scripts with what they print, as the language says. They are rows; what plays them is proved once.
+use crate::inputs::INPUTS;
 use crate::pipes::Pipe;
 use crate::rows::{self, BadRow, Copies, Row};
 use crate::scenarios::SCENARIOS;
-use crate::{advisory, waiting};
+use crate::{advisory, nested, queues, waiting};
 use lock_manager::{Config, MOST_LOCAL, MOST_SESSIONS};
 use lock_script::{Defect, Fault};
 use scenario::run_script;
@@ -143,11 +144,18 @@ fn expect_rows(
 fn scripts_print_what_the_rows_say(rt: HostRuntime) -> Result<(), Fail> {
     expect_rows(&rt, EIGHT, &SCENARIOS)?;
     expect_rows(&rt, EIGHT, &rows::LINES)?;
+    expect_rows(&rt, EIGHT, &INPUTS)?;
     expect_rows(&rt, EIGHT, &rows::ENDS)?;
     expect_rows(&rt, EIGHT, &rows::LISTINGS)?;
     expect_rows(&rt, TWO_LOCKS, &rows::TWO_LOCKS)?;
-    expect_rows(&rt, ONE_SESSION, &rows::ONE_SESSION)?;
+    expect_rows(&rt, ONE_SESSION, &rows::ONE_SESSION)
+}
+
+#[test]
+fn scripts_of_each_kind_of_lock_print_what_the_rows_say(rt: HostRuntime) -> Result<(), Fail> {
     expect_rows(&rt, EIGHT, &advisory::ADVISORY)?;
+    expect_rows(&rt, EIGHT, &queues::QUEUES)?;
+    expect_rows(&rt, EIGHT, &nested::NESTED)?;
     expect_rows(&rt, EIGHT, &waiting::WAITS)?;
     expect_rows(&rt, EIGHT, &waiting::PLACES)?;
     expect_rows(&rt, EIGHT, &waiting::CANCELS)?;
@@ -175,6 +183,7 @@ fn a_bad_line_ends_a_script(rt: HostRuntime) -> Result<(), Fail> {
     let waiting = (2, waiting::B_WAITS, waiting::B_IS_QUEUED);
     expect_bad_lines(&rt, (1, "", ""), &rows::BAD_LINES)?;
     expect_bad_lines(&rt, (1, "", ""), &advisory::NO_ADVISORY)?;
+    expect_bad_lines(&rt, (1, "", ""), &queues::BAD_QUEUES)?;
     expect_bad_lines(&rt, closed, &rows::CLOSED_LINES)?;
     expect_bad_lines(&rt, waiting, &waiting::WAITING_LINES)
 }
@@ -204,9 +213,15 @@ fn bounds_lines(rt: HostRuntime) -> Result<(), Fail> {
 // A byte a read, and an interruption before each: more than a million reads.
 #[test]
 fn bounds_an_owners_count(rt: HostRuntime) -> Result<(), Fail> {
-    let script = text_of(rt.alloc(), rows::COUNTS)?;
-    let printed = text_of(rt.alloc(), rows::COUNTED)?;
-    expect_read(&rt, EIGHT, 1, script.as_str(), printed.as_str(), "")
+    for (script, printed) in [
+        (rows::COUNTS, rows::COUNTED),
+        (nested::COUNTS, nested::COUNTED),
+    ] {
+        let script = text_of(rt.alloc(), script)?;
+        let printed = text_of(rt.alloc(), printed)?;
+        expect_read(&rt, EIGHT, 1, script.as_str(), printed.as_str(), "")?;
+    }
+    Ok(())
 }
 
 /// Runs a script whose output takes so many lines, and a flush only if it is to, and checks how it ends.
@@ -220,18 +235,24 @@ fn expect_ended(
     assert!(rt; ended == expected, "{script:?}");
 }
 
+/// A writer that takes nothing but a flush.
+const SILENT: Pipe = Pipe {
+    lines: 0,
+    flushes: true,
+};
+
 #[test]
 fn bounds_the_number_of_lines(rt: HostRuntime) -> Result<(), Fail> {
-    let script = text_of(rt.alloc(), rows::TOO_MANY_LINES)?;
-    let too_many = Fault::BadLine {
-        line: 1_000_001,
-        what: Defect::TooManyLines,
-    };
-    let silent = Pipe {
-        lines: 0,
-        flushes: true,
-    };
-    expect_ended(&rt, script.as_str(), silent, Err(too_many));
+    let script = text_of(rt.alloc(), rows::ALL_LINES)?;
+    expect_ended(&rt, script.as_str(), SILENT, Ok(()));
+    for row in &rows::TOO_MANY_LINES {
+        let script = text_of(rt.alloc(), *row)?;
+        let too_many = Fault::BadLine {
+            line: 1_000_001,
+            what: Defect::TooManyLines,
+        };
+        expect_ended(&rt, script.as_str(), SILENT, Err(too_many));
+    }
     Ok(())
 }
 

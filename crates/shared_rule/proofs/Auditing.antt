@@ -29,9 +29,10 @@ use Rattle.lock_world.proofs.Tallies.Sums.{total-more}
 use Rattle.shared_rule.specs.declared.history.History.{History}
 use Rattle.shared_rule.specs.declared.history.Mark.{Mark}
 use Rattle.shared_rule.specs.declared.history.View.{View}
+use Rattle.shared_rule.specs.declared.kept.Kept.{Kept}
 use Rattle.shared_rule.specs.History.{noted, noting, noting_first, taken_of, told, first_account, first_number}
 use Rattle.atomic_table.specs.declared.shared.Seat.{Seat}
-use Rattle.shared_rule.specs.declared.history.Mark.TheVariants.{LoadedSlot, LoadedStrong, TookPart, PutPart}
+use Rattle.shared_rule.specs.Marks.{LoadedSlot, LoadedStrong, TookPart, PutPart}
 use Rattle.shared_rule.specs.Plays.{HasSession, IsSameSeat}
 use Rattle.shared_rule.specs.Lawful.{IsAboveHand}
 use Rattle.shared_rule.specs.Seats.{behind_of}
@@ -44,10 +45,10 @@ use Rattle.shared_rule.proofs.Episodes.{fresh_hand, taken-in_hand, kept-since}
 
 -- ---- steps at a seat
 
-pub same-seat : {T : Type 0} (place : Seat (Option T) (View T)) → IsSameSeat place place
+pub same-seat : {T : Type 0} (place : Seat (Kept T) (View T)) → IsSameSeat place place
 same-seat place = record { table_id = refl; id = refl }
 
-pub same-seat_then : {T : Type 0} (a b c : Seat (Option T) (View T)) → IsSameSeat a b → IsSameSeat b c → IsSameSeat a c
+pub same-seat_then : {T : Type 0} (a b c : Seat (Kept T) (View T)) → IsSameSeat a b → IsSameSeat b c → IsSameSeat a c
 same-seat_then a b c first second = record { table_id = second.table_id ∙ first.table_id; id = second.id ∙ first.id }
 
 module _ {T : Type 0} where

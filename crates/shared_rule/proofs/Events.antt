@@ -5,5 +5,6 @@ pub mod Locks
 pub mod Counters
 pub mod Waits
 pub mod Slots
+pub mod Lists
 pub mod Seats
 pub mod Gatherings

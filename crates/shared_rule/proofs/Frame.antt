@@ -20,11 +20,12 @@ use Rattle.lock_world.proofs.Others.Events.{event-others}
 use Rattle.shared_rule.specs.declared.history.Mark.{Mark}
 use Rattle.shared_rule.specs.declared.history.History.{History}
 use Rattle.shared_rule.specs.declared.history.View.{View}
+use Rattle.shared_rule.specs.declared.kept.Kept.{Kept}
 use Rattle.shared_rule.specs.Shown.{WordsAreShown}
 use Rattle.shared_rule.specs.History.{noted, told, noting_first, noting, keeper}
 use Rattle.shared_rule.proofs.Standing.{there-within, there-one}
 use Rattle.shared_rule.proofs.ClosedCounts.{opener-set}
-use Rattle.shared_rule.specs.Ruled.{OpenerHasClosed, NoneBeyondSlots, ContentsAreHome, IsClosed, HistoryIsShown, IsBehind, SeatsAreShown, Ruled}
+use Rattle.shared_rule.specs.Ruled.{OpenerHasClosed, NoneBeyondSlots, ContentsAreHome, ListsAreHome, IsClosed, HistoryIsShown, IsBehind, SeatsAreShown, Ruled}
 
 -- A step of the session that goes on by itself at a seat, noted there, keeps the rule.
 
@@ -191,7 +192,7 @@ pub record IsNoted {T : Type 0} (content : T → Content) (w : World) (number : 
   pub none_beyond : NoneBeyondSlots next
   pub few_counted : length (after.sessions.counted number) ≤ most_counted
 
-module _ {T : Type 0} (content : T → Content) (begun : T → Option Request) (limit : ℕ) (s : State (Option T) (View T)) (r : Ruled content begun limit s)
+module _ {T : Type 0} (content : T → Content) (begun : T → Option Request) (limit : ℕ) (s : State (Kept T) (View T)) (r : Ruled content begun limit s)
     (id : ℕ) (view : View T) (x : History T) (others : List (History T)) (at : get_elem? s.views id ≡ some view) (is : view.sessions ≡ x ∷ others) where
   pub history_of : HistoryIsShown content r.world r.seats.seat_of r.seats.place_in id 0 view.sessions x
   history_of = r.seats.history id 0 view x at (ap (λ sessions. slice_get sessions 0) is)
@@ -208,10 +209,11 @@ module _ {T : Type 0} (content : T → Content) (begun : T → Option Request) (
   }
 
   pub ruled-noted :
-      (mark : Mark T) (words : Words) (table : List ℕ) (homes : List (maybe.Option (Option T))) (noted : IsNoted content r.world x.number (told content x.number x.marks) mark words)
+      (mark : Mark T) (words : Words) (table : List ℕ) (homes : List (maybe.Option (Kept T))) (noted : IsNoted content r.world x.number (told content x.number x.marks) mark words)
       → WordsAreShown table words → ContentsAreHome content begun homes noted.after.contents
+      → ListsAreHome homes noted.after.sessions.has_list noted.after.words.list
       → Ruled content begun limit (record { words = table; homes = homes; views = slice_set s.views id (noting view mark) })
-  ruled-noted mark words table homes noted shown home =
+  ruled-noted mark words table homes noted shown home lists =
       let event : Event = record { session = x.number; step = noted.step } in
       let left : (k : ℕ) → k ≢ x.number → account noted.after k ≡ account r.world k = λ k other. (event-others r.world noted.after event k r.safe noted.happens other).account in
       record {
@@ -228,6 +230,7 @@ module _ {T : Type 0} (content : T → Content) (begun : T → Option Request) (
           | inr other ↦ subst (λ (a : Account). length a.fast.counted ≤ most_counted) (sym (left k other)) (r.few_counted k)
         ];
         contents = home;
+        lists = lists;
         seats = seats-noted content r.world noted.after s.views id view x others mark at is noted.numbers left noted.account
             r.safe.but_slots.table.carriers.numbers.live_is_issued r.seats;
         closed = subst (λ (n : Numbers). OpenerHasClosed (slice_set s.views id (noting view mark)) n) (sym noted.numbers)

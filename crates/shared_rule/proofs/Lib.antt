@@ -9,6 +9,12 @@ pub mod Opening
 pub mod Events
 pub mod Sides
 pub mod Taken
+pub mod Led
+pub mod Acquires
+pub mod Idle
+pub mod TakenOff
+pub mod Queueing
+pub mod Woken
 pub mod SlotWords
 pub mod FirstSlot
 pub mod Episodes

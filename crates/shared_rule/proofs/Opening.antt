@@ -14,7 +14,9 @@ use Rattle.lock_world.proofs.SafeWorld.Opening.{opening-safe}
 use Rattle.lock_world.proofs.SafeWorld.Runs.{Runs-none}
 use Rattle.shared_rule.specs.declared.history.History.{History}
 use Rattle.shared_rule.specs.declared.history.View.{View}
-use Rattle.shared_rule.specs.Layout.{content_slot_of}
+use Rattle.shared_rule.specs.declared.kept.Kept.{Kept}
+use Rattle.shared_rule.specs.declared.kept.Kept.TheVariants as kept
+use Rattle.shared_rule.specs.Layout.{content_slot_of, list_slot_of}
 use Rattle.shared_rule.specs.Shown.{WordsAreShown}
 use Rattle.shared_rule.specs.History.{opening_view}
 use Rattle.shared_rule.specs.Opening.{IsNew, AreNew}
@@ -57,7 +59,7 @@ module _ {T : Type 0} (content : T → Content) (begun : T → Option Request) (
   unfolding total
   none-closed = record { once = λ number. omega arith; all = refl }
 
-  pub opening-ruled : limit ≤ 64 → (words : List ℕ) → WordsAreShown words (opening 0).words → (slots : List (Option T)) → AreNew content begun slots
+  pub opening-ruled : limit ≤ 64 → (words : List ℕ) → WordsAreShown words (opening 0).words → (slots : List (Kept T)) → AreNew content begun slots
       → Ruled content begun limit (table.opening words slots opening_view)
   opening-ruled few words shown slots new = record {
     world = opening limit;
@@ -73,9 +75,16 @@ module _ {T : Type 0} (content : T → Content) (begun : T → Option Request) (
         let part = new.new p exists in
         record {
           part = part.part;
-          at_home = at_map some slots (content_slot_of p) (Some part.part) (get-there slots (content_slot_of p) (Some part.part) part.is_there);
+          at_home = at_map some slots (content_slot_of p) (kept.Part part.part) (get-there slots (content_slot_of p) (kept.Part part.part) part.is_there);
           is_content = part.blank.is_empty;
           none_begun = part.blank.none_begun;
+        };
+    lists = λ lock within nobody.
+        let there = new.empty lock within in
+        record {
+          list = there.list;
+          at_home = at_map some slots (list_slot_of lock) (kept.List there.list) (get-there slots (list_slot_of lock) (kept.List there.list) there.is_there);
+          is_list = there.empty;
         };
     seats = opening-seats;
     closed = λ seat view number there says. subst (λ (z : View T). ClosedAreCounted (opening limit).numbers z.closed) (only-one seat view there).1 none-closed;
@@ -95,7 +104,10 @@ module _ {T : Type 0} (content : T → Content) (begun : T → Option Request) w
   pub others-empty : (old new : List T) (last : Option T) → old ≡ new ++ option_to_list last → AreEmptyParts content begun old → AreEmptyParts content begun new
   others-empty old new last is empty i part there = empty i part (ap (λ parts. slice_get parts i) is ∙ there-longer new (option_to_list last) i part there)
 
-  pub last-new : (old new : List T) (last : Option T) → old ≡ new ++ option_to_list last → IsSome last → AreEmptyParts content begun old → IsNew content begun (Some last)
-  last-new old new None is there empty = absurd (false≢true there)
-  last-new old new (Some part) is there empty =
-      record { part = part; is_there = refl; blank = empty (length new) part (ap (λ parts. slice_get parts (length new)) is ∙ there-last new part) }
+  pub last-new : (old new : List T) (last : T) → old ≡ new ++ last ∷ [] → AreEmptyParts content begun old
+      → IsNew content begun (Some (kept.Part last))
+  last-new old new last is empty = record {
+    part = last;
+    is_there = refl;
+    blank = empty (length new) last (ap (λ parts. slice_get parts (length new)) is ∙ there-last new last);
+  }

@@ -3,7 +3,9 @@ use Rattle.std.specs.Prelude.{if◌then◌else◌, None}
 use Rattle.std.proofs.lemmas.Bool.{eq-eqb, ne_eqb}
 use Rattle.lock_world.specs.WaitWord.{wait_state}
 use Rattle.lock_world.specs.Account.{Account, InHand}
-use Rattle.shared_rule.specs.Boards.{Stack, nothing_due, stack_taking, stack_putting, stack_asking, stack_waking}
+use Rattle.atomic_table.specs.Table.{rest}
+use Rattle.shared_rule.specs.declared.kept.Kept.{Kept}
+use Rattle.shared_rule.specs.Boards.{parts_in_hand, slots_out, Stack, nothing_due, stack_taking, stack_putting, stack_asking, stack_waking}
 use Rattle.shared_rule.specs.Lawful.{IsAboveHand}
 use Rattle.shared_rule.specs.Owed.{owing, waking}
 
@@ -52,3 +54,8 @@ asked-woken s t u other shown none asked waits woke =
     ∙ ap (λ b. with_owed s (waking (if b then owing s.owed other else s.owed) other)) (eq-eqb (wait_state shown) 1 waits)
     ∙ ap (λ owed. with_owed s (waking (owing owed other) other)) none
     ∙ ap (with_owed s) (waking-first other [] ∙ sym none)
+
+-- The slots that are out are those of contents still where the last one went home.
+pub rest-out : {T : Type 0} (slots : List (ℕ × Kept T)) → slots ≡ slots_out (parts_in_hand slots) → rest slots ≡ slots_out (parts_in_hand (rest slots))
+rest-out [] out = refl
+rest-out (last ∷ others) out = ap rest out

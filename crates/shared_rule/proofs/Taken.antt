@@ -2,7 +2,7 @@ use Rattle.std.proofs.Common.{◌≡◌, ℕ, List, ◌∷◌, refl, sym, ap, �
 use Rattle.lock_table.specs.Content.{Content}
 use Rattle.shared_rule.specs.declared.history.History.{History}
 use Rattle.shared_rule.specs.declared.history.Mark.{Mark}
-use Rattle.shared_rule.specs.declared.history.Mark.TheVariants.{TookFast, SharedFast}
+use Rattle.shared_rule.specs.Marks.{TookFast, SharedFast}
 use Rattle.shared_rule.specs.declared.history.View.{View}
 use Rattle.shared_rule.specs.History.{first_account, first_number, lone, noted, noting, noting_first, slots_shown}
 use Rattle.shared_rule.specs.Boards.{first_marks, StaysLone}

@@ -22,6 +22,7 @@ use Rattle.lock_world.proofs.SafeWorld.Runs.{Runs-push}
 use Rattle.shared_rule.specs.declared.history.Mark.{Mark}
 use Rattle.shared_rule.specs.declared.history.History.{History}
 use Rattle.shared_rule.specs.declared.history.View.{View}
+use Rattle.shared_rule.specs.declared.kept.Kept.{Kept}
 use Rattle.shared_rule.specs.History.{blank_account, keeper, lone, spent_view}
 use Rattle.shared_rule.specs.Ruled.{IsClosed, OpenerHasClosed, HistoryIsShown, IsBehind, SeatsAreShown, Ruled}
 use Rattle.shared_rule.proofs.Standing.{there-within, there-one}
@@ -376,7 +377,7 @@ module _ {T : Type 0} (content : T → Content) (w : World) (views : List (View 
       (seats-with_closed content (after_closing w k) (slice_set views other spent_view) id opener closing
       (set_else views other id spent_view (λ e. apart (sym e)) ∙ stands) (order.live_is_issued k history-alone.live, set_at-here w.numbers.live k false k refl) left-closed)
 
-module _ {T : Type 0} (content : T → Content) (begun : T → Option Request) (limit : ℕ) (s : State (Option T) (View T)) (r : Ruled content begun limit s) where
+module _ {T : Type 0} (content : T → Content) (begun : T → Option Request) (limit : ℕ) (s : State (Kept T) (View T)) (r : Ruled content begun limit s) where
   -- The rule holds in the World with other numbers,
   pub ruled-numbered :
       (event : Event) (numbers : Numbers) (views : List (View T)) → Happens r.world event (with_numbers r.world numbers) → numbers.limit ≡ r.world.numbers.limit
@@ -393,6 +394,7 @@ module _ {T : Type 0} (content : T → Content) (begun : T → Option Request) (
     none_beyond = r.none_beyond;
     few_counted = r.few_counted;
     contents = r.contents;
+    lists = r.lists;
     seats = seats;
     closed = closed;
   }
@@ -412,6 +414,7 @@ module _ {T : Type 0} (content : T → Content) (begun : T → Option Request) (
     none_beyond = r.none_beyond;
     few_counted = r.few_counted;
     contents = r.contents;
+    lists = r.lists;
     seats = seats;
     closed = closed;
   }

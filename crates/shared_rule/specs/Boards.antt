@@ -1,10 +1,15 @@
-use Rattle.std.specs.Prelude.{◌≡◌, ℕ, ◌/◌, List, [], ◌∷◌, map, Option, None}
+use Rattle.std.specs.Prelude.{◌≡◌, ℕ, ◌/◌, List, [], ◌∷◌, map, Option}
 use Rattle.atomic_table.specs.Seated.{TableId}
+use Rattle.lock_table.specs.Content.{Content, empty_content}
+use Rattle.lock_world.specs.Account.{ListAccount}
 use Rattle.shared_rule.specs.declared.history.History.{History}
 use Rattle.shared_rule.specs.declared.history.Mark.{Mark}
 use Rattle.shared_rule.specs.declared.history.View.{View}
+use Rattle.shared_rule.specs.declared.kept.Kept.{Kept}
+use Rattle.shared_rule.specs.declared.kept.Kept.TheVariants.{Nothing}
 use Rattle.shared_rule.specs.Layout.{content_slot_of}
-use Rattle.shared_rule.specs.History.{lone}
+use Rattle.shared_rule.specs.History.{lone, first_account}
+use Rattle.shared_rule.specs.LwLocks.{no_lists}
 use Rattle.shared_rule.specs.Owed.{owing, asking, waking}
 
 -- What a board is: shared state as one session sees it.
@@ -46,17 +51,33 @@ abbrev pub stack_waking : Stack → ℕ → Stack
 stack_waking stack other = record { parts = stack.parts; owed = waking stack.owed other }
 
 -- the partitions in hand, the last one taken first, by the slots that are out
-abbrev pub parts_in_hand : {T : Type 0} → List (ℕ × Option T) → List ℕ
+abbrev pub parts_in_hand : {T : Type 0} → List (ℕ × Kept T) → List ℕ
 parts_in_hand slots = map (λ slot. slot.0 / 8) slots
 
 -- the slots that are out for these partitions: a content in hand is not in its slot
-abbrev pub slots_out : {T : Type 0} → List ℕ → List (ℕ × Option T)
-slots_out parts = map (λ part. (content_slot_of part, None)) parts
+abbrev pub slots_out : {T : Type 0} → List ℕ → List (ℕ × Kept T)
+slots_out parts = map (λ part. (content_slot_of part, Nothing)) parts
 
 -- the steps of the first session of a view
 abbrev pub first_marks : {T : Type 0} → List (History T) → List (Mark T)
 first_marks [] = []
 first_marks (history ∷ others) = history.marks
+
+-- what its session knows of wait lists; how contents are read makes no difference
+abbrev pub no_content : {T : Type 0} → T → Content
+no_content part = empty_content
+
+abbrev pub lists_told : {T : Type 0} → List (History T) → ListAccount
+lists_told sessions = (first_account no_content sessions).lists
+
+-- It has no wait list in hand, and stands in none.
+pub record IsIdle {T : Type 0} (sessions : List (History T)) : Type 0 where
+  pub none : lists_told sessions ≡ no_lists
+
+-- So has each of these sessions.
+abbrev pub AreIdle : {T : Type 0} → List (History T) → Type 0
+AreIdle [] = Unit {0}
+AreIdle (history ∷ others) = IsIdle (history ∷ []) × AreIdle others
 
 -- The view is one session's still, if it was.
 abbrev pub StaysLone : {T : Type 0} → View T → View T → Type 0

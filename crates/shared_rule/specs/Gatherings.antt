@@ -9,6 +9,7 @@ use Rattle.lock_world.specs.Tallies.{OwnStand, ShowsLeft}
 use Rattle.shared_rule.specs.declared.history.History.{History}
 use Rattle.shared_rule.specs.declared.history.Mark.{Mark}
 use Rattle.shared_rule.specs.declared.history.View.{View}
+use Rattle.shared_rule.specs.declared.kept.Kept.{Kept}
 use Rattle.shared_rule.specs.History.{blank_account, told, first_account}
 use Rattle.shared_rule.specs.Layout.{index_of_word, IsInTable}
 use Rattle.shared_rule.specs.Plays.{Side, Marked}
@@ -77,7 +78,7 @@ module _ {T : Type 0} (content : T → Content) where
   KnowsOfAll view (Sleep owner) found = Unit {0}
 
   -- A load was noted, and the seat learns that of the number found.
-  abbrev pub LookedOver : (ℕ → Mark T) → Step (Option T) → Side T → ℕ → Side T → Type 0
+  abbrev pub LookedOver : (ℕ → Mark T) → Step (Kept T) → Side T → ℕ → Side T → Type 0
   LookedOver mark step before found after =
       Marked mark step before found after
       × ((word : Word) (issued : ℕ) → IsInTable word → step.word ≡ index_of_word word → AreAll issued before.0
@@ -93,5 +94,5 @@ module _ {T : Type 0} (content : T → Content) where
         → OwnStand number (account_among (gathered_in view.sessions) number) contents
 
   -- Nothing changed, and it is told that.
-  abbrev pub ToldAll : Step (Option T) → Side T → ℕ → Side T → Type 0
+  abbrev pub ToldAll : Step (Kept T) → Side T → ℕ → Side T → Type 0
   ToldAll step before found after = (after ≡ before) × ((issued : ℕ) → AreAll issued before.0 → KnowsAll issued before.0)

@@ -7,12 +7,13 @@ use Rattle.lock_world.specs.World.{World, opening}
 use Rattle.lock_world.specs.Happens.{Runs}
 use Rattle.lock_world.specs.Headline.{Headline}
 use Rattle.shared_rule.specs.declared.history.View.{View}
+use Rattle.shared_rule.specs.declared.kept.Kept.{Kept}
 use Rattle.shared_rule.specs.Shown.{WordsAreShown}
 use Rattle.shared_rule.specs.Ruled.{ContentsAreHome, SeatsAreShown}
 
 -- The headline of the table: its words, its contents at home and the histories of all sessions show a World to which events have led
 -- from the opening one, and which has it.
-pub record ShowsHeadline {T : Type 0} (content : T → Content) (begun : T → Option Request) (limit : ℕ) (state : State (Option T) (View T)) : Type 0 where
+pub record ShowsHeadline {T : Type 0} (content : T → Content) (begun : T → Option Request) (limit : ℕ) (state : State (Kept T) (View T)) : Type 0 where
   pub world : World
   pub events : List Event
   pub run : Runs (opening limit) events world

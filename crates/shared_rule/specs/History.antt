@@ -12,21 +12,24 @@ use Rattle.lock_world.specs.SlotHolds.{slot_holds}
 use Rattle.lock_world.specs.WaitWord.{wait_state}
 use Rattle.lock_world.specs.World.{Loaded, AskedToCancel}
 use Rattle.lock_world.specs.Happens.Waits.{unmarked_but}
-use Rattle.lock_world.specs.Account.{Account, InHand, SlotsInHand}
+use Rattle.lock_world.specs.Account.{Account, InHand, SlotsInHand, ListInHand}
 use Rattle.lock_world.specs.AccountSteps.{account_taking, account_putting, account_taking_fast, account_putting_fast}
 use Rattle.lock_world.specs.AccountSteps.{account_sharing_fast, account_unsharing_fast}
 use Rattle.lock_world.specs.AccountSteps.{account_passing, account_counting, account_uncounting, account_tracing}
 use Rattle.lock_world.specs.AccountSteps.{account_waiting, account_marking, account_clearing, account_leaving}
 use Rattle.lock_world.specs.AccountSteps.{account_reading, account_setting, account_unsetting, account_transferring}
-use Rattle.lock_world.specs.AccountSteps.{account_storing}
+use Rattle.lock_world.specs.AccountSteps.{account_storing, account_locking_list, account_unlocking_list}
+use Rattle.lock_world.specs.AccountSteps.{account_joining_list, account_leaving_list, account_taking_off}
+use Rattle.lock_world.specs.AccountSteps.{account_telling, account_loading_sleep}
 use Rattle.shared_rule.specs.declared.history.Mark.{Mark}
-use Rattle.shared_rule.specs.declared.history.Mark.TheVariants.{TookPart, PutPart, TookFast, PutFast, Passed}
-use Rattle.shared_rule.specs.declared.history.Mark.TheVariants.{SharedFast, UnsharedFast}
-use Rattle.shared_rule.specs.declared.history.Mark.TheVariants.{Counted, Uncounted, LoadedDatabase}
-use Rattle.shared_rule.specs.declared.history.Mark.TheVariants.{SetWaiting, MarkedGranted, LoadedWait, Asked}
-use Rattle.shared_rule.specs.declared.history.Mark.TheVariants.{ClearedWait, LeftQueue}
-use Rattle.shared_rule.specs.declared.history.Mark.TheVariants.{LoadedSlot, LoadedFast, LoadedStrong, StoredDatabase}
-use Rattle.shared_rule.specs.declared.history.Mark.TheVariants.{SetSlot, ClearedSlot, TransferredSlot}
+use Rattle.shared_rule.specs.declared.history.Mark.TheVariants.{TookPart, PutPart, SetWaiting, MarkedGranted, LeftQueue, OfWords}
+use Rattle.shared_rule.specs.declared.history.WordMark.{WordMark}
+use Rattle.shared_rule.specs.declared.history.WordMark.TheVariants.{TookFast, PutFast, SharedFast, UnsharedFast, Passed}
+use Rattle.shared_rule.specs.declared.history.WordMark.TheVariants.{Counted, Uncounted, LoadedWait, Asked, ClearedWait}
+use Rattle.shared_rule.specs.declared.history.WordMark.TheVariants.{LoadedDatabase, LoadedSlot, LoadedFast, LoadedStrong, SetSlot}
+use Rattle.shared_rule.specs.declared.history.WordMark.TheVariants.{ClearedSlot, TransferredSlot, StoredDatabase, LockedList, UnlockedList}
+use Rattle.shared_rule.specs.declared.history.WordMark.TheVariants.{JoinedList, LeftList, TookOff, Told, LoadedSleep}
+use Rattle.shared_rule.specs.declared.history.WordMark.TheVariants.{SetReleaseOk, SetHasWaiters}
 use Rattle.shared_rule.specs.declared.history.History.{History}
 use Rattle.shared_rule.specs.declared.history.View.{View}
 
@@ -104,6 +107,11 @@ abbrev pub slots_here : Option SlotsInHand → SlotsInHand
 slots_here None = no_slots
 slots_here (Some slots) = slots
 
+-- the list in hand; where there is none, one in which nobody stands
+abbrev pub list_here : Option ListInHand → ListInHand
+list_here None = record { lock = 0; waiters = [] }
+list_here (Some mine) = mine
+
 -- the slots of a session with this database whose words are these, place by place
 abbrev pub slots_shown : ℕ → List ℕ → SlotsInHand
 slots_shown database words = record {
@@ -111,40 +119,54 @@ slots_shown database words = record {
   holds = slot_holds database (λ place. slice_index_or words place 0);
 }
 
+-- what a step that tells of no content makes of the account of the session of this number
+abbrev pub noted_words : ℕ → Account → WordMark → Account
+noted_words number a (TookFast owner database words) = account_taking_fast number a owner (slots_shown database words)
+noted_words number a (PutFast owner) = account_putting_fast number a owner
+noted_words number a (SharedFast owner database words) = account_sharing_fast number a owner (slots_shown database words)
+noted_words number a (UnsharedFast owner) = account_unsharing_fast a owner
+noted_words number a (Passed owner tag mode) = account_passing number a owner tag mode
+noted_words number a (Counted tag mode) = account_counting a tag mode
+noted_words number a (Uncounted tag mode) = account_uncounting a tag mode
+noted_words number a (LoadedWait shown) =
+    record (account_tracing a (Loaded (Wait number) shown)) { seen = a.seen || (wait_state shown == 2) }
+noted_words number a (Asked other before) = account_tracing a (AskedToCancel other before)
+noted_words number a ClearedWait = account_cleared number a a.awaited
+noted_words number a (LoadedDatabase owner shown) = account_tracing a (Loaded (Database owner) shown)
+noted_words number a (LoadedSlot owner place shown) = account_tracing a (Loaded (Slot owner place) shown)
+noted_words number a (LoadedFast shown) = account_tracing a (Loaded (Fast number) shown)
+noted_words number a (LoadedStrong index shown) = account_reading number a index shown
+noted_words number a (SetSlot place tag mode) =
+    account_setting number a (slots_here (a.fast.slots number)) place tag mode
+noted_words number a (ClearedSlot place tag mode) =
+    account_unsetting number a (slots_here (a.fast.slots number)) place tag mode
+noted_words number a (TransferredSlot owner place tag mode) =
+    account_transferring a owner place (slots_here (a.fast.slots owner))
+    (in_hand (a.hand (partition_of tag))) tag mode
+noted_words number a (StoredDatabase database) = account_storing a database
+noted_words number a (LockedList lock waiters) = account_locking_list a lock waiters
+noted_words number a UnlockedList = account_unlocking_list a
+noted_words number a (JoinedList mode) =
+    account_joining_list a (list_here a.lists.in_hand) (record { session = number; mode = mode })
+noted_words number a LeftList = account_leaving_list a (list_here a.lists.in_hand) number
+noted_words number a (TookOff other) = account_taking_off a (list_here a.lists.in_hand) other
+noted_words number a (Told other) = account_telling a other
+noted_words number a (LoadedSleep shown) = account_loading_sleep a shown
+noted_words number a (SetReleaseOk lock) = a
+noted_words number a (SetHasWaiters lock) = a
+
 module _ {T : Type 0} (content : T → Content) where
-  -- what a step makes of the account of the session of this number
+  -- what a step makes of it
   abbrev pub noted : ℕ → Account → Mark T → Account
   noted number a (TookPart part taken) = account_taking a part (content taken)
   noted number a (PutPart part done put) = account_putting a part (taken_of (a.hand part)) (content put) done
-  noted number a (TookFast owner database words) = account_taking_fast number a owner (slots_shown database words)
-  noted number a (PutFast owner) = account_putting_fast number a owner
-  noted number a (SharedFast owner database words) = account_sharing_fast number a owner (slots_shown database words)
-  noted number a (UnsharedFast owner) = account_unsharing_fast a owner
-  noted number a (Passed owner tag mode) = account_passing number a owner tag mode
-  noted number a (Counted tag mode) = account_counting a tag mode
-  noted number a (Uncounted tag mode) = account_uncounting a tag mode
   noted number a (SetWaiting tag mode now) =
       account_waiting a (in_hand (a.hand (partition_of tag))) tag mode (content now)
       ((in_hand (a.hand (partition_of tag))).now.holds number tag)
   noted number a (MarkedGranted part other done woken now) =
       account_granting a part (in_hand (a.hand part)) other done woken (content now)
-  noted number a (LoadedWait shown) =
-      record (account_tracing a (Loaded (Wait number) shown)) { seen = a.seen || (wait_state shown == 2) }
-  noted number a (Asked other before) = account_tracing a (AskedToCancel other before)
-  noted number a ClearedWait = account_cleared number a a.awaited
   noted number a (LeftQueue woken now) = account_left a a.awaited (content now) woken
-  noted number a (LoadedDatabase owner shown) = account_tracing a (Loaded (Database owner) shown)
-  noted number a (LoadedSlot owner place shown) = account_tracing a (Loaded (Slot owner place) shown)
-  noted number a (LoadedFast shown) = account_tracing a (Loaded (Fast number) shown)
-  noted number a (LoadedStrong index shown) = account_reading number a index shown
-  noted number a (SetSlot place tag mode) =
-      account_setting number a (slots_here (a.fast.slots number)) place tag mode
-  noted number a (ClearedSlot place tag mode) =
-      account_unsetting number a (slots_here (a.fast.slots number)) place tag mode
-  noted number a (TransferredSlot owner place tag mode) =
-      account_transferring a owner place (slots_here (a.fast.slots owner))
-      (in_hand (a.hand (partition_of tag))) tag mode
-  noted number a (StoredDatabase database) = account_storing a database
+  noted number a (OfWords step) = noted_words number a step
 
   -- the account that these steps tell, the last one first
   abbrev pub told : ℕ → List (Mark T) → Account

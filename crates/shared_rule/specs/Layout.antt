@@ -48,6 +48,14 @@ group_of (Sleep session) = 17 + session
 abbrev pub IsApart : ℕ → ℕ → Type 0
 IsApart index other = (index + 16 ≤ other) ⊎ (other + 16 ≤ index)
 
--- in which slot of the table's contents a partition's content lies
+-- in which slot of the table a partition's content lies
 abbrev pub content_slot_of : ℕ → ℕ
 content_slot_of partition = 8 * partition
+
+-- how many numbers of lightweight locks there are places for: two for each of 64 sessions
+abbrev pub lock_count : ℕ
+lock_count = 128
+
+-- in which slot the wait list of a lightweight lock lies, by the lock's number
+abbrev pub list_slot_of : ℕ → ℕ
+list_slot_of lock = 128 + 8 * lock

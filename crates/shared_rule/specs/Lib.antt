@@ -1,12 +1,17 @@
 pub mod Layout
 pub mod Shown
+pub mod Marks
 pub mod History
 pub mod Ruled
 pub mod WasSo
 pub mod Slots
+pub mod LwLocks
 pub mod Plays
 pub mod Owed
 pub mod Boards
+pub mod Led
+pub mod Acquires
+pub mod Wakeups
 pub mod Lawful
 pub mod Opening
 pub mod Seats

@@ -1,6 +1,9 @@
-use Rattle.std.specs.Prelude.{◌≡◌, ◌≢◌, ℕ, ◌<◌, List, ◌∷◌, Option, Some, None}
+use Rattle.std.specs.Prelude.{◌≡◌, ◌≢◌, ℕ, ◌<◌, ◌/◌, ◌%◌, ◌^◌, true, List, ◌∷◌, Option, Some, None}
 use Rattle.atomic_table.specs.Table.{Me, Step, rest}
 use Rattle.atomic_table.specs.Seated.{TableId}
+use Rattle.std.specs.Global.{Box}
+use Rattle.lw_word.specs.declared.wait_lists.LwWaiter.{LwWaiter}
+use Rattle.lw_word.specs.WaitList.{stands_in}
 use Rattle.lock_table.specs.declared.request.Request.{Request}
 use Rattle.lock_table.specs.Content.{Content}
 use Rattle.lock_world.specs.declared.events.Word.{Word}
@@ -10,33 +13,38 @@ use Rattle.lock_world.specs.AccountFacts.{KnowsContent, KnowsSlots}
 use Rattle.atomic_table.specs.declared.shared.Seat.{Seat}
 use Rattle.shared_rule.specs.declared.history.History.{History}
 use Rattle.shared_rule.specs.declared.history.Mark.{Mark}
-use Rattle.shared_rule.specs.declared.history.Mark.TheVariants.{TookPart, TookFast, SharedFast, LoadedFast}
+use Rattle.shared_rule.specs.Marks.{TookPart, TookFast, SharedFast, LoadedFast, LockedList}
 use Rattle.shared_rule.specs.declared.history.View.{View}
-use Rattle.shared_rule.specs.declared.layout.TheConstants.{TABLE_WORDS, CONTENT_SLOTS}
-use Rattle.shared_rule.specs.Layout.{index_of_word, content_slot_of, IsInTable}
+use Rattle.shared_rule.specs.declared.kept.Kept.{Kept}
+use Rattle.shared_rule.specs.declared.kept.Kept.TheVariants.{Part}
+use Rattle.shared_rule.specs.declared.kept.Kept.TheVariants as kept
+use Rattle.shared_rule.specs.declared.lw_lock.LwLock.{LwLock}
+use Rattle.shared_rule.specs.LwLocks.{word_of_lock, lock_number, LockIsInTable}
+use Rattle.shared_rule.specs.declared.layout.TheConstants.{TABLE_WORDS, TABLE_SLOTS}
+use Rattle.shared_rule.specs.Layout.{index_of_word, content_slot_of, list_slot_of, IsInTable}
 use Rattle.shared_rule.specs.History.{noting, first_account, first_number, slots_shown}
 use Rattle.shared_rule.specs.Slots.{KnowsWord}
 
 -- What each step tells. A session's side of a step: its view, and the contents that it has in hand, each with its slot.
 
 abbrev pub Side : Type 0 → Type 0
-Side T = Me (Option T) (View T)
+Side T = Me (Kept T) (View T)
 
--- the table has a place for each word and each content
+-- the table has a place for each word, each content and each list
 pub record IsSized (table : TableId) : Type 0 where
   pub words : table.words ≡ TABLE_WORDS
-  pub slots : table.slots ≡ CONTENT_SLOTS
+  pub slots : table.slots ≡ TABLE_SLOTS
 
 module _ {T : Type 0} where
   -- the number of the session that makes its steps with the seat, and its account
-  abbrev pub number_at : Seat (Option T) (View T) → ℕ
+  abbrev pub number_at : Seat (Kept T) (View T) → ℕ
   number_at place = first_number place.me.0.sessions
 
-  abbrev pub account_at : (T → Content) → Seat (Option T) (View T) → Account
+  abbrev pub account_at : (T → Content) → Seat (Kept T) (View T) → Account
   account_at content place = first_account content place.me.0.sessions
 
   -- the seat is at this table
-  pub record FitsTable (place : Seat (Option T) (View T)) (table : TableId) : Type 0 where
+  pub record FitsTable (place : Seat (Kept T) (View T)) (table : TableId) : Type 0 where
     pub at : place.table_id ≡ table
     pub sized : IsSized table
 
@@ -47,21 +55,21 @@ module _ {T : Type 0} where
     pub sessions : view.sessions ≡ history ∷ others
 
   -- it is the same seat after a step
-  pub record IsSameSeat (before after : Seat (Option T) (View T)) : Type 0 where
+  pub record IsSameSeat (before after : Seat (Kept T) (View T)) : Type 0 where
     pub table_id : after.table_id ≡ before.table_id
     pub id : after.id ≡ before.id
 
   -- its session's step was noted, and no content came or went
-  abbrev pub Marked : (ℕ → Mark T) → Step (Option T) → Side T → ℕ → Side T → Type 0
+  abbrev pub Marked : (ℕ → Mark T) → Step (Kept T) → Side T → ℕ → Side T → Type 0
   Marked mark step before found after = after ≡ (noting before.0 (mark found), before.1)
 
   -- it was noted, and the content that came last went home
-  abbrev pub WentHome : (ℕ → Mark T) → Step (Option T) → Side T → ℕ → Side T → Type 0
+  abbrev pub WentHome : (ℕ → Mark T) → Step (Kept T) → Side T → ℕ → Side T → Type 0
   WentHome mark step before found after = after ≡ (noting before.0 (mark found), rest before.1)
 
 module _ {T : Type 0} (content : T → Content) where
   -- It was noted, and of the number found the session learns what its account knows of the word.
-  abbrev pub Looked : (ℕ → Mark T) → Step (Option T) → Side T → ℕ → Side T → Type 0
+  abbrev pub Looked : (ℕ → Mark T) → Step (Kept T) → Side T → ℕ → Side T → Type 0
   Looked mark step before found after =
       Marked mark step before found after
       × ((word : Word) → IsInTable word → step.word ≡ index_of_word word
@@ -85,17 +93,39 @@ module _ {T : Type 0} (content : T → Content) where
 
   -- An exchange does so where it finds the number that it expects, and else leaves the view so.
   abbrev pub SeesSlotsOr :
-      (ℕ → ℕ → List ℕ → Mark T) → (ℕ → View T → View T) → Step (Option T) → Side T → ℕ → Side T → Type 0
+      (ℕ → ℕ → List ℕ → Mark T) → (ℕ → View T → View T) → Step (Kept T) → Side T → ℕ → Side T → Type 0
   SeesSlotsOr mark lost step before found after =
       (found ≡ step.first → (owner : ℕ) → owner < 64 → step.word ≡ index_of_word (Fast owner)
       → SeesSlots mark owner before after)
       × (found ≢ step.first → after ≡ (lost found before.0, before.1))
 
-  abbrev pub TookSlotsOr : (ℕ → View T → View T) → Step (Option T) → Side T → ℕ → Side T → Type 0
+  abbrev pub TookSlotsOr : (ℕ → View T → View T) → Step (Kept T) → Side T → ℕ → Side T → Type 0
   TookSlotsOr = SeesSlotsOr TookFast
 
-  abbrev pub SharedSlotsOr : (ℕ → View T → View T) → Step (Option T) → Side T → ℕ → Side T → Type 0
+  abbrev pub SharedSlotsOr : (ℕ → View T → View T) → Step (Kept T) → Side T → ℕ → Side T → Type 0
   SharedSlotsOr = SeesSlotsOr SharedFast
+
+module _ {T : Type 0} (content : T → Content) where
+  -- The wait list of a lightweight lock came in hand, and those who stand there were noted. The session is among them
+  -- only if its account has that it stands in the list of this lock.
+  pub record TookList (lock : LwLock) (before after : Side T) : Type 0 where
+    pub list : Box (List LwWaiter)
+    pub side :
+        after
+        ≡ (
+          noting before.0 (LockedList (lock_number lock) list.value),
+          (list_slot_of (lock_number lock), kept.List list) ∷ before.1,
+        )
+    pub stands :
+        stands_in (first_number before.0.sessions) list.value ≡ true
+        → (first_account content before.0.sessions).lists.stands ≡ Some (lock_number lock)
+
+  -- A fetch-or of its bit takes the list where it finds that bit not set, and else changes nothing.
+  abbrev pub LockedListOr : Step (Kept T) → Side T → ℕ → Side T → Type 0
+  LockedListOr step before found after =
+      (found / 2 ^ 28 % 2 ≡ 0 → (lock : LwLock) → LockIsInTable lock → step.word ≡ index_of_word (word_of_lock lock)
+      → TookList lock before after)
+      × (found / 2 ^ 28 % 2 ≢ 0 → after ≡ before)
 
 module _ {T : Type 0} where
   -- A lost exchange is not noted, or is noted as a load of the own word.
@@ -110,11 +140,11 @@ module _ {T : Type 0} (content : T → Content) (begun : T → Option Request) w
   -- request is begun.
   pub record TookContent (p : ℕ) (before after : Side T) : Type 0 where
     pub part : T
-    pub side : after ≡ (noting before.0 (TookPart p part), (content_slot_of p, Some part) ∷ before.1)
+    pub side : after ≡ (noting before.0 (TookPart p part), (content_slot_of p, Part part) ∷ before.1)
     pub none_begun : begun part ≡ None
     pub knows : KnowsContent (first_number before.0.sessions) (first_account content before.0.sessions) p (content part)
 
-  abbrev pub TookPartition : Step (Option T) → Side T → ℕ → Side T → Type 0
+  abbrev pub TookPartition : Step (Kept T) → Side T → ℕ → Side T → Type 0
   TookPartition step before found after =
       (found ≡ step.first → (p : ℕ) → p < 16 → step.word ≡ index_of_word (Partition p) → TookContent p before after)
       × (found ≢ step.first → after ≡ before)

@@ -1,8 +1,10 @@
-use Rattle.std.specs.Prelude.{◌≡◌, ℕ, ◌+◌, ◌<◌, ◌≤◌, ◌==◌, true, false, List, length, slice_get, count_by, Option, Some, None}
+use Rattle.std.specs.Prelude.{◌≡◌, ◌≢◌, ℕ, ◌+◌, ◌<◌, ◌≤◌, ◌==◌, true, false, List, length, slice_get, count_by, Option, Some, None}
 use mathlib.Core.Option.{some}
 use mathlib.Core.Option as maybe
 use lib.ListN.{get_elem?}
 use Rattle.atomic_table.specs.Table.{State}
+use Rattle.std.specs.Global.{Box}
+use Rattle.lw_word.specs.declared.wait_lists.LwWaiter.{LwWaiter}
 use Rattle.lock_table.specs.declared.request.Request.{Request}
 use Rattle.lock_table.specs.Content.{Content}
 use Rattle.lock_world.specs.declared.events.Event.{Event}
@@ -15,7 +17,9 @@ use Rattle.lock_world.specs.Happens.Counters.{most_counted}
 use Rattle.lock_world.specs.Happens.{Runs}
 use Rattle.shared_rule.specs.declared.history.History.{History}
 use Rattle.shared_rule.specs.declared.history.View.{View}
-use Rattle.shared_rule.specs.Layout.{content_slot_of}
+use Rattle.shared_rule.specs.declared.kept.Kept.{Kept}
+use Rattle.shared_rule.specs.declared.kept.Kept.TheVariants as kept
+use Rattle.shared_rule.specs.Layout.{content_slot_of, list_slot_of, lock_count}
 use Rattle.shared_rule.specs.Shown.{WordsAreShown}
 use Rattle.shared_rule.specs.History.{blank_account, told, keeper}
 
@@ -29,19 +33,35 @@ NoneBeyondSlots words = (session place : ℕ) → slot_count ≤ place → words
 -- What the slots of contents show.
 module _ {T : Type 0} (content : T → Content) (begun : T → Option Request) where
   -- A partition that is in nobody's hand has its content at home, and no request is begun in it.
-  pub record IsAtHome (now : Content) (there : maybe.Option (maybe.Option (Option T))) : Type 0 where
+  pub record IsAtHome (now : Content) (there : maybe.Option (maybe.Option (Kept T))) : Type 0 where
     pub part : T
-    pub at_home : there ≡ some (some (Some part))
+    pub at_home : there ≡ some (some (kept.Part part))
     pub is_content : content part ≡ now
     pub none_begun : begun part ≡ None
 
-  abbrev pub IsHomeUnlessInHand : Option Hand → Content → maybe.Option (maybe.Option (Option T)) → Type 0
+  abbrev pub IsHomeUnlessInHand : Option Hand → Content → maybe.Option (maybe.Option (Kept T)) → Type 0
   IsHomeUnlessInHand None now there = IsAtHome now there
   IsHomeUnlessInHand (Some hand) now there = Unit {0}
 
-  abbrev pub ContentsAreHome : List (maybe.Option (Option T)) → Contents → Type 0
+  abbrev pub ContentsAreHome : List (maybe.Option (Kept T)) → Contents → Type 0
   ContentsAreHome homes contents =
       (p : ℕ) → p < 16 → IsHomeUnlessInHand (contents.hand p) (contents.now p) (get_elem? homes (content_slot_of p))
+
+-- No session has the wait list of this lock in hand.
+abbrev pub IsInNoHand : ℕ → (ℕ → Option ℕ) → Type 0
+IsInNoHand lock has_list = (session : ℕ) → has_list session ≢ Some lock
+
+module _ {T : Type 0} where
+  -- Where nobody has it in hand, the list of a lock is at home, with those who wait for it.
+  pub record ListIsAtHome (waiters : List LwWaiter) (there : maybe.Option (maybe.Option (Kept T))) : Type 0 where
+    pub list : Box (List LwWaiter)
+    pub at_home : there ≡ some (some (kept.List list))
+    pub is_list : list.value ≡ waiters
+
+  abbrev pub ListsAreHome : List (maybe.Option (Kept T)) → (ℕ → Option ℕ) → (ℕ → List LwWaiter) → Type 0
+  ListsAreHome homes has_list list =
+      (lock : ℕ) → lock < lock_count → IsInNoHand lock has_list
+      → ListIsAtHome (list lock) (get_elem? homes (list_slot_of lock))
 
 -- The session of this number was opened, and has closed: the number was given out and is live no more.
 abbrev pub IsClosed : Numbers → ℕ → Type 0
@@ -106,7 +126,7 @@ module _ {T : Type 0} (content : T → Content) where
 
 -- The rule.
 module _ {T : Type 0} (content : T → Content) (begun : T → Option Request) where
-  pub record Ruled (limit : ℕ) (state : State (Option T) (View T)) : Type 0 where
+  pub record Ruled (limit : ℕ) (state : State (Kept T) (View T)) : Type 0 where
     pub world : World
     -- each step is its event: these lead here from the World before the first step
     pub events : List Event
@@ -118,5 +138,6 @@ module _ {T : Type 0} (content : T → Content) (begun : T → Option Request) w
     pub none_beyond : NoneBeyondSlots world.words
     pub few_counted : (session : ℕ) → length (world.sessions.counted session) ≤ most_counted
     pub contents : ContentsAreHome content begun state.homes world.contents
+    pub lists : ListsAreHome state.homes world.sessions.has_list world.words.list
     pub seats : SeatsAreShown content state.views world
     pub closed : OpenerHasClosed state.views world.numbers

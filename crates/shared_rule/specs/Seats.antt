@@ -8,6 +8,7 @@ use Rattle.lock_world.specs.Account.{Account}
 use Rattle.shared_rule.specs.declared.history.History.{History}
 use Rattle.shared_rule.specs.declared.history.Mark.{Mark}
 use Rattle.shared_rule.specs.declared.history.View.{View}
+use Rattle.shared_rule.specs.declared.kept.Kept.{Kept}
 use Rattle.shared_rule.specs.History.{lone, first_account}
 use Rattle.shared_rule.specs.Plays.{Side}
 use Rattle.shared_rule.specs.Openers.{HaveClosed}
@@ -122,13 +123,13 @@ module _ {T : Type 0} where
     pub sessions : view.sessions ≡ before ++ last ∷ []
 
   -- Nothing changed, and those that the opener has as closed were given out, each once.
-  abbrev pub ToldClosed : Step (Option T) → Side T → ℕ → Side T → Type 0
+  abbrev pub ToldClosed : Step (Kept T) → Side T → ℕ → Side T → Type 0
   ToldClosed step before found after =
       (after ≡ before) × HaveClosed (number_in before.0.next) before.0.closed
 
 module _ {T : Type 0} (content : T → Content) where
   -- Nothing changed, and no hold of the first session conflicts with a hold of the one behind it.
-  abbrev pub ToldApart : Step (Option T) → Side T → ℕ → Side T → Type 0
+  abbrev pub ToldApart : Step (Kept T) → Side T → ℕ → Side T → Type 0
   ToldApart step before found after =
       (after ≡ before)
       × DoNotConflict (first_account content before.0.sessions) (first_account content (behind_of before.0.sessions))

@@ -11,7 +11,8 @@ ghost use Rattle.lock_world.specs.declared.events.Word.{Word};
 ghost use Rattle.lock_world.specs.declared.events.Word.TheVariants.{Slot, Strong};
 ghost use Rattle.lock_world.specs.SlotHolds.{slot_count};
 ghost use Rattle.lock_world.specs.Tallies.{modes_shown};
-ghost use Rattle.shared_rule.specs.declared.history.Mark.TheVariants.{LoadedSlot, LoadedStrong, TookPart, PutPart};
+ghost use Rattle.shared_rule.specs.Marks.{LoadedSlot, LoadedStrong, TookPart, PutPart};
+ghost use Rattle.shared_rule.specs.declared.kept.Kept.TheVariants.{Nothing};
 ghost use Rattle.shared_rule.specs.Audits.{CountersSeen, CountsAll, CountsFrom, SeesSlots, SeesAllSlots};
 ghost use Rattle.shared_rule.specs.Gatherings.{AreAll, KnowsAll, KnowsOfAll, LookedOver, NoneWaits, gathered_in};
 ghost use Rattle.shared_rule.specs.declared.history.History.{History};
@@ -24,7 +25,7 @@ ghost use Rattle.shared_rule.specs.Seats.{MayBeKeptApartBy};
 
 use crate::layout::{slot_word, strong_word};
 use crate::opener::Opener;
-use crate::partitions::{put_part, take_part};
+use crate::partitions::{put_part_home, take_part_alone};
 use crate::plays::{LooksOver, Marking, TellsAll};
 use crate::rule::{Place, Top};
 use lock_table::{Move, NoMemory, PartTable, TableRow};
@@ -177,28 +178,28 @@ fn take_next<T: PartTable, R: Wait>(rt: &R, top: &Top<T>, place: &mut Place<T>, 
     requires none_in_hand { IsAboveHand (account_at T.content place.old) part }
     ensures seat { IsSameSeat place.old place.new }
     ensures side { place.new.me
-        ≡ (noting place.old.me.0 (TookPart part result), (content_slot_of part, None) ∷ place.old.me.1) }
+        ≡ (noting place.old.me.0 (TookPart part result), (content_slot_of part, Nothing) ∷ place.old.me.1) }
     ensures none_begun { T.begun result ≡ None }
     ensures knows { KnowsContent (number_at place.old) (account_at T.content place.old) part (T.content result) }
     ensures session_there { HasSession place.new.me.0 }
     ensures above { IsAboveHand (account_at T.content place.new) (part + 1) }
 {
-    take_part(rt, top, place, part)
+    take_part_alone(rt, top, place, part)
 }
 
-// Puts a partition back as it was taken.
+// Puts a partition back as it was taken. Nobody waits for its lock, since all sessions are gathered.
 fn put_back<T: PartTable>(top: &Top<T>, place: &mut Place<T>, part: u8, content: T)
     requires table { FitsTable place.old top.now.table_id }
     requires exists { part < 16 }
     requires session { HasSession place.old.me.0 }
-    requires in_hand { place.old.me.1 ≡ (content_slot_of part, None) ∷ rest place.old.me.1 }
+    requires in_hand { place.old.me.1 ≡ (content_slot_of part, Nothing) ∷ rest place.old.me.1 }
     requires none_begun { T.begun content ≡ None }
     requires lawful { (mine : InHand) × MayPutPart top.now.key (number_at place.old)
         (account_at T.content place.old) part mine Keep (T.content content) }
     ensures seat { IsSameSeat place.old place.new }
     ensures side { place.new.me ≡ (noting place.old.me.0 (PutPart part Keep content), rest place.old.me.1) }
 {
-    put_part::<T, Brand>(top, place, part, &Move::Keep, content);
+    put_part_home::<T, Brand>(top, place, part, &Move::Keep, content);
 }
 
 /// Takes the partitions from this one on, in rising order, counts with all in hand what slots show, and puts them back as

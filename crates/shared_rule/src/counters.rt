@@ -2,7 +2,7 @@
 
 ghost use Rattle.std.specs.Prelude.{◌≡◌, ◌<◌};
 ghost use Rattle.lock_world.specs.AccountLaw.{MayCountBy, MayUncountBy};
-ghost use Rattle.shared_rule.specs.declared.history.Mark.TheVariants.{Counted, Uncounted, LoadedStrong};
+ghost use Rattle.shared_rule.specs.Marks.{Counted, Uncounted, LoadedStrong};
 ghost use Rattle.shared_rule.specs.History.{noting};
 ghost use Rattle.shared_rule.specs.Plays.{account_at, FitsTable, HasSession, IsSameSeat};
 

@@ -3,22 +3,12 @@
 //! (`lock_world`'s `Account`), which the history tells.
 
 use lock_table::Move;
+use lw_word::{LwMode, LwWaiter};
 use modes_core::{Mode, Tag};
 use std::collections::LinkedList;
 
-/// One atomic step of a session, as its history has it.
-pub enum Mark<T> {
-    /// It took the partition in hand, with this content.
-    TookPart {
-        part: u8,
-        taken: T,
-    },
-    /// It put the partition home with this content, after this move that it made as it put it.
-    PutPart {
-        part: u8,
-        done: Move,
-        put: T,
-    },
+/// A step that tells of no content, as its session's history has it. A type of its own: it doesn't depend on who keeps contents.
+pub enum WordMark {
     /// It took the lock of a session's fast-path slots, which show these numbers with this database.
     TookFast {
         owner: u8,
@@ -55,21 +45,6 @@ pub enum Mark<T> {
         tag: Tag,
         mode: Mode,
     },
-    /// Its wait word was set to waiting, and the content in hand is this, after its join.
-    SetWaiting {
-        tag: Tag,
-        mode: Mode,
-        now: T,
-    },
-    /// It marked the wait of a session granted. Its move, by which the content in hand is this, granted the waits of
-    /// these sessions.
-    MarkedGranted {
-        part: u8,
-        other: u8,
-        done: Move,
-        woken: [u8; 0],
-        now: T,
-    },
     /// It loaded its own wait word, which showed this.
     LoadedWait {
         shown: u64,
@@ -81,12 +56,6 @@ pub enum Mark<T> {
     },
     /// It cleared its own wait word.
     ClearedWait,
-    /// It cleared its own wait word and left the queue, by which the content in hand is this, and the waits of these
-    /// sessions are granted.
-    LeftQueue {
-        woken: [u8; 0],
-        now: T,
-    },
     /// It loaded a session's database, which was this.
     LoadedDatabase {
         owner: u8,
@@ -130,6 +99,77 @@ pub enum Mark<T> {
     StoredDatabase {
         database: u32,
     },
+    /// It locked the wait list of the lightweight lock with this number, in which these stand.
+    LockedList {
+        lock: u8,
+        waiters: [LwWaiter; 0],
+    },
+    /// It put the list home and unlocked it.
+    UnlockedList,
+    /// It stands in the list in hand, last, to take the lock in this mode.
+    JoinedList {
+        mode: LwMode,
+    },
+    /// It left the list in hand.
+    LeftList,
+    /// It took a session off the list in hand, and is to tell it.
+    TookOff {
+        other: u8,
+    },
+    /// It told a session that it took off.
+    Told {
+        other: u8,
+    },
+    /// It loaded its own sleep word, which showed this.
+    LoadedSleep {
+        shown: u64,
+    },
+    /// It set release-ok in the word of the lock with this number.
+    SetReleaseOk {
+        lock: u8,
+    },
+    /// It set has-waiters there.
+    SetHasWaiters {
+        lock: u8,
+    },
+}
+
+/// One atomic step of a session, as its history has it.
+pub enum Mark<T> {
+    /// It took the partition in hand, with this content.
+    TookPart {
+        part: u8,
+        taken: T,
+    },
+    /// It put the partition home with this content, after this move that it made as it put it.
+    PutPart {
+        part: u8,
+        done: Move,
+        put: T,
+    },
+    /// Its wait word was set to waiting, and the content in hand is this, after its join.
+    SetWaiting {
+        tag: Tag,
+        mode: Mode,
+        now: T,
+    },
+    /// It marked the wait of a session granted. Its move, by which the content in hand is this, granted the waits of
+    /// these sessions.
+    MarkedGranted {
+        part: u8,
+        other: u8,
+        done: Move,
+        woken: [u8; 0],
+        now: T,
+    },
+    /// It cleared its own wait word and left the queue, by which the content in hand is this, and the waits of these
+    /// sessions are granted.
+    LeftQueue {
+        woken: [u8; 0],
+        now: T,
+    },
+    /// Any other.
+    OfWords(WordMark),
 }
 
 /// A session's number and its steps, the last one first. A clause reads the array as a list, of any length.

@@ -13,6 +13,7 @@ ghost use Rattle.shared_rule.specs.Layout.{index_of_word, IsInTable, IsApart, gr
 ghost use Rattle.lock_world.specs.World.{Words};
 ghost use Rattle.shared_rule.specs.Shown.{WordsAreShown, set_word};
 ghost use Rattle.shared_rule.specs.declared.history.View.{View};
+ghost use Rattle.shared_rule.specs.declared.kept.Kept.{Kept};
 ghost use Rattle.shared_rule.specs.declared.layout.TheConstants.{TABLE_WORDS};
 ghost use Rattle.shared_rule.specs.Headline.{ShowsHeadline};
 ghost use Rattle.shared_rule.specs.Ruled.{Ruled};
@@ -23,7 +24,7 @@ use lock_table::PartTable;
 /// which events have led from the opening one, and which has the headline: no two sessions stand with conflicting modes
 /// on one object, and what goes with that.
 pub fn the_table_shows_no_two_sessions_in_conflict<T: PartTable>()
-    ensures { (limit : ℕ) (state : State (Option T) (View T)) → Ruled T.content T.begun limit state
+    ensures { (limit : ℕ) (state : State (Kept T) (View T)) → Ruled T.content T.begun limit state
         → ShowsHeadline T.content T.begun limit state }
 {}
 
@@ -54,7 +55,7 @@ pub fn a_word_is_set_alone()
 /// Where the rule holds, whatever a session's account tells of what it has seen was so: each entry of its trace tells of a
 /// World on the way of events that lead from the World before the first step to the one that the table shows now.
 pub fn what_an_account_tells_was_so<T: PartTable>()
-    ensures { (limit : ℕ) (state : State (Option T) (View T)) (rule : Ruled T.content T.begun limit state)
+    ensures { (limit : ℕ) (state : State (Kept T) (View T)) (rule : Ruled T.content T.begun limit state)
         (seat place : ℕ) (view : View T) (history : History T) → get_elem? state.views seat ≡ some view →
         slice_get view.sessions place ≡ Some history → (before after : List TraceEntry) (entry : TraceEntry) →
         (told T.content history.number history.marks).trace ≡ before ++ entry ∷ after →

@@ -9,7 +9,7 @@
 ghost use Rattle.std.specs.Prelude.{◌≡◌, ◌<◌, ◌≤◌, ◌+◌};
 ghost use Rattle.lock_world.specs.declared.events.Word.TheVariants.{Partition, Fast, Database, Slot};
 ghost use Rattle.lock_world.specs.declared.events.Word.TheVariants.{Wait, Strong, Sleep};
-ghost use Rattle.shared_rule.specs.Layout.{index_of_word, block_start, content_slot_of};
+ghost use Rattle.shared_rule.specs.Layout.{index_of_word, block_start, content_slot_of, list_slot_of, lock_count};
 
 use modes_core::SessionId;
 use modes_core::sessions::SESSIONS;
@@ -35,8 +35,15 @@ pub const TABLE_WORDS: usize = SESSIONS_START + BLOCK * SESSIONS as usize;
 /// 16 bytes, so that is 128 bytes.
 pub(crate) const CONTENT_GAP: usize = 8;
 
-/// How many slots the table has for contents.
+/// How many slots the table has for contents. The wait lists of lightweight locks come after them.
 pub const CONTENT_SLOTS: usize = PARTITIONS as usize * CONTENT_GAP;
+
+/// How many wait lists there are places for: those of the locks of 64 sessions' slots, and as many others, of which
+/// partitions have the first 16. So a list's place follows from its lock's number alone.
+pub(crate) const LISTS: usize = 2 * SESSIONS as usize;
+
+/// How many slots the table has. Two lists lie on different lines too.
+pub const TABLE_SLOTS: usize = CONTENT_SLOTS + LISTS * CONTENT_GAP;
 
 /// The index of a partition's lightweight lock. Each is on a line of its own, as `LWLockPadded` in lwlock.h has
 /// it: sessions that work on different partitions don't wait for each other.
@@ -111,6 +118,16 @@ pub fn content_slot(partition: u8) -> usize
     ensures within { result < CONTENT_SLOTS }
 {
     CONTENT_GAP * partition as usize
+}
+
+/// The slot of the table in which the wait list of the lightweight lock with this number lies while nobody has it in
+/// hand (`waiters` of an `LWLock` in lwlock.h). Partitions have the even numbers and sessions' slots the odd ones.
+pub(crate) fn list_slot(lock: u8) -> usize
+    requires exists { lock < lock_count }
+    ensures slot { result ≡ list_slot_of lock }
+    ensures within { result < TABLE_SLOTS }
+{
+    CONTENT_SLOTS + CONTENT_GAP * lock as usize
 }
 
 // Where a session's block begins.

@@ -1,22 +1,29 @@
 //! The steps by which a session takes the lightweight lock of a session's fast-path slots, and puts it.
 
 ghost use Rattle.std.specs.Prelude.{◌≡◌, ◌<◌, None, ◌≢◌, Some};
+ghost use Rattle.lw_word.specs.declared.words.LwMode.TheVariants.{Exclusive};
 ghost use Rattle.lw_word.specs.LightweightWord.{IsHeldByNobody, taken_word};
 ghost use Rattle.lock_world.specs.Account.{SlotsInHand};
 ghost use Rattle.lock_world.specs.AccountLaw.{MayPutFastBy, MayPassBy};
-ghost use Rattle.shared_rule.specs.declared.history.Mark.TheVariants.{PutFast, Passed, LoadedFast};
+ghost use Rattle.lock_world.specs.AccountSteps.{account_putting_fast, account_passing};
+ghost use Rattle.shared_rule.specs.Marks.{PutFast, Passed, LoadedFast};
+ghost use Rattle.shared_rule.specs.Acquires.{IsAsBefore, GetsSlots};
 ghost use Rattle.shared_rule.specs.History.{noting};
+ghost use Rattle.shared_rule.specs.Led.{Led};
+ghost use Rattle.shared_rule.specs.LwLocks.{no_lists};
 ghost use Rattle.shared_rule.specs.Plays.{account_at, number_at, FitsTable, HasSession, IsSameSeat, TookSlots};
 ghost use Rattle.std.specs.Bool.{OnTrue, OnFalse};
-ghost use Rattle.shared_rule.specs.Slots.{TakesFast, TriesFast};
+ghost use Rattle.shared_rule.specs.Slots.{TriesFast};
 ghost use Rattle.shared_rule.specs.Boards.{StaysLone};
 
 use crate::busy::Busy;
 use crate::layout::fast_word;
+use crate::lw_lock::LwLock;
 use crate::plays::{Marking, TakesSlots, TriesSlots};
 use crate::rule::{Place, Top};
+use crate::slot_acquires::get_slots_held;
+use crate::wakeups::{must_wake_after, wake_waiters};
 use crate::words::{fetch_sub_as, load_as, taken};
-use crossbeam_utils::Backoff;
 use lock_table::PartTable;
 use lw_word::LwMode;
 use modes_core::{Mode, SessionId, Tag};
@@ -36,21 +43,28 @@ fn attempt_fast<T: PartTable>(
     requires session { HasSession place.old.me.0 }
     requires free { IsHeldByNobody shown × (taken ≡ taken_word shown) }
     ensures seat { IsSameSeat place.old place.new }
-    ensures won { OnTrue result (TookSlots T.content owner place.old.me place.new.me) }
-    ensures lost { OnFalse result (place.new.me ≡ place.old.me) }
+    ensures won { OnTrue result (GetsSlots T.content Exclusive owner place.old place.new) }
+    ensures lost { OnFalse result (IsAsBefore T.content place.old place.new) }
 {
-    top.compare_exchange::<TakesSlots>(place, fast_word(owner), shown, taken) == shown
+    if top.compare_exchange::<TakesSlots>(place, fast_word(owner), shown, taken) != shown {
+        return false;
+    }
+    true
 }
 
 // The same, where the word shows that nobody holds the lock, and else no attempt.
 #[inline(always)]
-fn attempt_free_fast<T: PartTable>(top: &Top<T>, place: &mut Place<T>, owner: SessionId) -> bool
+pub(crate) fn attempt_free_fast<T: PartTable>(
+    top: &Top<T>,
+    place: &mut Place<T>,
+    owner: SessionId,
+) -> bool
     requires table { FitsTable place.old top.now.table_id }
     requires exists { owner < top.now.key }
     requires session { HasSession place.old.me.0 }
     ensures seat { IsSameSeat place.old place.new }
-    ensures won { OnTrue result (TookSlots T.content owner place.old.me place.new.me) }
-    ensures lost { OnFalse result (place.new.me ≡ place.old.me) }
+    ensures won { OnTrue result (GetsSlots T.content Exclusive owner place.old place.new) }
+    ensures lost { OnFalse result (IsAsBefore T.content place.old place.new) }
 {
     let shown = top.peek(fast_word(owner));
     match taken(shown) {
@@ -60,54 +74,25 @@ fn attempt_free_fast<T: PartTable>(top: &Top<T>, place: &mut Place<T>, owner: Se
 }
 
 /// Takes the lock of a session's fast-path slots exclusively, issued or not (`LWLockAcquire` of `fpInfoLock`). It
-/// waits until the lock is free.
+/// waits in the lock's list until the lock is free.
 #[inline]
 pub(crate) fn take_fast<T: PartTable, R: Wait>(
     rt: &R,
     top: &Top<T>,
     place: &mut Place<T>,
+    number: SessionId,
     owner: SessionId,
 )
     requires table { FitsTable place.old top.now.table_id }
     requires exists { owner < top.now.key }
     requires session { HasSession place.old.me.0 }
-    ensures seat { IsSameSeat place.old place.new }
-    ensures taken { TakesFast (number_at place.old) (account_at T.content place.old) owner
-        (account_at T.content place.new) }
-    ensures lone { StaysLone place.old.me.0 place.new.me.0 }
-    ensures slots { place.new.me.1 ≡ place.old.me.1 }
+    requires own { number ≡ number_at place.old }
+    requires idle { (account_at T.content place.old).lists ≡ no_lists }
+    ensures { GetsSlots T.content Exclusive owner place.old place.new }
 {
     if !attempt_free_fast(top, place, owner) {
-        take_fast_held(rt, top, place, owner);
+        get_slots_held(rt, top, place, number, owner, LwMode::Exclusive);
     }
-}
-
-/// The same after an attempt that failed: it waits before each further one.
-#[cold]
-#[inline(never)]
-fn take_fast_held<T: PartTable, R: Wait>(
-    rt: &R,
-    top: &Top<T>,
-    place: &mut Place<T>,
-    owner: SessionId,
-)
-    requires table { FitsTable place.old top.now.table_id }
-    requires exists { owner < top.now.key }
-    requires session { HasSession place.old.me.0 }
-    ensures seat { IsSameSeat place.old place.new }
-    ensures taken { TakesFast (number_at place.old) (account_at T.content place.old) owner
-        (account_at T.content place.new) }
-    ensures lone { StaysLone place.old.me.0 place.new.me.0 }
-    ensures slots { place.new.me.1 ≡ place.old.me.1 }
-{
-    let backoff = Backoff::new();
-    for _ in rt.forever() {
-        backoff.snooze();
-        if attempt_free_fast(top, place, owner) {
-            return;
-        }
-    }
-    unreachable!()
 }
 
 // Loads the word of the lock of the own slots.
@@ -172,7 +157,26 @@ pub(crate) fn try_take_fast<T: PartTable>(
     }
 }
 
-/// Puts the lock of a session's fast-path slots.
+// Puts the lock of a session's fast-path slots, and tells what its word showed.
+fn put_fast_home<T: PartTable, M: Marking<T>>(
+    top: &Top<T>,
+    place: &mut Place<T>,
+    owner: SessionId,
+) -> u64
+    requires table { FitsTable place.old top.now.table_id }
+    requires exists { owner < top.now.key }
+    requires session { HasSession place.old.me.0 }
+    requires lawful { (slots : SlotsInHand) × MayPutFastBy (account_at T.content place.old) owner slots }
+    requires mark { M.mark ≡ (λ _. PutFast owner) }
+    ensures led { Led T.content place.old place.new
+        (account_putting_fast (number_at place.old) (account_at T.content place.old) owner) }
+    ensures slots { place.new.me.1 ≡ place.old.me.1 }
+{
+    fetch_sub_as::<T, M>(top, place, fast_word(owner), LwMode::Exclusive.amount())
+}
+
+/// Puts the lock of a session's fast-path slots (`LWLockRelease` of `fpInfoLock`). Where the word says so it wakes those
+/// who wait for it.
 pub(crate) fn put_fast<T: PartTable, M: Marking<T>>(
     top: &Top<T>,
     place: &mut Place<T>,
@@ -182,15 +186,41 @@ pub(crate) fn put_fast<T: PartTable, M: Marking<T>>(
     requires exists { owner < top.now.key }
     requires session { HasSession place.old.me.0 }
     requires lawful { (slots : SlotsInHand) × MayPutFastBy (account_at T.content place.old) owner slots }
+    requires idle { (account_at T.content place.old).lists ≡ no_lists }
     requires mark { M.mark ≡ (λ _. PutFast owner) }
-    ensures seat { IsSameSeat place.old place.new }
-    ensures side { place.new.me ≡ (noting place.old.me.0 (PutFast owner), place.old.me.1) }
+    ensures led { Led T.content place.old place.new
+        (account_putting_fast (number_at place.old) (account_at T.content place.old) owner) }
+    ensures slots { place.new.me.1 ≡ place.old.me.1 }
 {
-    fetch_sub_as::<T, M>(top, place, fast_word(owner), LwMode::Exclusive.amount());
+    let found = put_fast_home::<T, M>(top, place, owner);
+    if must_wake_after(found) {
+        wake_waiters(top, place, &LwLock::OfSlots(owner));
+    }
+}
+
+// Puts that lock and goes past its session, and tells what its word showed.
+fn pass_fast_home<T: PartTable, M: Marking<T>>(
+    top: &Top<T>,
+    place: &mut Place<T>,
+    owner: SessionId,
+    tag: &Tag,
+    mode: Mode,
+) -> u64
+    requires table { FitsTable place.old top.now.table_id }
+    requires exists { owner < top.now.key }
+    requires session { HasSession place.old.me.0 }
+    requires lawful { (slots : SlotsInHand) × MayPassBy (account_at T.content place.old) owner slots tag.now mode }
+    requires mark { M.mark ≡ (λ _. Passed owner tag.now mode) }
+    ensures led { Led T.content place.old place.new
+        (account_passing (number_at place.old) (account_at T.content place.old) owner tag.now mode) }
+    ensures slots { place.new.me.1 ≡ place.old.me.1 }
+{
+    fetch_sub_as::<T, M>(top, place, fast_word(owner), LwMode::Exclusive.amount())
 }
 
 /// Puts that lock, and goes past its session with a strong lock that is counted (the end of a turn of the loop in
-/// `FastPathTransferRelationLocks` in lock.c): the session has no slot on the object.
+/// `FastPathTransferRelationLocks` in lock.c): the session has no slot on the object. Where the word says so it wakes those
+/// who wait for the lock.
 pub(crate) fn pass_fast<T: PartTable, M: Marking<T>>(
     top: &Top<T>,
     place: &mut Place<T>,
@@ -202,9 +232,14 @@ pub(crate) fn pass_fast<T: PartTable, M: Marking<T>>(
     requires exists { owner < top.now.key }
     requires session { HasSession place.old.me.0 }
     requires lawful { (slots : SlotsInHand) × MayPassBy (account_at T.content place.old) owner slots tag.now mode }
+    requires idle { (account_at T.content place.old).lists ≡ no_lists }
     requires mark { M.mark ≡ (λ _. Passed owner tag.now mode) }
-    ensures seat { IsSameSeat place.old place.new }
-    ensures side { place.new.me ≡ (noting place.old.me.0 (Passed owner tag.now mode), place.old.me.1) }
+    ensures led { Led T.content place.old place.new
+        (account_passing (number_at place.old) (account_at T.content place.old) owner tag.now mode) }
+    ensures slots { place.new.me.1 ≡ place.old.me.1 }
 {
-    fetch_sub_as::<T, M>(top, place, fast_word(owner), LwMode::Exclusive.amount());
+    let found = pass_fast_home::<T, M>(top, place, owner, tag, mode);
+    if must_wake_after(found) {
+        wake_waiters(top, place, &LwLock::OfSlots(owner));
+    }
 }

@@ -1,13 +1,15 @@
 //! A board for tests: one session, session 0, at a table of its own.
 
 ghost use Rattle.std.specs.Prelude.{◌≡◌, ◌<◌, ◌≤◌, ℕ, List, [], ◌∷◌, None, IfOk, IfErr};
-ghost use Rattle.shared_rule.specs.declared.layout.TheConstants.{TABLE_WORDS, CONTENT_SLOTS};
+ghost use Rattle.shared_rule.specs.declared.layout.TheConstants.{TABLE_WORDS, TABLE_SLOTS};
 ghost use Rattle.shared_rule.specs.History.{blank_account, first_account, lone};
 ghost use Rattle.shared_rule.specs.Opening.{AreNew};
 ghost use Rattle.shared_rule.specs.Boards.{Seated, nothing_due, parts_in_hand, slots_out, first_marks};
+ghost use Rattle.shared_rule.specs.Boards.{IsIdle};
 
 use crate::board::Board;
 use crate::busy::Busy;
+use crate::kept::Kept;
 use crate::layout::wait_word;
 use crate::owed::{Change, Owed};
 use crate::rule::Place;
@@ -31,11 +33,12 @@ pub struct OneThread<T: PartTable> {
     owed: Owed,
     ghost at: { place.table_id ≡ table.shared.table_id },
     ghost words: { table.shared.table_id.words ≡ TABLE_WORDS },
-    ghost slots: { table.shared.table_id.slots ≡ CONTENT_SLOTS },
+    ghost slots: { table.shared.table_id.slots ≡ TABLE_SLOTS },
     ghost limit: { sessions ≡ table.shared.key },
     ghost exists: { number < sessions },
     ghost lone: { place.me.0 ≡ lone number (first_marks place.me.0.sessions) },
     ghost out: { place.me.1 ≡ slots_out (parts_in_hand place.me.1) },
+    ghost idle: { IsIdle place.me.0.sessions },
 }
 
 impl<T: PartTable> OneThread<T> {
@@ -43,8 +46,8 @@ impl<T: PartTable> OneThread<T> {
     pub fn new(
         alloc: Global,
         sessions: u8,
-        parts: Vec<Option<T>>,
-    ) -> Result<OneThread<T>, Refused<Option<T>, Global>>
+        parts: Vec<Kept<T>>,
+    ) -> Result<OneThread<T>, Refused<Kept<T>, Global>>
         requires some { 0 < sessions }
         requires few { sessions ≤ 64 }
         requires parts { AreNew T.content T.begun parts.items }
@@ -85,7 +88,7 @@ impl<T: PartTable> Board<T> for OneThread<T> {
 
     fn take_part<R: Wait>(&mut self, rt: &R, part: u8) -> T {
         let table = &self.table;
-        partitions::take_part(rt, &table.shared, &mut self.place, part)
+        partitions::take_part(rt, &table.shared, &mut self.place, self.number, part)
     }
 
     fn put_part(&mut self, part: u8, done: &Move, content: T) {
@@ -95,7 +98,7 @@ impl<T: PartTable> Board<T> for OneThread<T> {
 
     fn take_fast<R: Wait>(&mut self, rt: &R, owner: SessionId) {
         let table = &self.table;
-        locks::take_fast(rt, &table.shared, &mut self.place, owner);
+        locks::take_fast(rt, &table.shared, &mut self.place, self.number, owner);
     }
 
     fn try_take_fast(&mut self) -> Result<(), Busy> {
@@ -110,7 +113,7 @@ impl<T: PartTable> Board<T> for OneThread<T> {
 
     fn share_fast<R: Wait>(&mut self, rt: &R, owner: SessionId) {
         let table = &self.table;
-        sharing::share_fast(rt, &table.shared, &mut self.place, owner);
+        sharing::share_fast(rt, &table.shared, &mut self.place, self.number, owner);
     }
 
     fn unshare_fast(&mut self, owner: SessionId) {

@@ -27,6 +27,7 @@ pub struct Opener<T: PartTable> {
 
 impl<T: PartTable> Model for Opener<T> {
     ghost use Rattle.std.specs.Prelude.{◌≡◌, ◌≤◌, Some};
+    ghost use Rattle.shared_rule.specs.Boards.{AreIdle};
     ghost use Rattle.shared_rule.specs.Openers.{OpenerState};
     ghost use Rattle.shared_rule.specs.Plays.{IsSized};
 
@@ -41,7 +42,7 @@ impl<T: PartTable> Model for Opener<T> {
     } };
 
     ghost invariant = { λ opener. (opener.place.me.0.next ≡ Some opener.issued) × (opener.issued ≤ opener.sessions)
-        × (opener.sessions ≤ 64) × IsSized opener.place.table_id };
+        × (opener.sessions ≤ 64) × IsSized opener.place.table_id × AreIdle opener.place.me.0.sessions };
 }
 
 impl<T: PartTable> Opener<T> {

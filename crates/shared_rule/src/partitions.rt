@@ -1,22 +1,35 @@
 //! The steps by which a session takes a partition's lightweight lock with its content, and puts both home.
 
-ghost use Rattle.std.specs.Prelude.{◌≡◌, ◌<◌, ◌∷◌, None, IfSome, IfNone, Some};
+ghost use Rattle.std.specs.Prelude.{◌≡◌, ◌<◌, ◌∷◌, ℕ, None, IfSome, IfNone};
 ghost use Rattle.atomic_table.specs.Table.{rest};
 ghost use Rattle.lw_word.specs.LightweightWord.{IsHeldByNobody, taken_word};
 ghost use Rattle.lock_world.specs.Account.{InHand};
+ghost use Rattle.lock_world.specs.AccountSteps.{account_putting};
 ghost use Rattle.lock_world.specs.AccountFacts.{KnowsContent};
-ghost use Rattle.shared_rule.specs.declared.history.Mark.TheVariants.{TookPart, PutPart};
+ghost use Rattle.shared_rule.specs.Marks.{TookPart, PutPart};
+ghost use Rattle.shared_rule.specs.declared.kept.Kept.TheVariants.{Nothing};
+ghost use Rattle.shared_rule.specs.Acquires.{IsAsBefore, TakesPartition};
+ghost use Rattle.shared_rule.specs.History.{noting, taken_of};
 ghost use Rattle.shared_rule.specs.Layout.{content_slot_of};
-ghost use Rattle.shared_rule.specs.History.{noting};
 ghost use Rattle.shared_rule.specs.Lawful.{MayPutPart};
+ghost use Rattle.shared_rule.specs.Led.{Led};
+ghost use Rattle.shared_rule.specs.LwLocks.{no_lists};
 ghost use Rattle.shared_rule.specs.Plays.{account_at, number_at, FitsTable, HasSession, IsSameSeat};
 
+use crate::kept::Kept;
 use crate::layout::{content_slot, partition_word};
+use crate::lists::set_release_ok;
+use crate::lw_lock::LwLock;
 use crate::plays::{Marking, TakesPart};
+use crate::queues::{SPINS, dequeue_self, queue_self, sleep_until_told};
 use crate::rule::{Place, Top};
+use crate::wakeups::{must_wake_after, wake_waiters};
 use crate::words::{put_home_as, taken};
 use crossbeam_utils::Backoff;
 use lock_table::{Move, PartTable};
+use lw_word::LwMode;
+use modes_core::SessionId;
+use std::marker::Brand;
 use std::sync::Wait;
 
 // One attempt to take a partition in hand, by the number that its word may show.
@@ -32,17 +45,19 @@ fn attempt_part<T: PartTable>(
     requires session { HasSession place.old.me.0 }
     requires free { IsHeldByNobody shown × (taken ≡ taken_word shown) }
     ensures seat { IsSameSeat place.old place.new }
-    ensures lost { IfNone result (place.new.me ≡ place.old.me) }
+    ensures lost { IfNone result (IsAsBefore T.content place.old place.new) }
+    ensures won { IfSome result (TakesPartition T.content T.begun part place.old place.new) }
     ensures side { IfSome result (λ content. place.new.me
-        ≡ (noting place.old.me.0 (TookPart part content), (content_slot_of part, None) ∷ place.old.me.1)) }
-    ensures none_begun { IfSome result (λ content. T.begun content ≡ None) }
-    ensures knows { IfSome result (λ content.
-        KnowsContent (number_at place.old) (account_at T.content place.old) part (T.content content)) }
+        ≡ (noting place.old.me.0 (TookPart part content), (content_slot_of part, Nothing) ∷ place.old.me.1)) }
+    ensures unmoved { IfNone result (place.new.me ≡ place.old.me) }
 {
     if top.compare_exchange::<TakesPart>(place, partition_word(part), shown, taken) != shown {
         return None;
     }
-    Some(top.exchange(place, content_slot(part), None).unwrap())
+    Some(
+        top.exchange(place, content_slot(part), Kept::Nothing)
+            .into_part(),
+    )
 }
 
 // The same, where the word shows that nobody holds the lock, and else no attempt.
@@ -52,12 +67,11 @@ fn attempt_free_part<T: PartTable>(top: &Top<T>, place: &mut Place<T>, part: u8)
     requires exists { part < 16 }
     requires session { HasSession place.old.me.0 }
     ensures seat { IsSameSeat place.old place.new }
-    ensures lost { IfNone result (place.new.me ≡ place.old.me) }
+    ensures lost { IfNone result (IsAsBefore T.content place.old place.new) }
+    ensures won { IfSome result (TakesPartition T.content T.begun part place.old place.new) }
     ensures side { IfSome result (λ content. place.new.me
-        ≡ (noting place.old.me.0 (TookPart part content), (content_slot_of part, None) ∷ place.old.me.1)) }
-    ensures none_begun { IfSome result (λ content. T.begun content ≡ None) }
-    ensures knows { IfSome result (λ content.
-        KnowsContent (number_at place.old) (account_at T.content place.old) part (T.content content)) }
+        ≡ (noting place.old.me.0 (TookPart part content), (content_slot_of part, Nothing) ∷ place.old.me.1)) }
+    ensures unmoved { IfNone result (place.new.me ≡ place.old.me) }
 {
     let shown = top.peek(partition_word(part));
     match taken(shown) {
@@ -66,10 +80,9 @@ fn attempt_free_part<T: PartTable>(top: &Top<T>, place: &mut Place<T>, part: u8)
     }
 }
 
-/// Takes a partition's lightweight lock exclusively, and its content in hand (`LWLockAcquire` in lwlock.c). It waits
-/// until the lock is free. Of the content it tells what the session's account knows of it.
-#[inline]
-pub(crate) fn take_part<T: PartTable, R: Wait>(
+/// Takes a partition while all sessions that are open are gathered at one seat: nobody holds its lock then, so the attempt
+/// is repeated only where its exchange is lost to a flag of the word.
+pub(crate) fn take_part_alone<T: PartTable, R: Wait>(
     rt: &R,
     top: &Top<T>,
     place: &mut Place<T>,
@@ -80,32 +93,11 @@ pub(crate) fn take_part<T: PartTable, R: Wait>(
     requires session { HasSession place.old.me.0 }
     ensures seat { IsSameSeat place.old place.new }
     ensures side { place.new.me
-        ≡ (noting place.old.me.0 (TookPart part result), (content_slot_of part, None) ∷ place.old.me.1) }
+        ≡ (noting place.old.me.0 (TookPart part result), (content_slot_of part, Nothing) ∷ place.old.me.1) }
     ensures none_begun { T.begun result ≡ None }
     ensures knows { KnowsContent (number_at place.old) (account_at T.content place.old) part (T.content result) }
 {
-    match attempt_free_part(top, place, part) {
-        Some(content) => content,
-        None => take_part_held(rt, top, place, part),
-    }
-}
-
-/// The same after an attempt that failed: it waits before each further one.
-#[cold]
-#[inline(never)]
-fn take_part_held<T: PartTable, R: Wait>(rt: &R, top: &Top<T>, place: &mut Place<T>, part: u8) -> T
-    requires table { FitsTable place.old top.now.table_id }
-    requires exists { part < 16 }
-    requires session { HasSession place.old.me.0 }
-    ensures seat { IsSameSeat place.old place.new }
-    ensures side { place.new.me
-        ≡ (noting place.old.me.0 (TookPart part result), (content_slot_of part, None) ∷ place.old.me.1) }
-    ensures none_begun { T.begun result ≡ None }
-    ensures knows { KnowsContent (number_at place.old) (account_at T.content place.old) part (T.content result) }
-{
-    let backoff = Backoff::new();
     for _ in rt.forever() {
-        backoff.snooze();
         if let Some(content) = attempt_free_part(top, place, part) {
             return content;
         }
@@ -113,7 +105,185 @@ fn take_part_held<T: PartTable, R: Wait>(rt: &R, top: &Top<T>, place: &mut Place
     unreachable!()
 }
 
-/// Puts a partition's content home, after this move, and its lightweight lock (`LWLockRelease` in lwlock.c).
+// A few attempts, with a short pause before each.
+fn attempt_part_a_while<T: PartTable>(top: &Top<T>, place: &mut Place<T>, part: u8) -> Option<T>
+    requires table { FitsTable place.old top.now.table_id }
+    requires exists { part < 16 }
+    requires session { HasSession place.old.me.0 }
+    ensures seat { IsSameSeat place.old place.new }
+    ensures lost { IfNone result (IsAsBefore T.content place.old place.new) }
+    ensures won { IfSome result (TakesPartition T.content T.begun part place.old place.new) }
+{
+    let backoff = Backoff::new();
+    for _ in 0..SPINS {
+        backoff.spin();
+        if let Some(content) = attempt_free_part(top, place, part) {
+            return Some(content);
+        }
+    }
+    None
+}
+
+// Attempts until it has the lock or sees that somebody holds it: an exchange that is lost to a flag that changed says
+// nothing, and nobody may go to sleep on that (the loop of `LWLockAttemptLock` in lwlock.c).
+fn attempt_part_unless_held<T: PartTable, R: Wait>(
+    rt: &R,
+    top: &Top<T>,
+    place: &mut Place<T>,
+    part: u8,
+) -> Option<T>
+    requires table { FitsTable place.old top.now.table_id }
+    requires exists { part < 16 }
+    requires session { HasSession place.old.me.0 }
+    ensures seat { IsSameSeat place.old place.new }
+    ensures lost { IfNone result (IsAsBefore T.content place.old place.new) }
+    ensures won { IfSome result (TakesPartition T.content T.begun part place.old place.new) }
+{
+    for _ in rt.forever() {
+        let shown = top.peek(partition_word(part));
+        let Some(taken) = taken(shown) else {
+            return None;
+        };
+        if let Some(content) = attempt_part(top, place, part, shown, taken) {
+            return Some(content);
+        }
+    }
+    unreachable!()
+}
+
+// Queues the session for a partition's lock and attempts it again. Where that is lost it sleeps until somebody takes it off
+// the list and tells it, and lets releases wake others again, before it goes on.
+fn take_part_or_sleep<T: PartTable, R: Wait>(
+    rt: &R,
+    top: &Top<T>,
+    place: &mut Place<T>,
+    number: SessionId,
+    part: u8,
+) -> Option<T>
+    requires table { FitsTable place.old top.now.table_id }
+    requires exists { part < 16 }
+    requires session { HasSession place.old.me.0 }
+    requires own { number ≡ number_at place.old }
+    requires idle { (account_at T.content place.old).lists ≡ no_lists }
+    ensures seat { IsSameSeat place.old place.new }
+    ensures lost { IfNone result (IsAsBefore T.content place.old place.new) }
+    ensures won { IfSome result (TakesPartition T.content T.begun part place.old place.new) }
+{
+    let lock = LwLock::OfPart(part);
+    queue_self(rt, top, place, number, &lock, LwMode::Exclusive);
+    match attempt_part_unless_held(rt, top, place, part) {
+        Some(content) => {
+            dequeue_self(rt, top, place, number, &lock);
+            Some(content)
+        }
+        None => {
+            sleep_until_told(rt, top, place, number);
+            set_release_ok::<T, Brand>(top, place, &lock);
+            None
+        }
+    }
+}
+
+// The same after a few attempts.
+fn take_part_in_turn<T: PartTable, R: Wait>(
+    rt: &R,
+    top: &Top<T>,
+    place: &mut Place<T>,
+    number: SessionId,
+    part: u8,
+) -> Option<T>
+    requires table { FitsTable place.old top.now.table_id }
+    requires exists { part < 16 }
+    requires session { HasSession place.old.me.0 }
+    requires own { number ≡ number_at place.old }
+    requires idle { (account_at T.content place.old).lists ≡ no_lists }
+    ensures seat { IsSameSeat place.old place.new }
+    ensures lost { IfNone result (IsAsBefore T.content place.old place.new) }
+    ensures won { IfSome result (TakesPartition T.content T.begun part place.old place.new) }
+{
+    match attempt_part_a_while(top, place, part) {
+        Some(content) => Some(content),
+        None => take_part_or_sleep(rt, top, place, number, part),
+    }
+}
+
+/// Takes a partition's lightweight lock exclusively, and its content in hand (`LWLockAcquire` in lwlock.c). It waits in the
+/// lock's list until the lock is free. Of the content it tells what the session's account knows of it.
+#[inline]
+pub(crate) fn take_part<T: PartTable, R: Wait>(
+    rt: &R,
+    top: &Top<T>,
+    place: &mut Place<T>,
+    number: SessionId,
+    part: u8,
+) -> T
+    requires table { FitsTable place.old top.now.table_id }
+    requires exists { part < 16 }
+    requires session { HasSession place.old.me.0 }
+    requires own { number ≡ number_at place.old }
+    requires idle { (account_at T.content place.old).lists ≡ no_lists }
+    ensures { TakesPartition T.content T.begun part place.old place.new result }
+{
+    match attempt_free_part(top, place, part) {
+        Some(content) => content,
+        None => take_part_held(rt, top, place, number, part),
+    }
+}
+
+/// The same after an attempt that failed.
+#[cold]
+#[inline(never)]
+fn take_part_held<T: PartTable, R: Wait>(
+    rt: &R,
+    top: &Top<T>,
+    place: &mut Place<T>,
+    number: SessionId,
+    part: u8,
+) -> T
+    requires table { FitsTable place.old top.now.table_id }
+    requires exists { part < 16 }
+    requires session { HasSession place.old.me.0 }
+    requires own { number ≡ number_at place.old }
+    requires idle { (account_at T.content place.old).lists ≡ no_lists }
+    ensures { TakesPartition T.content T.begun part place.old place.new result }
+{
+    for _ in rt.forever() {
+        if let Some(content) = take_part_in_turn(rt, top, place, number, part) {
+            return content;
+        }
+    }
+    unreachable!()
+}
+
+/// Puts a partition's content home, after this move, and its lightweight lock, and tells what the lock's word showed. It
+/// wakes nobody.
+pub(crate) fn put_part_home<T: PartTable, M: Marking<T>>(
+    top: &Top<T>,
+    place: &mut Place<T>,
+    part: u8,
+    done: &Move,
+    content: T,
+) -> u64
+    requires table { FitsTable place.old top.now.table_id }
+    requires exists { part < 16 }
+    requires session { HasSession place.old.me.0 }
+    requires in_hand { place.old.me.1 ≡ (content_slot_of part, Nothing) ∷ rest place.old.me.1 }
+    requires none_begun { T.begun content ≡ None }
+    requires lawful { (mine : InHand) × MayPutPart top.now.key (number_at place.old)
+        (account_at T.content place.old) part mine done.now (T.content content) }
+    requires mark { M.mark ≡ (λ _. PutPart part done.now content) }
+    ensures led { Led T.content place.old place.new (account_putting (account_at T.content place.old) part
+        (taken_of ((account_at T.content place.old).hand part)) (T.content content) done.now) }
+    ensures side { place.new.me ≡ (noting place.old.me.0 (PutPart part done.now content), rest place.old.me.1) }
+{
+    match top.exchange(place, content_slot(part), Kept::Part(content)) {
+        Kept::Nothing => put_home_as::<T, M>(top, place, partition_word(part)),
+        Kept::Part(_) | Kept::List(_) => unreachable!(),
+    }
+}
+
+/// Puts a partition's content home, after this move, and its lightweight lock (`LWLockRelease` in lwlock.c). Where the word
+/// says so it wakes those who wait for the lock.
 pub(crate) fn put_part<T: PartTable, M: Marking<T>>(
     top: &Top<T>,
     place: &mut Place<T>,
@@ -124,16 +294,18 @@ pub(crate) fn put_part<T: PartTable, M: Marking<T>>(
     requires table { FitsTable place.old top.now.table_id }
     requires exists { part < 16 }
     requires session { HasSession place.old.me.0 }
-    requires in_hand { place.old.me.1 ≡ (content_slot_of part, None) ∷ rest place.old.me.1 }
+    requires in_hand { place.old.me.1 ≡ (content_slot_of part, Nothing) ∷ rest place.old.me.1 }
     requires none_begun { T.begun content ≡ None }
     requires lawful { (mine : InHand) × MayPutPart top.now.key (number_at place.old)
         (account_at T.content place.old) part mine done.now (T.content content) }
+    requires idle { (account_at T.content place.old).lists ≡ no_lists }
     requires mark { M.mark ≡ (λ _. PutPart part done.now content) }
-    ensures seat { IsSameSeat place.old place.new }
-    ensures side { place.new.me ≡ (noting place.old.me.0 (PutPart part done.now content), rest place.old.me.1) }
+    ensures led { Led T.content place.old place.new (account_putting (account_at T.content place.old) part
+        (taken_of ((account_at T.content place.old).hand part)) (T.content content) done.now) }
+    ensures slots { place.new.me.1 ≡ rest place.old.me.1 }
 {
-    match top.exchange(place, content_slot(part), Some(content)) {
-        None => put_home_as::<T, M>(top, place, partition_word(part)),
-        Some(_) => unreachable!(),
+    let found = put_part_home::<T, M>(top, place, part, done, content);
+    if must_wake_after(found) {
+        wake_waiters(top, place, &LwLock::OfPart(part));
     }
 }

@@ -1,6 +1,7 @@
 //! What a step on the table tells the session that makes it.
 
 use crate::history::{Mark, View};
+use crate::kept::Kept;
 use atomic_table::Play;
 use lock_table::PartTable;
 use std::marker::{Brand, PhantomData};
@@ -14,7 +15,7 @@ pub trait Marking<T> {
 }
 
 impl<T> Marking<T> for Brand {
-    ghost use Rattle.shared_rule.specs.declared.history.Mark.TheVariants.{PutFast};
+    ghost use Rattle.shared_rule.specs.Marks.{PutFast};
 
     ghost mark = { λ _. PutFast 0 };
 }
@@ -24,7 +25,7 @@ pub struct Marks<M> {
     of: PhantomData<M>,
 }
 
-impl<T, M: Marking<T>> Play<Option<T>, View<T>> for Marks<M> {
+impl<T, M: Marking<T>> Play<Kept<T>, View<T>> for Marks<M> {
     ghost use Rattle.shared_rule.specs.Plays.{Marked};
 
     ghost then = { Marked M.mark };
@@ -35,7 +36,7 @@ pub struct PutsHome<M> {
     of: PhantomData<M>,
 }
 
-impl<T, M: Marking<T>> Play<Option<T>, View<T>> for PutsHome<M> {
+impl<T, M: Marking<T>> Play<Kept<T>, View<T>> for PutsHome<M> {
     ghost use Rattle.shared_rule.specs.Plays.{WentHome};
 
     ghost then = { WentHome M.mark };
@@ -44,7 +45,7 @@ impl<T, M: Marking<T>> Play<Option<T>, View<T>> for PutsHome<M> {
 /// An exchange that takes a partition in hand where it finds the number that it expects, and else changes nothing.
 pub struct TakesPart;
 
-impl<T: PartTable> Play<Option<T>, View<T>> for TakesPart {
+impl<T: PartTable> Play<Kept<T>, View<T>> for TakesPart {
     ghost use Rattle.shared_rule.specs.Plays.{TookPartition};
 
     ghost then = { TookPartition T.content T.begun };
@@ -55,7 +56,7 @@ pub struct Looks<M> {
     of: PhantomData<M>,
 }
 
-impl<T: PartTable, M: Marking<T>> Play<Option<T>, View<T>> for Looks<M> {
+impl<T: PartTable, M: Marking<T>> Play<Kept<T>, View<T>> for Looks<M> {
     ghost use Rattle.shared_rule.specs.Plays.{Looked};
 
     ghost then = { Looked T.content M.mark };
@@ -65,7 +66,7 @@ impl<T: PartTable, M: Marking<T>> Play<Option<T>, View<T>> for Looks<M> {
 /// nothing.
 pub struct TakesSlots;
 
-impl<T: PartTable> Play<Option<T>, View<T>> for TakesSlots {
+impl<T: PartTable> Play<Kept<T>, View<T>> for TakesSlots {
     ghost use Rattle.shared_rule.specs.Plays.{TookSlotsOr, unnoted};
 
     ghost then = { TookSlotsOr T.content unnoted };
@@ -75,7 +76,7 @@ impl<T: PartTable> Play<Option<T>, View<T>> for TakesSlots {
 /// nothing.
 pub struct SharesSlots;
 
-impl<T: PartTable> Play<Option<T>, View<T>> for SharesSlots {
+impl<T: PartTable> Play<Kept<T>, View<T>> for SharesSlots {
     ghost use Rattle.shared_rule.specs.Plays.{SharedSlotsOr, unnoted};
 
     ghost then = { SharedSlotsOr T.content unnoted };
@@ -84,16 +85,26 @@ impl<T: PartTable> Play<Option<T>, View<T>> for SharesSlots {
 /// The same as `TakesSlots` of the own slots, where a lost exchange is noted as a load of the word.
 pub struct TriesSlots;
 
-impl<T: PartTable> Play<Option<T>, View<T>> for TriesSlots {
+impl<T: PartTable> Play<Kept<T>, View<T>> for TriesSlots {
     ghost use Rattle.shared_rule.specs.Plays.{TookSlotsOr, noted_load};
 
     ghost then = { TookSlotsOr T.content noted_load };
 }
 
+/// A fetch-or of a word's list bit that takes the wait list in hand where it finds the bit not set, and else changes
+/// nothing.
+pub struct LocksList;
+
+impl<T: PartTable> Play<Kept<T>, View<T>> for LocksList {
+    ghost use Rattle.shared_rule.specs.Plays.{LockedListOr};
+
+    ghost then = { LockedListOr T.content };
+}
+
 /// A load that changes nothing, and tells the opener that those that have closed were given out, each once.
 pub struct TellsClosed;
 
-impl<T> Play<Option<T>, View<T>> for TellsClosed {
+impl<T> Play<Kept<T>, View<T>> for TellsClosed {
     ghost use Rattle.shared_rule.specs.Seats.{ToldClosed};
 
     ghost then = { ToldClosed };
@@ -102,7 +113,7 @@ impl<T> Play<Option<T>, View<T>> for TellsClosed {
 /// A load that changes nothing, and tells that no hold of the first session conflicts with one of the next.
 pub struct TellsApart;
 
-impl<T: PartTable> Play<Option<T>, View<T>> for TellsApart {
+impl<T: PartTable> Play<Kept<T>, View<T>> for TellsApart {
     ghost use Rattle.shared_rule.specs.Seats.{ToldApart};
 
     ghost then = { ToldApart T.content };
@@ -113,7 +124,7 @@ pub struct LooksOver<M> {
     of: PhantomData<M>,
 }
 
-impl<T: PartTable, M: Marking<T>> Play<Option<T>, View<T>> for LooksOver<M> {
+impl<T: PartTable, M: Marking<T>> Play<Kept<T>, View<T>> for LooksOver<M> {
     ghost use Rattle.shared_rule.specs.Gatherings.{LookedOver};
 
     ghost then = { LookedOver T.content M.mark };
@@ -122,7 +133,7 @@ impl<T: PartTable, M: Marking<T>> Play<Option<T>, View<T>> for LooksOver<M> {
 /// A load that changes nothing, and tells such a seat who is there, and where the own holds of each stand.
 pub struct TellsAll;
 
-impl<T: PartTable> Play<Option<T>, View<T>> for TellsAll {
+impl<T: PartTable> Play<Kept<T>, View<T>> for TellsAll {
     ghost use Rattle.shared_rule.specs.Gatherings.{ToldAll};
 
     ghost then = { ToldAll T.content };

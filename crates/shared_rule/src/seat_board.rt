@@ -2,10 +2,11 @@
 
 ghost use Rattle.std.specs.Prelude.{◌≡◌, ◌<◌, ℕ, List, [], ◌∷◌, None};
 ghost use Rattle.shared_rule.specs.History.{first_account, lone};
-ghost use Rattle.shared_rule.specs.declared.layout.TheConstants.{TABLE_WORDS, CONTENT_SLOTS};
+ghost use Rattle.shared_rule.specs.declared.layout.TheConstants.{TABLE_WORDS, TABLE_SLOTS};
 ghost use Rattle.shared_rule.specs.Plays.{FitsTable};
 ghost use Rattle.shared_rule.specs.Seats.{DoNotConflict, MayBeKeptApartBy};
 ghost use Rattle.shared_rule.specs.Boards.{Seated, nothing_due, parts_in_hand, slots_out, first_marks};
+ghost use Rattle.shared_rule.specs.Boards.{IsIdle};
 
 use crate::board::Board;
 use crate::busy::Busy;
@@ -30,11 +31,12 @@ pub struct SeatBoard<'a, T: PartTable> {
     owed: Owed,
     ghost at: { place.table_id ≡ table.now.table_id },
     ghost words: { table.now.table_id.words ≡ TABLE_WORDS },
-    ghost slots: { table.now.table_id.slots ≡ CONTENT_SLOTS },
+    ghost slots: { table.now.table_id.slots ≡ TABLE_SLOTS },
     ghost limit: { sessions ≡ table.now.key },
     ghost exists: { number < sessions },
     ghost lone: { place.me.0 ≡ lone number (first_marks place.me.0.sessions) },
     ghost out: { place.me.1 ≡ slots_out (parts_in_hand place.me.1) },
+    ghost idle: { IsIdle place.me.0.sessions },
 }
 
 impl<'a, T: PartTable> SeatBoard<'a, T> {
@@ -50,6 +52,7 @@ impl<'a, T: PartTable> SeatBoard<'a, T> {
         requires exists { number < sessions }
         requires lone { place.me.0 ≡ lone number (first_marks place.me.0.sessions) }
         requires out { place.me.1 ≡ [] }
+        requires idle { IsIdle place.me.0.sessions }
         ensures { (result.table.now ≡ table.now) × (result.place ≡ place) × (result.number ≡ number)
             × (result.sessions ≡ sessions) × (result.owed.sessions ≡ []) }
     {
@@ -134,7 +137,7 @@ impl<'a, T: PartTable> Board<T> for SeatBoard<'a, T> {
     }
 
     fn take_part<R: Wait>(&mut self, rt: &R, part: u8) -> T {
-        partitions::take_part(rt, self.table, &mut self.place, part)
+        partitions::take_part(rt, self.table, &mut self.place, self.number, part)
     }
 
     fn put_part(&mut self, part: u8, done: &Move, content: T) {
@@ -142,7 +145,7 @@ impl<'a, T: PartTable> Board<T> for SeatBoard<'a, T> {
     }
 
     fn take_fast<R: Wait>(&mut self, rt: &R, owner: SessionId) {
-        locks::take_fast(rt, self.table, &mut self.place, owner);
+        locks::take_fast(rt, self.table, &mut self.place, self.number, owner);
     }
 
     fn try_take_fast(&mut self) -> Result<(), Busy> {
@@ -154,7 +157,7 @@ impl<'a, T: PartTable> Board<T> for SeatBoard<'a, T> {
     }
 
     fn share_fast<R: Wait>(&mut self, rt: &R, owner: SessionId) {
-        sharing::share_fast(rt, self.table, &mut self.place, owner);
+        sharing::share_fast(rt, self.table, &mut self.place, self.number, owner);
     }
 
     fn unshare_fast(&mut self, owner: SessionId) {

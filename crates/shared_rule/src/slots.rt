@@ -8,8 +8,8 @@ ghost use Rattle.shared_rule.specs.Plays.{account_at, number_at, FitsTable, HasS
 ghost use Rattle.lock_table.specs.Content.{add_hold};
 ghost use Rattle.lock_world.specs.SlotHolds.{slot_holds};
 ghost use Rattle.lock_world.specs.AccountLaw.{MaySetSlotBy, MayClearSlotBy, MayTransferBy};
-ghost use Rattle.shared_rule.specs.declared.history.Mark.TheVariants.{LoadedDatabase, LoadedSlot, SetSlot};
-ghost use Rattle.shared_rule.specs.declared.history.Mark.TheVariants.{ClearedSlot, TransferredSlot, StoredDatabase};
+ghost use Rattle.shared_rule.specs.Marks.{LoadedDatabase, LoadedSlot, SetSlot};
+ghost use Rattle.shared_rule.specs.Marks.{ClearedSlot, TransferredSlot, StoredDatabase};
 
 use crate::layout::{database_word, slot_word};
 use crate::plays::Marking;

@@ -4,21 +4,23 @@ ghost use Rattle.std.specs.Prelude.{◌≡◌, ◌<◌, ◌≤◌, ◌+◌, ◌/
 ghost use Rattle.lock_world.specs.World.{opening};
 ghost use Rattle.shared_rule.specs.Shown.{WordsAreShown};
 ghost use Rattle.lock_table.specs.Parts.{AreEmptyParts};
-ghost use Rattle.shared_rule.specs.Opening.{IsFirst, IsNew, AreNew};
+ghost use Rattle.shared_rule.specs.Opening.{IsFirst, IsNew, IsEmptyList, AreNew};
 
 use crate::history::View;
+use crate::kept::Kept;
 use crate::layout::{
-    BLOCK, CONTENT_GAP, CONTENT_SLOTS, COUNTERS_START, GAP, SESSIONS_START, TABLE_WORDS,
+    BLOCK, CONTENT_GAP, CONTENT_SLOTS, COUNTERS_START, GAP, SESSIONS_START, TABLE_SLOTS,
+    TABLE_WORDS,
 };
 use crate::opener::Opener;
 use crate::rule::Law;
 use atomic_table::{Refused, Table};
 use lock_table::{NoMemory, PartTable};
-use lw_word::LwWord;
+use lw_word::{LwWord, WaitList};
 use std::alloc::Global;
 
 /// The table and its memory. Threads share its field `shared`.
-pub type SharedTable<T> = Table<Option<T>, View<T>, u8, Law, Global>;
+pub type SharedTable<T> = Table<Kept<T>, View<T>, u8, Law, Global>;
 
 // The word at an index, before the first step: a free one where it is a lightweight lock's, and else 0.
 fn first_word(index: usize) -> u64
@@ -49,8 +51,8 @@ fn first_words(alloc: Global) -> Result<Vec<u64>, NoMemory>
     Ok(words)
 }
 
-// What the slot at an index has: the next part where it is a partition's.
-fn next_part<T: PartTable>(parts: &mut Vec<T>, index: usize) -> Option<T>
+// What a slot for contents has, by its index: the next part where it is a partition's.
+fn next_part<T: PartTable>(parts: &mut Vec<T>, index: usize) -> Kept<T>
     requires empty { AreEmptyParts T.content T.begun parts.old.items }
     requires some { index % 8 ≡ 0 → 0 < length parts.old.items }
     ensures empty { AreEmptyParts T.content T.begun parts.new.items }
@@ -58,25 +60,42 @@ fn next_part<T: PartTable>(parts: &mut Vec<T>, index: usize) -> Option<T>
     ensures left { length parts.new.items + (index + 8) / 8 ≡ length parts.old.items + (index + 7) / 8 }
 {
     if index % CONTENT_GAP == 0 {
-        parts.pop()
+        match parts.pop() {
+            Some(part) => Kept::Part(part),
+            None => unreachable!(),
+        }
     } else {
-        None
+        Kept::Nothing
     }
 }
 
-/// The slots of the table with these parts of the sixteen partitions, each in its place (`content_slot`). Where memory
-/// is wanting the parts are let go.
+// What a slot for wait lists has, by its index: an empty one where it is a lock's.
+fn next_list<T: PartTable>(alloc: Global, index: usize) -> Result<Kept<T>, NoMemory>
+    ensures { IfOk result (λ kept. index % 8 ≡ 0 → IsEmptyList (Some kept)) }
+{
+    if index % CONTENT_GAP == 0 {
+        Ok(Kept::List(Box::new(alloc, WaitList::new())?))
+    } else {
+        Ok(Kept::Nothing)
+    }
+}
+
+/// The slots of the table with these parts of the sixteen partitions, each in its place (`content_slot`), and with the
+/// wait lists of all lightweight locks. Where memory is wanting the parts are let go.
 pub fn in_slots<T: PartTable + Drop>(
     alloc: Global,
     mut parts: Vec<T>,
-) -> Result<Vec<Option<T>>, NoMemory>
+) -> Result<Vec<Kept<T>>, NoMemory>
     requires sixteen { length parts.items ≡ 16 }
     requires new { AreEmptyParts T.content T.begun parts.items }
     ensures { IfOk result (λ slots. AreNew T.content T.begun slots.items) }
 {
-    let mut slots = Vec::with_capacity(alloc, CONTENT_SLOTS)?;
+    let mut slots = Vec::with_capacity(alloc, TABLE_SLOTS)?;
     for index in 0..CONTENT_SLOTS {
         slots.push_reserved(next_part(&mut parts, index));
+    }
+    for index in CONTENT_SLOTS..TABLE_SLOTS {
+        slots.push_reserved(next_list(alloc, index)?);
     }
     Ok(slots)
 }
@@ -86,8 +105,8 @@ pub fn in_slots<T: PartTable + Drop>(
 pub fn open<T: PartTable>(
     alloc: Global,
     sessions: u8,
-    parts: Vec<Option<T>>,
-) -> Result<(SharedTable<T>, Opener<T>), Refused<Option<T>, Global>>
+    parts: Vec<Kept<T>>,
+) -> Result<(SharedTable<T>, Opener<T>), Refused<Kept<T>, Global>>
     requires few { sessions ≤ 64 }
     requires parts { AreNew T.content T.begun parts.items }
     ensures key { IfOk result (λ opened. opened.0.shared.key ≡ sessions) }

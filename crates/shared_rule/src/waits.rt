@@ -12,8 +12,8 @@ ghost use Rattle.lock_table.specs.OwnWait.{OwnWait};
 ghost use Rattle.lock_table.specs.Waiter.{whose_and_mode};
 ghost use Rattle.lock_world.specs.WaitWord.{wait_state};
 ghost use Rattle.lock_world.specs.AccountLaw.{MayMoveBy, MayLeaveBy};
-ghost use Rattle.shared_rule.specs.declared.history.Mark.TheVariants.{SetWaiting, MarkedGranted, LoadedWait, Asked};
-ghost use Rattle.shared_rule.specs.declared.history.Mark.TheVariants.{ClearedWait, LeftQueue};
+ghost use Rattle.shared_rule.specs.Marks.{SetWaiting, MarkedGranted, LoadedWait, Asked};
+ghost use Rattle.shared_rule.specs.Marks.{ClearedWait, LeftQueue};
 ghost use Rattle.shared_rule.specs.Lawful.{IsGrantingIn, MayMarkBy, MayClearBy};
 
 use crate::layout::wait_word;

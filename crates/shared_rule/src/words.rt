@@ -1,8 +1,8 @@
-//! The seven operations on one word of the table that all steps are made of. Each is one atomic operation, made by a
+//! The eight operations on one word of the table that all steps are made of. Each is one atomic operation, made by a
 //! seat that has the session's history first in its view, and leaves a mark there; what the mark does to the session's
 //! account is in `noted` of specs/History.
 
-ghost use Rattle.std.specs.Prelude.{ℕ, ◌≡◌, ◌<◌, ◌+◌, ◌-◌, ◌^◌, ◌%◌, None, SomeIff, Some, bit_or};
+ghost use Rattle.std.specs.Prelude.{ℕ, ◌≡◌, ◌<◌, ◌+◌, ◌-◌, ◌^◌, ◌%◌, None, SomeIff, Some, bit_and, bit_or};
 ghost use mathlib.Core.Option.{none};
 ghost use Rattle.atomic_table.specs.Table.{Allows, step, rest};
 ghost use Rattle.lw_word.specs.LightweightWord.{IsHeldByNobody, taken_word};
@@ -83,16 +83,16 @@ pub(crate) fn put_home_as<T: PartTable, M: Marking<T>>(
     top: &Top<T>,
     place: &mut Place<T>,
     word: usize,
-)
+) -> u64
     requires table { FitsTable place.old top.now.table_id × (word < top.now.table_id.words) }
     requires allowed { Allows (Ruled T.content T.begun top.now.key) top.now.table_id.slots
         place.old.id place.old.me word
         (λ n. (n + (2 ^ 64 - 16777216)) % 2 ^ 64)
         (WentHome M.mark (step top.now.table_id.slots word 16777216 0 none) place.old.me) }
     ensures seat { IsSameSeat place.old place.new }
-    ensures side { (n : ℕ) × (place.new.me ≡ (noting place.old.me.0 (M.mark n), rest place.old.me.1)) }
+    ensures side { place.new.me ≡ (noting place.old.me.0 (M.mark result), rest place.old.me.1) }
 {
-    top.fetch_sub::<PutsHome<M>>(place, word, LwMode::Exclusive.amount());
+    top.fetch_sub::<PutsHome<M>>(place, word, LwMode::Exclusive.amount())
 }
 
 pub(crate) fn store_as<T: PartTable, M: Marking<T>>(
@@ -144,4 +144,20 @@ pub(crate) fn look_as<T: PartTable, M: Marking<T>>(
         → KnowsWord (number_at place.old) (account_at T.content place.old) which result }
 {
     top.load::<Looks<M>>(place, word)
+}
+
+pub(crate) fn unlock_as<T: PartTable, M: Marking<T>>(
+    top: &Top<T>,
+    place: &mut Place<T>,
+    word: usize,
+    mask: u64,
+)
+    requires table { FitsTable place.old top.now.table_id × (word < top.now.table_id.words) }
+    requires allowed { Allows (Ruled T.content T.begun top.now.key) top.now.table_id.slots
+        place.old.id place.old.me word
+        (λ n. bit_and n mask) (WentHome M.mark (step top.now.table_id.slots word mask 0 none) place.old.me) }
+    ensures seat { IsSameSeat place.old place.new }
+    ensures side { (n : ℕ) × (place.new.me ≡ (noting place.old.me.0 (M.mark n), rest place.old.me.1)) }
+{
+    top.fetch_and::<PutsHome<M>>(place, word, mask);
 }

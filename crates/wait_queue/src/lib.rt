@@ -2,10 +2,12 @@
 //! of the queue when a waiter leaves it. All of it works on any keeper of a partition's content.
 #![tactic(auto)]
 
+mod queues;
 mod releases;
 mod removals;
 mod requests;
 
+pub use queues::{Blocker, InTheWay, blockers_of, queue_of};
 pub use releases::{awaited_in_conflict, release, take_hold_out};
 pub use removals::{Removed, remove_waiter};
 pub use requests::{Decision, Kind, decide};

@@ -27,8 +27,7 @@ pub fn take_hold_out<P: PartTable>(part: &mut P, session: SessionId, tag: &Tag, 
         Moves (P.content part.old) session (Release tag.now mode) granted after }
     ensures begun { P.begun part.new ≡ P.begun part.old }
 {
-    part.ungrant(session, tag, mode);
-    awaited_in_conflict(part, tag, mode)
+    part.ungrant(session, tag, mode)
 }
 
 /// Takes a hold of the session out, and grants the waits that are free to go then, where somebody

@@ -118,7 +118,7 @@ fn is_same(table: &LocalTable, list: &Plain) -> bool {
 }
 
 /// One of 32 tags, by some bits of a random number.
-fn random_tag(random: u32) -> Tag {
+pub(super) fn random_tag(random: u32) -> Tag {
     let number = random >> 20 & 15;
     if random >> 19 & 1 == 0 {
         Tag::relation(5, number)
@@ -129,7 +129,7 @@ fn random_tag(random: u32) -> Tag {
     }
 }
 
-fn random_mode(random: u32) -> Mode {
+pub(super) fn random_mode(random: u32) -> Mode {
     match random >> 17 & 3 {
         0 => Mode::AccessShare,
         1 => Mode::RowShare,
@@ -138,7 +138,7 @@ fn random_mode(random: u32) -> Mode {
     }
 }
 
-fn random_owner(random: u32) -> Owner {
+pub(super) fn random_owner(random: u32) -> Owner {
     if random >> 15 & 3 == 0 {
         Owner::Session
     } else {

@@ -1,6 +1,7 @@
 //! Calls of a local table, and what they are answered: a test is a list of turns.
 
 use super::acquires::acquire;
+use super::levels::next;
 use local_locks::{Acquired, AtOnce, End, LocalTable, Unlocked};
 use modes_core::{Mode, Owner, Refusal, Tag};
 use std::process::Abort;
@@ -119,7 +120,7 @@ fn make(rt: &impl Abort, table: &mut LocalTable, call: Call) -> Answer {
             Answer::Number(u32::from(table.owner_count(tag, mode, owner)))
         }
         Call::Total(tag, mode) => Answer::Number(table.total(tag, mode)),
-        Call::Next(end) => ended(table.end_next(end)),
+        Call::Next(end) => ended(next(rt, table, end)),
         Call::Entries => Answer::Number(count(table)),
     }
 }

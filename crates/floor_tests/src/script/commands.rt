@@ -75,7 +75,7 @@ fn commands_on_locks(rt: &impl Abort) -> [(&'static str, Command); 7] {
 }
 
 /// The others.
-fn other_commands(rt: &impl Abort) -> [(&'static str, Command); 8] {
+fn other_commands(rt: &impl Abort) -> [(&'static str, Command); 10] {
     let name = name(rt, "d");
     let place = Place::Waiting(0);
     [
@@ -84,6 +84,11 @@ fn other_commands(rt: &impl Abort) -> [(&'static str, Command); 8] {
         (
             "cancel b d",
             Command::Cancel(caller(rt), Opened { name, place }),
+        ),
+        ("queue b 5/6/7/8", Command::Queue(caller(rt), OBJECT)),
+        (
+            "blockers b d 5/7",
+            Command::Blockers(caller(rt), Opened { name, place }, RELATION),
         ),
         ("list b", Command::List(caller(rt))),
         ("count b 1023", Command::Count(caller(rt), 1023)),

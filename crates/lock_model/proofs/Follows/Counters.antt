@@ -281,7 +281,7 @@ module _ (m : Machine) (w : World) (safe : SafeWorld w) (shows : Shows m w) wher
         none : (its : Mode) → slots_hold m o t its ≡ false
         none its = slots_from m w safe shows o t its ∙ may.no_slot its
 
-  -- A counter read as 0 before is forgotten with the own lock.
+  -- A counter read as 0 before is forgotten with its own lock.
   zeros_put : (s o : ℕ) (own : Bool) → s < 64
       → ShowsFastPath (record (m.fast_path) { zeros = if own then set m.fast_path.zeros s None else m.fast_path.zeros }) w.words.database w.words.slot
       (if own then set_at w.sessions.zero s None else w.sessions.zero)

@@ -191,7 +191,7 @@ module _ (m : Machine) (w : World) (safe : SafeWorld w) (shows : Shows m w) wher
   pub not_told : (s o : ℕ) → may_tell m s o ≡ false → (v : World) × Next w (record { session = s; step = Tell o }) v × Shows m v
   not_told s o may_not = skipped m w safe shows s (Tell o) (λ lawful. both_ways (may_tell m s o) may_not (tell_needs s o lawful.1.0))
 
-  -- Loading the own sleep word.
+  -- Loading one's own sleep word.
   may_load_from : (s n : ℕ) → may_load_sleep m s n ≡ true → MayLoadSleep w s n
   may_load_from s n may =
       let both = and_parts (makes_steps m s) (nat_eq n (get_or m.lists.sleep s 0)) may in

@@ -34,7 +34,7 @@ use Rattle.lock_model.proofs.Shows.Changes.{partition_word-set, hand-set, IsChan
 use Rattle.lock_table.proofs.QueueLaws.{one_wakes}
 use Rattle.lock_model.proofs.Shows.Looks.{recorded_from, unmarked_from, steps_from, hand_from, hand_not, own_in_content, not_awaited_own, content_from, fits_from, from_fits}
 
--- What the code asks of the own wait before a leave is put is what the World asks.
+-- What the code asks of its own wait before a leave is put is what the World asks.
 over_from : (awaited : Option OwnWait) (p : ℕ) (done : Move) → is_over (option_map awaited_of awaited) p done ≡ true → WaitIsOver awaited p done
 over_from awaited p Keep e = tt
 over_from awaited p (Grant t n) e = tt

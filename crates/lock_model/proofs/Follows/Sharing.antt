@@ -48,7 +48,7 @@ module _ (m : Machine) (w : World) (safe : SafeWorld w) (shows : Shows m w) wher
       → makes_steps m s ≡ true → get_or (get_or marks lock []) s false ≡ true → MayUnshare w.numbers has s lock
   may_unshare s lock marks locks has marked steps sharing = record { steps = steps_from m w safe shows s steps; sharing = sym (marked.mark s lock) ∙ sharing }
 
-  -- A word that nobody holds exclusively has room for one sharer more.
+  -- A word that nobody holds exclusively has room for one more sharer.
   may_be_shared : {number : ℕ} {holds shares : ℕ → Bool} (its : LockState) → ShowsLock its number → ShowsHolders w.numbers.limit number holds shares → IsFreeToShare number
       → IsFreeFor Shared its × (its.shared ≤ 64)
   may_be_shared {number} {holds} {shares} its says shown free = (

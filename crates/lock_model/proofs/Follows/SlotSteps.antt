@@ -25,7 +25,7 @@ use Rattle.lock_model.proofs.Follows.Seats.{number_of_some, some_of_number}
 use Rattle.lock_model.proofs.Shows.Looks.{steps_from, steps_kept, steps_not, fits_from, from_fits}
 use Rattle.lock_model.proofs.Shows.SlotLooks.{unused_from, used_from, to_grant_from, from_to_grant, to_grant-relation, slot-set, database-set}
 
--- Loads of words, and the steps on the own slots and the own database.
+-- Loads of words, and the steps on its own slots and its own database.
 
 -- the machine, once the session's slot has this word
 abbrev pub with_slot : Machine → ℕ → ℕ → ℕ → Machine
@@ -118,7 +118,7 @@ module _ (m : Machine) (w : World) (safe : SafeWorld w) (shows_w : Shows m w) wh
   word_loaded s n (Strong i) = not_loaded s n (Strong i) (λ lawful. lawful.1)
   word_loaded s n (Sleep o) = not_loaded s n (Sleep o) (λ lawful. lawful.1)
 
-  -- The own slots.
+  -- Its own slots.
 
   -- What is stored there is no word that the machine keeps among the others.
   words_kept : (database : ℕ → ℕ) (slot : ℕ → ℕ → ℕ) → ShowsWords m.words (record (w.words) { database = database; slot = slot })
@@ -238,7 +238,7 @@ module _ (m : Machine) (w : World) (safe : SafeWorld w) (shows_w : Shows m w) wh
   pub slot_not_cleared : (s place : ℕ) (t : Tag) (n : Mode) → may_clear_slot m s place t n ≡ false → (v : World) × Next w (record { session = s; step = ClearSlot place t n }) v × Shows m v
   slot_not_cleared s place t n may_not = skipped m w safe shows_w s (ClearSlot place t n) (λ lawful. both_ways (may_clear_slot m s place t n) may_not (from_clear s place t n lawful.1.0))
 
-  -- The own database.
+  -- Its own database.
 
   pub database_was_stored : (s d : ℕ) → s < 64 → may_store_database m s ≡ true
       → (v : World) × Next w (record { session = s; step = StoreDatabase d }) v

@@ -100,7 +100,7 @@ module _ (m : Machine) (w : World) (safe : SafeWorld w) (shows : Shows m w) wher
       (zero_after s o m.fast_path w.sessions.zero shows.fast_path
       (sym (cond-false (nat_eq o s) (set_at w.sessions.zero s None) w.sessions.zero (ne_eqb o s other))))
 
-  -- or the own one, with which what was read of a counter is gone.
+  -- or its own, with which what was read of a counter is gone.
   pub was_put_own : (s o : ℕ) (its word : LockState) → makes_steps m s ≡ true → s < 64 → o < 64 → ShowsLock its (w.words.fast o)
       → get_or (get_or m.locks.fast_holders o []) s false ≡ true → word ≡ put_in Exclusive its → o ≡ s
       → (v : World) × Next w (record { session = s; step = PutExclusive (Fast o) Keep }) v

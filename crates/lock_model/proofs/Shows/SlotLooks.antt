@@ -71,7 +71,7 @@ module _ (m : Machine) (w : World) (safe : SafeWorld w) (shows_w : Shows m w) wh
   no_slot_hold s none t n =
       slots_from m w safe shows_w s t n ∙ ap (λ holds. holds t n) (slot_holds-unused (w.words.database s) (w.words.slot s) (unused_from s none))
 
-  -- Where one is in use, it is one of the session's 16, and it shows an own hold.
+  -- Where one is in use, it is one of the session's 16, and it shows a hold of its own.
   pub used_from : (s : ℕ) → s < 64 → list_any in_use (slots_at m s) ≡ true → (place : ℕ) × (place < 16) × (in_use (w.words.slot s place) ≡ true)
   used_from s below any =
       let found = any_found in_use (slots_at m s) any in

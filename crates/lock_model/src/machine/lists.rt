@@ -106,7 +106,7 @@ impl Machine {
         }
     }
 
-    /// Loads the own sleep word, which must show this: where that is 0, the session stands in no list (the sleep in
+    /// Loads its own sleep word, which must show this: where that is 0, the session stands in no list (the sleep in
     /// `LWLockAcquire` in lwlock.c).
     pub fn load_sleep(&mut self, session: SessionId, shown: u8)
         requires shown { ShowsSafe self.old }

@@ -9,7 +9,7 @@ ghost use Rattle.lock_model.specs.ListWords.{unlocked_in};
 use lw_word::{LwMode, LwWord};
 use modes_core::sessions::SESSIONS;
 
-/// The word with one sharer more, or `None` where somebody holds the lock exclusively. No word shows more sharers
+/// The word with one more sharer, or `None` where somebody holds the lock exclusively. No word shows more sharers
 /// than there are sessions, so that the count has room.
 pub fn share(word: LwWord) -> Option<LwWord>
     ensures { SomeIff result (IsFreeFor Shared word × (word.shared ≤ 64)) (taken_in Shared word) }

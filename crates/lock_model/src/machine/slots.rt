@@ -55,7 +55,7 @@ impl Machine {
     ghost use Rattle.lock_model.specs.SlotLooks.{slots_at, has_own_slots, may_set_slot, may_clear_slot, may_store_database};
 
     /// Takes the lock of the owner's slots exclusively, where nobody has it (`LWLockAcquire` with
-    /// `LW_EXCLUSIVE` in lwlock.c). The owner is any session number, issued or not, the own too.
+    /// `LW_EXCLUSIVE` in lwlock.c). The owner is any session number, issued or not, its own too.
     pub fn take_fast(&mut self, session: SessionId, owner: SessionId)
         ensures { Follows self.old session (Step.TakeExclusive (Word.Fast owner)) self.new }
     {
@@ -70,7 +70,7 @@ impl Machine {
     }
 
     /// Puts the lock of the owner's slots back, which the session holds exclusively; no move comes with it
-    /// (`LWLockRelease` in lwlock.c). With the own lock put, a counter that was read as 0 counts no more.
+    /// (`LWLockRelease` in lwlock.c). With its own lock put, a counter that was read as 0 counts no more.
     pub fn put_fast(&mut self, session: SessionId, owner: SessionId, done: Move)
         ensures { Follows self.old session (Step.PutExclusive (Word.Fast owner) done) self.new }
     {
@@ -95,7 +95,7 @@ impl Machine {
         has_a_mark(self.locks.fast_holders.as_slice(), session)
     }
 
-    /// Loads a word, which must show this: any slot, any session's database, or the lock of the own slots. No step
+    /// Loads a word, which must show this: any slot, any session's database, or the lock of its own slots. No step
     /// of the machine keeps what a load showed.
     pub fn load_word(&mut self, session: SessionId, word: Word, shown: u64)
         ensures { Follows self.old session (Step.LoadWord word shown) self.new }

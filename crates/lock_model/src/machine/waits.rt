@@ -31,7 +31,7 @@ impl Machine {
         }
     }
 
-    /// Loads the own wait word: where it shows that the wait was granted, the session has seen it.
+    /// Loads its own wait word: where it shows that the wait was granted, the session has seen it.
     pub fn load_wait(&mut self, session: SessionId, shown: u8)
         ensures { Follows self.old session (Step.LoadWait shown) self.new }
     {
@@ -41,7 +41,7 @@ impl Machine {
         }
     }
 
-    /// Joins the object's queue, and sets the own wait word to waiting.
+    /// Joins the object's queue, and sets its own wait word to waiting.
     pub fn set_waiting(&mut self, session: SessionId, tag: Tag, mode: Mode) -> Result<(), NoMemory>
         requires shown { ShowsSafe self.old }
         ensures { OnOk result (Follows self.old session (Step.SetWaiting tag mode) self.new) }
@@ -86,7 +86,7 @@ impl Machine {
         }
     }
 
-    /// Clears the own wait word, where the session has seen its grant or has the partition in hand and its
+    /// Clears its own wait word, where the session has seen its grant or has the partition in hand and its
     /// wait is in the queue no more; with leaving, this step may take it out.
     pub fn clear_wait(&mut self, session: SessionId, leaving: bool)
         requires shown { ShowsSafe self.old }

@@ -51,7 +51,7 @@ module _ (w : World) (safe : SafeWorld w) (s p : ℕ) where
     in_content = λ t m home has not_shown. (held-in_table w safe p s t m).1 (home, inl (has, not_shown));
   }
 
-  -- What shows in a slot is an own hold of its session, so it is nowhere else.
+  -- What shows in a slot is its session's own hold, so it is nowhere else.
   shown_elsewhere :
       (o : ℕ) (slots : SlotsInHand) (t : Tag) (m : Mode) → (account w s).fast.slots o ≡ Some slots → slots.holds t m ≡ true
       → ((w.contents.now p).holds o t m ≡ false) × (awaits_mode ((w.contents.now p).waits t) o m ≡ false)

@@ -44,7 +44,7 @@ fast-by w s f slots shared database remembered zero counted =
       counted = counted i;
     }
 
--- One lock more is held, or one less.
+-- One more lock is held, or one less.
 slots-had :
     (has : ℕ → Bool) (database : ℕ → ℕ) (slot : ℕ → ℕ → ℕ) (o : ℕ) (b : Bool)
     → slots_in_hand (set_at has o b) database slot ≡ set_at (slots_in_hand has database slot) o (known_slots b (database o) (slot o))
@@ -189,7 +189,7 @@ slots-written has database slot s after own = λ i q. at q i where
 abbrev pub slots_now : World → ℕ → SlotsInHand
 slots_now w s = record { word = w.words.slot s; holds = slot_holds (w.words.database s) (w.words.slot s) }
 
--- Setting and clearing a mode in an own slot.
+-- Setting and clearing a mode in one of one's own slots.
 pub account-setting :
     (w : World) (s i : ℕ) (t : Tag) (m : Mode) → SafeWorld w → MaySetSlot w s i t m
     → account (after_setting_slot w s i t m) s ≡ account_setting s (account w s) (slots_now w s) i t m
@@ -220,7 +220,7 @@ account-unsetting w s i t m safe may =
       after : ℕ → ℕ
       after = set_at (w.words.slot s) i (word_without (w.words.slot s i) m)
 
--- Storing the own database.
+-- Storing one's own database.
 pub account-storing : (w : World) (s d : ℕ) → MayStoreDatabase w s → account (after_storing_database w s d) s ≡ account_storing (account w s) d
 account-storing w s d may =
     account-by (after_storing_database w s d) s (account_storing (account w s) d) refl refl refl refl refl refl

@@ -23,7 +23,7 @@ account-asking w s k =
     account-by (after_asking w s k) s (account_tracing (account w s) (AskedToCancel k (w.words.wait k))) refl refl refl refl refl refl refl
     (set_at-here w.sessions.trace s (w.sessions.trace s ++ AskedToCancel k (w.words.wait k) ∷ []) s refl)
 
--- Loading the own wait word: the session has seen what the word shows.
+-- Loading one's own wait word: the session has seen what the word shows.
 pub account-loading_wait :
     (w : World) (s n : ℕ)
     → account (after_loading_wait w s n) s ≡ record (account_tracing (account w s) (Loaded (word.Wait s) n)) { seen = (account w s).seen || (wait_state (w.words.wait s) == 2) }
@@ -32,7 +32,7 @@ account-loading_wait w s n =
     (set_at-here w.sessions.seen s (w.sessions.seen s || (wait_state (w.words.wait s) == 2)) s refl) refl refl refl
     (set_at-here w.sessions.trace s (w.sessions.trace s ++ Loaded (word.Wait s) n ∷ []) s refl)
 
--- Setting the own wait word to waiting, with the partition in the own hand.
+-- Setting one's own wait word to waiting, with the partition in its own hand.
 pub account-waiting :
     (w : World) (s : ℕ) (t : Tag) (m : Mode) (content : Content) (hand : Hand) → w.contents.hand (partition_of t) ≡ Some hand → hand.holder ≡ s
     → account (after_setting_waiting w s t m content) s
@@ -63,7 +63,7 @@ account-marking_next w s k p done hand is whose =
     (account_marking (account w s) p (mine hand (w.contents.now p)) (w.contents.now p) Keep done (unmarked_but (is_unmarked (w.contents.hand p)) k)) refl refl refl refl
     (hands-recorded w.contents.hand w.contents.now w.contents.now p hand done (unmarked_but (is_unmarked (w.contents.hand p)) k) s is whose (λ q _. refl)) refl refl refl
 
--- Clearing the own wait word.
+-- Clearing one's own wait word.
 pub account-clearing :
     (w : World) (s : ℕ) (wait : OwnWait)
     → account (after_clearing w s wait) s ≡ account_clearing (account w s) wait (w.sessions.seen s || (w.contents.now (partition_of wait.tag)).holds s wait.tag wait.mode)

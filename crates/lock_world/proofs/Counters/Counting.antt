@@ -1,13 +1,13 @@
 use Rattle.std.proofs.Common.{◌≡◌, ◌≢◌, ℕ, ◌+◌, ◌≤◌, Bool, true, false, cond, ◌&&◌, ◌||◌, nat_eq, List, [], ◌∷◌, refl, sym, ap, ◌∙◌, inl, inr, arith}
 use Rattle.std.specs.Prelude.{nat_lt}
 use Rattle.std.specs.List.{list_any, count_by}
-use Rattle.std.proofs.lemmas.Bool.{cases_Bool, cases_eq, both_ways, and_parts, and_from, and_right, or_left, or_right, le-ltb, eq-eqb, ne_eqb, cond-true, cond-false}
+use Rattle.std.proofs.lemmas.Bool.{cases_Bool, cases_eq, both_ways, and_parts, and_right, or_left, le-ltb, eq-eqb, ne_eqb, cond-true, cond-false}
 use Rattle.std.proofs.lemmas.List.Folds.{list_any-append}
 use Rattle.modes_core.specs.declared.modes.Mode.{Mode}
 use Rattle.modes_core.specs.declared.tags.Tag.{Tag}
 use Rattle.modes_core.specs.Mode.{mode_eq}
 use Rattle.modes_core.specs.Tag.{tag_eq, index_of}
-use Rattle.modes_core.proofs.Laws.{mode_eq-refl, mode_eq-same, tag_eq-refl, tag_eq-same}
+use Rattle.modes_core.proofs.Laws.{mode_eq-same, tag_eq-same}
 use Rattle.lock_table.proofs.ListLemmas.{counted-any}
 use Rattle.lock_world.specs.Counted.{Counted, is_of, counting, count_at, is_counted, is_at, is_past, AtMostOnce}
 use Rattle.lock_world.proofs.Counters.Lists.{count-push}
@@ -24,9 +24,6 @@ is_of-same tag mode c is =
     let both = and_parts (tag_eq c.tag tag) (mode_eq c.mode mode) is in
     (tag_eq-same c.tag tag both.0, mode_eq-same c.mode mode both.1)
 
-entry-is : (tag : Tag) (mode : Mode) → is_of tag mode (entry tag mode) ≡ true
-entry-is tag mode = and_from (tag_eq tag tag) (mode_eq mode mode) (tag_eq-refl tag) (mode_eq-refl mode)
-
 -- One more is counted, at the index of its object.
 pub count_at-counting : (list : List Counted) (tag : Tag) (mode : Mode) (index : ℕ) → index_of tag ≡ index → count_at index (counting list tag mode) ≡ count_at index list + 1
 count_at-counting list tag mode index same =
@@ -39,13 +36,6 @@ count_at-counting_else list tag mode index other =
     let sum = count-push (λ (c : Counted). nat_eq (index_of c.tag) index) list (entry tag mode) in
     let none : ◌≡◌ {A = ℕ} (cond (nat_eq (index_of tag) index) 1 0) 0 = cond-false (nat_eq (index_of tag) index) 1 0 (ne_eqb (index_of tag) index other) in
     omega (arith, sum, none)
-
--- It is at position 0, which is past nobody.
-pub is_at-counting : (list : List Counted) (tag : Tag) (mode : Mode) → is_at 0 (counting list tag mode) tag mode ≡ true
-is_at-counting list tag mode =
-    let test = λ (c : Counted). is_of tag mode c && nat_eq c.position 0 in
-    list_any-append test list (entry tag mode ∷ [])
-    ∙ or_right (list_any test list) (test (entry tag mode) || false) (or_left (test (entry tag mode)) false (and_from (is_of tag mode (entry tag mode)) true (entry-is tag mode) refl))
 
 pub is_past-counting : (list : List Counted) (tag : Tag) (mode : Mode) (object : Tag) (session : ℕ) → is_past (counting list tag mode) object session ≡ is_past list object session
 is_past-counting list tag mode object session =

@@ -1,7 +1,7 @@
 use Rattle.std.proofs.Common.{◌≡◌, ◌≢◌, ◌⊎◌, ℕ, ◌+◌, ◌<◌, ◌≤◌, Bool, true, false, ◌&&◌, nat_eq, List, refl, sym, ap, ◌∙◌, inl, inr, arith}
 use Rattle.std.specs.Prelude.{nat_lt}
 use Rattle.std.specs.List.{count_by}
-use Rattle.std.proofs.lemmas.Bool.{cases_Bool, cases_eq, both_ways, and_parts, and_from, eqb-true, eq-eqb, ltb-true, lt-ltb, cond-true, cond-false, cond_both}
+use Rattle.std.proofs.lemmas.Bool.{cases_Bool, cases_eq, both_ways, and_parts, and_from, eqb-true, ltb-true, lt-ltb, cond-true, cond-false, cond_both}
 use Rattle.modes_core.specs.declared.modes.Mode.{Mode}
 use Rattle.modes_core.specs.declared.tags.Tag.{Tag}
 use Rattle.modes_core.specs.Mode.{mode_eq}
@@ -72,21 +72,6 @@ is_past-passing list tag mode session object other past =
 
       before : (tag_eq object tag ≡ true → other ≡ session → ⊥) → is_past list object other ≡ true
       before not_it = any_weaker (λ c. test (passed tag mode session c)) test list (weaker not_it) (sym (any-map (passed tag mode session) test list) ∙ past)
-
--- What was at the session is one further.
-pub is_at-passing : (list : List Counted) (tag : Tag) (mode : Mode) (session : ℕ) → is_at session list tag mode ≡ true → is_at (session + 1) (passing list tag mode session) tag mode ≡ true
-is_at-passing list tag mode session at =
-    any-map (passed tag mode session) after list ∙ any_weaker before (λ c. after (passed tag mode session c)) list moves at where
-      before : Counted → Bool
-      before c = is_of tag mode c && nat_eq c.position session
-
-      after : Counted → Bool
-      after c = is_of tag mode c && nat_eq c.position (session + 1)
-
-      moves : (c : Counted) → before c ≡ true → after (passed tag mode session c) ≡ true
-      moves c is =
-          ap after (cond-true (is_of tag mode c && nat_eq c.position session) (record c { position = session + 1 }) c is)
-          ∙ and_from (is_of tag mode c) (nat_eq (session + 1) (session + 1)) (and_parts (is_of tag mode c) (nat_eq c.position session) is).0 (eq-eqb (session + 1) (session + 1) refl)
 
 -- What was elsewhere is where it was.
 pub is_at-passing_else :

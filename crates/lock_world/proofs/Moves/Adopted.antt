@@ -6,7 +6,7 @@ use Rattle.lock_table.specs.Content.{Content, add_hold}
 use Rattle.lock_table.proofs.HoldLemmas.{SetHoldAt, here, elsewhere, set_hold-at}
 use Rattle.lock_world.specs.Safe.{IsAdopted, AddsAdopted}
 
--- An adopt goes on with one hold more that a slot could have.
+-- An adopt goes on with one more hold that a slot could have.
 pub adopted-more :
     (p owner : ℕ) (taken now : Content) (t : Tag) (m : Mode) → AddsAdopted p taken owner now → IsAdopted p t m
     → AddsAdopted p taken owner (add_hold now owner t m)

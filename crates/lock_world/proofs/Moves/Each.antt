@@ -47,7 +47,7 @@ module _ (now : ℕ → Content) (own : Holds) (awaited : ℕ → Option OwnWait
   on_it : AgreesOn (now p) t own awaited stage
   on_it = on_the_object now own awaited stage p t safe.one_place object
 
-  -- a hold that conflicts with no other session's is added to the content and to the own holds
+  -- a hold that conflicts with no other session's is added to the content and to its session's own holds
   pub LeavesSafe-added : (m : Mode) → NoConflictingHolder (now p).holds s t m → is_for (awaited s) t m ≡ false → LeavesSafe (set_at now p (add_hold (now p) s t m)) (set_hold own s t m true) awaited stage
   LeavesSafe-added m free not_for =
       let only = ChangesOnly-set (now p) (add_hold (now p) s t m) s t m true refl refl in

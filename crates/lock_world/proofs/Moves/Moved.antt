@@ -22,7 +22,7 @@ use Rattle.lock_table.proofs.QueuesOf.{of_session, one-there, there-some, grante
 use Rattle.lock_world.proofs.Moves.Agreeing.{or-false, AreInOnePlace-same, AreInOnePlace-ended, pending-stage, queued-stage}
 use Rattle.lock_world.proofs.Moves.Each.{LeavesSafe, LeavesSafe-kept, LeavesSafe-granted, LeavesSafe-released, LeavesSafe-woken, LeavesSafe-left, LeavesSafe-joined, stood}
 
--- What a move leaves of the facts on contents and own accounts, over the contents, the own holds, the waits and their stages
+-- What a move leaves of the facts on contents and accounts, over the contents, the sessions' own holds, the waits and their stages
 -- as plain functions.
 
 -- the waits after a move: a join records one
@@ -85,7 +85,7 @@ module _ (now : ℕ → Content) (own : Holds) (awaited : ℕ → Option OwnWait
   for_itself : (wait : OwnWait) → is_for (Some wait) wait.tag wait.mode ≡ true
   for_itself wait = and_from (tag_eq wait.tag wait.tag) (mode_eq wait.mode wait.mode) (tag_eq-refl wait.tag) (mode_eq-refl wait.mode)
 
-  -- A wait that was granted is taken over: its hold is an own one from then on.
+  -- A wait that was granted is taken over: its hold is the session's own from then on.
   pub taken-one_place : (wait : OwnWait) (stage' : ℕ → Stage) → awaited s ≡ Some wait → stage s ≡ WasGranted → ((k : ℕ) → k ≢ s → stage k ≡ stage' k)
       → AreInOnePlace now (set_hold own s wait.tag wait.mode true) (set_at awaited s None) stage'
   taken-one_place wait stage' is granted others =

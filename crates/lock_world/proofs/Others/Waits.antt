@@ -53,7 +53,7 @@ marking-others w s marked (Release t m) v k safe other h = marking_in-others w s
 marking-others w s marked (Leave t) v k safe other h = marking_in-others w s marked (partition_of t) (Leave t) v k safe other h
 marking-others w s marked (Adopt j i) v k safe other h = absurd h
 
--- What a session takes over leaves the own holds of others.
+-- What a session takes over leaves the holds that others own.
 taken_stays : (own : Holds) (s : ℕ) (o : Tag) (n : Mode) (taken : Bool) (k : ℕ) → k ≢ s → (if taken then set_hold own s o n true else own) k ≡ own k
 taken_stays own s o n true k other = λ i t m. set_hold-other_session own s o n true k t m other i
 taken_stays own s o n false k other = refl

@@ -24,7 +24,7 @@ use Rattle.lock_world.proofs.Safe.Partitions.{holding-hand}
 use Rattle.lock_world.proofs.Traces.{TracesTell-record, recorded-adopted}
 
 -- An adopt, as partitions know it: a session in whose hand the partition is adds a hold of another, or of its own, to the
--- content, and so to the own holds of that session. It conflicts with no hold of others.
+-- content, and so to that session's own holds. It conflicts with no hold of others.
 
 -- No leave is recorded where an adopt may be.
 MayAdopt-no_leave : (recorded : Option Move) (owner place : ℕ) (t : Tag) → MayAdopt recorded owner place → is_leave_of recorded t ≡ false

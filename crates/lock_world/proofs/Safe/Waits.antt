@@ -35,7 +35,7 @@ asking-safe w s k safe steps = record {
   traces = TracesTell-entry w.contents w.sessions.trace w.numbers.issued safe.traces s (live-given w s safe steps.live) (AskedToCancel k (w.words.wait k)) tt (λ q. refl);
 }
 
--- Loading the own wait word is safe.
+-- Loading one's own wait word is safe.
 pub loading_wait-safe : (w : World) (s n : ℕ) → SafeButSlots w → MakesSteps w.numbers s → SafeButSlots (after_loading_wait w s n)
 loading_wait-safe w s n safe steps = record {
   table = loading_wait-table w s n safe.table;
@@ -43,7 +43,7 @@ loading_wait-safe w s n safe steps = record {
   traces = TracesTell-entry w.contents w.sessions.trace w.numbers.issued safe.traces s (live-given w s safe steps.live) (Loaded (word.Wait s) n) tt (λ q. refl);
 }
 
--- Setting the own wait word to waiting is safe.
+-- Setting one's own wait word to waiting is safe.
 pub setting_waiting-safe : (w : World) (s : ℕ) (t : Tag) (m : Mode) (content : Content) → SafeButSlots w → MayMove w s (partition_of t) (Join t m) [] content → SafeButSlots (after_setting_waiting w s t m content)
 setting_waiting-safe w s t m content safe may = record {
   table = setting_waiting-table w s t m content safe.table may;
@@ -72,7 +72,7 @@ marking_next-safe w s k p done safe may = record {
   unmarked : ℕ → Bool
   unmarked = unmarked_but (is_unmarked (w.contents.hand p)) k
 
--- Clearing the own wait word is safe.
+-- Clearing one's own wait word is safe.
 pub clearing_seen-safe : (w : World) (s : ℕ) (wait : OwnWait) → SafeButSlots w → MayClearSeen w s wait → SafeButSlots (after_clearing w s wait)
 clearing_seen-safe w s wait safe may = record { table = clearing_seen-table w s wait safe.table may; locks = safe.locks; traces = safe.traces }
 

@@ -76,7 +76,7 @@ slots_of-set database slot s after t m b its = λ i k. at k i where
             ∙ sym (set_at-else (slots_of database slot) s (put tag_eq (slots_of database slot s) t (put mode_eq (slots_of database slot s t) m b)) k other)
       ]
 
--- A hold set or cleared both in the slots and among the own holds: in the table nothing has changed, where it was not there.
+-- A hold set or cleared both in the slots and among its session's own holds: in the table nothing has changed, where it was not there.
 pub own_but-both :
     (own slots : Holds) (s : ℕ) (t : Tag) (m : Mode) (b : Bool) → own_but own slots s t m ≡ false
     → own_but (set_hold own s t m b) (set_hold slots s t m b) ≡ own_but own slots

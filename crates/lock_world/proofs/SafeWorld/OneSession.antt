@@ -15,7 +15,7 @@ use Rattle.lock_world.specs.Counted.{IsCountedFor, Counted, is_done, StrongIsDon
 use Rattle.lock_world.specs.Happens.Partitions.{own_after}
 use Rattle.lock_world.specs.SafeWorld.{SlotsAreOwn, OwnIsInOrder, slots_of}
 
--- A step that changes the own holds and the wait of one session alone: what has to be shown of that session.
+-- A step that changes the holds and the wait of one session alone: what has to be shown of that session.
 
 module _ (own own' : Holds) (awaited awaited' : ℕ → Option OwnWait) (s : ℕ) (same_own : (k : ℕ) (o : Tag) (n : Mode) → k ≢ s → own' k o n ≡ own k o n) (same_wait : (k : ℕ) → k ≢ s → awaited' k ≡ awaited k) where
   pub SlotsAreOwn-one :

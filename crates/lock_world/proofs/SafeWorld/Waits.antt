@@ -37,7 +37,7 @@ asking-safe_world w s k safe steps = record {
   remembered = safe.remembered;
 }
 
--- Loading the own wait word is safe.
+-- Loading one's own wait word is safe.
 pub loading_wait-safe_world : (w : World) (s n : ℕ) → SafeWorld w → MakesSteps w.numbers s → SafeWorld (after_loading_wait w s n)
 loading_wait-safe_world w s n safe steps = record {
   but_slots = loading_wait-safe (tabled w) s n safe.but_slots steps;
@@ -51,7 +51,7 @@ loading_wait-safe_world w s n safe steps = record {
   remembered = safe.remembered;
 }
 
--- Setting the own wait word to waiting is safe.
+-- Setting one's own wait word to waiting is safe.
 pub setting_waiting-safe_world :
     (w : World) (s : ℕ) (t : Tag) (m : Mode) (content : Content) → SafeWorld w → MayMove w s (partition_of t) (Join t m) [] content
     → SafeWorld (after_setting_waiting w s t m content)
@@ -196,7 +196,7 @@ module _ (w : World) (safe : SafeWorld w) (s : ℕ) (wait : OwnWait) (alive : w.
     remembered = safe.remembered;
   }
 
--- Clearing the own wait word is safe.
+-- Clearing one's own wait word is safe.
 pub clearing_seen-safe_world : (w : World) (s : ℕ) (wait : OwnWait) → SafeWorld w → MayClearSeen w s wait → SafeWorld (after_clearing w s wait)
 clearing_seen-safe_world w s wait safe may = clearing-safe_world w safe s wait may.steps.live may.is_wait
     (clearing_seen-safe (tabled w) s wait safe.but_slots (record { steps = may.steps; is_wait = may.is_wait; seen = may.seen }))

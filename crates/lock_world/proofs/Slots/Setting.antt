@@ -23,7 +23,7 @@ its_relation slot relation place takes used =
       | inr unused ↦ absurd (both_ways (in_use (slot place)) unused.0 used)
     ]
 
--- The slots then hold one mode more.
+-- The slots then hold one more mode.
 pub slot_holds-set :
     (database : ℕ) (slot : ℕ → ℕ) (tag : Tag) (mode : Mode) (place : ℕ) → is_eligible_for database tag mode ≡ true → relation_of tag < 2 ^ 32 → IsSlotToGrant slot (relation_of tag) place →
     slot_holds database (set_at slot place (word_with (slot place) (relation_of tag) mode)) ≡ put tag_eq (slot_holds database slot) tag (put mode_eq (slot_holds database slot tag) mode true)

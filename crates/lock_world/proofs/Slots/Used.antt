@@ -1,7 +1,7 @@
 use Rattle.std.proofs.Common.{◌≡◌, ℕ, ◌+◌, ◌<◌, ◌≤◌, ◌^◌, Bool, true, false, ◌&&◌, nat_eq, zero, suc}
 use Rattle.std.proofs.Common.{refl, sym, ap, ◌∙◌, inl, inr, arith}
 use Rattle.std.specs.Prelude.{if◌then◌else◌}
-use Rattle.std.proofs.lemmas.Bool.{cases_eq, cases_Bool, both_ways, false_from_ne_true, and_from, or_left, eq-eqb}
+use Rattle.std.proofs.lemmas.Bool.{cases_eq, both_ways, false_from_ne_true, and_from, or_left, eq-eqb}
 use Rattle.modes_core.specs.declared.modes.Mode.{Mode}
 use Rattle.modes_core.specs.declared.tags.Tag.{Tag}
 use Rattle.modes_core.specs.Mode.{mode_eq, number_of}
@@ -16,12 +16,6 @@ use Rattle.lock_table.proofs.Totals.{total-same, none_pass, some_pass, one_more,
 use Rattle.lock_world.proofs.Slots.Databases.{slot_holds-unused}
 
 -- How many of a session's slots are in use.
-
--- A slot is in use just where it shows some mode of its relation.
-pub used-shows :
-    (word : ℕ) → in_use word ≡ true
-    → (mode : Mode) × (number_of mode ≤ 3) × (shows word (relation_in word) mode ≡ true)
-used-shows = in_use-shows
 
 pub shows-used : (word relation : ℕ) (mode : Mode) → shows word relation mode ≡ true → in_use word ≡ true
 shows-used word relation mode shown = (shows-of word relation mode shown).0
@@ -155,17 +149,3 @@ no_slot-no_hold database slot none tag mode = λ i. slot_holds-unused database s
 pub used-room :
     (slot : ℕ → ℕ) → used slot < slot_count → (place : ℕ) × (place < slot_count) × (in_use (slot place) ≡ false)
 used-room slot fewer = how_many-room slot_count (λ place. in_use (slot place)) fewer
-
-pub used-full :
-    (slot : ℕ → ℕ) → used slot ≡ slot_count → (place : ℕ) → place < slot_count → in_use (slot place) ≡ true
-used-full slot all place within =
-    elim (cases_Bool (in_use (slot place))) [
-      | inl is ↦ is
-      | inr empty ↦
-          let more : how_many slot_count with_it ≡ used slot + 1 =
-          one_more slot_count (λ j. in_use (slot j)) place within empty in
-          let most : how_many slot_count with_it ≤ slot_count = how_many-most slot_count with_it in
-          absurd (omega (arith, more, most, all))
-    ] where
-      with_it : ℕ → Bool
-      with_it = set_at (λ j. in_use (slot j)) place true

@@ -31,7 +31,7 @@ asking-table w s k safe = with_waits-table w w.contents.now w.sessions.own w.ses
     (set_at-each (λ j n. wait_state n ≡ wait_state (w.words.wait j)) w.words.wait k (asked_word (w.words.wait k)) (asked_word-state (w.words.wait k)) (λ _ _. refl)))
     safe.promise.spent (λ _ _. refl)
 
--- Loading the own wait word is safe: a session sees a grant only where the word shows it.
+-- Loading one's own wait word is safe: a session sees a grant only where the word shows it.
 pub loading_wait-table : (w : World) (s n : ℕ) → TableIsSafe w → TableIsSafe (after_loading_wait w s n)
 loading_wait-table w s n safe = with_waits-table w w.contents.now w.sessions.own w.sessions.awaited _ w.words.wait w.contents.hand _ safe
     (seeing-safe w.contents.now w.sessions.own w.sessions.awaited w.sessions.seen w.words.wait w.contents.hand (waits_of w safe) s
@@ -48,7 +48,7 @@ loading_wait-table w s n safe = with_waits-table w w.contents.now w.sessions.own
 pub recording-holders : (hand : ℕ → Option Hand) (p : ℕ) (done : Move) (unmarked : ℕ → Bool) (q k : ℕ) → is_hand_of (set_at hand p (recording (hand p) done unmarked) q) k ≡ is_hand_of (hand q) k
 recording-holders hand p done unmarked = set_at-each (λ q h. (k : ℕ) → is_hand_of h k ≡ is_hand_of (hand q) k) hand p (recording (hand p) done unmarked) (recording-hand (hand p) done unmarked) (λ _ _ _. refl)
 
--- Setting the own wait word to waiting is safe.
+-- Setting one's own wait word to waiting is safe.
 pub setting_waiting-table : (w : World) (s : ℕ) (t : Tag) (m : Mode) (content : Content) → TableIsSafe w → MayMove w s (partition_of t) (Join t m) [] content → TableIsSafe (after_setting_waiting w s t m content)
 setting_waiting-table w s t m content safe may = with_waits-table w (set_at w.contents.now p content) w.sessions.own _ _ _ _ w.sessions.trace safe
     (joining_queue-safe w.contents.now w.sessions.own w.sessions.awaited w.sessions.seen w.words.wait w.contents.hand (waits_of w safe) p s t m content may.unrecorded
@@ -148,7 +148,7 @@ module _ (w : World) (s : ℕ) (wait : OwnWait) (safe : TableIsSafe w) (live : w
       (sym (cond-false (w.sessions.seen s || holds_it) with_it w.sessions.own not_has))
       (ending-safe w.contents.now w.sessions.own w.sessions.awaited w.sessions.seen w.words.wait w.contents.hand (waits_of w safe) s not_unmarked wait is left))
 
--- Clearing the own wait word after it was seen to show a grant is safe.
+-- Clearing one's own wait word after it was seen to show a grant is safe.
 pub clearing_seen-table : (w : World) (s : ℕ) (wait : OwnWait) → TableIsSafe w → MayClearSeen w s wait → TableIsSafe (after_clearing w s wait)
 clearing_seen-table w s wait safe may = clearing_granted-table w s wait safe may.steps.live may.is_wait
     (granted-not_unmarked w.contents.now w.sessions.own w.sessions.awaited w.sessions.seen w.words.wait w.contents.hand (waits_of w safe) s two)

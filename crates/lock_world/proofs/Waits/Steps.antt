@@ -254,7 +254,7 @@ module _ (now : ℕ → Content) (own : Holds) (awaited : ℕ → Option OwnWait
     recorded : recorded_in new ≡ Some done
     recorded = recording-recorded (hand p) done (waits_there granted) s its
 
-    -- the stage of the own wait that has left
+    -- the stage of its own wait that has left
     pub stage_left : (t : Tag) → done ≡ Leave t → stage_of (word s) (set_at hand p new) s (awaited s) ≡ HasLeft
     stage_left t is_leave =
         let in_p : partition_of t ≡ p = subst (λ made. IsInPartition p made) is_leave object in

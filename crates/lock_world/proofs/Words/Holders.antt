@@ -62,7 +62,7 @@ ShowsHolders-put limit word holds shares s shows had = record {
         | inr other ↦ other (shows.by_one k s (sym (set_at-else holds s false k other) ∙ held) had)
       ]
 
--- A word has room for one sharer more, and shows one at least where a session shares it.
+-- A word has room for one more sharer, and shows one at least where a session shares it.
 pub shared-room : (limit word : ℕ) (holds shares : ℕ → Bool) (s : ℕ) → limit < 2 ^ 24 → s < limit → ShowsHolders limit word holds shares → shares s ≡ false → shared_count word + 1 < 2 ^ 24
 shared-room limit word holds shares s few below shows none =
     let more : how_many limit (set_at shares s true) ≡ how_many limit shares + 1 = one_more limit shares s below none in

@@ -52,7 +52,7 @@ after_uncounting w session tag mode = record {
 }
 
 -- Going past a session: its lock is put, and it has no slot on the object (a turn of the loop of FastPathTransferRelationLocks
--- in lock.c). It is the next one, issued or not, the own one too.
+-- in lock.c). It is the next one, issued or not, its own too.
 pub record MayPass (w : World) (session owner : ℕ) (tag : Tag) (mode : Mode) : Type 0 where
   pub steps : MakesSteps w.numbers session
   pub holding : w.sessions.holds_fast session owner ≡ true

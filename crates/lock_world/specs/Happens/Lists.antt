@@ -94,7 +94,7 @@ pub record MayTell (w : World) (session other : ℕ) : Type 0 where
 abbrev pub after_telling_one : World → ℕ → ℕ → World
 after_telling_one w session other = with_sleepers w (after_telling (sleepers w) session other)
 
--- Loading the own sleep word: where it shows 0, the session stands in no list (the sleep of LWLockAcquire).
+-- Loading one's own sleep word: where it shows 0, the session stands in no list (the sleep of LWLockAcquire).
 pub record MayLoadSleep (w : World) (session shown : ℕ) : Type 0 where
   pub steps : MakesSteps w.numbers session
   pub is_word : shown ≡ w.words.sleep session

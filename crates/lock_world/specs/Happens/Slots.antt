@@ -39,7 +39,7 @@ after_taking_fast w session owner = record {
 abbrev pub HappensTakingFast : World → ℕ → ℕ → World → Type 0
 HappensTakingFast w session owner v = MayTakeFast w session owner × (v ≡ after_taking_fast w session owner)
 
--- Putting it. A counter read as 0 before permits no more slot to be set once the own lock is put.
+-- Putting it. A counter read as 0 before permits no more slot to be set once its own lock is put.
 pub record MayPutFast (w : World) (session owner : ℕ) : Type 0 where
   pub steps : MakesSteps w.numbers session
   pub holding : w.sessions.holds_fast session owner ≡ true
@@ -92,7 +92,7 @@ after_reading_counter w session index shown = record {
   numbers = w.numbers;
 }
 
--- Setting a mode in an own slot (FastPathGrantRelationLock in lock.c): the mode on the object is eligible for the own database,
+-- Setting a mode in one of one's own slots (FastPathGrantRelationLock in lock.c): the mode on the object is eligible for its own database,
 -- its counter was read as 0, and the slot is the one that such a grant takes.
 pub record MaySetSlot (w : World) (session place : ℕ) (tag : Tag) (mode : Mode) : Type 0 where
   pub steps : MakesSteps w.numbers session
@@ -119,7 +119,7 @@ after_setting_slot w session place tag mode = record {
   numbers = w.numbers;
 }
 
--- Clearing a mode in the own slot that has it (FastPathUnGrantRelationLock in lock.c).
+-- Clearing a mode in the slot of one's own that has it (FastPathUnGrantRelationLock in lock.c).
 pub record MayClearSlot (w : World) (session place : ℕ) (tag : Tag) (mode : Mode) : Type 0 where
   pub steps : MakesSteps w.numbers session
   pub holding : w.sessions.holds_fast session session ≡ true
@@ -140,7 +140,7 @@ after_clearing_slot w session place tag mode = record {
   numbers = w.numbers;
 }
 
--- Storing the own database, once, with no slot in use (InitPostgres in postinit.c).
+-- Storing one's own database, once, with no slot in use (InitPostgres in postinit.c).
 pub record MayStoreDatabase (w : World) (session : ℕ) : Type 0 where
   pub steps : MakesSteps w.numbers session
   pub unset : w.words.database session ≡ 0

@@ -21,7 +21,7 @@ MayAdopt None owner slot = Unit {0}
 MayAdopt (Some done) owner slot = done ≡ Adopt owner slot
 
 -- Moving a mode that a slot has to the content of the object's partition (a mode of the inner loop of
--- FastPathTransferRelationLocks in lock.c). Both locks are held, and the owner is next, the own session too.
+-- FastPathTransferRelationLocks in lock.c). Both locks are held, and the owner is next; that may be the session itself.
 pub record MayTransfer (w : World) (session owner place : ℕ) (tag : Tag) (mode strong : Mode) : Type 0 where
   pub steps : MakesSteps w.numbers session
   pub holding_slots : w.sessions.holds_fast session owner ≡ true

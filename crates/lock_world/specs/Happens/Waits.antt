@@ -16,7 +16,7 @@ use Rattle.lock_world.specs.Happens.Partitions.{MayMove, own_after}
 -- Waits: steps on wait words. A join, a leave and a release that wakes somebody are made by such a step, and stand recorded in
 -- the hand until the partition is put back.
 
--- Asking a session to cancel: any number, issued or not, closed or not, the own too.
+-- Asking a session to cancel: any number, issued or not, closed or not, its own too.
 abbrev pub after_asking : World → ℕ → ℕ → World
 after_asking w session other = record {
   words = record (w.words) { wait = set_at w.words.wait other (asked_word (w.words.wait other)) };
@@ -27,7 +27,7 @@ after_asking w session other = record {
   numbers = w.numbers;
 }
 
--- Loading the own wait word: the value shown is the whole word, and a session sees so that its wait was granted.
+-- Loading one's own wait word: the value shown is the whole word, and a session sees so that its wait was granted.
 pub record MayLoadWait (w : World) (session shown : ℕ) : Type 0 where
   pub steps : MakesSteps w.numbers session
   pub is_word : shown ≡ w.words.wait session
@@ -52,7 +52,7 @@ recording (Some hand) done unmarked = Some (record hand { recorded = Some done; 
 abbrev pub unmarked_but : (ℕ → Bool) → ℕ → ℕ → Bool
 unmarked_but unmarked marked session = unmarked session && not (session == marked)
 
--- Setting the own wait word to waiting: the join is made, the wait recorded.
+-- Setting one's own wait word to waiting: the join is made, the wait recorded.
 abbrev pub after_setting_waiting : World → ℕ → Tag → Mode → Content → World
 after_setting_waiting w session tag mode content = record {
   words = record (w.words) { wait = set_at w.words.wait session 1 };
@@ -127,7 +127,7 @@ HappensMarking w session other (Release tag mode) v = HappensMarkingIn w session
 HappensMarking w session other (Leave tag) v = HappensMarkingIn w session other (partition_of tag) (Leave tag) v
 HappensMarking w session other (Adopt owner slot) v = ⊥
 
--- Clearing the own wait word: the session has seen the grant, or it has the partition in hand and its wait is not in the
+-- Clearing one's own wait word: the session has seen the grant, or it has the partition in hand and its wait is not in the
 -- queue. What was granted is its own from then on.
 pub record MayClearSeen (w : World) (session : ℕ) (wait : OwnWait) : Type 0 where
   pub steps : MakesSteps w.numbers session

@@ -18,6 +18,7 @@ use lw_word::SlotWord;
 use modes_core::{Mode, SessionId, Tag};
 use shared_rule::board::Board;
 use shared_rule::busy::Busy;
+use shared_rule::kept::Kept;
 use shared_rule::one_thread::OneThread;
 use shared_rule::table::in_slots;
 use std::alloc::Global;
@@ -348,7 +349,7 @@ fn make_all<T: PartTable, B: Board<T>, R: Abort + Wait>(
 }
 
 /// Sixteen empty partitions, each in its slot.
-fn empty_slots(alloc: Global) -> Result<Vec<Option<PlainPart>>, Fail>
+fn empty_slots(alloc: Global) -> Result<Vec<Kept<PlainPart>>, Fail>
     ensures new { let T = ⟦<PlainPart as PartTable>⟧ in IfOk result (λ slots. AreNew T.content T.begun slots.items) }
 {
     Ok(in_slots(alloc, empty_parts(alloc, PlainPart::new)?)?)

@@ -1,14 +1,14 @@
-//! Desks, which give the sessions of a manager out and take them back.
+//! Desks, which give the sessions of a manager out, count what they have, and take them back.
 
-ghost use Rattle.std.specs.Prelude.{◌≡◌, ◌+◌, ◌-◌, ◌++◌, ◌∷◌, [], IfOk, OnOk, OnErr, vec_len};
+ghost use Rattle.std.specs.Prelude.{◌≡◌, ◌+◌, ◌-◌, ◌++◌, ◌∷◌, [], All, length, IfOk, OnOk, OnErr, vec_len};
 ghost use Rattle.lock_manager.specs.Managers.{IsOpenerOf};
 ghost use Rattle.manager_tests.specs.Crews.{AreOf, SeatsAre};
 
-use lock_manager::{Manager, Opener, OwnSession, Part, Refusal, Session};
+use lock_manager::{Audit, Manager, Opener, OwnSession, Part, Refusal, Session};
 use lock_table::PartTable;
 use shared_rule::board::Board;
 use shared_rule::seat_board::SeatBoard;
-use std::alloc::Global;
+use std::alloc::{AllocFailed, Global};
 use std::process::Abort;
 use std::sync::Wait;
 
@@ -47,6 +47,15 @@ pub trait Desk<S> {
         requires same_manager { (seat other).table ≡ (seat session.old).table }
         ensures kept { seat session.new ≡ seat session.old }
         ensures its_kept { seat result ≡ seat other };
+
+    /// Counts what all open sessions have. It is refused where memory is wanting.
+    fn audit<R: Wait>(&mut self, rt: &R, sessions: &mut Vec<S>) -> Result<Audit, Refusal>
+        requires own { All (λ session. (seat session).table ≡ (manager self.old).table) sessions.old.items }
+        requires all { length sessions.old.items ≡ live self.old }
+        ensures manager { manager self.new ≡ manager self.old }
+        ensures live { live self.new ≡ live self.old }
+        ensures own { All (λ session. (seat session).table ≡ (manager self.old).table) sessions.new.items }
+        ensures as_many { length sessions.new.items ≡ length sessions.old.items };
 
     /// Closes one of its sessions.
     fn close<R: Wait>(&mut self, rt: &R, session: S)
@@ -113,6 +122,19 @@ impl<'a> Desk<Session<'a>> for ManagerDesk<'a> {
         session.meet(other)
     }
 
+    fn audit<R: Wait>(&mut self, rt: &R, sessions: &mut Vec<Session<'a>>) -> Result<Audit, Refusal>
+        requires own { let B = ⟦<SeatBoard<'a, Part> as Board<Part>>⟧ in
+            All (λ session. (B.seat session.board).table ≡ self.old.manager.now.table) sessions.old.items }
+        requires all { length sessions.old.items ≡ self.old.opener.live }
+        ensures manager { self.new.manager.now ≡ self.old.manager.now }
+        ensures live { self.new.opener.live ≡ self.old.opener.live }
+        ensures own { let B = ⟦<SeatBoard<'a, Part> as Board<Part>>⟧ in
+            All (λ session. (B.seat session.board).table ≡ self.old.manager.now.table) sessions.new.items }
+        ensures as_many { length sessions.new.items ≡ length sessions.old.items }
+    {
+        self.manager.audit(rt, &mut self.opener, sessions)
+    }
+
     fn close<R: Wait>(&mut self, rt: &R, session: Session<'a>)
         requires own { (⟦<SeatBoard<'a, Part> as Board<Part>>⟧.seat session.board).table
             ≡ self.old.manager.now.table }
@@ -139,13 +161,16 @@ pub fn open<T: PartTable, B: Board<T>, D: Desk<OwnSession<T, B>>, R: Abort>(
     }
 }
 
-/// Puts it behind the others.
-fn append<S, R: Abort>(rt: &R, list: &mut Vec<S>, session: S)
+/// Puts it behind the others, at the second attempt where there was no memory.
+pub fn append<S, R: Abort>(rt: &R, list: &mut Vec<S>, session: S)
     ensures { list.new.items ≡ list.old.items ++ session ∷ [] }
 {
     match list.push(session) {
         Ok(()) => {}
-        Err(_) => panic!(rt; "no memory for a list of sessions"),
+        Err(AllocFailed { value }) => match list.push(value) {
+            Ok(()) => {}
+            Err(_) => panic!(rt; "no memory for a list of sessions"),
+        },
     }
 }
 

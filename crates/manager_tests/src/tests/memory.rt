@@ -24,7 +24,7 @@ fn object(number: u32) -> (Tag, Mode) {
 }
 
 /// Whether there was no memory.
-fn is_wanting(answer: &Answer) -> bool {
+pub fn is_wanting(answer: &Answer) -> bool {
     *answer == Err(Refusal::NoMemory)
 }
 

@@ -3,10 +3,12 @@
 ghost use Rattle.std.specs.Prelude.{◌≡◌, ◌+◌, ◌-◌};
 ghost use Rattle.manager_tests.specs.Crews.{SeatsAre};
 
-use super::desk::{Desk, open};
+use super::audits::close_counted;
+use super::desk::{Desk, append, open};
 use lock_manager::OwnSession;
 use lock_table::PartTable;
 use shared_rule::board::Board;
+use std::alloc::Global;
 use std::process::Abort;
 use std::sync::Wait;
 
@@ -41,8 +43,13 @@ impl<T: PartTable, B: Board<T>> Pair<T, B> {
         Pair { first, second }
     }
 
-    /// Closes both.
-    pub fn close<D: Desk<OwnSession<T, B>>, R: Wait>(self, rt: &R, desk: &mut D)
+    /// An audit counts what both have, and they are closed. No other session is open.
+    pub fn close<D: Desk<OwnSession<T, B>>, R: Abort + Wait>(
+        self,
+        rt: &R,
+        alloc: Global,
+        desk: &mut D,
+    )
         requires seats { SeatsAre B.seat D.seat }
         requires first { (B.seat self.first.board).table ≡ (D.manager desk.old).table }
         requires second { (B.seat self.second.board).table ≡ (D.manager desk.old).table }
@@ -50,7 +57,9 @@ impl<T: PartTable, B: Board<T>> Pair<T, B> {
         ensures live { D.live desk.new ≡ D.live desk.old - 2 }
     {
         let Pair { first, second } = self;
-        desk.close(rt, first);
-        desk.close(rt, second);
+        let mut sessions = Vec::new(alloc);
+        append(rt, &mut sessions, first);
+        append(rt, &mut sessions, second);
+        close_counted(rt, desk, sessions);
     }
 }

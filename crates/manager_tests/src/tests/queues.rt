@@ -5,7 +5,8 @@ ghost use Rattle.lock_manager.specs.Managers.{ManagerView};
 ghost use Rattle.manager_tests.specs.Crews.{AreOf, SeatsAre};
 
 use super::answers::expect_granted;
-use super::desk::{Desk, close_many, open_many};
+use super::audits::close_counted;
+use super::desk::{Desk, open_many};
 use super::waits::{OWNER, TABLE, give_back, see_wait, take};
 use super::wakes::pause;
 use lock_manager::{Mode, OwnSession, Part, SessionId};
@@ -160,5 +161,5 @@ pub fn wake_sleepers<
     };
     sleep_side_by_side(rt, &tally, sessions.as_mut_slice());
     tally.expect(rt, MANY);
-    close_many(rt, desk, sessions);
+    close_counted(rt, desk, sessions);
 }

@@ -6,8 +6,9 @@ ghost use Rattle.lock_manager.specs.Managers.{ManagerView};
 ghost use Rattle.manager_tests.specs.Crews.{AreOf, SeatsAre};
 
 use super::answers::{expect_granted, expect_released};
+use super::audits::close_counted;
 use super::conflicts::conflicts;
-use super::desk::{Desk, close_many, open_many};
+use super::desk::{Desk, open_many};
 use lock_manager::{How, Mode, OwnSession, Owner, Part, Refusal, SessionId, Tag};
 use lock_table::PartTable;
 use shared_rule::board::Board;
@@ -180,6 +181,6 @@ pub fn ask_in_threads<
     let mut sessions = open_many(rt, alloc, desk, number);
     let holders = Mutex::new([[0; 8]; 4]);
     ask_side_by_side(rt, &holders, plan, sessions.as_mut_slice());
-    close_many(rt, desk, sessions);
+    close_counted(rt, desk, sessions);
     assert!(rt; holders.into_inner() == [[0; 8]; 4]);
 }

@@ -4,12 +4,14 @@ ghost use Rattle.std.specs.Prelude.{◌≡◌, IfSome, None};
 ghost use Rattle.manager_tests.specs.Crews.{SeatsAre};
 
 use super::answers::expect_answer;
-use super::desk::{Desk, open};
+use super::audits::close_counted;
+use super::desk::{Desk, append, open};
 use super::races::end_wait;
 use super::waits::{OWNER, TABLE, ask, give_back, leave, queue, see_wait, take};
 use lock_manager::{Acquired, Asked, Mode, OwnSession, OwnWaiting, Part, Refusal, SessionId};
 use lock_table::PartTable;
 use shared_rule::board::Board;
+use std::alloc::Global;
 use std::process::Abort;
 use std::sync::Wait;
 use std::thread;
@@ -104,7 +106,7 @@ pub fn let_go_by_a_cancel<
     B: Board<Part> + Send,
     D: Desk<OwnSession<Part, B>>,
     R: Abort + Threads + Wait + Sync,
->(rt: &R, desk: &mut D)
+>(rt: &R, alloc: Global, desk: &mut D)
     requires seats { SeatsAre B.seat D.seat }
     ensures manager { D.manager desk.new ≡ D.manager desk.old }
     ensures live { D.live desk.new ≡ D.live desk.old }
@@ -118,9 +120,11 @@ pub fn let_go_by_a_cancel<
     end_wait(ahead);
     give_back(rt, &mut behind, Mode::AccessShare);
     give_back(rt, &mut holder, Mode::AccessShare);
-    desk.close(rt, behind);
-    desk.close(rt, left);
-    desk.close(rt, holder);
+    let mut sessions = Vec::new(alloc);
+    append(rt, &mut sessions, holder);
+    append(rt, &mut sessions, left);
+    append(rt, &mut sessions, behind);
+    close_counted(rt, desk, sessions);
 }
 
 /// Asks the session of this number to cancel once it sleeps.
@@ -157,7 +161,7 @@ pub fn woken_as_asked<
     B: Board<Part> + Send,
     D: Desk<OwnSession<Part, B>>,
     R: Abort + Threads + Wait + Sync,
->(rt: &R, desk: &mut D)
+>(rt: &R, alloc: Global, desk: &mut D)
     requires seats { SeatsAre B.seat D.seat }
     ensures manager { D.manager desk.new ≡ D.manager desk.old }
     ensures live { D.live desk.new ≡ D.live desk.old }
@@ -168,6 +172,8 @@ pub fn woken_as_asked<
     let number = sleeper.id();
     ask_side_by_side(rt, &mut holder, &mut sleeper, &number);
     give_back(rt, &mut holder, Mode::AccessExclusive);
-    desk.close(rt, sleeper);
-    desk.close(rt, holder);
+    let mut sessions = Vec::new(alloc);
+    append(rt, &mut sessions, holder);
+    append(rt, &mut sessions, sleeper);
+    close_counted(rt, desk, sessions);
 }

@@ -6,7 +6,8 @@ ghost use Rattle.lock_manager.specs.Managers.{ManagerView};
 ghost use Rattle.manager_tests.specs.Crews.{AreOf, SeatsAre};
 
 use super::answers::expect_released;
-use super::desk::{Desk, close_many, open_many};
+use super::audits::close_counted;
+use super::desk::{Desk, open_many};
 use lock_manager::{Listing, Mode, OwnSession, Owner, Part, SessionId, Tag};
 use lock_table::PartTable;
 use shared_rule::board::Board;
@@ -252,5 +253,5 @@ pub fn list_beside<
     let mut sessions = open_many(rt, alloc, desk, SESSIONS);
     let words = Words::new();
     play_side_by_side(rt, &words, sessions.as_mut_slice());
-    close_many(rt, desk, sessions);
+    close_counted(rt, desk, sessions);
 }

@@ -18,7 +18,7 @@ use Rattle.lock_table.proofs.Totals.{total-least}
 use Rattle.lock_world.proofs.Counters.Uncounting.{count_at-uncounting}
 use Rattle.lock_world.proofs.Accounts.Lawful.{count-lawful, uncount-lawful}
 use Rattle.lock_world.proofs.Accounts.Slots.{account-counting, account-uncounting}
-use Rattle.shared_rule.specs.declared.history.Mark.TheVariants as mark
+use Rattle.shared_rule.specs.Marks as mark
 use Rattle.shared_rule.specs.declared.history.History.{History}
 use Rattle.shared_rule.specs.Shown.{set_word}
 use Rattle.shared_rule.specs.History.{told}
@@ -65,6 +65,7 @@ module _ {T : Type 0} (content : T → Content) (limit : ℕ) (x : History T) (t
       let most = shown-most w steps in
       let next : w.words.strong index + 1 ≡ (n + 1) % 2 ^ 64 = omega (arith, shown, most) in
       record {
+        list = w.words.list;
         noted = record {
           step = Count tag mode;
           after = after_counting w x.number tag mode;
@@ -79,6 +80,7 @@ module _ {T : Type 0} (content : T → Content) (limit : ℕ) (x : History T) (t
               omega (arith, few, longer));
         };
         home = λ p none. (none, refl);
+        lists = λ lock nobody. (nobody, refl);
       }
 
   pub uncounting-lawful : MayUncountBy (told content x.number x.marks) tag mode
@@ -95,6 +97,7 @@ module _ {T : Type 0} (content : T → Content) (limit : ℕ) (x : History T) (t
       let is : w.words.strong index ≡ counter w.numbers.limit w.sessions.counted index = steps.safe.counters.shown index in
       let next : w.words.strong index - 1 ≡ (n + (2 ^ 64 - 1)) % 2 ^ 64 = omega (arith, shown, some, least, is, below) in
       record {
+        list = w.words.list;
         noted = record {
           step = Uncount tag mode;
           after = after_uncounting w x.number tag mode;
@@ -110,4 +113,5 @@ module _ {T : Type 0} (content : T → Content) (limit : ℕ) (x : History T) (t
               omega (arith, few, as_many, fewer));
         };
         home = λ p none. (none, refl);
+        lists = λ lock nobody. (nobody, refl);
       }

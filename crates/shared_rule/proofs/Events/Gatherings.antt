@@ -11,6 +11,7 @@ use Rattle.lock_world.specs.World.{word_in}
 use Rattle.shared_rule.specs.declared.history.History.{History}
 use Rattle.shared_rule.specs.declared.history.Mark.{Mark}
 use Rattle.shared_rule.specs.declared.history.View.{View}
+use Rattle.shared_rule.specs.declared.kept.Kept.{Kept}
 use Rattle.shared_rule.specs.History.{noting, first_account}
 use Rattle.shared_rule.specs.Layout.{index_of_word, IsInTable}
 use Rattle.shared_rule.specs.Plays.{Side}
@@ -22,7 +23,7 @@ use Rattle.shared_rule.proofs.Gathered.{distinct, stands-among, slots-among, cou
 
 -- Loads by a seat at which all sessions are.
 
-module _ {T : Type 0} (content : T → Content) (begun : T → Option Request) (limit : ℕ) (s : State (Option T) (View T)) (r : Ruled content begun limit s) (id : ℕ) (view : View T) (at : get_elem? s.views id ≡ some view)
+module _ {T : Type 0} (content : T → Content) (begun : T → Option Request) (limit : ℕ) (s : State (Kept T) (View T)) (r : Ruled content begun limit s) (id : ℕ) (view : View T) (at : get_elem? s.views id ≡ some view)
     (x : History T) (others : List (History T)) (is : view.sessions ≡ x ∷ others) (issued : ℕ) (are : AreAll issued view) where
   few : limit < 2 ^ 24
   few = let most = r.few in omega (arith, most)
@@ -68,7 +69,7 @@ module _ {T : Type 0} (content : T → Content) (begun : T → Option Request) (
             )
 
   -- A load that changes nothing, and tells what is known of all.
-  pub tells_all_at : (i : ℕ) (step : Step (Option T)) → Allows (Ruled content begun limit) slots id me i (λ n. n) (ToldAll content step me)
+  pub tells_all_at : (i : ℕ) (step : Step (Kept T)) → Allows (Ruled content begun limit) slots id me i (λ n. n) (ToldAll content step me)
   tells_all_at i step s r many at below = (
     me.0,
     keeps,

@@ -8,7 +8,7 @@ use Rattle.lock_world.specs.World.{Words, Loaded}
 use Rattle.lock_world.specs.Happens.Slots.{after_loading, after_reading_counter}
 use Rattle.lock_world.specs.AccountSteps.{account_tracing, account_reading}
 use Rattle.lock_world.proofs.Accounts.Slots.{account-loading, account-reading}
-use Rattle.shared_rule.specs.declared.history.Mark.TheVariants as mark
+use Rattle.shared_rule.specs.Marks as mark
 use Rattle.shared_rule.specs.declared.history.History.{History}
 use Rattle.shared_rule.specs.Shown.{set_word}
 use Rattle.shared_rule.specs.Ruled.{NoneBeyondSlots}
@@ -30,6 +30,7 @@ module _ {T : Type 0} (content : T → Content) (limit : ℕ) (x : History T) wh
   pub loading_database-lawful : (owner : ℕ) → IsAlwaysLawful content limit x (Database owner) (λ _. Unit {0}) (λ n. n)
       (mark.LoadedDatabase owner)
   loading_database-lawful owner w steps n below shown _ = record {
+    list = w.words.list;
     noted = record {
       step = LoadWord (Database owner) n;
       after = after_loading w x.number (Database owner) n;
@@ -42,11 +43,13 @@ module _ {T : Type 0} (content : T → Content) (limit : ℕ) (x : History T) wh
       few_counted = steps.few_counted x.number;
     };
     home = λ p none. (none, refl);
+    lists = λ lock nobody. (nobody, refl);
   }
 
   pub loading_slot-lawful : (owner place : ℕ) → place < 16 → IsAlwaysLawful content limit x (Slot owner place)
       (λ _. Unit {0}) (λ n. n) (mark.LoadedSlot owner place)
   loading_slot-lawful owner place within w steps n below shown _ = record {
+    list = w.words.list;
     noted = record {
       step = LoadWord (Slot owner place) n;
       after = after_loading w x.number (Slot owner place) n;
@@ -59,12 +62,14 @@ module _ {T : Type 0} (content : T → Content) (limit : ℕ) (x : History T) wh
       few_counted = steps.few_counted x.number;
     };
     home = λ p none. (none, refl);
+    lists = λ lock nobody. (nobody, refl);
   }
 
   -- Also where an exchange finds another number than the one expected.
   pub loading_fast-lawful : (expected : ℕ → Type 0) → IsAlwaysLawful content limit x (Fast x.number) expected (λ n. n)
       mark.LoadedFast
   loading_fast-lawful expected w steps n below shown _ = record {
+    list = w.words.list;
     noted = record {
       step = LoadWord (Fast x.number) n;
       after = after_loading w x.number (Fast x.number) n;
@@ -77,11 +82,13 @@ module _ {T : Type 0} (content : T → Content) (limit : ℕ) (x : History T) wh
       few_counted = steps.few_counted x.number;
     };
     home = λ p none. (none, refl);
+    lists = λ lock nobody. (nobody, refl);
   }
 
   pub loading_strong-lawful : (index : ℕ) → index < 1024 → IsAlwaysLawful content limit x (Strong index)
       (λ _. Unit {0}) (λ n. n) (mark.LoadedStrong index)
   loading_strong-lawful index within w steps n below shown _ = record {
+    list = w.words.list;
     noted = record {
       step = LoadStrong index n;
       after = after_reading_counter w x.number index n;
@@ -93,4 +100,5 @@ module _ {T : Type 0} (content : T → Content) (limit : ℕ) (x : History T) wh
       few_counted = steps.few_counted x.number;
     };
     home = λ p none. (none, refl);
+    lists = λ lock nobody. (nobody, refl);
   }

@@ -34,9 +34,10 @@ use Rattle.lock_world.proofs.Accounts.Facts.{slots-told}
 use Rattle.lock_world.proofs.Accounts.Slots.{account-taking_fast, account-putting_fast, account-passing}
 use Rattle.lock_world.proofs.Accounts.Slots.{account-sharing_fast, account-unsharing_fast}
 use Rattle.shared_rule.specs.declared.history.Mark.{Mark}
-use Rattle.shared_rule.specs.declared.history.Mark.TheVariants as mark
+use Rattle.shared_rule.specs.Marks as mark
 use Rattle.shared_rule.specs.declared.history.History.{History}
 use Rattle.shared_rule.specs.declared.history.View.{View}
+use Rattle.shared_rule.specs.declared.kept.Kept.{Kept}
 use Rattle.shared_rule.specs.Layout.{index_of_word}
 use Rattle.shared_rule.specs.Shown.{WordsAreShown, set_word}
 use Rattle.shared_rule.specs.History.{told, noting, first_account, first_number, slots_shown}
@@ -44,7 +45,7 @@ use Rattle.shared_rule.specs.Ruled.{ContentsAreHome, Ruled}
 use Rattle.shared_rule.specs.Plays.{Side, SeesSlots, SeesSlotsOr, TookSlotsOr, SharedSlotsOr, unnoted, noted_load}
 use Rattle.shared_rule.proofs.Shown.{words-set}
 use Rattle.shared_rule.proofs.Frame.{Stepper, IsNoted, ruled-steps, ruled-noted}
-use Rattle.shared_rule.proofs.Events.Words.{IsAlwaysLawful, rule-after, nothing-changes}
+use Rattle.shared_rule.proofs.Events.Words.{IsAlwaysLawful, KeepsLists, lists-kept, rule-after, nothing-changes}
 use Rattle.shared_rule.proofs.Events.Loads.{loading_fast-lawful}
 
 -- Taking the lock of a session's fast-path slots, and putting it, with that session passed or not; and sharing it.
@@ -127,6 +128,7 @@ record Sees {T : Type 0} (content : T → Content) (x : History T) (owner : ℕ)
       IsNoted content w x.number (told content x.number x.marks) (mark owner (w.words.database owner)
       (listed slot_count (w.words.slot owner))) (set_word w.words (Fast owner) next)
   contents : noted.after.contents ≡ w.contents
+  lists : KeepsLists w noted.after
 
 module _ {T : Type 0} (content : T → Content) (begun : T → Option Request) (limit slots id : ℕ) (me : Side T)
     (x : History T) (others : List (History T)) (is : me.0.sessions ≡ x ∷ others)
@@ -141,7 +143,7 @@ module _ {T : Type 0} (content : T → Content) (begun : T → Option Request) (
       (mark : ℕ → ℕ → List ℕ → Mark T) (lost : ℕ → View T → View T) (old new : ℕ)
       → ((w : World) → Stepper limit w x.number (told content x.number x.marks) → w.words.fast owner ≡ old
       → Sees content x owner w mark new)
-      → ((s : State (Option T) (View T)) → Ruled content begun limit s → get_elem? s.views id ≡ some me.0
+      → ((s : State (Kept T) (View T)) → Ruled content begun limit s → get_elem? s.views id ≡ some me.0
       → slice_index s.words at_word < 2 ^ 64
       → Ruled content begun limit (record {
         words = slice_set s.words at_word (slice_index s.words at_word);
@@ -158,7 +160,7 @@ module _ {T : Type 0} (content : T → Content) (begun : T → Option Request) (
         here : Allows (Ruled content begun limit) slots id me at_word (λ n. either (n == old) new n)
             (SeesSlotsOr content mark lost (step slots at_word old new none) me)
         here s r many at_view below =
-            exchanged (slice_index s.words at_word) old new (λ m. (view : View T) × (act : Act (Option T))
+            exchanged (slice_index s.words at_word) old new (λ m. (view : View T) × (act : Act (Kept T))
             × Valid s.homes me.1 act
             × Ruled content begun limit (stepped s at_word m id me.1 view act)
             × SeesSlotsOr content mark lost (step slots at_word old new none) me (slice_index s.words at_word)
@@ -176,7 +178,8 @@ module _ {T : Type 0} (content : T → Content) (begun : T → Option Request) (
               ruled-noted content begun limit s r id me.0 x others at_view is (mark owner database words)
                   (set_word w.words (Fast owner) new) (slice_set s.words at_word new) s.homes sees.noted
                   (words-set s.words w.words (Fast owner) new r.words (tt, inside))
-                  (subst (ContentsAreHome content begun s.homes) (sym sees.contents) r.contents),
+                  (subst (ContentsAreHome content begun s.homes) (sym sees.contents) r.contents)
+                  (lists-kept s.homes w sees.noted.after sees.lists r.lists),
               (
                 (λ _ k within same.
                     let one : owner ≡ k = omega (arith, same) in
@@ -214,6 +217,7 @@ module _ {T : Type 0} (content : T → Content) (begun : T → Option Request) (
       (record {
         noted = taking_fast-noted content limit x owner w steps (there w steps) (subst IsHeldByNobody (sym shown) free);
         contents = refl;
+        lists = λ lock nobody. (nobody, refl);
       })
 
   -- of a session that there can be
@@ -259,6 +263,7 @@ module _ {T : Type 0} (content : T → Content) (begun : T → Option Request) (
         noted = sharing_fast-noted content limit x owner w steps (subst (λ n. owner < n) (sym steps.is_limit) exists)
             (subst IsFreeToShare (sym shown) free) may;
         contents = refl;
+        lists = λ lock nobody. (nobody, refl);
       }))
       (λ s r at_view below. nothing-changes content begun limit id at_word me.0 s r at_view)
 
@@ -279,6 +284,7 @@ module _ {T : Type 0} (content : T → Content) (limit : ℕ) (x : History T) (o
       let may' = subst (λ a. MayPutFastBy a owner slots) steps.account may in
       let held = subst IsHeldExclusively (sym shown) (shows-held w steps slots may'.in_hand) in
       record {
+        list = w.words.list;
         noted = record {
           step = PutExclusive (Fast owner) Keep;
           after = after_putting_fast w x.number owner;
@@ -290,6 +296,7 @@ module _ {T : Type 0} (content : T → Content) (limit : ℕ) (x : History T) (o
           few_counted = steps.few_counted x.number;
         };
         home = λ p none. (none, refl);
+        lists = λ lock nobody. (nobody, refl);
       }
 
   -- Whoever knows slots that it shares is counted in the word.
@@ -303,6 +310,7 @@ module _ {T : Type 0} (content : T → Content) (limit : ℕ) (x : History T) (o
       (λ k. w.sessions.shares_fast k owner) x.number (steps.safe.but_slots.locks.fast_words owner) may'.sharing in
       let some_shown : 0 < shared_count n = subst (λ k. 0 < shared_count k) (sym shown) some in
       record {
+        list = w.words.list;
         noted = record {
           step = PutShared (Fast owner);
           after = after_unsharing_fast w x.number owner;
@@ -315,6 +323,7 @@ module _ {T : Type 0} (content : T → Content) (limit : ℕ) (x : History T) (o
           few_counted = steps.few_counted x.number;
         };
         home = λ p none. (none, refl);
+        lists = λ lock nobody. (nobody, refl);
       }
 
   pub passing-lawful : (slots : SlotsInHand) (tag : Tag) (mode : Mode) → MayPassBy (told content x.number x.marks) owner slots tag mode
@@ -323,6 +332,7 @@ module _ {T : Type 0} (content : T → Content) (limit : ℕ) (x : History T) (o
       let may' = subst (λ a. MayPassBy a owner slots tag mode) steps.account may in
       let held = subst IsHeldExclusively (sym shown) (shows-held w steps slots may'.in_hand) in
       record {
+        list = w.words.list;
         noted = record {
           step = PutPassing owner tag mode;
           after = after_passing w x.number owner tag mode;
@@ -335,4 +345,5 @@ module _ {T : Type 0} (content : T → Content) (limit : ℕ) (x : History T) (o
               (subst (λ k. k ≤ most_counted) (sym (lib.ListN.length-map (w.sessions.counted x.number) (passed tag mode owner))) (steps.few_counted x.number));
         };
         home = λ p none. (none, refl);
+        lists = λ lock nobody. (nobody, refl);
       }

@@ -9,6 +9,7 @@ use prog.Atomic.{either}
 use Rattle.atomic_table.specs.Table.{State, Step, step, Act, takes, gives, keeps, Allows, Valid, stepped, carried_after, rest}
 use Rattle.atomic_table.proofs.Lists.{set_here, set_else, exchanged}
 use Rattle.lw_word.specs.LightweightWord.{IsHeldByNobody, IsHeldExclusively, taken_word, put_word}
+use Rattle.lw_word.specs.declared.wait_lists.LwWaiter.{LwWaiter}
 use Rattle.lock_table.specs.declared.request.Request.{Request}
 use Rattle.lock_table.specs.declared.moves.Move.{Move}
 use Rattle.lock_table.specs.Content.{Content}
@@ -31,15 +32,17 @@ use Rattle.lock_world.proofs.Words.Holders.{free-not_held}
 use Rattle.lock_world.proofs.Accounts.Lawful.{put-lawful, put_recorded-lawful, hand-known}
 use Rattle.lock_world.proofs.Accounts.Partitions.{account-taking, account-putting}
 use Rattle.lock_world.proofs.Accounts.Facts.{content-known}
-use Rattle.shared_rule.specs.declared.history.Mark.TheVariants.{TookPart, PutPart}
+use Rattle.shared_rule.specs.Marks.{TookPart, PutPart}
 use Rattle.shared_rule.specs.declared.history.Mark.{Mark}
 use Rattle.shared_rule.specs.declared.history.History.{History}
 use Rattle.shared_rule.specs.declared.history.View.{View}
-use Rattle.shared_rule.specs.declared.layout.TheConstants.{CONTENT_SLOTS}
-use Rattle.shared_rule.specs.Layout.{index_of_word, content_slot_of}
+use Rattle.shared_rule.specs.declared.kept.Kept.{Kept}
+use Rattle.shared_rule.specs.declared.kept.Kept.TheVariants.{Part}
+use Rattle.shared_rule.specs.declared.layout.TheConstants.{TABLE_SLOTS}
+use Rattle.shared_rule.specs.Layout.{index_of_word, content_slot_of, list_slot_of}
 use Rattle.shared_rule.specs.Shown.{set_word}
 use Rattle.shared_rule.specs.History.{told, noting, taken_of, first_account, first_number}
-use Rattle.shared_rule.specs.Ruled.{IsAtHome, IsHomeUnlessInHand, ContentsAreHome, Ruled}
+use Rattle.shared_rule.specs.Ruled.{IsAtHome, IsHomeUnlessInHand, ContentsAreHome, ListIsAtHome, ListsAreHome, Ruled}
 use Rattle.shared_rule.specs.Plays.{Side, WentHome, TookContent, TookPartition}
 use Rattle.shared_rule.proofs.Shown.{words-set}
 use Rattle.shared_rule.proofs.Frame.{Stepper, IsNoted, ruled-steps, ruled-noted}
@@ -62,10 +65,28 @@ free-in_no_hand w safe p free = go (w.contents.hand p) refl where
       absurd (free-not_held w.numbers.limit (w.words.partition p) (λ s. w.sessions.holds_partition s p) (λ s. w.sessions.shares_partition s p)
       (safe.but_slots.table.promise.words p) free hand.holder held)
 
+-- A slot keeps one part.
+pub part-same : {T : Type 0} (one other : T) → ◌≡◌ {A = Kept T} (Part one) (Part other) → one ≡ other
+part-same one other same = cc (same)
+
+-- A list has another slot than each content,
+list-apart : (p lock : ℕ) → p < 16 → list_slot_of lock ≢ content_slot_of p
+list-apart p lock exists same = omega (arith, same, exists)
+
+-- so lists stay at home where a content comes or goes.
+lists-beside :
+    {T : Type 0} (homes : List (maybe.Option (Kept T))) (p : ℕ) (there : maybe.Option (Kept T))
+    (has_list : ℕ → Option ℕ) (list : ℕ → List LwWaiter) → p < 16 → ListsAreHome homes has_list list
+    → ListsAreHome (slice_set homes (content_slot_of p) there) has_list list
+lists-beside homes p there has_list list exists home lock within nobody =
+    subst (ListIsAtHome (list lock))
+    (sym (set_else homes (content_slot_of p) (list_slot_of lock) there (list-apart p lock exists)))
+    (home lock within nobody)
+
 module _ {T : Type 0} (content : T → Content) (begun : T → Option Request) where
   -- What is at home stays so where one content is taken in hand,
   home-taken :
-      (homes : List (maybe.Option (Option T))) (contents : Contents) (p : ℕ) (hand : Hand) → ContentsAreHome content begun homes contents
+      (homes : List (maybe.Option (Kept T))) (contents : Contents) (p : ℕ) (hand : Hand) → ContentsAreHome content begun homes contents
       → ContentsAreHome content begun (slice_set homes (content_slot_of p) none) (record { now = contents.now; hand = set_at contents.hand p (Some hand) })
   home-taken homes contents p hand home q within =
       elim (cases_eq q p) [
@@ -78,32 +99,32 @@ module _ {T : Type 0} (content : T → Content) (begun : T → Option Request) w
 
   -- and where one goes home.
   home-put :
-      (homes : List (maybe.Option (Option T))) (contents : Contents) (p : ℕ) (part : T) → length homes ≡ CONTENT_SLOTS → p < 16 → begun part ≡ None → ContentsAreHome content begun homes contents
-      → ContentsAreHome content begun (slice_set homes (content_slot_of p) (some (Some part))) (record { now = set_at contents.now p (content part); hand = set_at contents.hand p None })
+      (homes : List (maybe.Option (Kept T))) (contents : Contents) (p : ℕ) (part : T) → length homes ≡ TABLE_SLOTS → p < 16 → begun part ≡ None → ContentsAreHome content begun homes contents
+      → ContentsAreHome content begun (slice_set homes (content_slot_of p) (some (Part part))) (record { now = set_at contents.now p (content part); hand = set_at contents.hand p None })
   home-put homes contents p part many exists none_begun home q within =
       elim (cases_eq q p) [
         | inl same ↦
-            subst (λ h. IsHomeUnlessInHand content begun h (set_at contents.now p (content part) q) (get_elem? (slice_set homes (content_slot_of p) (some (Some part))) (content_slot_of q)))
+            subst (λ h. IsHomeUnlessInHand content begun h (set_at contents.now p (content part) q) (get_elem? (slice_set homes (content_slot_of p) (some (Part part))) (content_slot_of q)))
             (sym (set_at-here contents.hand p None q same)) (record {
               part = part;
-              at_home = ap (λ j. get_elem? (slice_set homes (content_slot_of p) (some (Some part))) (content_slot_of j)) same
-                  ∙ set_here homes (content_slot_of p) (some (Some part)) (omega (arith, many, exists));
+              at_home = ap (λ j. get_elem? (slice_set homes (content_slot_of p) (some (Part part))) (content_slot_of j)) same
+                  ∙ set_here homes (content_slot_of p) (some (Part part)) (omega (arith, many, exists));
               is_content = sym (set_at-here contents.now p (content part) q same);
               none_begun = none_begun;
             })
         | inr other ↦
-            subst (λ h. IsHomeUnlessInHand content begun h (set_at contents.now p (content part) q) (get_elem? (slice_set homes (content_slot_of p) (some (Some part))) (content_slot_of q)))
+            subst (λ h. IsHomeUnlessInHand content begun h (set_at contents.now p (content part) q) (get_elem? (slice_set homes (content_slot_of p) (some (Part part))) (content_slot_of q)))
             (sym (set_at-else contents.hand p None q other))
-            (subst (λ now. IsHomeUnlessInHand content begun (contents.hand q) now (get_elem? (slice_set homes (content_slot_of p) (some (Some part))) (content_slot_of q)))
+            (subst (λ now. IsHomeUnlessInHand content begun (contents.hand q) now (get_elem? (slice_set homes (content_slot_of p) (some (Part part))) (content_slot_of q)))
             (sym (set_at-else contents.now p (content part) q other))
             (subst (IsHomeUnlessInHand content begun (contents.hand q) (contents.now q))
-            (sym (set_else homes (content_slot_of p) (content_slot_of q) (some (Some part)) (slots-apart p q other))) (home q within)))
+            (sym (set_else homes (content_slot_of p) (content_slot_of q) (some (Part part)) (slots-apart p q other))) (home q within)))
       ]
 
 module _ {T : Type 0} (content : T → Content) (begun : T → Option Request) (limit id : ℕ) (me : Side T) (x : History T) (others : List (History T)) (is : me.0.sessions ≡ x ∷ others)
     (p : ℕ) (exists : p < 16) where
   -- What is at home in a partition that is free.
-  at_home : (s : State (Option T) (View T)) (r : Ruled content begun limit s) → IsHeldByNobody (r.world.words.partition p)
+  at_home : (s : State (Kept T) (View T)) (r : Ruled content begun limit s) → IsHeldByNobody (r.world.words.partition p)
       → IsAtHome content begun (r.world.contents.now p) (get_elem? s.homes (content_slot_of p))
   at_home s r free = subst (λ h. IsHomeUnlessInHand content begun h (r.world.contents.now p) (get_elem? s.homes (content_slot_of p))) (free-in_no_hand r.world r.safe p free) (r.contents p exists)
 
@@ -122,10 +143,10 @@ module _ {T : Type 0} (content : T → Content) (begun : T → Option Request) (
   }
 
   -- The exchange takes it where it finds the number of a free word.
-  pub takes_part : (old new : ℕ) (step : Step (Option T)) → step.first ≡ old → step.word ≡ index_of_word (Partition p) → IsHeldByNobody old → new ≡ taken_word old
-      → Allows (Ruled content begun limit) CONTENT_SLOTS id me (index_of_word (Partition p)) (λ n. either (n == old) new n) (TookPartition content begun step me)
+  pub takes_part : (old new : ℕ) (step : Step (Kept T)) → step.first ≡ old → step.word ≡ index_of_word (Partition p) → IsHeldByNobody old → new ≡ taken_word old
+      → Allows (Ruled content begun limit) TABLE_SLOTS id me (index_of_word (Partition p)) (λ n. either (n == old) new n) (TookPartition content begun step me)
   takes_part old new step first word free is_new s r many at below =
-      exchanged n old new (λ m. (view : View T) × (act : Act (Option T)) × Valid s.homes me.1 act
+      exchanged n old new (λ m. (view : View T) × (act : Act (Kept T)) × Valid s.homes me.1 act
       × Ruled content begun limit (stepped s (index_of_word (Partition p)) m id me.1 view act)
       × TookPartition content begun step me n (view, carried_after me.1 act))
       (λ hit.
@@ -136,7 +157,7 @@ module _ {T : Type 0} (content : T → Content) (begun : T → Option Request) (
       let noted = taking-noted r.world steps is_free home.part home.is_content in
       let next : taken_word (r.world.words.partition p) ≡ new = ap taken_word shown ∙ sym is_new in (
         noting me.0 (TookPart p home.part),
-        takes (content_slot_of p) (Some home.part),
+        takes (content_slot_of p) (Part home.part),
         home.at_home,
         ruled-noted content begun limit s r id me.0 x others at is (TookPart p home.part)
             (set_word r.world.words (Partition p) (taken_word (r.world.words.partition p))) (slice_set s.words (index_of_word (Partition p)) new)
@@ -144,11 +165,12 @@ module _ {T : Type 0} (content : T → Content) (begun : T → Option Request) (
             (subst (λ k. Rattle.shared_rule.specs.Shown.WordsAreShown (slice_set s.words (index_of_word (Partition p)) k) (set_word r.world.words (Partition p) (taken_word (r.world.words.partition p)))) next
             (words-set s.words r.world.words (Partition p) (taken_word (r.world.words.partition p)) r.words (exists, tt)))
             (home-taken content begun s.homes r.world.contents p
-            (record { holder = x.number; taken = r.world.contents.now p; recorded = None; unmarked = λ _. Rattle.std.proofs.Common.false }) r.contents),
+            (record { holder = x.number; taken = r.world.contents.now p; recorded = None; unmarked = λ _. Rattle.std.proofs.Common.false }) r.contents)
+            (lists-beside s.homes p none r.world.sessions.has_list r.world.words.list exists r.lists),
         (
           (λ _ q within same.
               let one : p ≡ q = omega (arith, same, word) in
-              subst (λ k. TookContent content begun k me (noting me.0 (TookPart p home.part), (content_slot_of p, Some home.part) ∷ me.1)) one (record {
+              subst (λ k. TookContent content begun k me (noting me.0 (TookPart p home.part), (content_slot_of p, Part home.part) ∷ me.1)) one (record {
                 part = home.part;
                 side = refl;
                 none_begun = home.none_begun;
@@ -205,9 +227,9 @@ module _ {T : Type 0} (content : T → Content) (begun : T → Option Request) (
         few_counted = steps.few_counted x.number;
       }
 
-  pub puts_part : (step : Step (Option T)) (its : InHand) (done : Move) (part : T) → MayPutPart limit x.number (told content x.number x.marks) p its done (content part)
-      → begun part ≡ None → me.1 ≡ (content_slot_of p, Some part) ∷ rest me.1
-      → Allows (Ruled content begun limit) CONTENT_SLOTS id me (index_of_word (Partition p)) (λ n. (n + (2 ^ 64 - 2 ^ 24)) % 2 ^ 64) (WentHome (λ _. PutPart p done part) step me)
+  pub puts_part : (step : Step (Kept T)) (its : InHand) (done : Move) (part : T) → MayPutPart limit x.number (told content x.number x.marks) p its done (content part)
+      → begun part ≡ None → me.1 ≡ (content_slot_of p, Part part) ∷ rest me.1
+      → Allows (Ruled content begun limit) TABLE_SLOTS id me (index_of_word (Partition p)) (λ n. (n + (2 ^ 64 - 2 ^ 24)) % 2 ^ 64) (WentHome (λ _. PutPart p done part) step me)
   puts_part step its done part may none_begun carried s r many at below =
       let steps = ruled-steps content begun limit s r id me.0 x others at is in
       let noted = putting-noted r.world steps its done part may in
@@ -227,26 +249,28 @@ module _ {T : Type 0} (content : T → Content) (begun : T → Option Request) (
             (Rattle.atomic_table.specs.Table.put_back s.homes me.1) noted
             (subst (λ k. Rattle.shared_rule.specs.Shown.WordsAreShown (slice_set s.words (index_of_word (Partition p)) k) (set_word r.world.words (Partition p) (put_word (r.world.words.partition p)))) next
             (words-set s.words r.world.words (Partition p) (put_word (r.world.words.partition p)) r.words (exists, tt)))
-            (subst (λ (homes : List (maybe.Option (Option T))). ContentsAreHome content begun homes noted.after.contents) (sym (ap (Rattle.atomic_table.specs.Table.put_back s.homes) carried))
-            (home-put content begun s.homes r.world.contents p part many exists none_begun r.contents)),
+            (subst (λ (homes : List (maybe.Option (Kept T))). ContentsAreHome content begun homes noted.after.contents) (sym (ap (Rattle.atomic_table.specs.Table.put_back s.homes) carried))
+            (home-put content begun s.homes r.world.contents p part many exists none_begun r.contents))
+            (subst (λ (homes : List (maybe.Option (Kept T))). ListsAreHome homes r.world.sessions.has_list r.world.words.list) (sym (ap (Rattle.atomic_table.specs.Table.put_back s.homes) carried))
+            (lists-beside s.homes p (some (Part part)) r.world.sessions.has_list r.world.words.list exists r.lists)),
         refl,
       )
 
 -- The same of the word at an index, in a table with this many slots.
 module _ {T : Type 0} (content : T → Content) (begun : T → Option Request) (limit id : ℕ) (me : Side T) (x : History T) (others : List (History T)) (is : me.0.sessions ≡ x ∷ others)
-    (p : ℕ) (exists : p < 16) (slots i : ℕ) (many : slots ≡ CONTENT_SLOTS) (at : i ≡ index_of_word (Partition p)) where
+    (p : ℕ) (exists : p < 16) (slots i : ℕ) (many : slots ≡ TABLE_SLOTS) (at : i ≡ index_of_word (Partition p)) where
   pub takes_part_at : (old new : ℕ) → IsHeldByNobody old → new ≡ taken_word old
       → Allows (Ruled content begun limit) slots id me i (λ n. either (n == old) new n) (TookPartition content begun (step slots i old new none) me)
   takes_part_at old new free is_new =
       subst (λ n. Allows (Ruled content begun limit) n id me i (λ n. either (n == old) new n) (TookPartition content begun (step n i old new none) me)) (sym many)
-      (subst (λ k. Allows (Ruled content begun limit) CONTENT_SLOTS id me k (λ n. either (n == old) new n) (TookPartition content begun (step CONTENT_SLOTS k old new none) me)) (sym at)
-      (takes_part content begun limit id me x others is p exists old new (step CONTENT_SLOTS (index_of_word (Partition p)) old new none) refl refl free is_new))
+      (subst (λ k. Allows (Ruled content begun limit) TABLE_SLOTS id me k (λ n. either (n == old) new n) (TookPartition content begun (step TABLE_SLOTS k old new none) me)) (sym at)
+      (takes_part content begun limit id me x others is p exists old new (step TABLE_SLOTS (index_of_word (Partition p)) old new none) refl refl free is_new))
 
   pub puts_part_at : (its : InHand) (done : Move) (part : T) → MayPutPart limit x.number (told content x.number x.marks) p its done (content part)
-      → begun part ≡ None → me.1 ≡ (content_slot_of p, Some part) ∷ rest me.1 → (mark : ℕ → Mark T) → mark ≡ (λ _. PutPart p done part)
+      → begun part ≡ None → me.1 ≡ (content_slot_of p, Part part) ∷ rest me.1 → (mark : ℕ → Mark T) → mark ≡ (λ _. PutPart p done part)
       → Allows (Ruled content begun limit) slots id me i (λ n. (n + (2 ^ 64 - 16777216)) % 2 ^ 64) (WentHome mark (step slots i 16777216 0 none) me)
   puts_part_at its done part may none_begun carried mark marked =
       subst (λ n. Allows (Ruled content begun limit) n id me i (λ n. (n + (2 ^ 64 - 16777216)) % 2 ^ 64) (WentHome mark (step n i 16777216 0 none) me)) (sym many)
-      (subst (λ k. Allows (Ruled content begun limit) CONTENT_SLOTS id me k (λ n. (n + (2 ^ 64 - 16777216)) % 2 ^ 64) (WentHome mark (step CONTENT_SLOTS k 16777216 0 none) me)) (sym at)
-      (subst (λ (m : ℕ → Mark T). Allows (Ruled content begun limit) CONTENT_SLOTS id me (index_of_word (Partition p)) (λ n. (n + (2 ^ 64 - 16777216)) % 2 ^ 64) (WentHome m (step CONTENT_SLOTS (index_of_word (Partition p)) 16777216 0 none) me)) (sym marked)
-      (puts_part content begun limit id me x others is p exists (step CONTENT_SLOTS (index_of_word (Partition p)) 16777216 0 none) its done part may none_begun carried)))
+      (subst (λ k. Allows (Ruled content begun limit) TABLE_SLOTS id me k (λ n. (n + (2 ^ 64 - 16777216)) % 2 ^ 64) (WentHome mark (step TABLE_SLOTS k 16777216 0 none) me)) (sym at)
+      (subst (λ (m : ℕ → Mark T). Allows (Ruled content begun limit) TABLE_SLOTS id me (index_of_word (Partition p)) (λ n. (n + (2 ^ 64 - 16777216)) % 2 ^ 64) (WentHome m (step TABLE_SLOTS (index_of_word (Partition p)) 16777216 0 none) me)) (sym marked)
+      (puts_part content begun limit id me x others is p exists (step TABLE_SLOTS (index_of_word (Partition p)) 16777216 0 none) its done part may none_begun carried)))

@@ -20,6 +20,7 @@ use Rattle.lock_world.proofs.FromSafeWorld.{no_conflict-own_world}
 use Rattle.shared_rule.specs.declared.history.Mark.{Mark}
 use Rattle.shared_rule.specs.declared.history.History.{History}
 use Rattle.shared_rule.specs.declared.history.View.{View}
+use Rattle.shared_rule.specs.declared.kept.Kept.{Kept}
 use Rattle.std.proofs.lemmas.Bool.{false_from_ne_true}
 use Rattle.shared_rule.specs.History.{keeper, lone, spent_view, first_account}
 use Rattle.shared_rule.specs.Plays.{Side}
@@ -79,7 +80,7 @@ module _ {T : Type 0} (content : T → Content) (begun : T → Option Request) (
 
   -- where one more is given out, and is live,
   opened-counted :
-      (s : State (Option T) (View T)) (r : Ruled content begun limit s) (id : ℕ) (view : View T) (n : ℕ) → get_elem? s.views id ≡ some view → view.next ≡ Some n
+      (s : State (Kept T) (View T)) (r : Ruled content begun limit s) (id : ℕ) (view : View T) (n : ℕ) → get_elem? s.views id ≡ some view → view.next ≡ Some n
       → OpenerHasClosed (slice_set s.views id (record { next = Some (n + 1); closed = view.closed; sessions = view.sessions }) ++ lone n [] ∷ []) (after_issuing r.world n).numbers
   opened-counted s r id view n at gives =
       opener-longer (after_issuing r.world n).numbers (slice_set s.views id left) (lone n []) refl (λ seat u m there says.
@@ -104,7 +105,7 @@ module _ {T : Type 0} (content : T → Content) (begun : T → Option Request) (
 
   -- and where one that was live closes, who is one more.
   closed-counted :
-      (s : State (Option T) (View T)) (r : Ruled content begun limit s) (id : ℕ) (opener : View T) (n other k : ℕ) (marks : List (Mark T)) → get_elem? s.views id ≡ some opener
+      (s : State (Kept T) (View T)) (r : Ruled content begun limit s) (id : ℕ) (opener : View T) (n other k : ℕ) (marks : List (Mark T)) → get_elem? s.views id ≡ some opener
       → opener.next ≡ Some n → other ≢ id → r.world.numbers.live k ≡ true
       → OpenerHasClosed (slice_set (slice_set s.views id (with_closed opener (lone k marks))) other spent_view) (after_closing r.world k).numbers
   closed-counted s r id opener n other k marks at gives apart live seat u m there says =
@@ -145,7 +146,7 @@ module _ {T : Type 0} (content : T → Content) (begun : T → Option Request) (
       (closed-counted s r id opener has.number other k one.marks at has.next apart shown.live))
 
   -- A session meets those at a seat, behind them.
-  meets : (s : State (Option T) (View T)) (r : Ruled content begun limit s) (id : ℕ) (view : View T) (other b : ℕ) (marks : List (Mark T)) (at : get_elem? s.views id ≡ some view)
+  meets : (s : State (Kept T) (View T)) (r : Ruled content begun limit s) (id : ℕ) (view : View T) (other b : ℕ) (marks : List (Mark T)) (at : get_elem? s.views id ≡ some view)
       (there : get_elem? s.views other ≡ some (lone b marks)) (apart : other ≢ id) → MayBeKeptApartBy (account r.world b) → (sessions : List (History T)) → view.sessions ≡ sessions
       → Ruled content begun limit (record { words = s.words; homes = s.homes; views = slice_set (slice_set s.views id (met view (lone b marks))) other spent_view })
   meets s r id view other b marks at there apart may sessions is = by sessions is where
@@ -182,6 +183,7 @@ module _ {T : Type 0} (content : T → Content) (begun : T → Option Request) (
       none_beyond = r.none_beyond;
       few_counted = r.few_counted;
       contents = r.contents;
+      lists = r.lists;
       seats = seats_as r.world.numbers.kept_by
           (ap (λ (xs : List (History T)). set_at r.world.numbers.kept_by b (keeper (xs ++ theirs ∷ []) (length xs))) none
           ∙ set_at-same r.world.numbers.kept_by b None (sym shown.kept_by));
@@ -215,7 +217,7 @@ module _ {T : Type 0} (content : T → Content) (begun : T → Option Request) (
       (meets s r id view other b one.marks at stands apart may_by view.sessions refl)
 
   -- The last one goes on by itself.
-  parts : (s : State (Option T) (View T)) (r : Ruled content begun limit s) (id : ℕ) (view : View T) (before : List (History T)) (y : History T) (at : get_elem? s.views id ≡ some view)
+  parts : (s : State (Kept T) (View T)) (r : Ruled content begun limit s) (id : ℕ) (view : View T) (before : List (History T)) (y : History T) (at : get_elem? s.views id ≡ some view)
       (is : view.sessions ≡ before ++ y ∷ [])
       → Ruled content begun limit (record {
         words = s.words;
@@ -235,6 +237,7 @@ module _ {T : Type 0} (content : T → Content) (begun : T → Option Request) (
         none_beyond = r.none_beyond;
         few_counted = r.few_counted;
         contents = r.contents;
+        lists = r.lists;
         seats =
             let kept : set_at r.world.numbers.kept_by y.number None ≡ r.world.numbers.kept_by =
             set_at-same r.world.numbers.kept_by y.number None (sym (shown.kept_by ∙ ap (λ (xs : List (History T)). keeper xs 0) is)) in
@@ -267,7 +270,7 @@ module _ {T : Type 0} (content : T → Content) (begun : T → Option Request) (
       (parts s r id view is.before is.last at is.sessions)
 
   -- Those that the opener has as closed were given out, each once.
-  pub tells_closed : (slots id i : ℕ) (me : Side T) (step : Step (Option T)) → HasNext me.0 → Allows (Ruled content begun limit) slots id me i (λ n. n) (ToldClosed step me)
+  pub tells_closed : (slots id i : ℕ) (me : Side T) (step : Step (Kept T)) → HasNext me.0 → Allows (Ruled content begun limit) slots id me i (λ n. n) (ToldClosed step me)
   tells_closed slots id i me step has s r many at below =
       let opens_at = r.seats.next id me.0 has.number at has.next in (
         me.0,
@@ -283,7 +286,7 @@ module _ {T : Type 0} (content : T → Content) (begun : T → Option Request) (
       )
 
   -- Where two meet, no hold of the one conflicts with a hold of the other.
-  pub tells_apart : (slots id i : ℕ) (me : Side T) (step : Step (Option T)) → IsForTwo me.0 → Allows (Ruled content begun limit) slots id me i (λ n. n) (ToldApart content step me)
+  pub tells_apart : (slots id i : ℕ) (me : Side T) (step : Step (Kept T)) → IsForTwo me.0 → Allows (Ruled content begun limit) slots id me i (λ n. n) (ToldApart content step me)
   tells_apart slots id i me step is s r many at below =
       let both : me.0.sessions ≡ is.first ∷ is.second ∷ [] = ap (λ (v : View T). v.sessions) is.two in
       let one = r.seats.history id 0 me.0 is.first at (ap (λ (xs : List (History T)). slice_get xs 0) both) in

@@ -23,7 +23,7 @@ use Rattle.lock_world.proofs.Accounts.Lawful.{transfer-lawful}
 use Rattle.lock_world.proofs.Accounts.Parts.{mine}
 use Rattle.lock_world.proofs.Accounts.Slots.{slots_now, account-setting, account-unsetting, account-transferring}
 use Rattle.lock_world.proofs.Accounts.Slots.{account-storing}
-use Rattle.shared_rule.specs.declared.history.Mark.TheVariants as mark
+use Rattle.shared_rule.specs.Marks as mark
 use Rattle.shared_rule.specs.declared.history.History.{History}
 use Rattle.shared_rule.specs.Shown.{set_word}
 use Rattle.shared_rule.specs.Ruled.{NoneBeyondSlots}
@@ -72,6 +72,7 @@ module _ {T : Type 0} (content : T → Content) (limit : ℕ) (x : History T) wh
       let here : slots_here ((account w s).fast.slots s) ≡ slots_now w s = ap slots_here may'.in_hand ∙ known in
       let shows : shown ≡ w.words.slot s place = is ∙ ap (λ (k : SlotsInHand). k.word place) known in
       record {
+        list = w.words.list;
         noted = record {
           step = step.SetSlot place tag mode;
           after = after_setting_slot w s place tag mode;
@@ -86,6 +87,7 @@ module _ {T : Type 0} (content : T → Content) (limit : ℕ) (x : History T) wh
               steps.none_beyond;
           few_counted = steps.few_counted s;
         };
+        lists = λ lock nobody. (nobody, refl);
         home = λ p none. (none, refl);
       }
 
@@ -102,6 +104,7 @@ module _ {T : Type 0} (content : T → Content) (limit : ℕ) (x : History T) wh
       let here : slots_here ((account w s).fast.slots s) ≡ slots_now w s = ap slots_here may'.in_hand ∙ known in
       let shows : shown ≡ w.words.slot s place = is ∙ ap (λ (k : SlotsInHand). k.word place) known in
       record {
+        list = w.words.list;
         noted = record {
           step = step.ClearSlot place tag mode;
           after = after_clearing_slot w s place tag mode;
@@ -115,6 +118,7 @@ module _ {T : Type 0} (content : T → Content) (limit : ℕ) (x : History T) wh
           none_beyond = set-none_beyond w.words s place (word_without shown mode) may.within steps.none_beyond;
           few_counted = steps.few_counted s;
         };
+        lists = λ lock nobody. (nobody, refl);
         home = λ p none. (none, refl);
       }
 
@@ -139,6 +143,7 @@ module _ {T : Type 0} (content : T → Content) (limit : ℕ) (x : History T) wh
       ∙ own.as_known in
       let shows : shown ≡ w.words.slot owner place = is ∙ ap (λ (k : SlotsInHand). k.word place) known in
       record {
+        list = w.words.list;
         noted = record {
           step = step.TransferSlot owner place tag mode strong;
           after = after_transferring w owner place tag mode;
@@ -153,6 +158,7 @@ module _ {T : Type 0} (content : T → Content) (limit : ℕ) (x : History T) wh
           none_beyond = set-none_beyond w.words owner place (word_without shown mode) may.within steps.none_beyond;
           few_counted = steps.few_counted s;
         };
+        lists = λ lock nobody. (nobody, refl);
         home = home-recorded w.contents p s held own
             (set_at w.contents.now p (add_hold (w.contents.now p) owner tag mode)) (Adopt owner place)
             (is_unmarked (w.contents.hand p))
@@ -173,6 +179,7 @@ module _ {T : Type 0} (content : T → Content) (limit : ℕ) (x : History T) wh
             (steps.safe.slots.has_database s) unset';
       } in
       record {
+        list = w.words.list;
         noted = record {
           step = step.StoreDatabase database;
           after = after_storing_database w s database;
@@ -183,5 +190,6 @@ module _ {T : Type 0} (content : T → Content) (limit : ℕ) (x : History T) wh
           none_beyond = steps.none_beyond;
           few_counted = steps.few_counted s;
         };
+        lists = λ lock nobody. (nobody, refl);
         home = λ p none. (none, refl);
       }

@@ -27,7 +27,7 @@ use Rattle.lock_world.proofs.Accounts.Parts.{mine}
 use Rattle.lock_world.proofs.Accounts.Waits.{account-asking, account-loading_wait, account-waiting, account-marking_first, account-marking_next, account-clearing, account-leaving}
 use Rattle.lock_world.proofs.Accounts.Marks.{mark_first-lawful, mark_next-lawful}
 use Rattle.lock_world.proofs.Counters.Lists.{any-map}
-use Rattle.shared_rule.specs.declared.history.Mark.TheVariants as mark
+use Rattle.shared_rule.specs.Marks as mark
 use Rattle.shared_rule.specs.declared.history.History.{History}
 use Rattle.shared_rule.specs.Shown.{set_word}
 use Rattle.shared_rule.specs.History.{told, in_hand, is_among, sessions_told, account_granting, account_granting_by, is_granted, account_cleared, account_left}
@@ -55,6 +55,7 @@ module _ {T : Type 0} (content : T → Content) (limit : ℕ) (x : History T) wh
   loading_wait-lawful w steps n below shown _ =
       let same : w.words ≡ set_word w.words (word.Wait x.number) n = ap (λ f. record (w.words) { wait = f }) (sym (set_at-same w.words.wait x.number n shown)) in
       record {
+        list = w.words.list;
         noted = record {
           step = step.LoadWait n;
           after = after_loading_wait w x.number n;
@@ -67,11 +68,13 @@ module _ {T : Type 0} (content : T → Content) (limit : ℕ) (x : History T) wh
           few_counted = steps.few_counted x.number;
         };
         home = λ p none. (none, refl);
+        lists = λ lock nobody. (nobody, refl);
       }
 
   -- Asking a session to cancel.
   pub asking-lawful : (other : ℕ) → IsAlwaysLawful content limit x (word.Wait other) (λ _. Unit {0}) (λ n. bit_or n 4) (mark.Asked other)
   asking-lawful other w steps n below shown _ = record {
+    list = w.words.list;
     noted = record {
       step = step.AskCancel other;
       after = after_asking w x.number other;
@@ -83,6 +86,7 @@ module _ {T : Type 0} (content : T → Content) (limit : ℕ) (x : History T) wh
       few_counted = steps.few_counted x.number;
     };
     home = λ p none. (none, refl);
+    lists = λ lock nobody. (nobody, refl);
   }
 
   -- Setting the own wait word to waiting.
@@ -96,6 +100,7 @@ module _ {T : Type 0} (content : T → Content) (limit : ℕ) (x : History T) wh
       let own = hand-known (w.contents.hand p) (w.contents.now p) x.number its may'.in_hand in
       let known : in_hand ((told content x.number x.marks).hand p) ≡ mine own.hand_of (w.contents.now p) = ap in_hand may.in_hand ∙ own.as_known in
       record {
+        list = w.words.list;
         noted = record {
           step = step.SetWaiting tag mode;
           after = after_setting_waiting w x.number tag mode (content now);
@@ -108,6 +113,7 @@ module _ {T : Type 0} (content : T → Content) (limit : ℕ) (x : History T) wh
           few_counted = steps.few_counted x.number;
         };
         home = home-recorded w.contents p x.number its own (set_at w.contents.now p (content now)) (Join tag mode) (λ _. false) (set_at-else w.contents.now p (content now));
+        lists = λ lock nobody. (nobody, refl);
       }
 
 -- Marking granted.
@@ -155,6 +161,7 @@ module _ {T : Type 0} (content : T → Content) (limit : ℕ) (x : History T) (p
       let unrecorded : (mine own.hand_of (w.contents.now p)).recorded ≡ None = ap (λ (k : InHand). k.recorded) (sym own.as_known) ∙ may.may_move.unrecorded in
       let waits : wait_state n ≡ 1 = ap wait_state shown ∙ lawful.may_mark.waiting in
       record {
+        list = w.words.list;
         noted = record {
           step = step.MarkGranted other done;
           after = after_marking_first w x.number other p done granted (content now);
@@ -169,6 +176,7 @@ module _ {T : Type 0} (content : T → Content) (limit : ℕ) (x : History T) (p
           few_counted = steps.few_counted x.number;
         };
         home = home-recorded w.contents p x.number its own (set_at w.contents.now p (content now)) done (unmarked_but (waits_there granted) other) (set_at-else w.contents.now p (content now));
+        lists = λ lock nobody. (nobody, refl);
       }
 
   marking_next-lawful : MayMarkNextBy a p its done other
@@ -182,6 +190,7 @@ module _ {T : Type 0} (content : T → Content) (limit : ℕ) (x : History T) (p
       let unmarked : own.hand_of.unmarked ≡ is_unmarked (w.contents.hand p) = sym (ap is_unmarked own.is_hand) in
       let waits : wait_state n ≡ 1 = ap wait_state shown ∙ lawful.may_mark.waiting in
       record {
+        list = w.words.list;
         noted = record {
           step = step.MarkGranted other done;
           after = after_marking_next w other p done;
@@ -196,6 +205,7 @@ module _ {T : Type 0} (content : T → Content) (limit : ℕ) (x : History T) (p
           few_counted = steps.few_counted x.number;
         };
         home = home-recorded w.contents p x.number its own w.contents.now done (unmarked_but (is_unmarked (w.contents.hand p)) other) (λ q _. refl);
+        lists = λ lock nobody. (nobody, refl);
       }
 
   pub marking-lawful : MayMarkBy limit x.number a p its done granted (content now) other
@@ -231,6 +241,7 @@ module _ {T : Type 0} (content : T → Content) (limit : ℕ) (x : History T) (w
       let may' : MayClearBy x.number (account w x.number) wait = subst (λ b. MayClearBy x.number b wait) steps.account may in
       let waits : (account w x.number).awaited ≡ Some wait = may_clear-waits x.number (account w x.number) wait may' in
       record {
+        list = w.words.list;
         noted = record {
           step = step.ClearWait false;
           after = after_clearing w x.number wait;
@@ -245,6 +256,7 @@ module _ {T : Type 0} (content : T → Content) (limit : ℕ) (x : History T) (w
           few_counted = steps.few_counted x.number;
         };
         home = λ p none. (none, refl);
+        lists = λ lock nobody. (nobody, refl);
       }
 
   -- Leaving the queue by it.
@@ -259,6 +271,7 @@ module _ {T : Type 0} (content : T → Content) (limit : ℕ) (x : History T) (w
       let known : in_hand ((account w x.number).hand p) ≡ mine own.hand_of (w.contents.now p) = ap in_hand may'.may_move.in_hand ∙ own.as_known in
       let sessions : List ℕ = map (λ (z : Wait). z.session) granted in
       record {
+        list = w.words.list;
         noted = record {
           step = step.ClearWait true;
           after = after_leaving w x.number wait granted (content now);
@@ -273,4 +286,5 @@ module _ {T : Type 0} (content : T → Content) (limit : ℕ) (x : History T) (w
           few_counted = steps.few_counted x.number;
         };
         home = home-recorded w.contents p x.number its own (set_at w.contents.now p (content now)) (Leave wait.tag) (waits_there granted) (set_at-else w.contents.now p (content now));
+        lists = λ lock nobody. (nobody, refl);
       }

@@ -5,6 +5,7 @@ use lib.ListN.{get_elem?}
 use lib.Seq.{set-get_or}
 use Rattle.atomic_table.specs.Table.{State, Step, step, keeps, Allows}
 use Rattle.atomic_table.proofs.Lists.{set_again}
+use Rattle.lw_word.specs.declared.wait_lists.LwWaiter.{LwWaiter}
 use Rattle.lock_table.specs.declared.request.Request.{Request}
 use Rattle.lock_table.specs.Content.{Content}
 use Rattle.lock_world.specs.declared.events.Word.{Word}
@@ -16,14 +17,15 @@ use Rattle.lock_world.specs.Account.{SlotsInHand, account}
 use Rattle.lock_world.proofs.Accounts.Lawful.{slots-known}
 use Rattle.lock_world.proofs.Accounts.Slots.{slots_now}
 use mathlib.Core.Option as maybe
-use Rattle.lock_world.specs.World.{World, Contents, Hand, word_in}
+use Rattle.lock_world.specs.World.{World, Words, Contents, Hand, word_in}
 use Rattle.shared_rule.specs.declared.history.Mark.{Mark}
 use Rattle.shared_rule.specs.declared.history.History.{History}
 use Rattle.shared_rule.specs.declared.history.View.{View}
-use Rattle.shared_rule.specs.Layout.{index_of_word, content_slot_of, IsInTable}
-use Rattle.shared_rule.specs.Shown.{set_word}
+use Rattle.shared_rule.specs.declared.kept.Kept.{Kept}
+use Rattle.shared_rule.specs.Layout.{index_of_word, content_slot_of, list_slot_of, IsInTable}
+use Rattle.shared_rule.specs.Shown.{WordsAreShown, set_word}
 use Rattle.shared_rule.specs.History.{told, noting, first_account, first_number}
-use Rattle.shared_rule.specs.Ruled.{IsHomeUnlessInHand, ContentsAreHome, Ruled}
+use Rattle.shared_rule.specs.Ruled.{IsHomeUnlessInHand, ContentsAreHome, IsInNoHand, ListIsAtHome, ListsAreHome, Ruled}
 use Rattle.shared_rule.specs.Slots.{HasOrShares, KnowsWord}
 use Rattle.shared_rule.specs.Plays.{Side, Marked, Looked}
 use Rattle.shared_rule.proofs.Shown.{words-set}
@@ -36,7 +38,7 @@ abbrev pub KeepsHome : Contents → Contents → Type 0
 KeepsHome before after = (p : ℕ) → after.hand p ≡ None → (before.hand p ≡ None) × (after.now p ≡ before.now p)
 
 home-kept :
-    {T : Type 0} (content : T → Content) (begun : T → Option Request) (homes : List (maybe.Option (Option T))) (before after : Contents) → KeepsHome before after
+    {T : Type 0} (content : T → Content) (begun : T → Option Request) (homes : List (maybe.Option (Kept T))) (before after : Contents) → KeepsHome before after
     → ContentsAreHome content begun homes before → ContentsAreHome content begun homes after
 home-kept {T} content begun homes before after kept home p within = go (after.hand p) refl where
   go : (hand : Option Hand) → after.hand p ≡ hand → IsHomeUnlessInHand content begun hand (after.now p) (get_elem? homes (content_slot_of p))
@@ -50,6 +52,36 @@ home-kept {T} content begun homes before after kept home p within = go (after.ha
 slots-here : (w : World) (s k : ℕ) (slots : SlotsInHand) → HasOrShares (account w s) k slots → slots ≡ slots_now w k
 slots-here w s k slots (inl has) = (slots-known (w.sessions.holds_fast s k) (w.words.database k) (w.words.slot k) slots has).1
 slots-here w s k slots (inr shares) = (slots-known (w.sessions.shares_fast s k) (w.words.database k) (w.words.slot k) slots shares).1
+
+-- A list that is at home after a step was at home before it, and the same ones stand in it.
+abbrev pub KeepsLists : World → World → Type 0
+KeepsLists before after =
+    (lock : ℕ) → IsInNoHand lock after.sessions.has_list
+    → IsInNoHand lock before.sessions.has_list × (after.words.list lock ≡ before.words.list lock)
+
+pub lists-kept :
+    {T : Type 0} (homes : List (maybe.Option (Kept T))) (before after : World) → KeepsLists before after
+    → ListsAreHome homes before.sessions.has_list before.words.list
+    → ListsAreHome homes after.sessions.has_list after.words.list
+lists-kept homes before after kept home lock within nobody =
+    let was = kept lock nobody in
+    subst (λ waiters. ListIsAtHome waiters (get_elem? homes (list_slot_of lock))) (sym was.1) (home lock within was.0)
+
+-- No word shows who stands in a list.
+listed-same : (words : Words) (list : ℕ → List LwWaiter) (word : Word)
+    → word_in (record words { list = list }) word ≡ word_in words word
+listed-same words list (Partition p) = refl
+listed-same words list (Fast k) = refl
+listed-same words list (Database k) = refl
+listed-same words list (Slot k place) = refl
+listed-same words list (Wait k) = refl
+listed-same words list (Strong index) = refl
+listed-same words list (Sleep k) = refl
+
+pub listed-shown : (table : List ℕ) (words : Words) (list : ℕ → List LwWaiter) → WordsAreShown table words
+    → WordsAreShown table (record words { list = list })
+listed-shown table words list shown =
+    record { as_many = shown.as_many; word = λ word there. shown.word word there ∙ sym (listed-same words list word) }
 
 -- What a session knows of a word is so.
 word-known : (w : World) → SafeWorld w → (s : ℕ) (word : Word) → KnowsWord s (account w s) word (word_in w.words word)
@@ -73,8 +105,13 @@ word-known w safe s (Sleep k) = tt
 module _ {T : Type 0} (content : T → Content) where
   -- Whatever the World is, the step on a word that shows this is noted so, and leaves the contents alone.
   pub record IsLawful (limit : ℕ) (x : History T) (word : Word) (shown next : ℕ) (mark : Mark T) (w : World) : Type 0 where
-    pub noted : IsNoted content w x.number (told content x.number x.marks) mark (set_word w.words word next)
+    -- who stands in lists after it
+    pub list : ℕ → List LwWaiter
+    pub noted :
+        IsNoted content w x.number (told content x.number x.marks) mark
+        (record (set_word w.words word next) { list = list })
     pub home : KeepsHome w.contents noted.after.contents
+    pub lists : KeepsLists w noted.after
 
   abbrev pub IsAlwaysLawful : ℕ → History T → Word → (ℕ → Type 0) → (ℕ → ℕ) → (ℕ → Mark T) → Type 0
   IsAlwaysLawful limit x word expected next mark =
@@ -87,18 +124,22 @@ module _ {T : Type 0} (content : T → Content) (begun : T → Option Request) (
   -- After it the rule holds.
   pub rule-after :
       (expected : ℕ → Type 0) → IsAlwaysLawful content limit x word expected next mark
-      → (s : State (Option T) (View T)) → Ruled content begun limit s → get_elem? s.views id ≡ some me.0
+      → (s : State (Kept T) (View T)) → Ruled content begun limit s → get_elem? s.views id ≡ some me.0
       → (n : ℕ) → n < 2 ^ 64 → n ≡ slice_index s.words (index_of_word word) → expected n
       → Ruled content begun limit (record { words = slice_set s.words (index_of_word word) (next n); homes = s.homes; views = slice_set s.views id (noting me.0 (mark n)) })
   rule-after expected lawful s r at n below shows is_so =
       let steps = ruled-steps content begun limit s r id me.0 x others at is in
       let now = lawful r.world steps n below (shows ∙ r.words.word word exists) is_so in
-      ruled-noted content begun limit s r id me.0 x others at is (mark n) (set_word r.world.words word (next n)) (slice_set s.words (index_of_word word) (next n)) s.homes
-      now.noted (words-set s.words r.world.words word (next n) r.words exists)
+      ruled-noted content begun limit s r id me.0 x others at is (mark n)
+      (record (set_word r.world.words word (next n)) { list = now.list })
+      (slice_set s.words (index_of_word word) (next n)) s.homes now.noted
+      (listed-shown (slice_set s.words (index_of_word word) (next n)) (set_word r.world.words word (next n)) now.list
+      (words-set s.words r.world.words word (next n) r.words exists))
       (home-kept content begun s.homes r.world.contents now.noted.after.contents now.home r.contents)
+      (lists-kept s.homes r.world now.noted.after now.lists r.lists)
 
   -- A fetch-and-add, a fetch-and-subtract, or with `next` as it is a load.
-  pub marks : (step : Step (Option T)) → IsAlwaysLawful content limit x word (λ _. Unit {0}) next mark
+  pub marks : (step : Step (Kept T)) → IsAlwaysLawful content limit x word (λ _. Unit {0}) next mark
       → Allows (Ruled content begun limit) slots id me (index_of_word word) next (Marked mark step me)
   marks step lawful s r many at below = (
     noting me.0 (mark (slice_index s.words (index_of_word word))),
@@ -111,7 +152,7 @@ module _ {T : Type 0} (content : T → Content) (begun : T → Option Request) (
 
 -- A step that changes nothing.
 pub nothing-changes :
-    {T : Type 0} (content : T → Content) (begun : T → Option Request) (limit id i : ℕ) (view : View T) (s : State (Option T) (View T))
+    {T : Type 0} (content : T → Content) (begun : T → Option Request) (limit id i : ℕ) (view : View T) (s : State (Kept T) (View T))
     → Ruled content begun limit s → get_elem? s.views id ≡ some view
     → Ruled content begun limit (record { words = slice_set s.words i (slice_index s.words i); homes = s.homes; views = slice_set s.views id view })
 nothing-changes {T} content begun limit id i view s r at =

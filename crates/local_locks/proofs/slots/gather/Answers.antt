@@ -1,12 +1,15 @@
-use Rattle.std.proofs.Common.{◌≡◌, ◌<◌, ◌≤◌, ℕ, Some, None, sym, ap, ◌∙◌, arith, length, inl, inr, take, subst, Vec, Global, vec_capacity}
+use Rattle.std.proofs.Common.{List, ◌≡◌, ◌<◌, ◌≤◌, ℕ, Some, None, sym, ap, ◌∙◌, arith, length, inl, inr, take, subst, Vec, Global, vec_capacity}
 use Rattle.std.specs.Prelude.{IsSomeAnd}
 use Rattle.std.proofs.lemmas.Bool.{false≢true, cases_lt, cases_eq}
 use Rattle.std.proofs.lemmas.List.{length-take, get_or_default}
 use Rattle.local_locks.specs.declared.records.Entry.{Entry}
 use Rattle.local_locks.specs.Owned.{count_in_all}
-use Rattle.local_locks.specs.Slots.{Slots, opened, slot_at, present, entry_at}
+use Rattle.local_locks.specs.Slots.{Slots, opened, slot_at, present, entry_at, entry_in}
 use Rattle.local_locks.proofs.SlotLaws.{present-take, slot_at-take, slot_at-past, length-full, length-present-le, and_some}
-use Rattle.local_locks.proofs.OpenLaws.{length-opened, opened-take, opened_some, slot_at-opened, entry_in-empty}
+use Rattle.local_locks.proofs.OpenLaws.{length-opened, opened-take, opened_some, slot_at-opened, entry_in-empty, entry_in-held}
+use Rattle.local_locks.specs.Levels.{Rows, row_at, had, told, AreMoved}
+use Rattle.local_locks.proofs.LevelLaws.{had-alike}
+use Rattle.local_locks.proofs.RowLaws.{moved-on, moved-down}
 use Rattle.local_locks.proofs.slots.gather.Goals as goal
 use Rattle.local_locks.proofs.slots.gather.Goals.{then-is_held, else-is_held}
 
@@ -51,6 +54,22 @@ returns-clause-full c =
           here.1 ∙ ap (λ (x : Entry). Some x) (sym (opened_some new k here.0 here.1).1);
     }
 
+-- the slots after the cut say what they said
+pub returns-clause-told : goal.returns-clause-told
+returns-clause-told c = λ level.
+    had-alike level (opened c.truncate.new.self.items) (opened c.loop-place.slots.items) (row_at c.loop-place.outer.items) (row_at c.loop-place.outer.items)
+    (λ k. ap (told level (row_at c.loop-place.outer.items k)) (same c k))
+    ∙ c.loop-place.invariant.told level
+
+pub returns-clause-moved : goal.returns-clause-moved
+returns-clause-moved c =
+    let moved = c.loop-place.invariant.moved in
+    record {
+      number = moved.number;
+      from = λ k e at. moved.from k e (sym (same c k) ∙ at);
+      empty = λ k none. moved.empty k (sym (same c k) ∙ none);
+    }
+
 pub loop-place-preserved : goal.loop-place-preserved
 loop-place-preserved c =
     let es = c.loop-place.slots.items in
@@ -59,6 +78,10 @@ loop-place-preserved c =
       | then-is_held w ↦
           let m = w.move_down.ensures in
           let are = ap (λ (v : Vec Entry Global). opened v.items) w.slots-is in
+          let within : c.loop-place.place < length es = omega (arith, c.loop-place-test.true, inv.number, c.len-place-end.ensures, c.args.slots.now.ok.0) in
+          let read : c.index.result.now ≡ entry_at es c.loop-place.place = c.index.ensures ∙ get_or_default es c.loop-place.place c.index.result.now _ within in
+          let there : slot_at (opened es) c.loop-place.place ≡ Some c.index.result.now =
+          slot_at-opened es c.loop-place.place ∙ (ap entry_in (sym read) ∙ entry_in-held c.index.result.now (c.is_held.ensures.0 w.if-is_held.true)) in
           record {
             entries = ap present are ∙ (m.entries ∙ inv.entries);
             number = ap (λ (v : Vec Entry Global). length v.items) w.slots-is ∙ (m.number ∙ inv.number);
@@ -71,6 +94,15 @@ loop-place-preserved c =
                   subst (λ o. IsSomeAnd o (λ _. Unit {0})) (sym (ap (λ (s : Slots). slot_at s k) are ∙ m.before k under)) (inv.full k under)
             ];
             gap = λ k past before. ap (λ (s : Slots). slot_at s k) are ∙ m.empty k (omega (arith, w.kept-is)) (omega arith);
+            lists = ap (λ (v : Vec (List ℕ) Global). length v.items) w.outer-is ∙ (w.move_row.ensures.number ∙ inv.lists);
+            moved =
+                subst (λ (p : Slots × Rows). AreMoved (opened c.args.slots.now.items) c.args.outer.now.items p.0 p.1) (λ i. (sym are i, (sym w.outer-is i).items))
+                (moved-on (opened c.args.slots.now.items) (opened es) (opened w.move_down.new.slots.items) c.args.outer.now.items c.loop-place.outer.items w.move_row.new.outer.items inv.moved
+                (moved-down (opened es) (opened w.move_down.new.slots.items) c.loop-place.outer.items w.move_row.new.outer.items c.loop-place.kept c.loop-place.place c.index.result.now
+                inv.moved.empty there inv.below inv.gap m.here m.empty m.before m.behind w.move_row.ensures.number w.move_row.ensures.here w.move_row.ensures.empty w.move_row.ensures.others));
+            told = λ level.
+                (λ i. had level (are i) (row_at (w.outer-is i).items))
+                ∙ (m.told level (row_at c.loop-place.outer.items) (row_at w.move_row.new.outer.items) w.move_row.ensures.here w.move_row.ensures.others ∙ inv.told level);
           }
       | else-is_held w ↦
           let within : c.loop-place.place < length es = omega (arith, c.loop-place-test.true, inv.number, c.len-place-end.ensures, c.args.slots.now.ok.0) in
@@ -91,5 +123,9 @@ loop-place-preserved c =
               | inl same ↦ ap (slot_at (opened es)) same ∙ empty
               | inr apart ↦ inv.gap k (omega (arith, w.kept-is)) (omega arith)
             ];
+            lists = ap (λ (v : Vec (List ℕ) Global). length v.items) w.outer-is ∙ inv.lists;
+            moved =
+                subst (λ (p : Slots × Rows). AreMoved (opened c.args.slots.now.items) c.args.outer.now.items p.0 p.1) (λ i. (sym are i, (sym w.outer-is i).items)) inv.moved;
+            told = λ level. (λ i. had level (are i) (row_at (w.outer-is i).items)) ∙ inv.told level;
           }
     ]

@@ -4,6 +4,8 @@ use Rattle.std.proofs.lemmas.List.{length-set}
 use Rattle.local_locks.specs.Slots.{Slots, opened, slot_at, present, entry_in}
 use Rattle.local_locks.proofs.SlotLaws.{present-move, slot_at-set, slot_at-set_other, slot_at-within}
 use Rattle.local_locks.proofs.OpenLaws.{opened-set, opened_some, entry_in-held}
+use Rattle.local_locks.specs.Levels.{had}
+use Rattle.local_locks.proofs.RowLaws.{had-move}
 use Rattle.local_locks.proofs.slots.move_down.Goals as goal
 
 -- the slots after the move
@@ -40,3 +42,16 @@ returns-clause-before c = λ k before.
     ap (λ (s : Slots). slot_at s k) (slots_are c)
     ∙ (slot_at-set_other (set (opened c.args.slots.now.items) c.args.place None) c.args.to k (Some c.args.entry) apart
     ∙ slot_at-set_other (opened c.args.slots.now.items) c.args.place k None other)
+
+pub returns-clause-behind : goal.returns-clause-behind
+returns-clause-behind c = λ k behind.
+    let apart : k ≢ c.args.to = omega (arith, c.requires.down) in
+    let other : k ≢ c.args.place = omega arith in
+    ap (λ (s : Slots). slot_at s k) (slots_are c)
+    ∙ (slot_at-set_other (set (opened c.args.slots.now.items) c.args.place None) c.args.to k (Some c.args.entry) apart
+    ∙ slot_at-set_other (opened c.args.slots.now.items) c.args.place k None other)
+
+pub returns-clause-told : goal.returns-clause-told
+returns-clause-told c = λ level lists left here others.
+    ap (λ (s : Slots). had level s left) (slots_are c)
+    ∙ had-move level (opened c.args.slots.now.items) lists left c.args.to c.args.place c.args.entry c.requires.there c.requires.down c.requires.empty here others

@@ -1,14 +1,11 @@
-use Rattle.std.proofs.Common.{◌≡◌, ◌+◌, ℕ, List, [], ◌∷◌, ◌++◌, length, refl, sym, ap, ◌∙◌, subst, arith, length-append}
+use Rattle.std.proofs.Common.{◌≡◌, ◌+◌, [], ◌∷◌, ◌++◌, length, refl, sym, ap, ◌∙◌, subst, arith, length-append}
 use Rattle.std.specs.List.{AllByRecursion}
 use Rattle.atomic_table.specs.Seated.{TableId}
-use Rattle.lock_manager.specs.Keeper.{PartView, content_of}
-use Rattle.lock_world.specs.Account.{Account}
-use Rattle.shared_rule.specs.declared.history.History.{History}
+use Rattle.lock_manager.specs.Keeper.{PartView}
 use Rattle.shared_rule.specs.Boards.{Seated}
 use Rattle.shared_rule.specs.Openers.{OpenerState}
-use Rattle.lock_manager.specs.Audits.{MayCount}
 use Rattle.std.proofs.Common.{◌≤◌}
-use Rattle.lock_manager.proofs.Auditing.{may_count-first, no_wait-rest, kept_apart-rest, rest-traced, all-before, traced-first, audits-first, opener-back}
+use Rattle.lock_manager.proofs.Lemmas.Audits.Counts.{may_count-first, no_wait-rest, kept_apart-rest, rest-traced, all-before, traced-first, audits-first, opener-back}
 use Rattle.lock_manager.proofs.audit.audit_all.Goals as goal
 
 pub audit_others-counted-requires-clause-ready : goal.audit_others-counted-requires-clause-ready

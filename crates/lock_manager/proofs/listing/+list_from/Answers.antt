@@ -2,7 +2,7 @@ use Rattle.std.proofs.Common.{arith, ◌+◌, ◌∷◌, ◌∙◌, ap, sym}
 use Rattle.lock_table.proofs.PartitionRows.{rows-then, rows-refused}
 use Rattle.shared_rule.proofs.Episodes.{may_keep-since, kept-since}
 use Rattle.lock_manager.specs.Listings.{listing_steps}
-use Rattle.lock_manager.proofs.ListedOwn.{caller-taking}
+use Rattle.lock_manager.proofs.Lemmas.Listings.Own.{caller-taking}
 use Rattle.shared_rule.specs.Boards.{Seated, Stack}
 use Rattle.lock_manager.proofs.listing.+list_from.Goals as goal
 use Rattle.lock_manager.proofs.listing.+list_from.Goals.{then-is_ok, else-is_ok}

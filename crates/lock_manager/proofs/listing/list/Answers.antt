@@ -1,4 +1,4 @@
-use Rattle.std.proofs.Common.{rules, ◌≡◌, ℕ, ◌<◌, ◌^◌, ◌++◌, sym, ap, ◌∙◌, subst, inl, arith}
+use Rattle.std.proofs.Common.{rules, ◌≡◌, ℕ, ◌<◌, ◌^◌, ◌++◌, sym, ap, ◌∙◌, subst, inl}
 use Rattle.lock_world.specs.Account.{Account}
 use Rattle.lock_world.specs.SlotHolds.{OneSlotEach}
 use Rattle.shared_rule.specs.Boards.{Seated}
@@ -6,8 +6,8 @@ use Rattle.fast_path.specs.Rows.{rows_of_all, loads_of_all}
 use Rattle.lock_manager.specs.declared.listing.Listing.{Listing}
 use Rattle.lock_manager.specs.Listings.{listing_steps, AreOfCaller}
 use Rattle.lock_table.proofs.PartitionRows.{rows-ok}
-use Rattle.lock_manager.proofs.ListedOwn.{lists-own, misses-none}
-use Rattle.lock_manager.proofs.Reading.{rest-read_slots, rest-read}
+use Rattle.lock_manager.proofs.Lemmas.Listings.Own.{lists-own, misses-none}
+use Rattle.lock_manager.proofs.Lemmas.Rest.Reads.{rest-read_slots, rest-read}
 use Rattle.lock_manager.proofs.listing.list.Goals as goal
 
 pub returns-then-is_err-clause-rest : goal.returns-then-is_err-clause-rest

@@ -1,24 +1,40 @@
-use Rattle.std.proofs.Common.{◌∙◌, sym}
-use Rattle.local_locks.specs.Owned.{ended_by}
-use Rattle.lock_manager.proofs.Holding.{rest-database}
-use Rattle.lock_manager.proofs.Resting.{rest-held, rest-counted, rest-next, rest-last, releases-next}
+use Rattle.std.proofs.Common.{◌≡◌, [], refl, sym, ap, ◌∙◌, List, arith}
+use Rattle.local_locks.specs.declared.ends.End.{End}
+use Rattle.local_locks.specs.declared.ends.End.TheVariants.{Commit, Abort, Close, Inner}
+use Rattle.local_locks.specs.declared.records.Entry.{Entry}
+use Rattle.local_locks.specs.Owned.{ended_by, found_by, outer_after}
+use Rattle.local_locks.proofs.EntryLaws.{distinct-found}
+use Rattle.lock_manager.proofs.Lemmas.Rest.Acquires.{rest-database}
+use Rattle.lock_manager.proofs.Lemmas.Rest.Ends.{rest-held, rest-counted, rest-next, rest-left, rest-found, releases-next}
 use Rattle.lock_manager.proofs.releases.end_all.Goals as goal
+
+pub entries-init : goal.entries-init
+entries-init g c = record {
+  rest =
+      rest-found (g.B.Board.seat c.args.board.now).limit c.args.own.now.database c.args.own.now.uses c.args.end (g.B.Board.view c.args.board.now) (g.B.Board.stack c.args.board.now)
+      c.args.own.now.locals c.requires.rest;
+  steps = λ last left others. others;
+  entries = refl;
+  level = refl;
+  outer = λ _. refl;
+  kept = record { seat_ = refl; database = refl; max_local = refl; well_owned = c.requires.well_owned };
+}
 
 pub release_hold-requires-clause-database : goal.release_hold-requires-clause-database
 release_hold-requires-clause-database g c =
     rest-database (g.B.Board.seat c.args.board.now).limit c.args.own.now.database c.entries.own.uses (g.B.Board.view c.entries.board) (g.B.Board.stack c.entries.board)
-    c.entries.own.locals.entries c.entries.invariant.rest ∙ sym c.entries.invariant.database
+    (found_by c.args.end c.entries.own.locals) c.entries.invariant.rest ∙ sym c.entries.invariant.kept.database
 
 pub release_hold-requires-clause-held : goal.release_hold-requires-clause-held
 release_hold-requires-clause-held g c =
     rest-held (g.B.Board.seat c.args.board.now).limit c.args.own.now.database c.entries.own.uses c.args.end (g.B.Board.view c.entries.board) (g.B.Board.stack c.entries.board)
-    c.entries.own.locals.entries (c.in-Some.tag, c.in-Some.mode) (ended_by c.args.end c.end_next.new.self.entries)
+    (found_by c.args.end c.entries.own.locals) (c.in-Some.tag, c.in-Some.mode) (ended_by c.args.end (found_by c.args.end c.end_next.new.self))
     c.in-Some.ensures.next c.entries.invariant.rest
 
 pub release_hold-requires-clause-counted : goal.release_hold-requires-clause-counted
 release_hold-requires-clause-counted g c =
     rest-counted (g.B.Board.seat c.args.board.now).limit c.args.own.now.database c.entries.own.uses c.args.end (g.B.Board.view c.entries.board) (g.B.Board.stack c.entries.board)
-    c.entries.own.locals.entries (c.in-Some.tag, c.in-Some.mode) (ended_by c.args.end c.end_next.new.self.entries)
+    (found_by c.args.end c.entries.own.locals) (c.in-Some.tag, c.in-Some.mode) (ended_by c.args.end (found_by c.args.end c.end_next.new.self))
     c.in-Some.ensures.next c.entries.invariant.rest
 
 -- With the next hold released the session is at rest with the entries left, and what is left to release leads on from there.
@@ -27,23 +43,35 @@ entries-preserved g c = record {
   rest =
       rest-next (g.B.Board.seat c.args.board.now).limit c.args.own.now.database c.entries.own.uses c.release_hold.new.uses c.args.end (g.B.Board.view c.entries.board)
       (g.B.Board.view c.release_hold.new.board)
-      (g.B.Board.stack c.entries.board) (g.B.Board.stack c.release_hold.new.board) c.entries.own.locals.entries c.end_next.new.self.entries
-      (c.in-Some.tag, c.in-Some.mode) c.entries.invariant.well_owned.once c.in-Some.ensures.next c.in-Some.ensures.entries
+      (g.B.Board.stack c.entries.board) (g.B.Board.stack c.release_hold.new.board) (found_by c.args.end c.entries.own.locals) (found_by c.args.end c.end_next.new.self)
+      (c.in-Some.tag, c.in-Some.mode) (distinct-found c.args.end c.entries.own.locals c.entries.invariant.kept.well_owned.once) c.in-Some.ensures.next (c.in-Some.ensures.entries refl)
       c.release_hold.ensures.account c.release_hold.ensures.use_count c.release_hold.ensures.stack c.entries.invariant.rest;
-  seat = c.release_hold.ensures.seat ∙ c.entries.invariant.seat;
   steps = λ last left others. c.entries.invariant.steps last left
       (releases-next (g.B.Board.seat c.args.board.now) (g.B.Board.seat c.entries.board) c.args.end (g.B.Board.view c.entries.board)
-      (g.B.Board.view c.release_hold.new.board) last c.entries.own.uses c.release_hold.new.uses left c.entries.own.locals.entries c.end_next.new.self.entries
+      (g.B.Board.view c.release_hold.new.board) last c.entries.own.uses c.release_hold.new.uses left (found_by c.args.end c.entries.own.locals) (found_by c.args.end c.end_next.new.self)
       (c.in-Some.tag, c.in-Some.mode)
-      c.entries.invariant.seat c.in-Some.ensures.next c.release_hold.ensures.steps others);
-  entries = c.in-Some.ensures.outlives ∙ c.entries.invariant.entries;
-  database = c.entries.invariant.database;
-  max_local = c.in-Some.ensures.max_local ∙ c.entries.invariant.max_local;
-  well_owned = c.in-Some.ensures.well_owned;
+      c.entries.invariant.kept.seat_ c.in-Some.ensures.next c.release_hold.ensures.steps others);
+  entries = c.in-Some.ensures.outlives refl ∙ c.entries.invariant.entries;
+  level = c.in-Some.ensures.level refl ∙ c.entries.invariant.level;
+  outer = λ inner. c.in-Some.ensures.inner refl inner ∙ c.entries.invariant.outer inner;
+  kept = record {
+    seat_ = c.release_hold.ensures.seat ∙ c.entries.invariant.kept.seat_;
+    database = c.entries.invariant.kept.database;
+    max_local = c.in-Some.ensures.max_local ∙ c.entries.invariant.kept.max_local;
+    well_owned = c.in-Some.ensures.well_owned;
+  };
 }
 
 -- At the end nothing was taken away.
 pub returns-clause-rest : goal.returns-clause-rest
 returns-clause-rest g c =
-    rest-last (g.B.Board.seat c.args.board.now).limit c.args.own.now.database c.entries.own.uses c.args.end (g.B.Board.view c.entries.board) (g.B.Board.stack c.entries.board)
-    c.entries.own.locals.entries c.end_next.new.self.entries c.in_default.ensures.last c.in_default.ensures.entries c.entries.invariant.rest
+    rest-left (g.B.Board.seat c.args.board.now).limit c.args.own.now.database c.entries.own.uses c.args.end (g.B.Board.view c.entries.board) (g.B.Board.stack c.entries.board)
+    (found_by c.args.end c.entries.own.locals) c.end_next.new.self.entries c.in_default.ensures.last c.in_default.ensures.left c.entries.invariant.rest
+
+pub returns-clause-levels : goal.returns-clause-levels
+returns-clause-levels g c = c.in_default.ensures.ended ∙ go c.args.end c.entries.invariant.outer where
+  go : (end : End) → (end ≡ Inner → c.entries.own.locals.outer ≡ c.args.own.now.locals.outer) → outer_after end c.entries.own.locals.outer ≡ outer_after end c.args.own.now.locals.outer
+  go Commit same = refl
+  go Abort same = refl
+  go Close same = refl
+  go Inner same = ap (outer_after Inner) (same refl)

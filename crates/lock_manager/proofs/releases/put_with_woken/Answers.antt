@@ -1,8 +1,8 @@
 use Rattle.std.proofs.Common.{refl, sym, ap, ◌∙◌, subst, arith}
 use Rattle.lock_world.specs.Happens.Partitions.{WaitIsOver}
 use Rattle.shared_rule.specs.Boards.{Stack, stack_putting}
-use Rattle.lock_manager.proofs.Owing.{owed-none, owed-next, owed-all, woken-next, woken-all}
-use Rattle.lock_manager.proofs.Waking.{telling-begins, may_mark-at, marking-next_at, all_marked, may_put_marked, told-put, wait-same}
+use Rattle.lock_manager.proofs.Lemmas.Releases.Owed.{owed-none, owed-next, owed-all, woken-next, woken-all}
+use Rattle.lock_manager.proofs.Lemmas.Releases.Marks.{telling-begins, may_mark-at, marking-next_at, all_marked, may_put_marked, told-put, wait-same}
 use Rattle.lock_manager.proofs.releases.put_with_woken.Goals as goal
 
 pub loop-other-init : goal.loop-other-init

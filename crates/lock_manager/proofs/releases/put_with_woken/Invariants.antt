@@ -2,7 +2,7 @@ use Rattle.std.proofs.Common.{◌≡◌, take, drop}
 use Rattle.shared_rule.specs.Boards.{stack_putting}
 use Rattle.shared_rule.specs.History.{sessions_told}
 use Rattle.shared_rule.proofs.Stacks.{with_owed}
-use Rattle.lock_manager.proofs.Waking.{IsTelling}
+use Rattle.lock_manager.proofs.Lemmas.Releases.Marks.{IsTelling}
 use Rattle.lock_manager.proofs.releases.put_with_woken.Given as goal
 
 abbrev pub invariant-loop-other : goal.invariant-loop-other

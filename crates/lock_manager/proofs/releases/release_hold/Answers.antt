@@ -2,7 +2,7 @@ use Rattle.std.proofs.Common.{◌∙◌, sym, ap, subst, inl}
 use Rattle.modes_core.specs.Tag.{is_eligible_for}
 use Rattle.shared_rule.specs.Boards.{Seated}
 use Rattle.lock_manager.specs.Releases.{ReleasesHold}
-use Rattle.lock_manager.proofs.Releasing.{looks-nowhere, looks-found, table-released}
+use Rattle.lock_manager.proofs.Lemmas.Releases.InPart.{looks-nowhere, looks-found, table-released}
 use Rattle.lock_manager.proofs.releases.release_hold.Goals as goal
 
 pub returns-then-not-is_eligible-clause-steps : goal.returns-then-not-is_eligible-clause-steps

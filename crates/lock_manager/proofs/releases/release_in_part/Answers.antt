@@ -1,12 +1,9 @@
-use Rattle.std.proofs.Common.{◌≡◌, ◌≢◌, ℕ, List, [], refl, sym, ap, subst}
-use Rattle.std.specs.Prelude.{map}
-use Rattle.modes_core.specs.declared.modes.Mode.{Mode}
+use Rattle.std.proofs.Common.{◌≡◌, ◌≢◌, List, [], refl, sym, ap, subst}
 use Rattle.lock_table.specs.Content.{Wait, Content}
 use Rattle.lock_table.specs.Queue.{Wakes}
-use Rattle.lock_table.specs.Waiter.{whose_and_mode}
 use Rattle.lock_table.specs.declared.moves.Move.TheVariants.{Release}
 use Rattle.lock_table.specs.Moves.{Moves}
-use Rattle.lock_manager.proofs.Releasing.{may_put_released, release-tells, woken-released}
+use Rattle.lock_manager.proofs.Lemmas.Releases.InPart.{may_put_released, release-tells, woken-released}
 use Rattle.lock_manager.proofs.releases.release_in_part.Goals as goal
 
 pub put_part-requires-clause-lawful : goal.put_part-requires-clause-lawful

@@ -3,12 +3,13 @@ use Rattle.local_locks.specs.declared.records.Entry.{Entry}
 use Rattle.local_locks.specs.Owned.{has_entry, with_one_more}
 use Rattle.lock_world.specs.Happens.Counters.{most_counted}
 use Rattle.lock_manager.specs.Requests.{IsRequested}
-use Rattle.lock_manager.proofs.Holding.{held_again, not_held_yet, rest-not_counted, rest-few, rest-granted, rest-held_again}
-use Rattle.lock_manager.proofs.Requesting.{conditional-granted}
+use Rattle.local_locks.proofs.NewLaws.{reserved-new}
+use Rattle.lock_manager.proofs.Lemmas.Rest.Acquires.{held_again, not_held_yet, rest-not_counted, rest-few, rest-granted, rest-held_again}
+use Rattle.lock_manager.proofs.Lemmas.Requests.Whole.{never-queued}
 use Rattle.lock_manager.proofs.requests.acquire.Goals as goal
 
 pub returns-then-branch-clause-rest : goal.returns-then-branch-clause-rest
-returns-then-branch-clause-rest g c =
+returns-then-branch-clause-rest g c other =
     let again =
     held_again c.args.own.now.locals c.add_held.new.self c.args.tag c.args.mode c.args.owner c.add_held.result c.in_ok-add_held.field-0 (c.in_ok-add_held.was {u = tt}) c.if-branch.true c.add_held.ensures.held.0
     c.add_held.ensures.entries in
@@ -36,13 +37,24 @@ add_new-requires-clause-new g c =
     let yet = not_held_yet c.args.own.now.locals c.add_held.new.self c.args.tag c.args.mode c.add_held.result c.in_ok-add_held.field-0 (c.in_ok-add_held.was {u = tt}) c.if-branch.false c.add_held.ensures.not_held.0 c.add_held.ensures.same in
     ap (λ (es : List Entry). has_entry es c.args.tag c.args.mode) (c.reserve_new.ensures.entries ∙ yet.1) ∙ yet.0
 
-pub returns-in-Ok-clause-rest : goal.returns-in-Ok-clause-rest
-returns-in-Ok-clause-rest g c =
+pub returns-in-Ok-Granted-clause-rest : goal.returns-in-Ok-Granted-clause-rest
+returns-in-Ok-Granted-clause-rest g c other =
     let yet = not_held_yet c.args.own.now.locals c.add_held.new.self c.args.tag c.args.mode c.add_held.result c.in_ok-add_held.field-0 (c.in_ok-add_held.was {u = tt}) c.if-branch.false c.add_held.ensures.not_held.0 c.add_held.ensures.same in
     let entries = c.args.own.now.locals.entries in
     rest-granted (g.B.Board.seat c.args.board.now).limit c.args.own.now.database c.args.own.now.uses c.request.new.uses (g.B.Board.view c.args.board.now) (g.B.Board.view c.request.new.board) (g.B.Board.stack c.args.board.now) (g.B.Board.stack c.request.new.board)
     entries c.add_new.new.self.entries c.args.tag c.args.mode c.args.owner yet.0
     (subst (λ decision. IsRequested (g.B.Board.seat c.args.board.now).limit (g.B.Board.view c.args.board.now) c.args.tag c.args.mode (Ok decision) (g.B.Board.view c.request.new.board))
-    (conditional-granted (g.B.Board.seat c.args.board.now) (g.B.Board.view c.args.board.now) (g.B.Board.view c.request.new.board) c.args.own.now.uses c.request.new.uses c.args.tag c.args.mode c.in-Ok.field-0 c.in-Ok.ensures.steps)
-    c.in-Ok.ensures.account) c.request.ensures.use_count c.request.ensures.stack
+    c.in-Ok-Granted.field-0-is
+    c.in-Ok-Granted.ensures.account) c.request.ensures.use_count c.request.ensures.stack
     (c.add_new.ensures.entries ∙ ap (λ (es : List Entry). with_one_more es c.args.tag c.args.mode c.args.owner) (c.reserve_new.ensures.entries ∙ yet.1)) c.requires.rest
+
+pub returns-in-Ok-Queued-clause-reserved : goal.returns-in-Ok-Queued-clause-reserved
+returns-in-Ok-Queued-clause-reserved g c queued =
+    let yet = not_held_yet c.args.own.now.locals c.add_held.new.self c.args.tag c.args.mode c.add_held.result c.in_ok-add_held.field-0 (c.in_ok-add_held.was {u = tt}) c.if-branch.false c.add_held.ensures.not_held.0 c.add_held.ensures.same in
+    reserved-new c.reserve_new.new.self c.args.tag c.args.mode c.args.owner
+    (ap (λ (es : List Entry). has_entry es c.args.tag c.args.mode) (c.reserve_new.ensures.entries ∙ yet.1) ∙ yet.0) c.in_ok-reserve_new.ensures.allowed c.in_ok-reserve_new.ensures.roomy
+
+pub returns-in-Ok-Queued-clause-at_once : goal.returns-in-Ok-Queued-clause-at_once
+returns-in-Ok-Queued-clause-at_once g c conditional queued =
+    never-queued c.args.kind (g.B.Board.seat c.args.board.now) (g.B.Board.view c.args.board.now) (g.B.Board.view c.request.new.board) c.args.own.now.uses c.request.new.uses
+    c.args.tag c.args.mode _ c.in-Ok-Queued.field-0-is conditional c.in-Ok-Queued.ensures.steps

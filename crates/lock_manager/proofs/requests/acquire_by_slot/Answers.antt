@@ -2,8 +2,8 @@ use Rattle.std.proofs.Common.{List, ap, sym, ◌∙◌}
 use Rattle.modes_core.specs.Tag.{is_eligible_for}
 use Rattle.local_locks.specs.declared.records.Entry.{Entry}
 use Rattle.local_locks.specs.Owned.{has_entry, with_one_more}
-use Rattle.lock_manager.proofs.Holding.{rest-database, held_again, not_held_yet, rest-granted, rest-held_again}
-use Rattle.lock_manager.proofs.Slotting.{by_slot-account}
+use Rattle.lock_manager.proofs.Lemmas.Rest.Acquires.{rest-database, held_again, not_held_yet, rest-granted, rest-held_again}
+use Rattle.lock_manager.proofs.Lemmas.Requests.BySlot.{by_slot-account}
 use Rattle.lock_manager.proofs.requests.acquire_by_slot.Goals as goal
 
 pub returns-then-branch-clause-rest : goal.returns-then-branch-clause-rest

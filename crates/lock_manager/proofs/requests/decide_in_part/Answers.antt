@@ -8,7 +8,7 @@ use Rattle.lock_world.specs.AccountFacts.{OwnHoldsStand}
 use Rattle.lock_world.specs.AccountLaw.{MayMoveBy}
 use Rattle.shared_rule.specs.Boards.{Seated}
 use Rattle.shared_rule.specs.Lawful.{MayPutPart}
-use Rattle.lock_manager.proofs.Deciding.{granted-moves, queued-moves, may_put-granted, may_wait, may_put-joined, may_put-kept, queues-in_part}
+use Rattle.lock_manager.proofs.Lemmas.Requests.InPart.{granted-moves, queued-moves, may_put-granted, may_wait, may_put-joined, may_put-kept, queues-in_part}
 use Rattle.lock_manager.proofs.requests.decide_in_part.Goals as goal
 
 pub put_part-requires-clause-lawful : goal.put_part-requires-clause-lawful

@@ -2,7 +2,7 @@ use Rattle.std.proofs.Common.{◌∙◌, sym, ap, subst, inl}
 use Rattle.modes_core.specs.Tag.{is_eligible_for}
 use Rattle.shared_rule.specs.Boards.{Seated}
 use Rattle.lock_manager.specs.Requests.{DecidesInPart}
-use Rattle.lock_manager.proofs.Requesting.{led-by_table, led-refused, led-decides, led-weak_account, requests-decided}
+use Rattle.lock_manager.proofs.Lemmas.Requests.Whole.{led-by_table, led-refused, led-decides, led-weak_account, requests-decided}
 use Rattle.lock_manager.proofs.requests.request.Goals as goal
 
 pub returns-then-not-is_eligible-clause-steps : goal.returns-then-not-is_eligible-clause-steps

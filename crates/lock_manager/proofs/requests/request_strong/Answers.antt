@@ -3,8 +3,8 @@ use Rattle.shared_rule.specs.Boards.{Seated}
 use Rattle.fast_path.specs.Transfers.{Transfers, IsCutShort}
 use Rattle.lock_manager.specs.Requests.{DecidesInPart}
 use Rattle.fast_path.proofs.Counting.{counted_at}
-use Rattle.lock_manager.proofs.Requesting.{led-transferred, led-account, led-refused_steps, led-refused_strong, led-refused_use_count}
-use Rattle.lock_manager.proofs.Requesting.{strong-counted, requests-decided, transferred, cut_short, scanned-use_count, decided-use_count}
+use Rattle.lock_manager.proofs.Lemmas.Requests.Whole.{led-transferred, led-account, led-refused_steps, led-refused_strong, led-refused_use_count}
+use Rattle.lock_manager.proofs.Lemmas.Requests.Whole.{strong-counted, requests-decided, transferred, cut_short, scanned-use_count, decided-use_count}
 use Rattle.lock_manager.proofs.requests.request_strong.Goals as goal
 
 pub returns-then-is_err-clause-use_count : goal.returns-then-is_err-clause-use_count

@@ -1,6 +1,6 @@
 use Rattle.std.proofs.Common.{refl, sym, ◌∙◌}
 use Rattle.local_locks.proofs.EntryLaws.{has_entry-none}
-use Rattle.lock_manager.proofs.Deciding.{may_put-kept}
+use Rattle.lock_manager.proofs.Lemmas.Requests.InPart.{may_put-kept}
 use Rattle.lock_manager.proofs.waiting.has_waiters.Goals as goal
 
 pub returns-then-total-eq0-clause-not_held : goal.returns-then-total-eq0-clause-not_held

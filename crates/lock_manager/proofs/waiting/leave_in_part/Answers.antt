@@ -7,7 +7,7 @@ use Rattle.lock_world.specs.Account.{InHand}
 use Rattle.lock_world.specs.AccountLaw.{MayLeaveBy}
 use Rattle.shared_rule.specs.Boards.{Seated}
 use Rattle.shared_rule.specs.Lawful.{MayClearBy}
-use Rattle.lock_manager.proofs.Leaving.{removal-found, removal-left, cleared-same, may_clear_gone, may_put-over, over-steps, over-account, may_leave, leave-tells}
+use Rattle.lock_manager.proofs.Lemmas.Waiting.InPart.{removal-found, removal-left, cleared-same, may_clear_gone, may_put-over, over-steps, over-account, may_leave, leave-tells}
 use Rattle.lock_manager.proofs.waiting.leave_in_part.Goals as goal
 
 -- Where it was granted.

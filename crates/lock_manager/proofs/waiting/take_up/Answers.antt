@@ -1,5 +1,5 @@
 use Rattle.std.proofs.Common.{◌∙◌, sym}
-use Rattle.lock_manager.proofs.Polling.{may_clear_seen, rest-seen}
+use Rattle.lock_manager.proofs.Lemmas.Waiting.Looks.{may_clear_seen, rest-seen}
 use Rattle.lock_manager.proofs.waiting.take_up.Goals as goal
 
 pub clear_wait-requires : goal.clear_wait-requires

@@ -5,7 +5,7 @@ use Rattle.lock_world.specs.declared.events.Word.TheVariants.{Wait}
 use Rattle.lock_world.specs.World.{Loaded}
 use Rattle.lock_manager.specs.declared.sessions.Own.{Own}
 use Rattle.lock_manager.specs.Waiting.{IsWaiting}
-use Rattle.lock_manager.proofs.Watching.{watching-next, still_not_granted, just_looked}
+use Rattle.lock_manager.proofs.Lemmas.Waiting.Watch.{watching-next, still_not_granted, just_looked}
 use Rattle.lock_manager.proofs.waiting.wait.Goals as goal
 
 pub loop-preserved : goal.loop-preserved

@@ -1,6 +1,6 @@
 use Rattle.std.proofs.Common.{◌≡◌}
 use Rattle.lock_manager.specs.Waiting.{IsWaiting}
-use Rattle.lock_manager.proofs.Watching.{IsWatching}
+use Rattle.lock_manager.proofs.Lemmas.Waiting.Watch.{IsWatching}
 use Rattle.lock_manager.proofs.waiting.wait.Given as goal
 
 abbrev pub invariant-loop : goal.invariant-loop

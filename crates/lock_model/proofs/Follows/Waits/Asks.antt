@@ -16,7 +16,7 @@ use Rattle.lock_model.proofs.Shows.Changes.{wait_word-set}
 use Rattle.lock_table.proofs.PutLemmas.{set_at-same, written-at}
 use Rattle.lock_model.proofs.Shows.Looks.{steps_from, steps_not}
 
--- Asking to cancel, and loading the own wait word.
+-- Asking to cancel, and loading one's own wait word.
 
 module _ (m : Machine) (w : World) (safe : SafeWorld w) (shows : Shows m w) where
   pub was_asked : (s k : ℕ) → makes_steps m s ≡ true → k < 64

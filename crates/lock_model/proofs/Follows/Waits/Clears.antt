@@ -26,7 +26,7 @@ use Rattle.lock_model.proofs.Shows.Hands.{recording-shown, awaited-some}
 use Rattle.lock_model.proofs.Follows.Skipped.{skipped}
 use Rattle.lock_model.proofs.Shows.Looks.{HasInHand, recorded_from, hand_from, hand_not, content_from, steps_from, steps_not}
 
--- Clearing the own wait word, and leaving a queue.
+-- Clearing one's own wait word, and leaving a queue.
 
 -- What a clear by the session asks in either way: that the session makes steps, and that it has this wait.
 clearing_steps : (w : World) (s : ℕ) (leaving : Bool) (v : World) → HappensClearing w s leaving v → MakesSteps w.numbers s

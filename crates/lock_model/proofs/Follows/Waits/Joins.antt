@@ -30,7 +30,7 @@ use Rattle.lock_table.proofs.OneAnswer.{waiting_answer-one}
 use Rattle.lock_model.proofs.Follows.Skipped.{skipped}
 use Rattle.lock_model.proofs.Shows.Looks.{HasInHand, recorded_from, hand_from, hand_not, own_nowhere, content_from, no_wait_from, from_fits}
 
--- Joining a queue, and setting the own wait word to waiting.
+-- Joining a queue, and setting one's own wait word to waiting.
 
 -- Whoever is answered another thing is not to join.
 pub queued_not : (c : Content) (s : ℕ) (t : Tag) (m : Mode) (what : Answer) (place : ℕ) → WaitingAnswer c s t m what → ((n : ℕ) → what ≡ Queued n → ⊥) → WaitingAnswer c s t m (Queued place) → ⊥

@@ -3,7 +3,7 @@ use Rattle.lock_records.specs.declared.locks.LockRecord.{LockRecord}
 use Rattle.lock_records.specs.Holders.{holds_in}
 use Rattle.lock_records.specs.Locks.{IsLockAt}
 use Rattle.lock_records.proofs.IndexLaws.{same-lock}
-use Rattle.lock_records.proofs.Relocked.{none-granted, conflict-found}
+use Rattle.lock_records.proofs.Relocked.{nobody-holds, conflict-found}
 use Rattle.lock_records.proofs.objects.holder_in_the_way.Goals as goal
 use Rattle.lock_records.proofs.objects.holder_in_the_way.Goals.{After-index-lock}
 
@@ -19,9 +19,8 @@ its c =
 pub returns-then-not-meets : goal.returns-then-not-meets
 returns-then-not-meets c = λ other n another has.
     let i = its (goal.at.returns-then-not-meets c).After-index-lock in
-    ap (λ f. f n) (sym c.conflicts-conflicting.ensures)
-    ∙ none-granted c.args.holders.now.slots c.args.tag.now c.index-lock.result.now.granted c.mask.result c.conflicts-conflicting.result c.requires.are (c.requires.held i).granted c.mask.ensures
-    (sym c.meets.ensures ∙ c.if-not-meets.true) other n has
+    nobody-holds c.args.holders.now.slots c.args.tag.now c.index-lock.result.now.granted c.args.mode c.requires.are (c.requires.held i).granted
+    (λ k hit. c.meets.ensures.none c.if-not-meets.true k (ap (λ f. f k) c.conflicts-conflicting.ensures ∙ hit)) other n has
 
 pub returns-in-None : goal.returns-in-None
 returns-in-None c = λ other n another has. ap (λ f. f n) (sym c.conflicts-conflicting.ensures) ∙ c.in-None.ensures {u = tt} other n another has

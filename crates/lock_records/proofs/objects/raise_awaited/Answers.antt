@@ -7,8 +7,8 @@ use Rattle.lock_records.proofs.objects.raise_awaited.Goals as goal
 pub returns-clause-lock : goal.returns-clause-lock
 returns-clause-lock c =
     let there = c.requires.there in
-    let on = ap (λ (l : LockRecord). l.tag) (same-lock c.args.locks.now.slots c.args.place _ _ c.index_mut.ensures.value there.there) ∙ there.on in
-    (relocked-set c.args.locks.now.slots c.args.tag.now c.args.place c.index_mut.result.now _ c.index_mut.ensures.value on on, refl, refl, c.raise.ensures)
+    let on = ap (λ (l : LockRecord). l.tag) (same-lock c.args.locks.now.slots c.args.place _ _ c.index_mut-lock.ensures.value there.there) ∙ there.on in
+    (relocked-set c.args.locks.now.slots c.args.tag.now c.args.place c.index_mut-lock.result.now _ c.index_mut-lock.ensures.value on on, refl, refl, c.raise.ensures)
 
 pub returns-clause-room : goal.returns-clause-room
-returns-clause-room c = λ room. room-set c.args.locks.now.slots c.args.place c.index_mut.result.now _ c.args.locks.now.capacity c.index_mut.ensures.value room
+returns-clause-room c = λ room. room-set c.args.locks.now.slots c.args.place c.index_mut-lock.result.now _ c.args.locks.now.capacity c.index_mut-lock.ensures.value room

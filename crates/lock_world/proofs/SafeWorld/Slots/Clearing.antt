@@ -20,7 +20,7 @@ use Rattle.lock_world.proofs.SafeWorld.Tabled.{with_own-safe}
 use Rattle.lock_world.proofs.SafeWorld.OneSession.{OwnIsInOrder-one, StrongIsDone-one}
 use Rattle.lock_world.proofs.SafeWorld.Changes.{with_fast_path-safe, slots_of-set, own_but-both, are_own-both}
 
--- Clearing a mode in an own slot is safe.
+-- Clearing a mode in one of one's own slots is safe.
 module _ (w : World) (s i : ℕ) (t : Tag) (m : Mode) (safe : SafeWorld w) (may : MayClearSlot w s i t m) where
   abbrev own : Holds
   own = w.sessions.own

@@ -13,7 +13,7 @@ use Rattle.lock_world.proofs.ListWords.{flags-fast}
 use Rattle.lock_world.proofs.Slots.Remembered.{remembered-seen}
 use Rattle.lock_world.proofs.Safe.Slots.{taking_fast-safe, putting_fast-safe}
 
--- A session that takes one lock more has those it had.
+-- A session that takes one more lock has those it had.
 holds-taken : (holds : ℕ → ℕ → Bool) (s o k : ℕ) → holds k k ≡ true → set_at holds s (set_at (holds s) o true) k k ≡ true
 holds-taken holds s o k has =
     elim (cases_eq k s) [

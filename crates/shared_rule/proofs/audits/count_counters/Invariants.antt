@@ -1,5 +1,5 @@
 use Rattle.std.proofs.Common.{◌≡◌}
-use Rattle.shared_rule.specs.declared.history.Mark.TheVariants.{LoadedStrong}
+use Rattle.shared_rule.specs.Marks.{LoadedStrong}
 use Rattle.shared_rule.specs.Audits.{CountersSeen}
 use Rattle.shared_rule.specs.Plays.{IsSameSeat}
 use Rattle.shared_rule.proofs.audits.count_counters.Given as goal

@@ -1,5 +1,5 @@
 use Rattle.std.proofs.Common.{◌≡◌, ◌*◌, ◌≤◌}
-use Rattle.shared_rule.specs.declared.history.Mark.TheVariants.{LoadedSlot}
+use Rattle.shared_rule.specs.Marks.{LoadedSlot}
 use Rattle.shared_rule.specs.Audits.{SeesSlots}
 use Rattle.shared_rule.specs.Plays.{IsSameSeat}
 use Rattle.shared_rule.proofs.audits.count_slots_of.Given as goal

@@ -1,4 +1,5 @@
 use Rattle.std.proofs.Common.{rules}
+use Rattle.shared_rule.proofs.Acquires.{took-slots}
 use Rattle.shared_rule.proofs.Events.Locks.{takes_fast_at}
 use Rattle.shared_rule.proofs.locks.attempt_fast.Goals as goal
 
@@ -13,3 +14,9 @@ compare_exchange-requires g c =
           c.args.owner (search rules) c.args.shown c.args.taken c.requires.exists c.requires.free.0 c.requires.free.1
           c.fast_word.result c.fast_word.ensures.index,
     )
+
+pub returns-clause-won : goal.returns-clause-won
+returns-clause-won g c =
+    took-slots g.T.PartTable.content c.args.owner c.args.place.now c.compare_exchange.new.seat c.requires.session
+    (record { table_id = c.compare_exchange.ensures.0; id = c.compare_exchange.ensures.1 })
+    (c.compare_exchange.ensures.2.0 (search rules) c.args.owner (search rules) c.fast_word.ensures.index)

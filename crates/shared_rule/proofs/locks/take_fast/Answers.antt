@@ -1,7 +1,8 @@
-use Rattle.std.proofs.Common.{subst}
-use Rattle.shared_rule.specs.Boards.{StaysLone}
+use Rattle.lw_word.specs.declared.words.LwMode.TheVariants.{Exclusive}
+use Rattle.shared_rule.proofs.Acquires.{nothing-then_slots}
 use Rattle.shared_rule.proofs.locks.take_fast.Goals as goal
 
-pub returns-then-not-attempt_free_fast-clause-lone : goal.returns-then-not-attempt_free_fast-clause-lone
-returns-then-not-attempt_free_fast-clause-lone g c =
-    subst (λ me. StaysLone me.0 c.take_fast_held.new.place.me.0) (c.if-not-attempt_free_fast.ensures {u = tt}).lost c.take_fast_held.ensures.lone
+pub returns-then-not-attempt_free_fast : goal.returns-then-not-attempt_free_fast
+returns-then-not-attempt_free_fast g c =
+    nothing-then_slots g.T.PartTable.content c.args.place.now c.attempt_free_fast.new.place c.get_slots_held.new.place
+    (c.if-not-attempt_free_fast.ensures {u = tt}).lost Exclusive c.args.owner c.get_slots_held.ensures

@@ -1,5 +1,5 @@
 use Rattle.std.proofs.Common.{sym, subst}
-use Rattle.shared_rule.specs.declared.history.Mark.TheVariants.{LoadedFast}
+use Rattle.shared_rule.specs.Marks.{LoadedFast}
 use Rattle.shared_rule.specs.Plays.{Side, HasSession}
 use Rattle.shared_rule.proofs.Taken.{session-noted}
 use Rattle.shared_rule.proofs.locks.try_take_fast.Goals as goal

@@ -1,4 +1,4 @@
-use Rattle.shared_rule.specs.declared.history.Mark.TheVariants.{LoadedFast}
+use Rattle.shared_rule.specs.Marks.{LoadedFast}
 use Rattle.shared_rule.proofs.locks.try_take_fast.Given as goal
 
 abbrev pub ghosts-load_fast : goal.ghosts-load_fast

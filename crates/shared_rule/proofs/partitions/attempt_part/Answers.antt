@@ -1,9 +1,13 @@
-use Rattle.std.proofs.Common.{rules, ◌≡◌, ◌∷◌, Some, None, ap, ◌∙◌, subst}
+use Rattle.std.proofs.Common.{rules, ◌≡◌, ◌∷◌, sym, ap, ◌∙◌, subst}
 use Rattle.lock_world.specs.AccountFacts.{KnowsContent}
-use Rattle.shared_rule.specs.declared.history.Mark.TheVariants.{TookPart}
+use Rattle.shared_rule.specs.Marks.{TookPart}
+use Rattle.shared_rule.specs.declared.kept.Kept.TheVariants.{Part, Nothing}
 use Rattle.shared_rule.specs.Layout.{content_slot_of}
-use Rattle.shared_rule.specs.History.{noting, first_account, first_number}
-use Rattle.shared_rule.proofs.Events.Partitions.{takes_part_at}
+use Rattle.shared_rule.specs.History.{noting}
+use Rattle.shared_rule.proofs.Events.Partitions.{takes_part_at, part-same}
+use Rattle.lock_world.specs.AccountSteps.{account_taking}
+use Rattle.shared_rule.specs.Plays.{Side, account_at, number_at}
+use Rattle.shared_rule.proofs.Led.{led-noted, led-as}
 use Rattle.shared_rule.proofs.Sides.{last-slot, last-came, last-set}
 use Rattle.shared_rule.proofs.partitions.attempt_part.Goals as goal
 
@@ -24,45 +28,56 @@ exchange-requires g c =
     let took = c.compare_exchange.ensures.2.0 (search rules) c.args.part c.requires.exists c.partition_word.ensures.index in (
       c.compare_exchange.ensures.0 ∙ c.requires.table.at,
       (
-        Some took.part,
-        last-slot c.compare_exchange.new.seat.me (noting c.args.place.now.me.0 (TookPart c.args.part took.part)) c.content_slot.result (content_slot_of c.args.part) (Some took.part)
+        Part took.part,
+        last-slot c.compare_exchange.new.seat.me (noting c.args.place.now.me.0 (TookPart c.args.part took.part)) c.content_slot.result (content_slot_of c.args.part) (Part took.part)
             c.args.place.now.me.1 took.side c.content_slot.ensures.slot,
       ),
     )
 
-pub unwrap-requires : goal.unwrap-requires
-unwrap-requires g c =
+pub into_part-requires : goal.into_part-requires
+into_part-requires g c =
     let took = c.compare_exchange.ensures.2.0 (search rules) c.args.part c.requires.exists c.partition_word.ensures.index in
-    let came : c.exchange.result ≡ Some took.part =
-    last-came c.compare_exchange.new.seat.me (noting c.args.place.now.me.0 (TookPart c.args.part took.part)) c.content_slot.result (content_slot_of c.args.part) (Some took.part) c.exchange.result
+    let came : c.exchange.result ≡ Part took.part =
+    last-came c.compare_exchange.new.seat.me (noting c.args.place.now.me.0 (TookPart c.args.part took.part)) c.content_slot.result (content_slot_of c.args.part) (Part took.part) c.exchange.result
     c.args.place.now.me.1 took.side c.exchange.ensures.2 in
-    search rules
+    (took.part, came)
+
+pub returns-clause-won : goal.returns-clause-won
+returns-clause-won g c =
+    let content = g.T.PartTable.content in
+    let place = c.args.place.now in
+    let after = c.exchange.new.seat in
+    let part = c.args.part in
+    let took = c.compare_exchange.ensures.2.0 (search rules) part c.requires.exists c.partition_word.ensures.index in
+    let came : c.exchange.result ≡ Part took.part =
+    last-came c.compare_exchange.new.seat.me (noting place.me.0 (TookPart part took.part)) c.content_slot.result (content_slot_of part)
+    (Part took.part) c.exchange.result place.me.1 took.side c.exchange.ensures.2 in
+    let same : took.part ≡ c.into_part.result = part-same took.part c.into_part.result (sym came ∙ c.into_part.ensures) in
+    let side = last-set c.compare_exchange.new.seat.me after.me (noting place.me.0 (TookPart part took.part)) c.content_slot.result
+    (content_slot_of part) (Part took.part) Nothing place.me.1 took.side c.content_slot.ensures.slot c.exchange.ensures.3 in
+    record {
+      led = led-as content place after _ _
+          (led-noted content place after (TookPart part took.part) c.requires.session
+          (record {
+            table_id = c.exchange.ensures.0 ∙ c.compare_exchange.ensures.0;
+            id = c.exchange.ensures.1 ∙ c.compare_exchange.ensures.1;
+          })
+          (ap (λ (s : Side g.row.T.Denot). s.0) side))
+          (ap (λ its. account_taking (account_at content place) part (content its)) same);
+      slots = ap (λ (s : Side g.row.T.Denot). s.1) side;
+      none_begun = ap g.T.PartTable.begun (sym same) ∙ took.none_begun;
+      knows = subst (λ its. KnowsContent (number_at place) (account_at content place) part (content its)) same took.knows;
+    }
 
 pub returns-clause-side : goal.returns-clause-side
 returns-clause-side g c =
-    let took = c.compare_exchange.ensures.2.0 (search rules) c.args.part c.requires.exists c.partition_word.ensures.index in
-    let came : c.exchange.result ≡ Some took.part =
-    last-came c.compare_exchange.new.seat.me (noting c.args.place.now.me.0 (TookPart c.args.part took.part)) c.content_slot.result (content_slot_of c.args.part) (Some took.part) c.exchange.result
-    c.args.place.now.me.1 took.side c.exchange.ensures.2 in
-    let same : took.part ≡ c.unwrap.result = search rules in
-    last-set c.compare_exchange.new.seat.me c.exchange.new.seat.me (noting c.args.place.now.me.0 (TookPart c.args.part took.part)) c.content_slot.result (content_slot_of c.args.part)
-    (Some took.part) None c.args.place.now.me.1 took.side c.content_slot.ensures.slot c.exchange.ensures.3
-    ∙ ap (λ part. (noting c.args.place.now.me.0 (TookPart c.args.part part), (content_slot_of c.args.part, None) ∷ c.args.place.now.me.1)) same
-
-pub returns-clause-none_begun : goal.returns-clause-none_begun
-returns-clause-none_begun g c =
-    let took = c.compare_exchange.ensures.2.0 (search rules) c.args.part c.requires.exists c.partition_word.ensures.index in
-    let came : c.exchange.result ≡ Some took.part =
-    last-came c.compare_exchange.new.seat.me (noting c.args.place.now.me.0 (TookPart c.args.part took.part)) c.content_slot.result (content_slot_of c.args.part) (Some took.part) c.exchange.result
-    c.args.place.now.me.1 took.side c.exchange.ensures.2 in
-    let same : c.unwrap.result ≡ took.part = search rules in
-    ap g.T.PartTable.begun same ∙ took.none_begun
-
-pub returns-clause-knows : goal.returns-clause-knows
-returns-clause-knows g c =
-    let took = c.compare_exchange.ensures.2.0 (search rules) c.args.part c.requires.exists c.partition_word.ensures.index in
-    let came : c.exchange.result ≡ Some took.part =
-    last-came c.compare_exchange.new.seat.me (noting c.args.place.now.me.0 (TookPart c.args.part took.part)) c.content_slot.result (content_slot_of c.args.part) (Some took.part) c.exchange.result
-    c.args.place.now.me.1 took.side c.exchange.ensures.2 in
-    let same : took.part ≡ c.unwrap.result = search rules in
-    subst (λ part. KnowsContent (first_number c.args.place.now.me.0.sessions) (first_account g.T.PartTable.content c.args.place.now.me.0.sessions) c.args.part (g.T.PartTable.content part)) same took.knows
+    let part = c.args.part in
+    let place = c.args.place.now in
+    let took = c.compare_exchange.ensures.2.0 (search rules) part c.requires.exists c.partition_word.ensures.index in
+    let came : c.exchange.result ≡ Part took.part =
+    last-came c.compare_exchange.new.seat.me (noting place.me.0 (TookPart part took.part)) c.content_slot.result (content_slot_of part)
+    (Part took.part) c.exchange.result place.me.1 took.side c.exchange.ensures.2 in
+    let same : took.part ≡ c.into_part.result = part-same took.part c.into_part.result (sym came ∙ c.into_part.ensures) in
+    last-set c.compare_exchange.new.seat.me c.exchange.new.seat.me (noting place.me.0 (TookPart part took.part)) c.content_slot.result
+    (content_slot_of part) (Part took.part) Nothing place.me.1 took.side c.content_slot.ensures.slot c.exchange.ensures.3
+    ∙ ap (λ its. (noting place.me.0 (TookPart part its), (content_slot_of part, Nothing) ∷ place.me.1)) same

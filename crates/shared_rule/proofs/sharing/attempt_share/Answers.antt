@@ -2,6 +2,7 @@ use Rattle.std.proofs.Common.{rules, List, subst}
 use Rattle.lock_world.specs.AccountLaw.{MayShareFastBy}
 use Rattle.shared_rule.specs.declared.history.History.{History}
 use Rattle.shared_rule.specs.History.{first_account}
+use Rattle.shared_rule.proofs.Acquires.{shared-slots}
 use Rattle.shared_rule.proofs.Events.Locks.{shares_fast_at}
 use Rattle.shared_rule.proofs.sharing.attempt_share.Goals as goal
 
@@ -18,3 +19,9 @@ compare_exchange-requires g c =
           session.sessions c.requires.lawful)
           c.fast_word.result c.fast_word.ensures.index,
     )
+
+pub returns-clause-won : goal.returns-clause-won
+returns-clause-won g c =
+    shared-slots g.T.PartTable.content c.args.owner c.args.place.now c.compare_exchange.new.seat c.requires.session
+    (record { table_id = c.compare_exchange.ensures.0; id = c.compare_exchange.ensures.1 })
+    (c.compare_exchange.ensures.2.0 (search rules) c.args.owner (search rules) c.fast_word.ensures.index)

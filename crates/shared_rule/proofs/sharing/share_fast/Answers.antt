@@ -1,7 +1,13 @@
-use Rattle.std.proofs.Common.{subst}
-use Rattle.shared_rule.specs.Boards.{StaysLone}
+use Rattle.lw_word.specs.declared.words.LwMode.TheVariants.{Shared}
+use Rattle.shared_rule.proofs.Acquires.{nothing-then_slots, may-still}
 use Rattle.shared_rule.proofs.sharing.share_fast.Goals as goal
 
-pub returns-then-not-attempt_free_share-clause-lone : goal.returns-then-not-attempt_free_share-clause-lone
-returns-then-not-attempt_free_share-clause-lone g c =
-    subst (λ me. StaysLone me.0 c.share_fast_held.new.place.me.0) (c.if-not-attempt_free_share.ensures {u = tt}).lost c.share_fast_held.ensures.lone
+pub get_slots_held-requires-clause-lawful : goal.get_slots_held-requires-clause-lawful
+get_slots_held-requires-clause-lawful g c =
+    may-still g.T.PartTable.content c.args.place.now c.attempt_free_share.new.place c.attempt_free_share.new.place
+    (c.if-not-attempt_free_share.ensures {u = tt}).lost Shared c.args.owner c.requires.lawful
+
+pub returns-then-not-attempt_free_share : goal.returns-then-not-attempt_free_share
+returns-then-not-attempt_free_share g c =
+    nothing-then_slots g.T.PartTable.content c.args.place.now c.attempt_free_share.new.place c.get_slots_held.new.place
+    (c.if-not-attempt_free_share.ensures {u = tt}).lost Shared c.args.owner c.get_slots_held.ensures

@@ -5,7 +5,7 @@ use Rattle.lock_world.specs.SlotHolds.{relation_of}
 use Rattle.lock_world.specs.Account.{SlotsInHand}
 use Rattle.lock_world.specs.AccountLaw.{MaySetSlotBy}
 use Rattle.shared_rule.specs.declared.history.History.{History}
-use Rattle.shared_rule.specs.declared.history.Mark.TheVariants as mark
+use Rattle.shared_rule.specs.Marks as mark
 use Rattle.shared_rule.specs.Layout.{index_of_word}
 use Rattle.shared_rule.specs.History.{first_account, first_number}
 use Rattle.shared_rule.proofs.Events.Words.{IsAlwaysLawful, stores_at}

@@ -1,7 +1,7 @@
 use Rattle.std.proofs.Common.{rules, ◌≡◌, ◌<◌, List, sym, ap, ◌∙◌, subst}
 use Rattle.lock_world.specs.declared.events.Word.TheVariants.{Database}
 use Rattle.shared_rule.specs.declared.history.History.{History}
-use Rattle.shared_rule.specs.declared.history.Mark.TheVariants.{StoredDatabase}
+use Rattle.shared_rule.specs.Marks.{StoredDatabase}
 use Rattle.shared_rule.specs.Layout.{index_of_word}
 use Rattle.shared_rule.specs.History.{first_account, first_number}
 use Rattle.shared_rule.proofs.Events.Words.{IsAlwaysLawful, stores_at}

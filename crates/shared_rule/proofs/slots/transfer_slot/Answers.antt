@@ -6,7 +6,7 @@ use Rattle.lock_world.specs.SlotHolds.{relation_of}
 use Rattle.lock_world.specs.Account.{InHand, SlotsInHand}
 use Rattle.lock_world.specs.AccountLaw.{MayTransferBy}
 use Rattle.shared_rule.specs.declared.history.History.{History}
-use Rattle.shared_rule.specs.declared.history.Mark.TheVariants as mark
+use Rattle.shared_rule.specs.Marks as mark
 use Rattle.shared_rule.specs.History.{first_account}
 use Rattle.shared_rule.proofs.Events.Words.{IsAlwaysLawful, stores_at}
 use Rattle.shared_rule.proofs.SlotWords.{shown-weak}

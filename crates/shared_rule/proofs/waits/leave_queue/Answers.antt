@@ -9,7 +9,7 @@ use Rattle.lock_table.specs.Content as contents
 use Rattle.lock_table.specs.Waiter.{whose_and_mode}
 use Rattle.lock_table.specs.OwnWait.{OwnWait}
 use Rattle.lock_world.specs.AccountLaw.{MayLeaveBy}
-use Rattle.shared_rule.specs.declared.history.Mark.TheVariants.{LeftQueue}
+use Rattle.shared_rule.specs.Marks.{LeftQueue}
 use Rattle.shared_rule.proofs.Events.Waits.{leaving-lawful, told-granted}
 use Rattle.shared_rule.proofs.waits.leave_queue.Goals as goal
 

@@ -7,7 +7,7 @@ use Rattle.lock_world.specs.Account.{InHand}
 use Rattle.lock_table.specs.Content as contents
 use Rattle.lock_table.specs.Waiter.{whose_and_mode}
 use Rattle.shared_rule.specs.Lawful.{MayMarkBy}
-use Rattle.shared_rule.specs.declared.history.Mark.TheVariants.{MarkedGranted}
+use Rattle.shared_rule.specs.Marks.{MarkedGranted}
 use Rattle.shared_rule.proofs.Events.Waits.{marking-lawful, told-granted}
 use Rattle.shared_rule.proofs.waits.mark_granted.Goals as goal
 

@@ -1,10 +1,10 @@
 use Rattle.std.proofs.Common.{subst}
 use Rattle.local_locks.specs.Owned.{IsWellOwned}
-use Rattle.local_locks.proofs.KeptLaws.{well_owned}
+use Rattle.local_locks.proofs.LevelLaws.{well_owned}
 use Rattle.local_locks.proofs.tables.LocalTable.can_add.Goals as goal
 
 pub returns-then-self-clause-well_owned : goal.returns-then-self-clause-well_owned
-returns-then-self-clause-well_owned c = subst IsWellOwned c.self.view_is (well_owned _ _ _ _ _ _ _ c.self.invariant.kept)
+returns-then-self-clause-well_owned c = subst IsWellOwned c.self.view_is (well_owned _ _ _ _ _ _ _ _ _ _ _ c.self.invariant)
 
 pub returns-else-self-clause-well_owned : goal.returns-else-self-clause-well_owned
-returns-else-self-clause-well_owned c = subst IsWellOwned c.self.view_is (well_owned _ _ _ _ _ _ _ c.self.invariant.kept)
+returns-else-self-clause-well_owned c = subst IsWellOwned c.self.view_is (well_owned _ _ _ _ _ _ _ _ _ _ _ c.self.invariant)

@@ -1,4 +1,4 @@
-use Rattle.std.proofs.Common.{◌≡◌, ◌≢◌, ℕ, ◌<◌, ◌-◌, List, length, min, refl, sym, ap, subst, ◌∙◌, arith}
+use Rattle.std.proofs.Common.{Vec, Global, ◌≡◌, ◌≢◌, ℕ, ◌<◌, ◌-◌, List, length, min, refl, sym, ap, subst, ◌∙◌, arith}
 use Rattle.std.proofs.lemmas.List.{get_or_default}
 use Rattle.modes_core.specs.declared.tags.Tag.{Tag}
 use Rattle.local_locks.specs.declared.answers.Unlocked.TheVariants.{Released, StillHeld}
@@ -6,11 +6,14 @@ use Rattle.place_index.specs.Notes.{no_place}
 use Rattle.std.specs.Prelude.{vec_capacity, slice_index_or}
 use Rattle.modes_core.specs.declared.sessions.Owner.{Owner}
 use Rattle.local_locks.specs.declared.records.Entry.{Entry}
-use Rattle.local_locks.specs.Owned.{IsWellOwned, is_of, count_for, count_in_all, owner_count_of, total_of, with_one_less}
+use Rattle.local_locks.specs.Owned.{IsWellOwned, is_of, count_for, count_in_all, own_count_of, total_of, with_one_less}
+use Rattle.local_locks.specs.Levels.{row_at, own_count_in, IsLeveledTable}
+use Rattle.local_locks.proofs.LevelLaws.{owned_of, own_count-at}
+use Rattle.local_locks.proofs.LevelSteps.{table-with, taken-table, leveled-first, first_lists, own_count-first}
 use Rattle.local_locks.specs.Slots.{Slots, IsIndexed, IsKept, IsTable, IsPlaceOf, opened, entry_at, present}
 use Rattle.local_locks.proofs.OpenLaws.{slot_at-opened, entry_in-held, more-by}
 use Rattle.local_locks.proofs.LookLaws.{place_read, some_held}
-use Rattle.local_locks.proofs.KeptLaws.{well_owned}
+use Rattle.local_locks.proofs.LevelLaws.{well_owned}
 use Rattle.local_locks.proofs.TableSteps.{kept-lowered, kept-taken, entries-lowered, entries-taken, total-lowered, owner_count-at, IsCounted-lowered}
 use Rattle.local_locks.proofs.tables.LocalTable.drop_at_once.Goals as goal
 use Rattle.local_locks.proofs.tables.LocalTable.drop_at_once.Goals.{Then-lower_held}
@@ -18,18 +21,22 @@ use Rattle.local_locks.proofs.tables.LocalTable.drop_at_once.Goals.{Then-lower_h
 -- ---- it doesn't say
 
 pub returns-then-last-len-clause-well_owned : goal.returns-then-last-len-clause-well_owned
-returns-then-last-len-clause-well_owned c = subst IsWellOwned c.self.view_is (well_owned _ _ _ _ _ _ _ c.self.invariant.kept)
+returns-then-last-len-clause-well_owned c = subst IsWellOwned c.self.view_is (well_owned _ _ _ _ _ _ _ _ _ _ _ c.self.invariant)
 
 pub returns-in_default-clause-well_owned : goal.returns-in_default-clause-well_owned
-returns-in_default-clause-well_owned c = subst IsWellOwned c.self.view_is (well_owned _ _ _ _ _ _ _ c.self.invariant.kept)
+returns-in_default-clause-well_owned c = subst IsWellOwned c.self.view_is (well_owned _ _ _ _ _ _ _ _ _ _ _ c.self.invariant)
 
 pub returns-then-not-is_of_relation-clause-well_owned : goal.returns-then-not-is_of_relation-clause-well_owned
-returns-then-not-is_of_relation-clause-well_owned c = subst IsWellOwned c.self.view_is (well_owned _ _ _ _ _ _ _ c.self.invariant.kept)
+returns-then-not-is_of_relation-clause-well_owned c = subst IsWellOwned c.self.view_is (well_owned _ _ _ _ _ _ _ _ _ _ _ c.self.invariant)
 
 pub returns-then-not-is_only-clause-well_owned : goal.returns-then-not-is_only-clause-well_owned
 returns-then-not-is_only-clause-well_owned c =
-    subst (λ (es : List Entry). IsWellOwned (record { entries = present (opened es); room = min (min (vec_capacity c.lower_held.new.slots) no_place) c.self.inside.index.places - length c.lower_held.new.slots.items; slots = min (min (vec_capacity c.lower_held.new.slots) no_place) c.self.inside.index.places; max_local = c.self.inside.max_local })) (sym (ap (λ v. v.items) (c.lower_held.ensures.same c.if-lower_held.false)))
-    (well_owned _ _ _ _ _ _ _ c.self.invariant.kept)
+    well_owned _ _ _ _ _ _ _ _ _ _ _
+    (subst (λ (v : Vec Entry Global). IsLeveledTable v.items (vec_capacity v) c.self.inside.index c.self.inside.len c.self.inside.max_local c.self.inside.progress
+    c.self.inside.outer.items c.self.inside.depth c.self.inside.touched) (sym (c.lower_held.ensures.same c.if-lower_held.false)) c.self.invariant)
+
+pub returns-then-self-ne0-clause-well_owned : goal.returns-then-self-ne0-clause-well_owned
+returns-then-self-ne0-clause-well_owned c = subst IsWellOwned c.self.view_is (well_owned _ _ _ _ _ _ _ _ _ _ _ c.self.invariant)
 
 -- ---- the owner has it more than once, so it stays
 
@@ -40,7 +47,7 @@ at : (c : Then-lower_held) → IsPlaceOf c.self.inside.slots.items c.args.tag.no
 at c =
     let es = c.self.inside.slots.items in
     let within : c.self.inside.last < length es = omega (arith, c.if-last-len.false, c.len.ensures, c.self.inside.slots.ok.0) in
-    place_read es c.self.inside.index c.self.invariant.kept.indexed c.args.tag.now c.args.mode c.args.owner c.self.inside.last
+    place_read es c.self.inside.index c.self.invariant.table.kept.indexed c.args.tag.now c.args.mode c.args.owner c.self.inside.last
     c.index.result.now (c.index.ensures ∙ get_or_default es c.self.inside.last c.index.result.now _ within)
     (ap (λ (tag : Tag). is_of tag c.args.mode c.index.result.now) c.in-Relation.is ∙ (sym c.is_of_relation.ensures ∙ c.if-not-is_of_relation.false)) (omega (arith, above_one c))
 
@@ -50,36 +57,40 @@ more c = more-by c.args.owner (entry_at c.self.inside.slots.items c.self.inside.
 pub invariant_of-self : goal.invariant_of-self
 invariant_of-self c =
     let es = c.self.inside.slots.items in
-    record {
+    table-with c.self.invariant
+    (record {
       kept = subst (λ (s : Slots). IsKept s c.self.inside.index c.self.inside.len c.self.inside.max_local c.self.inside.progress) (sym (c.lower_held.ensures.slots c.if-lower_held.true))
           (kept-lowered (opened es) c.self.inside.index c.self.inside.len c.self.inside.max_local c.self.inside.progress c.self.inside.last c.args.owner (entry_at es c.self.inside.last)
-          c.self.invariant.kept (at c).there (omega (arith, above_one c)) (more c));
-      few = omega (arith, c.lower_held.ensures.number, c.self.invariant.few);
-    }
+          c.self.invariant.table.kept (at c).there (omega (arith, above_one c)) (more c));
+      few = omega (arith, c.lower_held.ensures.number, c.self.invariant.table.few);
+    })
+    (leveled-first _ _ _ _ _ _ c.self.invariant.leveled c.if-self-ne0.false) (omega (arith, c.lower_held.ensures.number)) refl c.lower_held.ensures.capacity refl
 
 pub returns-then-lower_held-clause-well_owned : goal.returns-then-lower_held-clause-well_owned
-returns-then-lower_held-clause-well_owned c = well_owned _ _ _ _ _ _ _ (invariant_of-self c).kept
+returns-then-lower_held-clause-well_owned c = well_owned _ _ _ _ _ _ _ _ _ _ _ (invariant_of-self c)
 
 pub returns-then-lower_held-clause-entries : goal.returns-then-lower_held-clause-entries
 returns-then-lower_held-clause-entries c = λ _.
     let es = c.self.inside.slots.items in
     ap present (c.lower_held.ensures.slots c.if-lower_held.true)
-    ∙ (entries-lowered (opened es) c.self.inside.index c.args.tag.now c.args.mode c.args.owner c.self.inside.last (entry_at es c.self.inside.last) c.self.invariant.kept.indexed (at c).there (at c).own (more c)
+    ∙ (entries-lowered (opened es) c.self.inside.index c.args.tag.now c.args.mode c.args.owner c.self.inside.last (entry_at es c.self.inside.last) c.self.invariant.table.kept.indexed (at c).there (at c).own (more c)
     ∙ ap (λ v. with_one_less v.entries c.args.tag.now c.args.mode c.args.owner) c.self.view_is)
 
 pub returns-then-lower_held-clause-held : goal.returns-then-lower_held-clause-held
 returns-then-lower_held-clause-held c =
     let es = c.self.inside.slots.items in
-    let count = owner_count-at (present (opened es)) c.args.tag.now c.args.mode c.args.owner (entry_at es c.self.inside.last) (at c).found in
-    let view = ap (λ v. owner_count_of v.entries c.args.tag.now c.args.mode c.args.owner) c.self.view_is in
-    λ _. omega (arith, above_one c, count, view)
+    let count = own_count-at (opened es) c.self.inside.index c.self.inside.outer.items c.self.inside.depth c.self.inside.touched 0 0 0 c.args.tag.now c.args.mode
+    c.self.invariant.table.kept.indexed c.self.invariant.leveled c.args.owner c.self.inside.last (entry_at es c.self.inside.last) (at c).there (at c).own in
+    let first = own_count-first c.self.inside.depth (row_at c.self.inside.outer.items c.self.inside.last) c.args.owner (entry_at es c.self.inside.last) c.if-self-ne0.false in
+    let view = ap (λ v. own_count_of v c.args.tag.now c.args.mode c.args.owner) c.self.view_is in
+    λ _. omega (arith, above_one c, count, first, view)
 
 pub returns-then-lower_held-clause-answer : goal.returns-then-lower_held-clause-answer
 returns-then-lower_held-clause-answer c =
     let es = c.self.inside.slots.items in
-    let counted = IsCounted-lowered c.args.owner (entry_at es c.self.inside.last) (omega (arith, above_one c)) (more c) (c.self.invariant.kept.counted c.self.inside.last (entry_at es c.self.inside.last) (at c).there) in
+    let counted = IsCounted-lowered c.args.owner (entry_at es c.self.inside.last) (omega (arith, above_one c)) (more c) (c.self.invariant.table.kept.counted c.self.inside.last (entry_at es c.self.inside.last) (at c).there) in
     let some = subst (λ (s : Slots). 0 < total_of (present s) c.args.tag.now c.args.mode) (sym (c.lower_held.ensures.slots c.if-lower_held.true))
-    (total-lowered (opened es) c.self.inside.index c.args.tag.now c.args.mode c.args.owner c.self.inside.last (entry_at es c.self.inside.last) c.self.invariant.kept.indexed (at c).there (at c).own counted) in
+    (total-lowered (opened es) c.self.inside.index c.args.tag.now c.args.mode c.args.owner c.self.inside.last (entry_at es c.self.inside.last) c.self.invariant.table.kept.indexed (at c).there (at c).own counted) in
     (λ same. some, λ above. refl)
 
 -- ---- it is the owner's only count, so it goes
@@ -94,7 +105,7 @@ counts_read es place owner e within is counts =
 
 pub take_last-requires-clause-indexed : goal.take_last-requires-clause-indexed
 take_last-requires-clause-indexed c =
-    subst (λ (es : List Entry). IsIndexed (opened es) c.self.inside.index) (sym (ap (λ v. v.items) (c.lower_held.ensures.same c.if-lower_held.false))) c.self.invariant.kept.indexed
+    subst (λ (es : List Entry). IsIndexed (opened es) c.self.inside.index) (sym (ap (λ v. v.items) (c.lower_held.ensures.same c.if-lower_held.false))) c.self.invariant.table.kept.indexed
 
 pub take_last-requires-clause-last : goal.take_last-requires-clause-last
 take_last-requires-clause-last c = omega (arith, c.if-last-len-2.false, c.len-else-not-is_only.ensures, c.lower_held.new.slots.ok.0)
@@ -114,13 +125,13 @@ overflow_sub-self c =
     let one = (counts_read es c.self.inside.last c.args.owner c.index-2.result.now (omega (arith, c.if-last-len-2.false, c.len-else-not-is_only.ensures, c.lower_held.new.slots.ok.0)) c.index-2.ensures
     ((c.if-not-is_only.ensures {u = tt}).0 refl)).0 in
     let was : count_for c.args.owner (entry_at c.self.inside.slots.items c.self.inside.last) ≡ 1 = ap (λ (l : List Entry). count_for c.args.owner (entry_at l c.self.inside.last)) (sym same) ∙ one in
-    omega (arith, c.self.invariant.kept.number, some_held c.self.inside.slots.items c.self.inside.index c.self.invariant.kept.indexed c.args.owner c.self.inside.last (omega (arith, was)))
+    omega (arith, c.self.invariant.table.kept.number, some_held c.self.inside.slots.items c.self.inside.index c.self.invariant.table.kept.indexed c.args.owner c.self.inside.last (omega (arith, was)))
 
 same : (c : goal.After-self-2-1) → c.lower_held.new.slots.items ≡ c.self.inside.slots.items
 same c = ap (λ v. v.items) (c.lower_held.ensures.same c.if-lower_held.false)
 
 still : (c : goal.After-self-2-1) → IsTable c.lower_held.new.slots.items c.self.inside.index c.self.inside.len c.self.inside.max_local c.self.inside.progress
-still c = subst (λ (es : List Entry). IsTable es c.self.inside.index c.self.inside.len c.self.inside.max_local c.self.inside.progress) (sym (same c)) c.self.invariant
+still c = subst (λ (es : List Entry). IsTable es c.self.inside.index c.self.inside.len c.self.inside.max_local c.self.inside.progress) (sym (same c)) c.self.invariant.table
 
 only : (c : goal.After-self-2-1) → (count_for c.args.owner (entry_at c.lower_held.new.slots.items c.self.inside.last) ≡ 1) × (count_in_all (entry_at c.lower_held.new.slots.items c.self.inside.last) ≡ 1)
 only c =
@@ -145,12 +156,18 @@ taken c =
     entries-taken (present (opened es)) (present (opened c.take_last.new.slots.items)) c.args.tag.now c.args.mode c.args.owner (entry_at es c.self.inside.last)
     (at_only c).found (at_only c).own (only c).1 c.take_last.ensures.taken.entries
 
+pub invariant_of-self-2 : goal.invariant_of-self-2
+invariant_of-self-2 c =
+    let e = c.take_last.ensures in
+    taken-table c.self.inside.last
+    (subst (λ (v : Vec Entry Global). IsLeveledTable v.items (vec_capacity v) c.self.inside.index c.self.inside.len c.self.inside.max_local c.self.inside.progress
+    c.self.inside.outer.items c.self.inside.depth c.self.inside.touched) (sym (c.lower_held.ensures.same c.if-lower_held.false)) c.self.invariant)
+    e.taken e.indexed e.capacity e.index_room refl
+    (first_lists _ _ _ _ c.self.invariant.leveled c.if-self-ne0.false c.self.inside.last) (λ k apart. refl)
+
 pub returns-clause-well_owned : goal.returns-clause-well_owned
 returns-clause-well_owned c =
-    let e = c.take_last.ensures in
-    well_owned _ _ _ _ _ _ _
-    (kept-taken (opened c.lower_held.new.slots.items) (opened c.take_last.new.slots.items) c.self.inside.index c.take_last.new.index c.self.inside.len c.self.inside.max_local c.self.inside.progress c.self.inside.last
-    (still c).kept e.indexed e.taken.gone e.taken.others e.taken.number)
+    well_owned _ _ _ _ _ _ _ _ _ _ _ (invariant_of-self-2 c)
 
 pub returns-clause-entries : goal.returns-clause-entries
 returns-clause-entries c = λ _. (taken c).0 ∙ ap (λ (es : List Entry). with_one_less es c.args.tag.now c.args.mode c.args.owner) (were c)
@@ -158,9 +175,15 @@ returns-clause-entries c = λ _. (taken c).0 ∙ ap (λ (es : List Entry). with_
 pub returns-clause-held : goal.returns-clause-held
 returns-clause-held c =
     let es = c.lower_held.new.slots.items in
-    let count = owner_count-at (present (opened es)) c.args.tag.now c.args.mode c.args.owner (entry_at es c.self.inside.last) (at_only c).found in
-    let view = ap (λ (es : List Entry). owner_count_of es c.args.tag.now c.args.mode c.args.owner) (were c) in
-    λ _. omega (arith, (only c).0, count, view)
+    let count = own_count-at (opened es) c.self.inside.index c.self.inside.outer.items c.self.inside.depth c.self.inside.touched 0 0 0 c.args.tag.now c.args.mode
+    (still c).kept.indexed (leveled-first _ _ _ _ _ c.self.inside.touched c.self.invariant.leveled c.if-self-ne0.false) c.args.owner c.self.inside.last (entry_at es c.self.inside.last)
+    (at_only c).there (at_only c).own in
+    let first = own_count-first c.self.inside.depth (row_at c.self.inside.outer.items c.self.inside.last) c.args.owner (entry_at es c.self.inside.last) c.if-self-ne0.false in
+    let view = ap (λ v. own_count_of v c.args.tag.now c.args.mode c.args.owner) c.self.view_is in
+    let seen : own_count_of (owned_of (opened es) c.self.inside.outer.items c.self.inside.depth 0 0 0) c.args.tag.now c.args.mode c.args.owner
+    ≡ own_count_of (owned_of (opened c.self.inside.slots.items) c.self.inside.outer.items c.self.inside.depth 0 0 0) c.args.tag.now c.args.mode c.args.owner =
+    ap (λ (l : List Entry). own_count_of (owned_of (opened l) c.self.inside.outer.items c.self.inside.depth 0 0 0) c.args.tag.now c.args.mode c.args.owner) (same c) in
+    λ _. omega (arith, (only c).0, count, first, seen, view)
 
 pub returns-clause-answer : goal.returns-clause-answer
 returns-clause-answer c =

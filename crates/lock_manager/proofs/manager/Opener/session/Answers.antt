@@ -1,6 +1,6 @@
 use Rattle.std.proofs.Common.{rules, ◌≡◌, ◌+◌, length, sym, ap, ◌∙◌, subst, arith}
 use Rattle.shared_rule.specs.Openers.{HaveClosed}
-use Rattle.lock_manager.proofs.Closing.{closed-before-next}
+use Rattle.lock_manager.proofs.Lemmas.Managers.Closed.{closed-before-next}
 use Rattle.lock_manager.proofs.manager.Opener.session.Goals as goal
 
 pub invariant_of-self : goal.invariant_of-self

@@ -7,7 +7,7 @@ use Rattle.shared_rule.specs.History.{first_account}
 use Rattle.lock_manager.specs.declared.sessions.Own.{Own}
 use Rattle.lock_manager.specs.Managers.{TakesBack}
 use Rattle.lock_manager.specs.Releases.{ReleasesAll}
-use Rattle.lock_manager.proofs.Unlocking.{MayCloseBy-rest, left_by-close}
+use Rattle.lock_manager.proofs.Lemmas.Rest.Entries.{MayCloseBy-rest, left_by-close}
 use Rattle.lock_manager.proofs.sessions.OwnSession+Part+SeatBoard+Part.close.Goals as goal
 
 pub take_back-requires-clause-lawful : goal.take_back-requires-clause-lawful
@@ -25,6 +25,6 @@ returns g c =
         last = last;
         left = c.end_all.new.own.uses;
         released = subst (λ (o : Own). ReleasesAll number before o.uses (ended_by Close o.locals.entries) last c.end_all.new.own.uses) own c.end_all.ensures.steps;
-        opener = subst (λ (seat : Seated). TakesBack seat.number last.trace c.args.opener.now c.take_back.new.self) c.end_all.ensures.seat c.take_back.ensures.closed;
+        opener = subst (λ (seat : Seated). TakesBack seat.number last.trace c.args.opener.now c.take_back.new.self) c.end_all.ensures.kept.seat_ c.take_back.ensures.closed;
       };
     })

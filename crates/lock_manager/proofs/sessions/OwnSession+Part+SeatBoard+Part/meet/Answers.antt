@@ -1,5 +1,5 @@
 use Rattle.std.proofs.Common.{ap}
-use Rattle.lock_manager.proofs.Unlocking.{entries-apart}
+use Rattle.lock_manager.proofs.Lemmas.Rest.Entries.{entries-apart}
 use Rattle.lock_manager.proofs.sessions.OwnSession+Part+SeatBoard+Part.meet.Goals as goal
 
 pub returns-clause-told : goal.returns-clause-told

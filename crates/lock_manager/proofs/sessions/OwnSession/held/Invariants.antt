@@ -1,4 +1,4 @@
-use Rattle.lock_manager.proofs.HeldModes.{IsHeldBelow}
+use Rattle.lock_manager.proofs.Lemmas.Sessions.Held.{IsHeldBelow}
 use Rattle.lock_manager.proofs.sessions.OwnSession.held.Given as goal
 
 abbrev pub invariant-loop-number : goal.invariant-loop-number

@@ -1,4 +1,4 @@
-use Rattle.lock_manager.proofs.Holding.{rest-new}
+use Rattle.lock_manager.proofs.Lemmas.Rest.Acquires.{rest-new}
 use Rattle.lock_manager.proofs.sessions.OwnSession.of.Goals as goal
 
 pub invariant_of-result : goal.invariant_of-result

@@ -4,11 +4,11 @@ use Rattle.modes_core.specs.declared.refusals.Refusal.{Refusal}
 use Rattle.modes_core.specs.declared.refusals.Refusal.TheVariants.{NotHeld}
 use Rattle.local_locks.specs.declared.answers.Unlocked.{Unlocked}
 use Rattle.local_locks.specs.Owned.{has_entry, with_one_less}
-use Rattle.local_locks.proofs.EntryLaws.{owned-entry, gone-released}
+use Rattle.local_locks.proofs.EntryLaws.{own-entry, gone-released}
 use Rattle.lock_manager.specs.declared.sessions.Own.{Own}
 use Rattle.lock_manager.specs.Rest.{IsUseCount, IsAtRest}
-use Rattle.lock_manager.proofs.Holding.{rest-database}
-use Rattle.lock_manager.proofs.Unlocking.{is_counted-rest, IsAtRest-still_held, IsAtRest-released}
+use Rattle.lock_manager.proofs.Lemmas.Rest.Acquires.{rest-database}
+use Rattle.lock_manager.proofs.Lemmas.Rest.Entries.{is_counted-rest, IsAtRest-still_held, IsAtRest-released}
 use Rattle.lock_manager.proofs.sessions.OwnSession.unlock.Given.{Over}
 use Rattle.lock_manager.proofs.sessions.OwnSession.unlock.Goals as goal
 
@@ -55,7 +55,7 @@ release_hold-requires-clause-database g c =
 pub release_hold-requires-clause-counted : goal.release_hold-requires-clause-counted
 release_hold-requires-clause-counted g c strong =
     let value = c.deref_mut-own.ensures.value in
-    let had = owned-entry c.deref_mut-own.result.now.locals.entries c.args.tag c.args.mode c.args.owner (λ none. ok_not_refused c.in_ok-drop_held.field-0 (sym c.in_ok-drop_held.was ∙ c.drop_held.ensures.not_held.1 none)) in
+    let had = own-entry c.deref_mut-own.result.now.locals c.args.tag c.args.mode c.args.owner (λ none. ok_not_refused c.in_ok-drop_held.field-0 (sym c.in_ok-drop_held.was ∙ c.drop_held.ensures.not_held.1 none)) in
     is_counted-rest _ _ _ _ _ _ c.args.tag c.args.mode c.self.invariant.0 strong (ap (λ (own : Own). has_entry own.locals.entries c.args.tag c.args.mode) (sym value) ∙ had)
 
 -- The session rests after its last count of the mode was given back.
@@ -71,7 +71,7 @@ rest-released g c =
     c.in_ok-drop_held.ensures.entries ∙ ap (λ (own : Own). with_one_less own.locals.entries c.args.tag c.args.mode c.args.owner) value in
     let had : has_entry old c.args.tag c.args.mode ≡ true =
     ap (λ (own : Own). has_entry own.locals.entries c.args.tag c.args.mode) (sym value) ∙
-    owned-entry c.deref_mut-own.result.now.locals.entries c.args.tag c.args.mode c.args.owner (λ none. ok_not_refused c.in_ok-drop_held.field-0 (sym c.in_ok-drop_held.was ∙ c.drop_held.ensures.not_held.1 none)) in
+    own-entry c.deref_mut-own.result.now.locals c.args.tag c.args.mode c.args.owner (λ none. ok_not_refused c.in_ok-drop_held.field-0 (sym c.in_ok-drop_held.was ∙ c.drop_held.ensures.not_held.1 none)) in
     let gone : has_entry new c.args.tag c.args.mode ≡ false =
     gone-released new c.args.tag c.args.mode c.in_ok-drop_held.field-0 c.in_ok-drop_held.ensures.answer c.in_ok-drop_held.ensures.well_owned.counted c.in-Released.is in
     rw c.release_hold.ensures.seat

@@ -1,8 +1,9 @@
-use Rattle.std.proofs.Common.{◌≡◌, false, Option, List, [], vec_len, vec_capacity, arith, sym, ap, subst}
+use Rattle.std.proofs.Common.{◌≡◌, false, Option, List, [], arith, sym, ap, subst}
 use Rattle.std.specs.Prelude.{count_by, is_some}
 use Rattle.lock_table.specs.declared.request.Request.{Request}
 use Rattle.lock_table.specs.Queue.{awaits_mode}
-use Rattle.lock_table.specs.PartWaits.{queues_in}
+use Rattle.lock_records.specs.Queues.{queue_on, waiting_in}
+use Rattle.lock_records.proofs.QueueRecords.{total-none}
 use Rattle.lock_table.proofs.Options.{ForSome-none}
 use Rattle.lock_records.specs.declared.locks.LockRecord.{LockRecord}
 use Rattle.lock_records.specs.declared.holders.HolderRecord.{HolderRecord}
@@ -16,15 +17,15 @@ pub invariant_of-result : goal.invariant_of-result
 invariant_of-result c =
     let held : count_by is_some c.new-3.result.slots ≡ 0 = ap (λ (slots : List (Option HolderRecord)). count_by is_some slots) c.new-3.ensures.empty in
     record {
-      objects = objects-same [] c.new-2.result.slots [] c.new-3.result.slots [] c.new-4.result.items c.new-2.ensures.empty c.new-3.ensures.empty c.new-4.ensures.items objects-none;
+      objects = objects-same [] c.new-2.result.slots [] c.new-3.result.slots [] c.new-4.result.slots c.new-2.ensures.empty c.new-3.ensures.empty c.new-4.ensures objects-none;
       noted = subst (λ (slots : List (Option LockRecord)). AreNoted slots c.in_ok-index.index) (sym c.new-2.ensures.empty) (noted-none c.in_ok-index.index (c.in_ok-index.ensures {u = tt}).empty);
-      room = omega (arith, c.new-4.ensures.len);
+      room = omega (arith, ap waiting_in c.new-4.ensures, total-none);
       begun_new = ForSome-none (λ (request : Request). holds_in c.new-3.result.slots request.session request.tag request.mode ≡ false);
-      begun_not_awaited = ForSome-none (λ (request : Request). awaits_mode (queues_in c.new-4.result.items request.tag) request.session request.mode ≡ false);
-      begun_room = ForSome-none (λ (request : Request). HasRoom c.new-2.result c.new-3.result (vec_len c.new-4.result) (vec_capacity c.new-4.result) c.in_ok-index.index);
+      begun_not_awaited = ForSome-none (λ (request : Request). awaits_mode (queue_on c.new-4.result.slots request.tag) request.session request.mode ≡ false);
+      begun_room = ForSome-none (λ (request : Request). HasRoom c.new-2.result c.new-3.result c.new-4.result c.in_ok-index.index);
       begun_absent = λ absent request is. let no_way : ⊥ = cc in absurd no_way;
     }
 
 pub returns-clause-content : goal.returns-clause-content
-unfolding holds_in
-returns-clause-content c = λ i. record { holds = holds_in (c.new-3.ensures.empty i); waits = queues_in (c.new-4.ensures.items i) }
+unfolding holds_in queue_on
+returns-clause-content c = λ i. record { holds = holds_in (c.new-3.ensures.empty i); waits = queue_on (c.new-4.ensures i) }

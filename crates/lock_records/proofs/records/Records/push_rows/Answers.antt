@@ -1,19 +1,16 @@
 use Rattle.std.proofs.Common.{◌+◌, not, List, length, ap, ◌∙◌}
 use Rattle.std.proofs.lemmas.Result.{on_ok_weaker}
-use Rattle.lock_table.specs.declared.part_waits.PartWait.{PartWait}
-use Rattle.lock_records.specs.Rows.{shown_below, awaited_in}
+use Rattle.lock_records.specs.Rows.{shown_below, awaited_below}
 use Rattle.lock_records.specs.View.{RecordView}
 use Rattle.lock_records.proofs.Listings.{appends-more, shown-once, on-ok}
 use Rattle.lock_records.proofs.records.Records.push_rows.Goals as goal
 
 pub returns-clause-ok : goal.returns-clause-ok
 returns-clause-ok c =
-    let view : RecordView = record { holders = c.self.inside.holders.slots; waits = c.self.inside.waits.items; begun = c.self.inside.begun } in
+    let view : RecordView = record { holders = c.self.inside.holders.slots; queues = c.self.inside.queues.slots; begun = c.self.inside.begun } in
     rw (← c.self.view_is)
-    (on_ok_weaker c.push_waits.result
-    (appends-more c.args.rows.now.items c.push_holds.new.rows.items c.push_waits.new.rows.items (shown_below view.holders (length view.holders)) (awaited_in c.as_slice.result.now) _
-    (λ row.
-    ap (λ (ws : List PartWait). shown_below view.holders (length view.holders) row + awaited_in ws row) c.as_slice.ensures.value
-    ∙ shown-once view row (c.self.invariant.objects row.tag).are ((c.self.invariant.objects row.tag).waiting.one_each row.session))
+    (on_ok_weaker c.push_rows.result
+    (appends-more c.args.rows.now.items c.push_holds.new.rows.items c.push_rows.new.rows.items (shown_below view.holders (length view.holders)) (awaited_below view.queues (length view.queues)) _
+    (λ row. shown-once view row (c.self.invariant.objects row.tag).are ((c.self.invariant.objects row.tag).waiting.one_each row.session))
     (on-ok c.push_holds.result _ (c.is_err.ensures.negation ∙ ap not c.if-is_err.false) c.push_holds.ensures.ok))
-    c.push_waits.ensures.ok)
+    c.push_rows.ensures.ok)

@@ -1,11 +1,11 @@
 use Rattle.std.proofs.lemmas.Bool.{true≢false}
 use Rattle.std.specs.Prelude.{is_some, not, IfNone, Option, Some, true}
-use Rattle.std.proofs.Common.{◌≡◌, false, None, List, vec_len, vec_capacity, sym, ap, ◌∙◌, subst, arith}
+use Rattle.std.proofs.Common.{◌≡◌, false, None, List, sym, ap, ◌∙◌, subst, arith}
 use Rattle.slab.specs.Slab.{Slab, slab_len}
 use Rattle.lock_table.specs.declared.request.Request.{Request}
-use Rattle.lock_table.specs.declared.part_waits.PartWait.{PartWait}
+use Rattle.lock_records.specs.declared.wait_queues.QueueRecord.{QueueRecord}
 use Rattle.lock_table.specs.Queue.{awaits_mode}
-use Rattle.lock_table.specs.PartWaits.{queues_in}
+use Rattle.lock_records.specs.Queues.{queue_on, waiting_in}
 use Rattle.lock_table.proofs.Options.{ForSome-some}
 use Rattle.lock_records.specs.declared.locks.LockRecord.{LockRecord}
 use Rattle.lock_records.specs.declared.holders.HolderRecord.{HolderRecord}
@@ -30,10 +30,13 @@ holders c = ap (λ (slab : Slab HolderRecord). slab.slots) c.make_room.ensures.h
 len : (c : After-make_room) → slab_len c.make_room.new.holders ≡ slab_len c.self.inside.holders
 len c = ap (λ (slab : Slab HolderRecord). slab_len slab) c.make_room.ensures.holders
 
-objects : (c : After-make_room) → AreObjects c.make_room.new.locks.slots c.make_room.new.holders.slots c.make_room.new.waits.items
+total : (c : After-make_room) → waiting_in c.make_room.new.queues.slots ≡ waiting_in c.self.inside.queues.slots
+total c = ap waiting_in c.make_room.ensures.queues
+
+objects : (c : After-make_room) → AreObjects c.make_room.new.locks.slots c.make_room.new.holders.slots c.make_room.new.queues.slots
 objects c =
-    objects-same c.self.inside.locks.slots c.make_room.new.locks.slots c.self.inside.holders.slots c.make_room.new.holders.slots c.self.inside.waits.items c.make_room.new.waits.items
-    (locks c) (holders c) c.make_room.ensures.waits c.self.invariant.objects
+    objects-same c.self.inside.locks.slots c.make_room.new.locks.slots c.self.inside.holders.slots c.make_room.new.holders.slots c.self.inside.queues.slots c.make_room.new.queues.slots
+    (locks c) (holders c) c.make_room.ensures.queues c.self.invariant.objects
 
 noted : (c : After-make_room) → AreNoted c.make_room.new.locks.slots c.make_room.new.index
 noted c =
@@ -47,7 +50,7 @@ invariant_of-self c =
     record {
       objects = objects at;
       noted = noted at;
-      room = omega (arith, c.self.invariant.room, len at, c.make_room.ensures.len, c.make_room.ensures.capacity);
+      room = omega (arith, c.self.invariant.room, len at, total at, c.make_room.ensures.capacity);
       begun_new = λ request is. let no_way : ⊥ = cc in absurd no_way;
       begun_not_awaited = λ request is. let no_way : ⊥ = cc in absurd no_way;
       begun_room = λ request is. let no_way : ⊥ = cc in absurd no_way;
@@ -64,17 +67,17 @@ invariant_of-self-2 c =
     record {
       objects = objects at;
       noted = noted at;
-      room = omega (arith, c.self.invariant.room, len at, c.make_room.ensures.len, c.make_room.ensures.capacity);
+      room = omega (arith, c.self.invariant.room, len at, total at, c.make_room.ensures.capacity);
       begun_new =
           ForSome-some (λ (x : Request). holds_in c.make_room.new.holders.slots x.session x.tag x.mode ≡ false) request
           (ap (λ slots. holds_in slots c.args.session c.args.tag.now c.args.mode) (holders at)
           ∙ ap (λ (part : RecordView). holds_in part.holders c.args.session c.args.tag.now c.args.mode) c.self.view_is ∙ c.requires.new);
       begun_not_awaited =
-          ForSome-some (λ (x : Request). awaits_mode (queues_in c.make_room.new.waits.items x.tag) x.session x.mode ≡ false) request
-          (ap (λ (waits : List PartWait). awaits_mode (queues_in waits c.args.tag.now) c.args.session c.args.mode) c.make_room.ensures.waits
-          ∙ ap (λ (part : RecordView). awaits_mode (queues_in part.waits c.args.tag.now) c.args.session c.args.mode) c.self.view_is ∙ c.requires.not_awaited);
+          ForSome-some (λ (x : Request). awaits_mode (queue_on c.make_room.new.queues.slots x.tag) x.session x.mode ≡ false) request
+          (ap (λ (waits : List (Option QueueRecord)). awaits_mode (queue_on waits c.args.tag.now) c.args.session c.args.mode) c.make_room.ensures.queues
+          ∙ ap (λ (part : RecordView). awaits_mode (queue_on part.queues c.args.tag.now) c.args.session c.args.mode) c.self.view_is ∙ c.requires.not_awaited);
       begun_room =
-          ForSome-some (λ (x : Request). HasRoom c.make_room.new.locks c.make_room.new.holders (vec_len c.make_room.new.waits) (vec_capacity c.make_room.new.waits) c.make_room.new.index) request
+          ForSome-some (λ (x : Request). HasRoom c.make_room.new.locks c.make_room.new.holders c.make_room.new.queues c.make_room.new.index) request
           (c.in_ok-make_room.ensures {u = tt}).room;
       begun_absent = λ absent.
           ForSome-some (λ (x : Request). HasNoLock c.make_room.new.locks.slots x.tag) request (found-none c.look-found.result (c.is_none-self-inside.ensures ∙ ap not absent) c.look-found.ensures.absent);

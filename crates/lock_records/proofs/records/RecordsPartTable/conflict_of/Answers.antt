@@ -10,5 +10,5 @@ holder_in_the_way-requires-clause-held c = λ i. ((c.self.invariant.objects c.ar
 
 pub returns-in-None : goal.returns-in-None
 returns-in-None c = λ other n another has.
-    absurd (both_ways _ (nothing-held c.self.inside.locks.slots c.self.inside.holders.slots c.self.inside.waits.items other c.args.tag.now n c.self.invariant.objects (c.in-None.ensures {u = tt}).absent)
+    absurd (both_ways _ (nothing-held c.self.inside.locks.slots c.self.inside.holders.slots c.self.inside.queues.slots other c.args.tag.now n c.self.invariant.objects (c.in-None.ensures {u = tt}).absent)
     (ap (λ (part : RecordView). holds_in part.holders other c.args.tag.now n) c.self.view_is ∙ has))

@@ -1,7 +1,7 @@
-use Rattle.std.proofs.Common.{◌≡◌, false, vec_len, vec_capacity, ap, ◌∙◌, arith}
+use Rattle.std.proofs.Common.{◌≡◌, false, ap, ◌∙◌, arith}
 use Rattle.lock_table.specs.declared.request.Request.{Request}
 use Rattle.lock_table.specs.Queue.{awaits_mode}
-use Rattle.lock_table.specs.PartWaits.{queues_in}
+use Rattle.lock_records.specs.Queues.{queue_on}
 use Rattle.lock_table.proofs.Options.{ForSome-none}
 use Rattle.lock_records.specs.Holders.{holds_in}
 use Rattle.lock_records.specs.Objects.{HasRoom}
@@ -13,7 +13,7 @@ use Rattle.lock_records.proofs.records.RecordsPartTable.grant.Goals as goal
 
 pub add_hold-requires-clause-held : goal.add_hold-requires-clause-held
 add_hold-requires-clause-held c = λ i.
-    (made-held c.self.inside.locks.slots c.look_or_make-place.new.locks.slots c.self.inside.holders.slots c.self.inside.waits.items c.args.tag.now c.look_or_make-place.result
+    (made-held c.self.inside.locks.slots c.look_or_make-place.new.locks.slots c.self.inside.holders.slots c.self.inside.queues.slots c.args.tag.now c.look_or_make-place.result
     c.self.invariant.objects c.look_or_make-place.ensures.made i).held
 
 pub add_hold-requires-clause-new : goal.add_hold-requires-clause-new
@@ -26,15 +26,15 @@ invariant_of-self c =
     let room = c.self.invariant.begun_room _ begun in
     record {
       objects =
-          objects-granted c.self.inside.locks.slots c.look_or_make-place.new.locks.slots c.add_hold.new.locks.slots c.self.inside.holders.slots c.add_hold.new.holders.slots c.self.inside.waits.items
+          objects-granted c.self.inside.locks.slots c.look_or_make-place.new.locks.slots c.add_hold.new.locks.slots c.self.inside.holders.slots c.add_hold.new.holders.slots c.self.inside.queues.slots
           c.args.session c.args.tag.now c.args.mode c.look_or_make-place.result c.look_or_make-place.new.index c.self.invariant.objects c.look_or_make-place.ensures.made c.look_or_make-place.ensures.noted
           lock.0 lock.1 lock.2 c.add_hold.ensures.set (c.self.invariant.begun_not_awaited _ begun);
       noted =
           noted-relocked c.look_or_make-place.new.locks.slots c.add_hold.new.locks.slots c.look_or_make-place.new.index c.args.tag.now c.look_or_make-place.result lock.0 c.look_or_make-place.ensures.noted;
       room = omega (arith, room.holder, c.add_hold.ensures.len, c.add_hold.ensures.capacity);
       begun_new = ForSome-none (λ (request : Request). holds_in c.add_hold.new.holders.slots request.session request.tag request.mode ≡ false);
-      begun_not_awaited = ForSome-none (λ (request : Request). awaits_mode (queues_in c.self.inside.waits.items request.tag) request.session request.mode ≡ false);
-      begun_room = ForSome-none (λ (request : Request). HasRoom c.add_hold.new.locks c.add_hold.new.holders (vec_len c.self.inside.waits) (vec_capacity c.self.inside.waits) c.look_or_make-place.new.index);
+      begun_not_awaited = ForSome-none (λ (request : Request). awaits_mode (queue_on c.self.inside.queues.slots request.tag) request.session request.mode ≡ false);
+      begun_room = ForSome-none (λ (request : Request). HasRoom c.add_hold.new.locks c.add_hold.new.holders c.self.inside.queues c.look_or_make-place.new.index);
       begun_absent = λ absent request is. let no_way : ⊥ = cc in absurd no_way;
     }
 

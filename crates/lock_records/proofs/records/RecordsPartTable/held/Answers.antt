@@ -11,7 +11,7 @@ use Rattle.lock_records.proofs.records.RecordsPartTable.held.Goals as goal
 pub returns-in_default : goal.returns-in_default
 returns-in_default c =
     rw (← c.self.view_is)
-    (c.empty.ensures ∙ (λ i m. sym (nothing-held c.self.inside.locks.slots c.self.inside.holders.slots c.self.inside.waits.items c.args.session c.args.tag.now m c.self.invariant.objects (c.in_default.ensures {u = tt}).absent) i))
+    (c.empty.ensures ∙ (λ i m. sym (nothing-held c.self.inside.locks.slots c.self.inside.holders.slots c.self.inside.queues.slots c.args.session c.args.tag.now m c.self.invariant.objects (c.in_default.ensures {u = tt}).absent) i))
 
 pub find_holder-requires : goal.find_holder-requires
 find_holder-requires c =

@@ -3,7 +3,7 @@ use Rattle.std.proofs.lemmas.List.{length_push}
 use Rattle.modes_core.specs.ModeSet.{set_has}
 use Rattle.lock_table.specs.Content.{Wait}
 use Rattle.lock_table.specs.Queue.{awaits_mode}
-use Rattle.lock_table.specs.PartWaits.{queues_in}
+use Rattle.lock_records.specs.Queues.{queue_on}
 use Rattle.lock_table.specs.Waiter.{shown_wait}
 use Rattle.lock_table.proofs.WalkLemmas.{StandFor-none, StandFor-more}
 use Rattle.lock_records.specs.View.{content_of}
@@ -14,7 +14,7 @@ use Rattle.lock_records.proofs.records.RecordsPartTable.wake.Goals.{In-Some, Aft
 pub loop-waiter-init : goal.loop-waiter-init
 loop-waiter-init c = (
   [],
-  queues_in c.args.self.now.waits c.args.tag.now,
+  queue_on c.args.self.now.queues c.args.tag.now,
   waking-start (content_of c.args.self.now) c.args.tag.now c.new-woken.result.items c.new-woken.ensures c.queue_has_each_once.ensures.one_each,
   refl,
   StandFor-none (set_has c.empty-ahead.result) c.empty-ahead.ensures,
@@ -25,7 +25,7 @@ loop-waiter-init c = (
 next : (c : In-Some) → (rest : List Wait) × (c.loop-waiter.invariant.1 ≡ shown_wait c.in-Some.waiter ∷ rest)
 next c =
     let so_far = c.loop-waiter.invariant in
-    let at : slice_get (queues_in c.loop-waiter.self.waits c.args.tag.now) c.loop-waiter.place ≡ Some (shown_wait c.in-Some.waiter) = sym (c.in-Some.ensures {u = tt}).wait in
+    let at : slice_get (queue_on c.loop-waiter.self.queues c.args.tag.now) c.loop-waiter.place ≡ Some (shown_wait c.in-Some.waiter) = sym (c.in-Some.ensures {u = tt}).wait in
     behind-some so_far.1 (shown_wait c.in-Some.waiter)
     (sym (seam so_far.0 so_far.1) ∙ ap (slice_get (so_far.0 ++ so_far.1)) so_far.3 ∙ ap (λ queue. slice_get queue c.loop-waiter.place) (sym so_far.2.here) ∙ at)
 
@@ -77,20 +77,20 @@ loop-waiter-smaller-then-is_free c =
     let behind = next at in
     let was = waking at behind.0 behind.1 in
     let now = gone (goal.at.loop-waiter-smaller-then-is_free c).After-grant_wait at behind.0 was in
-    let before : length (queues_in c.loop-waiter.self.waits c.args.tag.now) ≡ length c.loop-waiter.invariant.0 + (length behind.0 + 1) =
+    let before : length (queue_on c.loop-waiter.self.queues c.args.tag.now) ≡ length c.loop-waiter.invariant.0 + (length behind.0 + 1) =
     ap length was.here ∙ length-append c.loop-waiter.invariant.0 (shown_wait c.in-Some.waiter ∷ behind.0) ∙ (let e : length c.loop-waiter.invariant.0 + length (shown_wait c.in-Some.waiter ∷ behind.0) ≡ length c.loop-waiter.invariant.0 + (length behind.0 + 1) = omega arith in e) in
-    let after : length (queues_in c.grant_wait.new.self.waits c.args.tag.now) ≡ length c.loop-waiter.invariant.0 + length behind.0 =
+    let after : length (queue_on c.grant_wait.new.self.queues c.args.tag.now) ≡ length c.loop-waiter.invariant.0 + length behind.0 =
     ap length now.here ∙ length-append c.loop-waiter.invariant.0 behind.0 in
-    let less : length (queues_in c.grant_wait.new.self.waits c.args.tag.now) - c.loop-waiter.place < length (queues_in c.loop-waiter.self.waits c.args.tag.now) - c.loop-waiter.place =
+    let less : length (queue_on c.grant_wait.new.self.queues c.args.tag.now) - c.loop-waiter.place < length (queue_on c.loop-waiter.self.queues c.args.tag.now) - c.loop-waiter.place =
     omega (arith, before, after, c.loop-waiter.invariant.3) in
     less
 
 -- how long the queue is
 behind-place : (c : In-Some) → (rest : List Wait) →
     WakingTo (content_of c.args.self.now) c.args.tag.now (content_of c.loop-waiter.self) c.loop-waiter.invariant.0 (shown_wait c.in-Some.waiter ∷ rest) c.loop-waiter.woken.items →
-    c.loop-waiter.place + 1 ≤ length (queues_in c.loop-waiter.self.waits c.args.tag.now)
+    c.loop-waiter.place + 1 ≤ length (queue_on c.loop-waiter.self.queues c.args.tag.now)
 behind-place c rest so_far =
-    let before : length (queues_in c.loop-waiter.self.waits c.args.tag.now) ≡ length c.loop-waiter.invariant.0 + (length rest + 1) =
+    let before : length (queue_on c.loop-waiter.self.queues c.args.tag.now) ≡ length c.loop-waiter.invariant.0 + (length rest + 1) =
     ap length so_far.here ∙ length-append c.loop-waiter.invariant.0 (shown_wait c.in-Some.waiter ∷ rest) ∙ (let e : length c.loop-waiter.invariant.0 + length (shown_wait c.in-Some.waiter ∷ rest) ≡ length c.loop-waiter.invariant.0 + (length rest + 1) = omega arith in e) in
     omega (arith, before, c.loop-waiter.invariant.3)
 
@@ -105,7 +105,7 @@ loop-waiter-smaller c =
     let at = (goal.at.loop-waiter-smaller c).In-Some in
     let behind = next at in
     let within = behind-place at behind.0 (waking at behind.0 behind.1) in
-    let less : length (queues_in c.loop-waiter.self.waits c.args.tag.now) - (c.loop-waiter.place + 1) < length (queues_in c.loop-waiter.self.waits c.args.tag.now) - c.loop-waiter.place = omega (arith, within) in
+    let less : length (queue_on c.loop-waiter.self.queues c.args.tag.now) - (c.loop-waiter.place + 1) < length (queue_on c.loop-waiter.self.queues c.args.tag.now) - c.loop-waiter.place = omega (arith, within) in
     less
 
 pub loop-waiter-preserved : goal.loop-waiter-preserved
@@ -125,7 +125,7 @@ loop-waiter-preserved c =
 pub returns-clause-woken : goal.returns-clause-woken
 returns-clause-woken c =
     let so_far = c.loop-waiter.invariant in
-    let at : slice_get (queues_in c.loop-waiter.self.waits c.args.tag.now) c.loop-waiter.place ≡ None = sym (c.in_default.ensures {u = tt}).wait in
+    let at : slice_get (queue_on c.loop-waiter.self.queues c.args.tag.now) c.loop-waiter.place ≡ None = sym (c.in_default.ensures {u = tt}).wait in
     let none = behind-none so_far.1 (sym (seam so_far.0 so_far.1) ∙ ap (slice_get (so_far.0 ++ so_far.1)) so_far.3 ∙ ap (λ queue. slice_get queue c.loop-waiter.place) (sym so_far.2.here) ∙ at) in
     waking-end (content_of c.args.self.now) c.args.tag.now (content_of c.loop-waiter.self) so_far.0 c.loop-waiter.woken.items
     (subst (λ todo. WakingTo (content_of c.args.self.now) c.args.tag.now (content_of c.loop-waiter.self) so_far.0 todo c.loop-waiter.woken.items) none so_far.2)

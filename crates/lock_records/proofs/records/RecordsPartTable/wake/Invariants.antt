@@ -1,7 +1,7 @@
 use Rattle.std.proofs.Common.{◌≡◌, ◌-◌, List, length}
 use Rattle.modes_core.specs.ModeSet.{set_has}
 use Rattle.lock_table.specs.Content.{Wait}
-use Rattle.lock_table.specs.PartWaits.{queues_in}
+use Rattle.lock_records.specs.Queues.{queue_on}
 use Rattle.lock_table.specs.Walk.{StandFor}
 use Rattle.lock_records.specs.View.{content_of}
 use Rattle.lock_records.proofs.Wakings.{WakingTo}
@@ -13,4 +13,4 @@ invariant-loop-waiter l =
     × (length done ≡ l.place) × StandFor (set_has l.ahead) done × (l.self.begun ≡ l.fn.self.begun)
 
 abbrev pub decreases-loop-waiter : goal.decreases-loop-waiter
-decreases-loop-waiter l = length (queues_in l.self.waits l.tag) - l.place
+decreases-loop-waiter l = length (queue_on l.self.queues l.tag) - l.place

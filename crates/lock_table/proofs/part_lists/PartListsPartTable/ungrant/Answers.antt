@@ -1,11 +1,16 @@
-use Rattle.std.proofs.Common.{◌≡◌, ◌<◌, ◌≤◌, ◌∙◌, true, length, List, ap, subst, arith}
+use Rattle.std.proofs.Common.{◌≡◌, ◌<◌, ◌≤◌, ◌∙◌, Bool, true, length, List, sym, ap, subst, arith}
 use Rattle.std.specs.Prelude.{count_by, slice_index_or}
+use Rattle.std.specs.List.{list_any}
+use Rattle.modes_core.specs.declared.modes.Mode.{Mode}
+use Rattle.modes_core.specs.ModeSet.{set_has}
+use Rattle.modes_core.specs.Conflict.{conflict}
+use Rattle.lock_table.specs.declared.part_waits.PartWait.{PartWait}
 use Rattle.lock_table.specs.Request.{is_request_of}
 use Rattle.lock_table.specs.declared.request.Request.{Request}
 use Rattle.lock_table.specs.PartView.{PartView, holds_in}
-use Rattle.lock_table.specs.PartWaits.{queues_in}
+use Rattle.lock_table.specs.PartWaits.{queues_in, awaits_one_of}
 use Rattle.lock_table.proofs.HoldLists.{remove_hold-taken_out}
-use Rattle.lock_table.proofs.WaitLists.{times_in-taken_out}
+use Rattle.lock_table.proofs.WaitLists.{times_in-taken_out, awaited-against}
 use Rattle.lock_table.proofs.part_lists.PartListsPartTable.ungrant.Goals as goal
 
 pub index_of_hold-index-requires : goal.index_of_hold-index-requires
@@ -44,3 +49,12 @@ returns-clause-content c =
       holds = remove_hold-taken_out holds c.index_of_hold-index.result c.swap_remove.result c.args.session c.args.tag.now c.args.mode within c.swap_remove.ensures.value its once i;
       waits = queues_in c.self.inside.waits.items;
     })
+
+pub returns-clause-awaited : goal.returns-clause-awaited
+returns-clause-awaited c =
+    let modes : set_has c.conflicts.result ≡ conflict c.args.mode = c.conflicts.ensures in
+    rw (← c.self.view_is)
+    (c.is_awaited.ensures
+    ∙ ap (λ (ws : List PartWait). list_any (λ wait. awaits_one_of wait c.args.tag.now (set_has c.conflicts.result)) ws) c.as_slice-2.ensures.value
+    ∙ ap (λ (set : Mode → Bool). list_any (λ wait. awaits_one_of wait c.args.tag.now set) c.self.inside.waits.items) modes
+    ∙ sym (awaited-against c.self.inside.waits.items c.args.tag.now c.args.mode))

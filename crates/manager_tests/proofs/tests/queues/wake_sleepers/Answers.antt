@@ -3,8 +3,8 @@ use Rattle.std.proofs.Math.Seq.{take-append_seam}
 use Rattle.manager_tests.specs.Crews.{AreOf}
 use Rattle.manager_tests.proofs.tests.queues.wake_sleepers.Goals as goal
 
-pub close_many-requires-clause-own : goal.close_many-requires-clause-own
-close_many-requires-clause-own g c =
+pub close_counted-requires-clause-own : goal.close_counted-requires-clause-own
+close_counted-requires-clause-own g c =
     let manager = g.D.Desk.manager c.args.desk.now in
     let sessions = c.sleep_side_by_side.new.sleepers in
     let rest = drop (length sessions) c.open_many-sessions.result.items in

@@ -1,4 +1,4 @@
-use Rattle.std.proofs.Common.{◌≡◌, ℕ, ◌+◌, ◌∙◌, ap, length, sym}
+use Rattle.std.proofs.Common.{◌≡◌, ℕ, ◌+◌, ◌<◌, ◌∙◌, ap, length, subst, sym}
 use Rattle.shared_rule.specs.Boards.{Seated}
 use Rattle.lock_script.proofs.Lending.{All-called, length-with_session}
 use Rattle.scenario.proofs.sessions.Stage.list.Goals as goal
@@ -12,3 +12,7 @@ invariant_of-self-clause-resting g c =
     All-called c.args.self.now.sessions.resting c.args.place c.session_mut.result.now c.list.new.self c.requires c.session_mut.ensures.value
     (λ session. (g.B.Board.seat session.board).table ≡ c.args.self.now.opener.table) c.args.self.now.resting
     (λ h. ap (λ (seat : Seated). seat.table) c.list.ensures.same.seat_ ∙ h)
+
+pub returns-clause-may_act : goal.returns-clause-may_act
+returns-clause-may_act g c =
+    subst (λ (n : ℕ). c.args.place < n) (sym (length-with_session c.args.self.now.sessions.resting c.args.place c.list.new.self)) c.requires

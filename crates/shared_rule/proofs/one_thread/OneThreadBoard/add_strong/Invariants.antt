@@ -1,4 +1,4 @@
-use Rattle.shared_rule.specs.declared.history.Mark.TheVariants.{Counted}
+use Rattle.shared_rule.specs.Marks.{Counted}
 use Rattle.shared_rule.proofs.one_thread.OneThreadBoard.add_strong.Given as goal
 
 abbrev pub ghosts-add_strong : goal.ghosts-add_strong

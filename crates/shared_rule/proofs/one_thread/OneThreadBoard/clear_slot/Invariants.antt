@@ -1,4 +1,4 @@
-use Rattle.shared_rule.specs.declared.history.Mark.TheVariants.{ClearedSlot}
+use Rattle.shared_rule.specs.Marks.{ClearedSlot}
 use Rattle.shared_rule.proofs.one_thread.OneThreadBoard.clear_slot.Given as goal
 
 abbrev pub ghosts-clear_slot : goal.ghosts-clear_slot

@@ -1,5 +1,5 @@
 use Rattle.shared_rule.specs.History.{sessions_told}
-use Rattle.shared_rule.specs.declared.history.Mark.TheVariants.{LeftQueue}
+use Rattle.shared_rule.specs.Marks.{LeftQueue}
 use Rattle.shared_rule.proofs.one_thread.OneThreadBoard.leave_queue.Given as goal
 
 abbrev pub ghosts-leave_queue : goal.ghosts-leave_queue

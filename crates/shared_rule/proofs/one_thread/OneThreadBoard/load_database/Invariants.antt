@@ -1,4 +1,4 @@
-use Rattle.shared_rule.specs.declared.history.Mark.TheVariants.{LoadedDatabase}
+use Rattle.shared_rule.specs.Marks.{LoadedDatabase}
 use Rattle.shared_rule.proofs.one_thread.OneThreadBoard.load_database.Given as goal
 
 abbrev pub ghosts-load_database : goal.ghosts-load_database

@@ -1,4 +1,4 @@
-use Rattle.shared_rule.specs.declared.history.Mark.TheVariants.{LoadedSlot}
+use Rattle.shared_rule.specs.Marks.{LoadedSlot}
 use Rattle.shared_rule.proofs.one_thread.OneThreadBoard.load_slot.Given as goal
 
 abbrev pub ghosts-load_slot : goal.ghosts-load_slot

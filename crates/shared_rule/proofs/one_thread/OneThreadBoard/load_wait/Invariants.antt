@@ -1,4 +1,4 @@
-use Rattle.shared_rule.specs.declared.history.Mark.TheVariants.{LoadedWait}
+use Rattle.shared_rule.specs.Marks.{LoadedWait}
 use Rattle.shared_rule.proofs.one_thread.OneThreadBoard.load_wait.Given as goal
 
 abbrev pub ghosts-load_wait : goal.ghosts-load_wait

@@ -1,4 +1,4 @@
-use Rattle.shared_rule.specs.declared.history.Mark.TheVariants.{SetWaiting}
+use Rattle.shared_rule.specs.Marks.{SetWaiting}
 use Rattle.shared_rule.proofs.one_thread.OneThreadBoard.set_waiting.Given as goal
 
 abbrev pub ghosts-set_waiting : goal.ghosts-set_waiting

@@ -1,4 +1,4 @@
-use Rattle.shared_rule.specs.declared.history.Mark.TheVariants.{TransferredSlot}
+use Rattle.shared_rule.specs.Marks.{TransferredSlot}
 use Rattle.shared_rule.proofs.one_thread.OneThreadBoard.transfer_slot.Given as goal
 
 abbrev pub ghosts-transfer_slot : goal.ghosts-transfer_slot

@@ -5,7 +5,9 @@ use Rattle.shared_rule.specs.declared.history.History.{History}
 use Rattle.shared_rule.specs.Audits.{CountsAll, CountsFrom}
 use Rattle.shared_rule.specs.Gatherings.{NoneWaits, AreAll, gathered_in}
 use Rattle.shared_rule.specs.Openers.{OpenerState}
-use Rattle.shared_rule.specs.Plays.{HasSession}
+use Rattle.shared_rule.specs.Plays.{HasSession, IsSized}
+use Rattle.lock_world.specs.Account.{Account}
+use Rattle.shared_rule.proofs.Idle.{idle-further}
 use Rattle.shared_rule.proofs.AuditSums.{counts-all, counts-refused, has-first, are-all}
 use Rattle.shared_rule.proofs.opener.Opener.count.Given.{Over}
 use Rattle.shared_rule.proofs.opener.Opener.count.Goals as goal
@@ -39,3 +41,35 @@ returns g c =
     (c.count_from.ensures.seat.table_id ∙ c.count_counters-strong.ensures.seat.table_id) has are c.self.invariant.1 nobody
     c.count_counters-strong.ensures.seen counts c.granted_in.result c.in_ok-count_from.was
     (c.granted_in.ensures ∙ ap (count_by (λ (row : TableRow). row.granted)) c.as_slice.ensures.value))
+
+pub invariant_of-self : goal.invariant_of-self
+invariant_of-self g c =
+    let content = g.T.PartTable.content in
+    let v0 = c.self.inside.place.me.0 in
+    let v1 = c.count_counters-strong.new.place.me.0 in
+    let v2 = c.count_from.new.place.me.0 in
+    let seen = c.count_counters-strong.ensures.seen in
+    let counts = c.count_from.ensures.counts in (
+      counts.further.next ∙ seen.further.next ∙ c.self.invariant.0,
+      c.self.invariant.1,
+      c.self.invariant.2,
+      subst IsSized (sym (c.count_from.ensures.seat.table_id ∙ c.count_counters-strong.ensures.seat.table_id)) c.self.invariant.3,
+      idle-further content v1 v2 counts.further (ap (λ (a : Account). a.lists) counts.account)
+          (idle-further content v0 v1 seen.further (ap (λ (a : Account). a.lists) seen.account) c.self.invariant.4),
+    )
+
+pub invariant_of-self-2 : goal.invariant_of-self-2
+invariant_of-self-2 g c =
+    let content = g.T.PartTable.content in
+    let v0 = c.self.inside.place.me.0 in
+    let v1 = c.count_counters-strong.new.place.me.0 in
+    let v2 = c.count_from.new.place.me.0 in
+    let seen = c.count_counters-strong.ensures.seen in
+    let counts = c.count_from.ensures.counts in (
+      counts.further.next ∙ seen.further.next ∙ c.self.invariant.0,
+      c.self.invariant.1,
+      c.self.invariant.2,
+      subst IsSized (sym (c.count_from.ensures.seat.table_id ∙ c.count_counters-strong.ensures.seat.table_id)) c.self.invariant.3,
+      idle-further content v1 v2 counts.further (ap (λ (a : Account). a.lists) counts.account)
+          (idle-further content v0 v1 seen.further (ap (λ (a : Account). a.lists) seen.account) c.self.invariant.4),
+    )

@@ -1,11 +1,12 @@
-use Rattle.std.proofs.Common.{◌≡◌, List, ◌∷◌, ◌++◌, [], sym, ap, ◌∙◌}
+use Rattle.std.proofs.Common.{◌≡◌, List, ◌∷◌, ◌++◌, [], sym, ap, ◌∙◌, subst}
 use Rattle.shared_rule.specs.declared.history.History.{History}
 use Rattle.shared_rule.specs.declared.history.View.{View}
-use Rattle.shared_rule.specs.Boards.{Seated, first_marks}
+use Rattle.shared_rule.specs.Boards.{Seated, first_marks, IsIdle, AreIdle}
 use Rattle.shared_rule.specs.History.{lone, first_account}
 use Rattle.shared_rule.specs.Openers.{OpenerState}
-use Rattle.shared_rule.specs.Plays.{Side}
+use Rattle.shared_rule.specs.Plays.{Side, IsSized}
 use Rattle.shared_rule.specs.Seats.{all_but_last, last_of}
+use Rattle.shared_rule.proofs.Idle.{idle-one, idle-last, idle-left}
 use Rattle.shared_rule.proofs.Meetings.{all_but_last-of, last_of-of, lone-last}
 use Rattle.shared_rule.proofs.opener.Opener.send_back.Goals as goal
 
@@ -30,4 +31,20 @@ returns-clause-left g c = λ before last gathered.
       (λ i. record { table = table i; issued = c.self.inside.issued; limit = c.self.inside.sessions; closed = closed i; gathered = rest i })
           ∙ ap (λ (o : OpenerState g.row.T.Denot). record o { gathered = before }) c.self.view_is,
       ap (λ place. first_account g.T.PartTable.content place.me.0.sessions) c.at.ensures.1 ∙ ap (first_account g.T.PartTable.content) there,
+    )
+
+pub at-requires-clause-idle : goal.at-requires-clause-idle
+at-requires-clause-idle g c =
+    let came = ap (λ (m : Side g.row.T.Denot). m.0) c.hand_back-place.ensures.other in
+    subst (λ (v : View g.row.T.Denot). IsIdle v.sessions) (sym came)
+    (idle-one (last_of c.self.inside.place.me.0.sessions) (idle-last c.self.inside.place.me.0.sessions c.self.invariant.4))
+
+pub invariant_of-self : goal.invariant_of-self
+invariant_of-self g c =
+    let left = ap (λ (m : Side g.row.T.Denot). m.0) c.hand_back-place.ensures.side in (
+      ap (λ (v : View g.row.T.Denot). v.next) left ∙ c.self.invariant.0,
+      c.self.invariant.1,
+      c.self.invariant.2,
+      subst IsSized (sym c.hand_back-place.ensures.seat.table_id) c.self.invariant.3,
+      subst (λ (v : View g.row.T.Denot). AreIdle v.sessions) (sym left) (idle-left c.self.inside.place.me.0.sessions c.self.invariant.4),
     )

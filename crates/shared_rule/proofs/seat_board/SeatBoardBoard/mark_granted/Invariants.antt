@@ -1,5 +1,5 @@
 use Rattle.shared_rule.specs.History.{sessions_told}
-use Rattle.shared_rule.specs.declared.history.Mark.TheVariants.{MarkedGranted}
+use Rattle.shared_rule.specs.Marks.{MarkedGranted}
 use Rattle.shared_rule.proofs.seat_board.SeatBoardBoard.mark_granted.Given as goal
 
 abbrev pub ghosts-mark_granted : goal.ghosts-mark_granted

@@ -1,4 +1,4 @@
-use Rattle.shared_rule.specs.declared.history.Mark.TheVariants.{Passed}
+use Rattle.shared_rule.specs.Marks.{Passed}
 use Rattle.shared_rule.proofs.seat_board.SeatBoardBoard.pass_fast.Given as goal
 
 abbrev pub ghosts-pass_fast : goal.ghosts-pass_fast

@@ -1,4 +1,4 @@
-use Rattle.shared_rule.specs.declared.history.Mark.TheVariants.{PutFast}
+use Rattle.shared_rule.specs.Marks.{PutFast}
 use Rattle.shared_rule.proofs.seat_board.SeatBoardBoard.put_fast.Given as goal
 
 abbrev pub ghosts-put_fast : goal.ghosts-put_fast

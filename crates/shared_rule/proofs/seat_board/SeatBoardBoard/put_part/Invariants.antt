@@ -1,4 +1,4 @@
-use Rattle.shared_rule.specs.declared.history.Mark.TheVariants.{PutPart}
+use Rattle.shared_rule.specs.Marks.{PutPart}
 use Rattle.shared_rule.proofs.seat_board.SeatBoardBoard.put_part.Given as goal
 
 abbrev pub ghosts-put_part : goal.ghosts-put_part

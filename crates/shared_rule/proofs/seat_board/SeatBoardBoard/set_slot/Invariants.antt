@@ -1,4 +1,4 @@
-use Rattle.shared_rule.specs.declared.history.Mark.TheVariants.{SetSlot}
+use Rattle.shared_rule.specs.Marks.{SetSlot}
 use Rattle.shared_rule.proofs.seat_board.SeatBoardBoard.set_slot.Given as goal
 
 abbrev pub ghosts-set_slot : goal.ghosts-set_slot

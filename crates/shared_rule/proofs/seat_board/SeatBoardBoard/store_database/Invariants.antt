@@ -1,4 +1,4 @@
-use Rattle.shared_rule.specs.declared.history.Mark.TheVariants.{StoredDatabase}
+use Rattle.shared_rule.specs.Marks.{StoredDatabase}
 use Rattle.shared_rule.proofs.seat_board.SeatBoardBoard.store_database.Given as goal
 
 abbrev pub ghosts-store_database : goal.ghosts-store_database

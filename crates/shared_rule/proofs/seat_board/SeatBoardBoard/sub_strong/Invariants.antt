@@ -1,4 +1,4 @@
-use Rattle.shared_rule.specs.declared.history.Mark.TheVariants.{Uncounted}
+use Rattle.shared_rule.specs.Marks.{Uncounted}
 use Rattle.shared_rule.proofs.seat_board.SeatBoardBoard.sub_strong.Given as goal
 
 abbrev pub ghosts-sub_strong : goal.ghosts-sub_strong

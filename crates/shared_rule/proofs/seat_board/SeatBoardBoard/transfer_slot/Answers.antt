@@ -1,5 +1,5 @@
 use Rattle.std.proofs.Common.{[], ap, ◌∙◌}
-use Rattle.shared_rule.specs.declared.history.Mark.TheVariants.{TransferredSlot}
+use Rattle.shared_rule.specs.Marks.{TransferredSlot}
 use Rattle.shared_rule.specs.declared.history.View.{View}
 use Rattle.shared_rule.specs.History.{first_account}
 use Rattle.shared_rule.specs.Boards.{first_marks}

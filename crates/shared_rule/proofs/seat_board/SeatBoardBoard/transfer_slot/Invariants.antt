@@ -1,4 +1,4 @@
-use Rattle.shared_rule.specs.declared.history.Mark.TheVariants.{TransferredSlot}
+use Rattle.shared_rule.specs.Marks.{TransferredSlot}
 use Rattle.shared_rule.proofs.seat_board.SeatBoardBoard.transfer_slot.Given as goal
 
 abbrev pub ghosts-transfer_slot : goal.ghosts-transfer_slot

@@ -1,4 +1,4 @@
-use Rattle.shared_rule.specs.declared.history.Mark.TheVariants.{UnsharedFast}
+use Rattle.shared_rule.specs.Marks.{UnsharedFast}
 use Rattle.shared_rule.proofs.seat_board.SeatBoardBoard.unshare_fast.Given as goal
 
 abbrev pub ghosts-unshare_fast : goal.ghosts-unshare_fast

@@ -1,0 +1,42 @@
+use Rattle.std.proofs.Common.{◌≡◌, ◌-◌, List, length, take, suc, refl, sym, ap, subst, ◌∙◌, arith}
+use Rattle.local_locks.specs.declared.records.Entry.{Entry}
+use Rattle.local_locks.specs.Owned.{IsWellOwned}
+use Rattle.local_locks.specs.Slots.{opened}
+use Rattle.local_locks.specs.Levels.{row_at, outer_of, IsLeveled}
+use Rattle.local_locks.proofs.OpenLaws.{length-opened}
+use Rattle.local_locks.proofs.LevelLaws.{well_owned, length-outer, outer-taken}
+use Rattle.local_locks.proofs.LevelSteps.{leveled-handed, table-with}
+use Rattle.local_locks.proofs.tables.LocalTable.hand_up.Goals as goal
+
+pub returns-then-self-eq0-clause-well_owned : goal.returns-then-self-eq0-clause-well_owned
+returns-then-self-eq0-clause-well_owned c = subst IsWellOwned c.self.view_is (well_owned _ _ _ _ _ _ _ _ _ _ _ c.self.invariant)
+
+pub invariant_of-self : goal.invariant_of-self
+invariant_of-self c =
+    let es = c.self.inside.slots.items in
+    let is : c.self.inside.depth ≡ suc (c.self.inside.depth - 1) = omega (arith, c.if-self-eq0.false) in
+    table-with c.self.invariant c.self.invariant.table
+    (leveled-handed (opened es) c.self.inside.outer.items c.cut_all.new.outer.items (c.self.inside.depth - 1) c.self.inside.touched
+    (subst (λ n. IsLeveled (opened es) c.self.inside.outer.items n c.self.inside.touched) is c.self.invariant.leveled)
+    (λ k late within. c.cut_all.ensures.cut k late (omega (arith, c.len.ensures, c.self.inside.slots.ok.0, length-opened es))) c.cut_all.ensures.before
+    (λ k past. c.cut_all.ensures.behind k (omega (arith, c.len.ensures, c.self.inside.slots.ok.0, length-opened es)))).0
+    (omega arith) c.cut_all.ensures.number refl refl
+
+pub returns-clause-level : goal.returns-clause-level
+returns-clause-level c =
+    omega (arith, c.if-self-eq0.false, length-outer (c.self.inside.depth - 1) (opened c.self.inside.slots.items) (row_at c.cut_all.new.outer.items))
+
+pub returns-clause-outer : goal.returns-clause-outer
+returns-clause-outer c =
+    let es = c.self.inside.slots.items in
+    let is : c.self.inside.depth ≡ suc (c.self.inside.depth - 1) = omega (arith, c.if-self-eq0.false) in
+    (leveled-handed (opened es) c.self.inside.outer.items c.cut_all.new.outer.items (c.self.inside.depth - 1) c.self.inside.touched
+    (subst (λ n. IsLeveled (opened es) c.self.inside.outer.items n c.self.inside.touched) is c.self.invariant.leveled)
+    (λ k late within. c.cut_all.ensures.cut k late (omega (arith, c.len.ensures, c.self.inside.slots.ok.0, length-opened es))) c.cut_all.ensures.before
+    (λ k past. c.cut_all.ensures.behind k (omega (arith, c.len.ensures, c.self.inside.slots.ok.0, length-opened es)))).1
+    ∙ (sym (outer-taken (c.self.inside.depth - 1) (opened es) (row_at c.self.inside.outer.items))
+    ∙ (ap (λ (o : List (List Entry)). take (length o - 1) o) (ap (λ n. outer_of n (opened es) (row_at c.self.inside.outer.items)) (sym is))
+    ∙ ap (λ v. take (length v.outer - 1) v.outer) c.self.view_is))
+
+pub returns-clause-well_owned : goal.returns-clause-well_owned
+returns-clause-well_owned c = well_owned _ _ _ _ _ _ _ _ _ _ _ (invariant_of-self c)

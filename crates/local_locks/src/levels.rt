@@ -1,0 +1,213 @@
+//! What tells the levels of a transaction apart: beside each slot a list of what the transaction had of its entry when each
+//! inner level began. In a transaction with one level all of these lists are empty, and nobody reads or writes them.
+
+ghost use Rattle.std.specs.Prelude.{◌≡◌, ◌≢◌, ◌<◌, ◌≤◌, ◌-◌, ℕ, [], length, take, OnOk};
+ghost use Rattle.local_locks.specs.Levels.{had_in, row_at, own_count_in, level_count_in};
+
+use crate::Entry;
+use modes_core::Owner;
+use std::alloc::AllocError;
+use std::marker::Model;
+use std::mem::replace;
+
+/// How many levels a transaction may have at most, the first one and those within it.
+pub const MOST_LEVELS: u8 = 16;
+
+/// How many of them may be within the first.
+pub(crate) const MOST_INNER: u8 = 15;
+
+/// What the transaction had of an entry when each inner level began, the first one first, up to the last that has counted
+/// the entry. Contracts see the list.
+#[derive(Debug, Drop)]
+pub(crate) struct OuterCounts {
+    len: u8,
+    counts: [u16; 15],
+}
+
+impl Model for OuterCounts {
+    ghost use Rattle.std.specs.Prelude.{List, ℕ, take, length, ◌≡◌, ◌≤◌};
+
+    ghost Value = { List ℕ };
+
+    ghost view = { λ row. take row.len row.counts };
+
+    ghost invariant = { λ row. (row.len ≤ 15) × (length row.counts ≡ 15) };
+}
+
+impl OuterCounts {
+    /// No inner level has counted the entry.
+    pub(crate) fn none() -> Self
+        ensures { result ≡ [] }
+    {
+        OuterCounts {
+            len: 0,
+            counts: [0; 15],
+        }
+    }
+
+    /// What the transaction had when a level began, where it has so many now.
+    pub(crate) fn at(&self, level: u8, now: u16) -> u16
+        ensures { result ≡ had_in self.now level now }
+    {
+        if level < self.len {
+            self.counts[usize::from(level)]
+        } else {
+            now
+        }
+    }
+
+    /// Keeps what the transaction has now for each of so many inner levels that has not counted the entry yet.
+    pub(crate) fn fill(&mut self, depth: u8, now: u16)
+        requires fits { depth ≤ 15 }
+        requires within { length self.old ≤ depth }
+        ensures number { length self.new ≡ depth }
+        ensures same { (level : ℕ) → had_in self.new level now ≡ had_in self.old level now }
+    {
+        for level in self.len..depth {
+            self.counts[usize::from(level)] = now;
+        }
+        self.len = depth;
+    }
+
+    /// Forgets all but so many inner levels.
+    pub(crate) fn cut(&mut self, depth: u8)
+        ensures { self.new ≡ take depth self.old }
+    {
+        self.len = self.len.min(depth);
+    }
+}
+
+/// How often an owner can give an entry back, where so many inner levels have begun: for the transaction, what the innermost
+/// level has. In a transaction with one level the lists are not read.
+#[inline(always)]
+pub(crate) fn own_count(
+    entry: &Entry,
+    outer: &[OuterCounts],
+    place: usize,
+    depth: u8,
+    owner: Owner,
+) -> u16
+    requires { place < length outer.now }
+    ensures { result ≡ own_count_in depth (row_at outer.now place) owner entry.now }
+{
+    if depth == 0 || owner == Owner::Session {
+        return entry.count_for(owner);
+    }
+    let now = entry.count_for(Owner::Transaction);
+    now.saturating_sub(outer[place].at(depth - 1, now))
+}
+
+/// Keeps what the transaction has of an entry for each of so many inner levels that has not counted it yet, before the
+/// innermost one counts it.
+#[inline(always)]
+pub(crate) fn keep(
+    outer: &mut Vec<OuterCounts>,
+    touched: &mut usize,
+    depth: u8,
+    place: usize,
+    now: u16,
+)
+    requires exists { place < length outer.old.items }
+    requires fits { depth ≤ 15 }
+    requires within { length (row_at outer.old.items place) ≤ depth }
+    ensures number { length outer.new.items ≡ length outer.old.items }
+    ensures filled { length (row_at outer.new.items place) ≡ depth }
+    ensures same { (level : ℕ) →
+        had_in (row_at outer.new.items place) level now ≡ had_in (row_at outer.old.items place) level now }
+    ensures others { (k : ℕ) → k ≢ place → row_at outer.new.items k ≡ row_at outer.old.items k }
+    ensures touched { depth ≢ 0 → touched.new ≤ place }
+    ensures no_more { touched.new ≤ touched.old }
+{
+    if depth != 0 {
+        keep_inner(outer, touched, depth, place, now);
+    }
+}
+
+/// The same in a level that is not the first: a call of its own, so that an acquire in the first one stays short.
+#[cold]
+#[inline(never)]
+fn keep_inner(outer: &mut Vec<OuterCounts>, touched: &mut usize, depth: u8, place: usize, now: u16)
+    requires exists { place < length outer.old.items }
+    requires fits { depth ≤ 15 }
+    requires within { length (row_at outer.old.items place) ≤ depth }
+    ensures number { length outer.new.items ≡ length outer.old.items }
+    ensures filled { length (row_at outer.new.items place) ≡ depth }
+    ensures same { (level : ℕ) →
+        had_in (row_at outer.new.items place) level now ≡ had_in (row_at outer.old.items place) level now }
+    ensures others { (k : ℕ) → k ≢ place → row_at outer.new.items k ≡ row_at outer.old.items k }
+    ensures touched { touched.new ≤ place }
+    ensures no_more { touched.new ≤ touched.old }
+{
+    outer[place].fill(depth, now);
+    if *touched > place {
+        *touched = place;
+    }
+}
+
+/// Forgets all inner levels in the lists from one place up to another, where so many have begun.
+#[inline(always)]
+pub(crate) fn forget(outer: &mut Vec<OuterCounts>, depth: u8, from: usize, to: usize)
+    requires exists { to ≤ length outer.old.items }
+    requires within { (k : ℕ) → length (row_at outer.old.items k) ≤ depth }
+    ensures number { length outer.new.items ≡ length outer.old.items }
+    ensures empty { (k : ℕ) → from ≤ k → k < to → row_at outer.new.items k ≡ [] }
+    ensures before { (k : ℕ) → k < from → row_at outer.new.items k ≡ row_at outer.old.items k }
+    ensures behind { (k : ℕ) → to ≤ k → row_at outer.new.items k ≡ row_at outer.old.items k }
+{
+    if depth != 0 {
+        cut_all(outer, from, to, 0);
+    }
+}
+
+/// Forgets all but so many inner levels in the lists from one place up to another.
+#[cold]
+#[inline(never)]
+pub(crate) fn cut_all(outer: &mut Vec<OuterCounts>, from: usize, to: usize, depth: u8)
+    requires { to ≤ length outer.old.items }
+    ensures number { length outer.new.items ≡ length outer.old.items }
+    ensures cut { (k : ℕ) → from ≤ k → k < to → row_at outer.new.items k ≡ take depth (row_at outer.old.items k) }
+    ensures before { (k : ℕ) → k < from → row_at outer.new.items k ≡ row_at outer.old.items k }
+    ensures behind { (k : ℕ) → to ≤ k → row_at outer.new.items k ≡ row_at outer.old.items k }
+{
+    for place in from..to {
+        outer[place].cut(depth);
+    }
+}
+
+/// Moves the list of an entry that moves down, and leaves an empty one.
+pub(crate) fn move_row(outer: &mut Vec<OuterCounts>, place: usize, to: usize)
+    requires exists { place < length outer.old.items }
+    requires down { to ≤ place }
+    ensures number { length outer.new.items ≡ length outer.old.items }
+    ensures here { row_at outer.new.items to ≡ row_at outer.old.items place }
+    ensures empty { to ≢ place → row_at outer.new.items place ≡ [] }
+    ensures others { (k : ℕ) → k ≢ to → k ≢ place → row_at outer.new.items k ≡ row_at outer.old.items k }
+{
+    let row = replace(&mut outer[place], OuterCounts::none());
+    outer[to] = row;
+}
+
+/// How often one level has an entry.
+pub(crate) fn level_count(entry: &Entry, row: &OuterCounts, level: u8) -> u16
+    requires { 1 ≤ level }
+    ensures { result ≡ level_count_in row.now level entry.now }
+{
+    let now = entry.count_for(Owner::Transaction);
+    let up_to = row.at(level - 1, now);
+    if level == 1 {
+        return up_to;
+    }
+    up_to.saturating_sub(row.at(level - 2, now))
+}
+
+/// Makes so many lists, if there are fewer.
+pub(crate) fn lengthen(outer: &mut Vec<OuterCounts>, number: usize) -> Result<(), AllocError>
+    ensures ok { OnOk result (number ≤ length outer.new.items) }
+    ensures longer { length outer.old.items ≤ length outer.new.items }
+    ensures same { (k : ℕ) → row_at outer.new.items k ≡ row_at outer.old.items k }
+{
+    for _ in outer.len()..number {
+        outer.push(OuterCounts::none())?;
+    }
+    Ok(())
+}

@@ -1,0 +1,9 @@
+-- The lemmas that proofs of several functions share, by the spec that they serve.
+pub mod Rest
+pub mod Requests
+pub mod Releases
+pub mod Waiting
+pub mod Listings
+pub mod Audits
+pub mod Sessions
+pub mod Managers

@@ -1,0 +1,2 @@
+-- What an audit counts.
+pub mod Counts

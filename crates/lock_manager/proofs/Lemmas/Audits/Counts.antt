@@ -1,0 +1,465 @@
+use Rattle.std.proofs.Common.{◌≡◌, ℕ, zero, suc, ◌+◌, true, false, List, [], ◌∷◌, ◌++◌, map, reverse, length, None, refl, sym, ap, ◌∙◌, subst, inl, inr, arith, append_assoc}
+use Rattle.std.specs.Prelude.{filter, sum, sum_by, count_by, if◌then◌else◌, Result, Ok, Err, IfOk, All}
+use Rattle.std.specs.List.{AllZip, AllByRecursion, IsDistinct}
+use Rattle.std.proofs.lemmas.Bool.{cases_Bool, both_ways, and_parts, and_from, cond-true, cond-false, false_from_ne_true}
+use Rattle.std.proofs.lemmas.List.{reverse-append, map-append}
+use Rattle.std.proofs.lemmas.List.Sums.{sum_by-cons}
+use Rattle.std.proofs.lemmas.List.Elements.{AllZip-push}
+use Rattle.modes_core.specs.declared.modes.Mode.{Mode}
+use Rattle.modes_core.specs.declared.refusals.Refusal.{Refusal}
+use Rattle.modes_core.specs.declared.tags.Tag.{Tag}
+use Rattle.modes_core.specs.Mode.{mode_eq}
+use Rattle.modes_core.specs.Tag.{tag_eq, is_strong_on}
+use Rattle.modes_core.proofs.Laws.{mode_eq-refl, mode_eq-same, tag_eq-refl, tag_eq-same}
+use Rattle.atomic_table.specs.Seated.{TableId}
+use Rattle.local_locks.specs.declared.records.Entry.{Entry}
+use Rattle.local_locks.specs.Owned.{is_of, has_entry, are_of_same, IsWellOwned}
+use Rattle.lock_table.specs.declared.no_memory.NoMemory.{NoMemory}
+use Rattle.lock_manager.specs.Keeper.{PartView, content_of}
+use Rattle.lock_table.proofs.HoldLists.{count_by-cons}
+use Rattle.lock_world.specs.Account.{Account}
+use Rattle.lock_world.specs.Tallies.{Held, AreSoMany, is_this}
+use Rattle.lock_world.specs.World.{TraceEntry}
+use Rattle.shared_rule.specs.declared.audits.Audit.{Audit}
+use Rattle.shared_rule.specs.declared.history.History.{History}
+use Rattle.shared_rule.specs.Audits.{AddsUp, Counts, OwnSoMany}
+use Rattle.shared_rule.specs.Boards.{Seated, Stack, nothing_due}
+use Rattle.shared_rule.specs.Gatherings.{Gathered, NoneWaits, gathered_in}
+use Rattle.shared_rule.specs.History.{told, first_account, first_number}
+use Rattle.shared_rule.specs.Openers.{OpenerState, HasGathered, HasLastOf}
+use Rattle.shared_rule.specs.Seats.{MayBeKeptApartBy, behind_of}
+use Rattle.lock_manager.specs.Rest.{IsAtRest, counted_for}
+use Rattle.lock_manager.proofs.Lemmas.Rest.Reads.{rest-read}
+use Rattle.lock_manager.specs.Sessions.{SessionView, IsResting, IsUnchanged}
+use Rattle.lock_manager.specs.Audits.{MayCount, HasTraced, Audits, gathered_of, AreOwners, CountsWith, entries_owned, strong_owned}
+
+-- An audit of all open sessions.
+
+-- ---- entries
+
+abbrev pub held_as : Entry → Held
+held_as entry = record { tag = entry.tag; mode = entry.mode }
+
+none-later : (entry : Entry) (entries : List Entry) (tag : Tag) (mode : Mode) → AllByRecursion (λ later. are_of_same entry later ≡ false) entries → is_of tag mode entry ≡ true
+    → count_by (is_this tag mode) (map held_as entries) ≡ 0
+none-later entry [] tag mode others its = refl
+none-later entry (later ∷ entries) tag mode others its =
+    let whole = count_by-cons (is_this tag mode) (held_as later) (map held_as entries) in
+    let rest = none-later entry entries tag mode others.1 its in
+    let here : ◌≡◌ {A = ℕ} (if is_of tag mode later then 1 else 0) 0 = cond-false (is_of tag mode later) 1 0 (false_from_ne_true (is_of tag mode later) (λ also.
+    let one = and_parts (tag_eq entry.tag tag) (mode_eq entry.mode mode) its in
+    let two = and_parts (tag_eq later.tag tag) (mode_eq later.mode mode) also in
+    let same_tag : entry.tag ≡ later.tag = tag_eq-same entry.tag tag one.0 ∙ sym (tag_eq-same later.tag tag two.0) in
+    let same_mode : entry.mode ≡ later.mode = mode_eq-same entry.mode mode one.1 ∙ sym (mode_eq-same later.mode mode two.1) in
+    both_ways (are_of_same entry later) others.0
+    (and_from (tag_eq entry.tag later.tag) (mode_eq entry.mode later.mode)
+    (ap (λ t. tag_eq entry.tag t) (sym same_tag) ∙ tag_eq-refl entry.tag) (ap (λ m. mode_eq entry.mode m) (sym same_mode) ∙ mode_eq-refl entry.mode)))) in
+    omega (arith, whole, rest, here)
+
+entries-once : (entries : List Entry) → IsDistinct are_of_same entries → (tag : Tag) (mode : Mode)
+    → count_by (is_this tag mode) (map held_as entries) ≡ (if has_entry entries tag mode then 1 else 0)
+unfolding IsDistinct
+entries-once [] once tag mode = refl
+entries-once (entry ∷ entries) once tag mode =
+    let whole = count_by-cons (is_this tag mode) (held_as entry) (map held_as entries) in
+    let rest = entries-once entries once.1 tag mode in
+    elim (cases_Bool (is_of tag mode entry)) [
+      | inl its ↦
+          let none = none-later entry entries tag mode once.0 its in
+          let one : ◌≡◌ {A = ℕ} (if is_of tag mode entry then 1 else 0) 1 = cond-true (is_of tag mode entry) 1 0 its in
+          let has : has_entry (entry ∷ entries) tag mode ≡ true = rw its refl in
+          let is : ◌≡◌ {A = ℕ} (if has_entry (entry ∷ entries) tag mode then 1 else 0) 1 = cond-true (has_entry (entry ∷ entries) tag mode) 1 0 has in
+          omega (arith, whole, none, one, is)
+      | inr other ↦
+          let zeroth : ◌≡◌ {A = ℕ} (if is_of tag mode entry then 1 else 0) 0 = cond-false (is_of tag mode entry) 1 0 other in
+          let same : has_entry (entry ∷ entries) tag mode ≡ has_entry entries tag mode = rw other refl in
+          let is : ◌≡◌ {A = ℕ} (if has_entry (entry ∷ entries) tag mode then 1 else 0) (if has_entry entries tag mode then 1 else 0) = ap (λ b. if b then 1 else 0) same in
+          omega (arith, whole, rest, zeroth, is)
+    ]
+
+length-held : (entries : List Entry) → length (map held_as entries) ≡ length entries
+length-held [] = refl
+length-held (entry ∷ entries) = ap suc (length-held entries)
+
+pub entries-so_many : (entries : List Entry) → IsDistinct are_of_same entries → AreSoMany (has_entry entries) (length entries)
+entries-so_many entries once = record { listed = map held_as entries; each_once = entries-once entries once; as_many = length-held entries }
+
+length-counted : (limit : ℕ) (entries : List Entry) → length (counted_for limit entries) ≡ length (filter (λ entry. is_strong_on entry.tag entry.mode) entries)
+length-counted limit [] = refl
+length-counted limit (entry ∷ entries) =
+    elim (cases_Bool (is_strong_on entry.tag entry.mode)) [
+      | inl strong ↦ rw strong (ap suc (length-counted limit entries))
+      | inr weak ↦ rw weak (length-counted limit entries)
+    ]
+
+-- ---- lists
+
+module _ {X : Type 0} where
+  reverse-cons : (x : X) (xs : List X) → reverse (x ∷ xs) ≡ reverse xs ++ x ∷ []
+  reverse-cons x xs = reverse-append (x ∷ []) xs
+
+  pub reverse-last : (xs : List X) (x : X) → reverse (xs ++ x ∷ []) ≡ x ∷ reverse xs
+  reverse-last xs x = reverse-append xs (x ∷ [])
+
+  all-push : (P : X → Type 0) (xs : List X) (x : X) → AllByRecursion P xs → P x → AllByRecursion P (xs ++ x ∷ [])
+  all-push P [] x all p = (p, all)
+  all-push P (y ∷ xs) x all p = (all.0, all-push P xs x all.1 p)
+
+  pub all-reverse : (P : X → Type 0) (xs : List X) → AllByRecursion P xs → AllByRecursion P (reverse xs)
+  all-reverse P [] all = all
+  all-reverse P (x ∷ xs) all = subst (AllByRecursion P) (sym (reverse-cons x xs)) (all-push P (reverse xs) x (all-reverse P xs all.1) all.0)
+
+  pub all-before : (P : X → Type 0) (xs : List X) (x : X) → AllByRecursion P (xs ++ x ∷ []) → AllByRecursion P xs × P x
+  all-before P [] x all = (tt, all.0)
+  all-before P (y ∷ xs) x all = let rest = all-before P xs x all.1 in ((all.0, rest.0), rest.1)
+
+  pub zip-reverse : (R : X → X → Type 0) (xs ys : List X) → AllZip R xs ys → AllZip R (reverse xs) (reverse ys)
+  zip-reverse R [] [] all = all
+  zip-reverse R [] (y ∷ ys) all = absurd all
+  zip-reverse R (x ∷ xs) [] all = absurd all
+  zip-reverse R (x ∷ xs) (y ∷ ys) all =
+      subst (λ zs. AllZip R zs (reverse (y ∷ ys))) (sym (reverse-cons x xs))
+      (subst (AllZip R (reverse xs ++ x ∷ [])) (sym (reverse-cons y ys)) (AllZip-push R (reverse xs) (reverse ys) x y (zip-reverse R xs ys all.1) all.0))
+
+-- Of each by its place, and one after another.
+pub all-from : {X : Type 0} (P : X → Type 0) (xs : List X) → All P xs → AllByRecursion P xs
+all-from P [] all = tt
+all-from P (x ∷ xs) all = (all 0 x (omega arith), all-from P xs (λ k d below. all (suc k) d (omega (arith, below))))
+
+pub all-to : {X : Type 0} (P : X → Type 0) (xs : List X) → AllByRecursion P xs → All P xs
+all-to P [] all k d below = absurd (omega (arith, below))
+all-to P (x ∷ xs) all zero d below = all.0
+all-to P (x ∷ xs) all (suc k) d below = all-to P xs all.1 k d (omega (arith, below))
+
+-- Who rests may be kept apart, and rests after steps that only joined the trace.
+pub kept_apart-rest : (limit database uses : ℕ) (a : Account) (stack : Stack) (entries : List Entry) → IsAtRest limit database uses a stack entries → MayBeKeptApartBy a
+kept_apart-rest limit database uses a stack entries rest =
+    subst MayBeKeptApartBy (sym rest.account) (record { no_partition = λ partition. refl; no_fast_word = λ owner. refl })
+
+pub no_wait-rest : (limit database uses : ℕ) (a : Account) (stack : Stack) (entries : List Entry) → IsAtRest limit database uses a stack entries → a.awaited ≡ None
+no_wait-rest limit database uses a stack entries rest = ap (λ (x : Account). x.awaited) rest.account
+
+pub rest-traced : (database uses : ℕ) (s t : Seated) (a b : Account) (x y : Stack) (entries : List Entry) → t ≡ s → b ≡ record a { trace = b.trace } → y ≡ x
+    → IsAtRest s.limit database uses a x entries → IsAtRest t.limit database uses b y entries
+rest-traced database uses s t a b x y entries same is stack rest =
+    subst (λ (z : Seated). IsAtRest z.limit database uses b y entries) (sym same) (rest-read s.limit database uses a b x y entries stack rest is)
+
+pub rest-unchanged : (database uses : ℕ) (s t : Seated) (a b : Account) (x y : Stack) (entries : List Entry) → t ≡ s → b ≡ a → y ≡ x → IsAtRest s.limit database uses a x entries
+    → IsAtRest t.limit database uses b y entries
+rest-unchanged database uses s t a b x y entries same is stack rest =
+    rest-traced database uses s t a b x y entries same (is ∙ (λ i. record a { trace = sym (ap (λ (z : Account). z.trace) is) i })) stack rest
+
+-- ---- the opener
+
+pub may_count-more : (left : ℕ) (old new : OpenerState PartView) (number : ℕ) (a : Account) → MayCount (left + 1) old → HasGathered content_of number a old new → a.awaited ≡ None → MayCount left new
+may_count-more left old new number a may gathers no_wait =
+    let h = gathers.last in
+    let more : new.gathered ≡ may.first ∷ (may.others ++ h ∷ []) = ap (λ (o : OpenerState PartView). o.gathered) gathers.opener ∙ ap (λ xs. xs ++ h ∷ []) may.gathered in
+    record {
+      first = may.first;
+      others = may.others ++ h ∷ [];
+      gathered = more;
+      all =
+          let all = may.all in
+          let old_long : length old.gathered ≡ length (may.first ∷ may.others) = ap length may.gathered in
+          let long : length new.gathered ≡ length (may.first ∷ (may.others ++ h ∷ [])) = ap length more in
+          let rest = length-push may.others h in
+          let closed : length new.closed ≡ length old.closed = ap (λ (o : OpenerState PartView). length o.closed) gathers.opener in
+          let issued : new.issued ≡ old.issued = ap (λ (o : OpenerState PartView). o.issued) gathers.opener in
+          omega (arith, all, old_long, long, rest, closed, issued);
+      nobody_waits = subst (λ xs. NoneWaits (gathered_in content_of xs)) (sym (ap (λ (o : OpenerState PartView). o.gathered) gathers.opener))
+          (none_waits-push old.gathered h may.nobody_waits (ap (λ (b : Account). b.awaited) gathers.account_ ∙ no_wait));
+      nothing_in_hand = subst (λ xs. MayBeKeptApartBy (first_account content_of xs)) (sym more)
+          (subst (λ xs. MayBeKeptApartBy (first_account content_of xs)) may.gathered may.nothing_in_hand);
+    } where
+      length-push : (xs : List (History PartView)) (x : History PartView) → length (xs ++ x ∷ []) ≡ length xs + 1
+      length-push [] x = refl
+      length-push (y ∷ xs) x = let rest = length-push xs x in omega (arith, rest)
+
+      none_waits-push : (xs : List (History PartView)) (x : History PartView) → NoneWaits (gathered_in content_of xs) → (told content_of x.number x.marks).awaited ≡ None
+          → NoneWaits (gathered_in content_of (xs ++ x ∷ []))
+      none_waits-push [] x none its = (its, tt)
+      none_waits-push (y ∷ xs) x none its = (none.0, none_waits-push xs x none.1 its)
+
+-- the first of an empty seat
+pub may_count-first : (left : ℕ) (old new : OpenerState PartView) (number : ℕ) (a : Account) → old.gathered ≡ [] → left + 1 + length old.closed ≡ old.issued
+    → HasGathered content_of number a old new → a.awaited ≡ None → MayBeKeptApartBy a → MayCount left new
+may_count-first left old new number a none all gathers no_wait may =
+    let h = gathers.last in
+    let one : new.gathered ≡ h ∷ [] = ap (λ (o : OpenerState PartView). o.gathered) gathers.opener ∙ ap (λ xs. xs ++ h ∷ []) none in
+    record {
+      first = h;
+      others = [];
+      gathered = one;
+      all =
+          let long : length new.gathered ≡ 1 = ap length one in
+          let closed : length new.closed ≡ length old.closed = ap (λ (o : OpenerState PartView). length o.closed) gathers.opener in
+          let issued : new.issued ≡ old.issued = ap (λ (o : OpenerState PartView). o.issued) gathers.opener in
+          omega (arith, all, long, closed, issued);
+      nobody_waits = subst (λ xs. NoneWaits (gathered_in content_of xs)) (sym one) (ap (λ (b : Account). b.awaited) gathers.account_ ∙ no_wait, tt);
+      nothing_in_hand = subst (λ xs. MayBeKeptApartBy (first_account content_of xs)) (sym one) (subst MayBeKeptApartBy (sym gathers.account_) may);
+    }
+
+-- The one that came last is sent back after the first has counted.
+pub last-of : (old old1 new1 : OpenerState PartView) (number : ℕ) (a : Account) (g : History PartView) (gs : List (History PartView)) → old.gathered ≡ g ∷ gs → (gathers : HasGathered content_of number a old old1)
+    → (first : History PartView) → new1.gathered ≡ first ∷ behind_of old1.gathered → new1.gathered ≡ (first ∷ gs) ++ gathers.last ∷ []
+last-of old old1 new1 number a g gs some gathers first is =
+    is ∙ ap (λ xs. first ∷ behind_of xs) (ap (λ (o : OpenerState PartView). o.gathered) gathers.opener ∙ ap (λ xs. xs ++ gathers.last ∷ []) some)
+
+pub has-last : (old old1 new1 : OpenerState PartView) (number absent : ℕ) (a : Account) (g : History PartView) (gs : List (History PartView)) → old.gathered ≡ g ∷ gs
+    → (gathers : HasGathered content_of number a old old1) → (first : History PartView) → new1.gathered ≡ first ∷ behind_of old1.gathered → absent ≡ number → HasLastOf absent new1
+has-last old old1 new1 number absent a g gs some gathers first is same = record {
+  before = first ∷ gs;
+  last = gathers.last;
+  gathered = last-of old old1 new1 number a g gs some gathers first is;
+  number_ = gathers.number_ ∙ sym same;
+}
+
+last-only : (old old1 new1 : OpenerState PartView) (number : ℕ) (a : Account) → old.gathered ≡ [] → (gathers : HasGathered content_of number a old old1)
+    → (first : History PartView) → new1.gathered ≡ first ∷ behind_of old1.gathered → new1.gathered ≡ [] ++ first ∷ []
+last-only old old1 new1 number a none gathers first is =
+    is ∙ ap (λ xs. first ∷ behind_of xs) (ap (λ (o : OpenerState PartView). o.gathered) gathers.opener ∙ ap (λ xs. xs ++ gathers.last ∷ []) none)
+
+-- ---- sessions
+
+module _ {B : Type 0} (seat : B → Seated) (view : B → Account) (stack : B → Stack) where
+  own-lists : (sessions : List (SessionView B)) → AreOwners seat view stack sessions → OwnSoMany (map (gathered_of seat view stack) sessions) (map (λ session. length session.owned.entries) sessions)
+  own-lists [] own = tt
+  own-lists (s ∷ sessions) own = (
+    subst (λ (a : Account). AreSoMany a.own (length s.owned.entries)) (sym own.0.0.account) (entries-so_many s.owned.entries own.0.1.once),
+    own-lists sessions own.1,
+  )
+
+  sum-entries : (sessions : List (SessionView B)) → sum (map (λ session. length session.owned.entries) sessions) ≡ entries_owned seat view stack sessions
+  sum-entries [] = refl
+  sum-entries (s ∷ sessions) =
+      let rest = sum-entries sessions in
+      let one = sum_by-cons (λ (n : ℕ). n) (length s.owned.entries) (map (λ session. length session.owned.entries) sessions) in
+      let whole = sum_by-cons (λ (session : SessionView B). length session.owned.entries) s sessions in
+      omega (arith, rest, one, whole)
+
+  sum-strong : (sessions : List (SessionView B)) → AreOwners seat view stack sessions
+      → sum_by (λ (one : Gathered). length one.account.fast.counted) (map (gathered_of seat view stack) sessions) ≡ strong_owned seat view stack sessions
+  sum-strong [] own = refl
+  sum-strong (s ∷ sessions) own =
+      let rest = sum-strong sessions own.1 in
+      let one = sum_by-cons (λ (g : Gathered). length g.account.fast.counted) (gathered_of seat view stack s) (map (gathered_of seat view stack) sessions) in
+      let whole = sum_by-cons (λ (session : SessionView B). length (filter (λ entry. is_strong_on entry.tag entry.mode) session.owned.entries)) s sessions in
+      let here : length (view s.board).fast.counted ≡ length (filter (λ entry. is_strong_on entry.tag entry.mode) s.owned.entries) =
+      ap (λ (a : Account). length a.fast.counted) own.0.0.account ∙ length-counted (seat s.board).limit s.owned.entries in
+      omega (arith, rest, one, whole, here)
+
+  -- One more was gathered, and is sent back as it was.
+  module _ (old old1 new1 new2 : OpenerState PartView) (result : Result Audit NoMemory) (s s2 : SessionView B) (rest sessions after1 after : List (SessionView B))
+      (is : sessions ≡ rest ++ s ∷ []) (is_after : after ≡ after1 ++ s2 ∷ []) (g : History PartView) (gs : List (History PartView)) (some : old.gathered ≡ g ∷ gs)
+      (gathers : HasGathered content_of (seat s.board).number (view s.board) old old1) (counts : CountsWith seat view stack old1 rest result new1 after1)
+      (left : (before : List (History PartView)) (last : History PartView) → new1.gathered ≡ before ++ last ∷ []
+      → (new2 ≡ record new1 { gathered = before }) × (view s2.board ≡ told content_of last.number last.marks))
+      (same_seat : seat s2.board ≡ seat s.board) (nothing : stack s2.board ≡ nothing_due) (rests : IsResting seat view stack s) (well : IsWellOwned s.owned)
+      (database : s2.database ≡ s.database) (uses : s2.uses ≡ s.uses) (owned : s2.owned ≡ s.owned) where
+    back : (new2 ≡ record new1 { gathered = counts.first ∷ gs }) × (view s2.board ≡ told content_of gathers.last.number gathers.last.marks)
+    back = left (counts.first ∷ gs) gathers.last (last-of old old1 new1 (seat s.board).number (view s.board) g gs some gathers counts.first counts.gathered)
+
+    more : old1.gathered ≡ old.gathered ++ gathers.last ∷ []
+    more = ap (λ (o : OpenerState PartView). o.gathered) gathers.opener
+
+    first-same : first_account content_of old1.gathered ≡ first_account content_of old.gathered
+    first-same = ap (first_account content_of) more ∙ ap (λ xs. first_account content_of (xs ++ gathers.last ∷ [])) some ∙ sym (ap (first_account content_of) some)
+
+    number-same : first_number old1.gathered ≡ first_number old.gathered
+    number-same = ap first_number more ∙ ap (λ xs. first_number (xs ++ gathers.last ∷ [])) some ∙ sym (ap first_number some)
+
+    new-first : first_account content_of new2.gathered ≡ first_account content_of new1.gathered
+    new-first = ap (λ (o : OpenerState PartView). first_account content_of o.gathered) back.0 ∙ sym (ap (first_account content_of) counts.gathered)
+
+    all : gathered_in content_of old1.gathered ++ map (gathered_of seat view stack) (reverse rest) ≡ gathered_in content_of old.gathered ++ map (gathered_of seat view stack) (reverse sessions)
+    all =
+        ap (λ xs. gathered_in content_of xs ++ map (gathered_of seat view stack) (reverse rest)) more
+        ∙ ap (λ xs. xs ++ map (gathered_of seat view stack) (reverse rest)) (map-append (λ (h : History PartView). record { number = h.number; account = told content_of h.number h.marks }) old.gathered (gathers.last ∷ []))
+        ∙ append_assoc (gathered_in content_of old.gathered) (gathered_in content_of (gathers.last ∷ [])) (map (gathered_of seat view stack) (reverse rest))
+        ∙ (λ i. gathered_in content_of old.gathered ++ record { number = gathers.number_ i; account = gathers.account_ i } ∷ map (gathered_of seat view stack) (reverse rest))
+        ∙ ap (λ xs. gathered_in content_of old.gathered ++ map (gathered_of seat view stack) xs) (sym (ap reverse is ∙ reverse-last rest s))
+
+    adds : (r : Result Audit NoMemory) → IfOk r (AddsUp (gathered_in content_of old1.gathered ++ map (gathered_of seat view stack) (reverse rest)))
+        → IfOk r (AddsUp (gathered_in content_of old.gathered ++ map (gathered_of seat view stack) (reverse sessions)))
+    adds (Ok audit) up = subst (λ xs. AddsUp xs audit) all up
+    adds (Err e) up = tt
+
+    pub unchanged-last : IsUnchanged seat view stack s s2
+    unchanged-last = record {
+      seat_ = same_seat;
+      view_ = back.1 ∙ gathers.account_;
+      stack_ = nothing ∙ sym rests.nothing_left;
+      database = database;
+      uses = uses;
+      owned = owned;
+    }
+
+    pub counts-one : CountsWith seat view stack old sessions result new2 after
+    counts-one = record {
+      counts =
+          subst (λ (t : List TraceEntry). Counts old.limit (first_account content_of old.gathered).trace result t) (sym (ap (λ (a : Account). a.trace) new-first))
+          (subst (λ (t : List TraceEntry). Counts old.limit t result (first_account content_of new1.gathered).trace) (ap (λ (a : Account). a.trace) first-same)
+          (subst (λ n. Counts n (first_account content_of old1.gathered).trace result (first_account content_of new1.gathered).trace) (ap (λ (o : OpenerState PartView). o.limit) gathers.opener) counts.counts));
+      adds_up = adds result counts.adds_up;
+      opener =
+          back.0 ∙ (λ i. record (counts.opener i) { gathered = counts.first ∷ gs }) ∙ (λ i. record (gathers.opener i) { gathered = counts.first ∷ gs })
+          ∙ (λ i. record old { gathered = sym (ap (λ (o : OpenerState PartView). o.gathered) back.0) i });
+      first = counts.first;
+      gathered = ap (λ (o : OpenerState PartView). o.gathered) back.0 ∙ ap (λ xs. counts.first ∷ xs) (sym (ap behind_of some));
+      number = counts.number ∙ number-same;
+      account = counts.account ∙ (λ i. record (first-same i) { trace = sym (ap (λ (a : Account). a.trace) new-first) i });
+      unchanged =
+          subst (λ xs. AllZip (IsUnchanged seat view stack) xs after) (sym is)
+          (subst (AllZip (IsUnchanged seat view stack) (rest ++ s ∷ [])) (sym is_after)
+          (AllZip-push (IsUnchanged seat view stack) rest after1 s s2 counts.unchanged unchanged-last));
+      owners = subst (AreOwners seat view stack) (sym is) (all-push _ rest s counts.owners (rests, well));
+    }
+
+  -- The first one was gathered, and is sent back last.
+  module _ (old old1 new1 new2 : OpenerState PartView) (result : Result Audit NoMemory) (s s2 : SessionView B) (rest sessions after1 after : List (SessionView B))
+      (is : sessions ≡ rest ++ s ∷ []) (is_after : after ≡ after1 ++ s2 ∷ []) (none : old.gathered ≡ [])
+      (gathers : HasGathered content_of (seat s.board).number (view s.board) old old1) (counts : CountsWith seat view stack old1 rest result new1 after1)
+      (left : (before : List (History PartView)) (last : History PartView) → new1.gathered ≡ before ++ last ∷ []
+      → (new2 ≡ record new1 { gathered = before }) × (view s2.board ≡ told content_of last.number last.marks))
+      (same_seat : seat s2.board ≡ seat s.board) (nothing : stack s2.board ≡ nothing_due) (rests : IsResting seat view stack s) (well : IsWellOwned s.owned)
+      (database : s2.database ≡ s.database) (uses : s2.uses ≡ s.uses) (owned : s2.owned ≡ s.owned) where
+    back_first : (new2 ≡ record new1 { gathered = [] }) × (view s2.board ≡ told content_of counts.first.number counts.first.marks)
+    back_first = left [] counts.first (last-only old old1 new1 (seat s.board).number (view s.board) none gathers counts.first counts.gathered)
+
+    only : old1.gathered ≡ gathers.last ∷ []
+    only = ap (λ (o : OpenerState PartView). o.gathered) gathers.opener ∙ ap (λ xs. xs ++ gathers.last ∷ []) none
+
+    first-is : first_account content_of old1.gathered ≡ view s.board
+    first-is = ap (first_account content_of) only ∙ gathers.account_
+
+    last-is : first_account content_of new1.gathered ≡ view s2.board
+    last-is = ap (first_account content_of) counts.gathered ∙ sym back_first.1
+
+    pub traced-first : HasTraced seat view stack s s2
+    traced-first = record {
+      seat_ = same_seat;
+      view_ = back_first.1 ∙ counts.account ∙ (λ i. record (first-is i) { trace = ap (λ (a : Account). a.trace) last-is i });
+      stack_ = nothing ∙ sym rests.nothing_left;
+      database = database;
+      uses = uses;
+      owned = owned;
+    }
+
+    owners : AreOwners seat view stack (s ∷ reverse rest)
+    owners = ((rests, well), all-reverse _ rest counts.owners)
+
+    all-are : gathered_in content_of old1.gathered ++ map (gathered_of seat view stack) (reverse rest) ≡ map (gathered_of seat view stack) (s ∷ reverse rest)
+    all-are =
+        ap (λ xs. gathered_in content_of xs ++ map (gathered_of seat view stack) (reverse rest)) only
+        ∙ (λ i. record { number = gathers.number_ i; account = gathers.account_ i } ∷ map (gathered_of seat view stack) (reverse rest))
+
+    holds-of : (r : Result Audit NoMemory) → IfOk r (AddsUp (gathered_in content_of old1.gathered ++ map (gathered_of seat view stack) (reverse rest)))
+        → IfOk r (λ audit. audit.fast + audit.table ≡ entries_owned seat view stack (s ∷ reverse rest))
+    holds-of (Ok audit) up =
+        up.held (map (λ session. length session.owned.entries) (s ∷ reverse rest))
+        (subst (λ xs. OwnSoMany xs (map (λ session. length session.owned.entries) (s ∷ reverse rest))) (sym all-are) (own-lists (s ∷ reverse rest) owners))
+        ∙ sum-entries (s ∷ reverse rest)
+    holds-of (Err e) up = tt
+
+    strong-of : (r : Result Audit NoMemory) → IfOk r (AddsUp (gathered_in content_of old1.gathered ++ map (gathered_of seat view stack) (reverse rest)))
+        → IfOk r (λ audit. audit.strong ≡ strong_owned seat view stack (s ∷ reverse rest))
+    strong-of (Ok audit) up =
+        up.strong ∙ ap (sum_by (λ (one : Gathered). length one.account.fast.counted)) all-are ∙ sum-strong (s ∷ reverse rest) owners
+    strong-of (Err e) up = tt
+
+    pub audits-first : Audits seat view stack old.limit (reverse sessions) (reverse after) result
+    audits-first =
+        subst (λ xs. Audits seat view stack old.limit xs (reverse after) result) (sym (ap reverse is ∙ reverse-last rest s)) (record {
+          first_after = s2;
+          others_after = reverse after1;
+          sessions = ap reverse is_after ∙ reverse-last after1 s2;
+          traced = traced-first;
+          unchanged = zip-reverse (IsUnchanged seat view stack) rest after1 counts.unchanged;
+          counts =
+              subst (λ (t : List TraceEntry). Counts old.limit (view s.board).trace result t) (ap (λ (a : Account). a.trace) last-is)
+              (subst (λ (t : List TraceEntry). Counts old.limit t result (first_account content_of new1.gathered).trace) (ap (λ (a : Account). a.trace) first-is)
+              (subst (λ n. Counts n (first_account content_of old1.gathered).trace result (first_account content_of new1.gathered).trace) (ap (λ (o : OpenerState PartView). o.limit) gathers.opener) counts.counts));
+          holds = holds-of result counts.adds_up;
+          strong = strong-of result counts.adds_up;
+        })
+
+    pub opener-back : new2 ≡ old
+    opener-back =
+        back_first.0 ∙ (λ i. record (counts.opener i) { gathered = [] }) ∙ (λ i. record (gathers.opener i) { gathered = [] }) ∙ (λ i. record old { gathered = sym none i })
+
+  -- Of lists and a limit that are the same it says the same.
+  pub audits-as : {E : Type 0} (limit limit' : ℕ) (xs old ys new : List (SessionView B)) (result : Result Audit E) → limit ≡ limit' → xs ≡ old → ys ≡ new
+      → Audits seat view stack limit xs ys result → Audits seat view stack limit' old new result
+  audits-as limit limit' xs old ys new result same one two audits =
+      subst (λ n. Audits seat view stack n old new result) same
+      (subst (λ zs. Audits seat view stack limit zs new result) one (subst (λ zs. Audits seat view stack limit xs zs result) two audits))
+
+  -- The answer to the caller says the same.
+  pub audits-ok : (limit : ℕ) (old new : List (SessionView B)) (audit : Audit) → Audits seat view stack {E = NoMemory} limit old new (Ok audit) → Audits seat view stack {E = Refusal} limit old new (Ok audit)
+  audits-ok limit [] new audit audits =
+      let same : ◌≡◌ {A = Result Audit NoMemory} (Ok audit) (Ok (record { fast = 0; table = 0; strong = 0 })) = audits.1 in
+      let is : audit ≡ record { fast = 0; table = 0; strong = 0 } = cc (same) in
+      (audits.0, ap (λ (a : Audit). Ok a) is)
+  audits-ok limit (s ∷ others) new audit audits = record {
+    first_after = audits.first_after;
+    others_after = audits.others_after;
+    sessions = audits.sessions;
+    traced = audits.traced;
+    unchanged = audits.unchanged;
+    counts = record {
+      counters = audits.counts.counters;
+      word = audits.counts.word;
+      contents = audits.counts.contents;
+      sixteen = audits.counts.sixteen;
+      trace = audits.counts.trace;
+      counted = audits.counts.counted;
+    };
+    holds = audits.holds;
+    strong = audits.strong;
+  }
+
+  pub audits-err : (limit : ℕ) (old new : List (SessionView B)) (e : NoMemory) (refusal : Refusal) → Audits seat view stack {E = NoMemory} limit old new (Err e)
+      → Audits seat view stack {E = Refusal} limit old new (Err refusal)
+  audits-err limit [] new e refusal audits =
+      let never : ◌≡◌ {A = Result Audit NoMemory} (Err e) (Ok (record { fast = 0; table = 0; strong = 0 })) = audits.1 in absurd (cc (never))
+  audits-err limit (s ∷ others) new e refusal audits = record {
+    first_after = audits.first_after;
+    others_after = audits.others_after;
+    sessions = audits.sessions;
+    traced = audits.traced;
+    unchanged = audits.unchanged;
+    counts = record {
+      counters = audits.counts.counters;
+      word = audits.counts.word;
+      contents = audits.counts.contents;
+      sixteen = audits.counts.sixteen;
+      trace = audits.counts.trace;
+      counted = tt;
+    };
+    holds = tt;
+    strong = tt;
+  }
+
+  -- They are at the same table, and as many.
+  zip-tables : (table : TableId) (old new : List (SessionView B)) → AllZip (IsUnchanged seat view stack) old new → AllByRecursion (λ s. (seat s.board).table ≡ table) old
+      → AllByRecursion (λ s. (seat s.board).table ≡ table) new × (length new ≡ length old)
+  zip-tables table [] [] same at = (tt, refl)
+  zip-tables table [] (t ∷ new) same at = absurd same
+  zip-tables table (s ∷ old) [] same at = absurd same
+  zip-tables table (s ∷ old) (t ∷ new) same at =
+      let rest = zip-tables table old new same.1 at.1 in
+      ((ap (λ (x : Seated). x.table) same.0.seat_ ∙ at.0, rest.0), ap suc rest.1)
+
+  pub audits-tables : {E : Type 0} (table : TableId) (limit : ℕ) (old new : List (SessionView B)) (result : Result Audit E) → Audits seat view stack limit old new result
+      → AllByRecursion (λ s. (seat s.board).table ≡ table) old → AllByRecursion (λ s. (seat s.board).table ≡ table) new × (length new ≡ length old)
+  audits-tables table limit [] new result audits at = subst (λ xs. AllByRecursion (λ (s : SessionView B). (seat s.board).table ≡ table) xs × (length xs ≡ 0)) (sym audits.0) (tt, refl)
+  audits-tables table limit (s ∷ others) new result audits at =
+      let rest = zip-tables table others audits.others_after audits.unchanged at.1 in
+      subst (λ xs. AllByRecursion (λ (s : SessionView B). (seat s.board).table ≡ table) xs × (length xs ≡ length (s ∷ others))) (sym audits.sessions)
+      ((ap (λ (x : Seated). x.table) audits.traced.seat_ ∙ at.0, rest.0), ap suc rest.1)
+
+-- Sessions at one table are at another that is the same.
+pub all-tables : {B : Type 0} (seat : B → Seated) (old new : TableId) (sessions : List (SessionView B)) → old ≡ new → AllByRecursion (λ s. (seat s.board).table ≡ old) sessions
+    → AllByRecursion (λ s. (seat s.board).table ≡ new) sessions
+all-tables seat old new sessions same at = subst (λ t. AllByRecursion (λ s. (seat s.board).table ≡ t) sessions) same at

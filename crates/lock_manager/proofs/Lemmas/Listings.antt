@@ -1,0 +1,2 @@
+-- What a listing tells.
+pub mod Own

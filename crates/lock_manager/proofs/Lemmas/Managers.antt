@@ -1,0 +1,2 @@
+-- An opener and those that have closed.
+pub mod Closed

@@ -1,0 +1,4 @@
+-- Releases, and those whom they let go.
+pub mod InPart
+pub mod Marks
+pub mod Owed

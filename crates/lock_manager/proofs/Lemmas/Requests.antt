@@ -1,0 +1,4 @@
+-- What a request makes of the account and the trace.
+pub mod Whole
+pub mod InPart
+pub mod BySlot

@@ -1,0 +1,27 @@
+use Rattle.std.proofs.Common.{◌≡◌, ℕ, true, List, sym, ap, ◌∙◌}
+use Rattle.modes_core.specs.declared.modes.Mode.{Mode}
+use Rattle.modes_core.specs.declared.tags.Tag.{Tag}
+use Rattle.modes_core.specs.Tag.{is_eligible_for}
+use Rattle.lock_world.specs.Account.{Account}
+use Rattle.lock_world.specs.AccountSteps.{own_with}
+use Rattle.lock_world.specs.World.{TraceEntry}
+use Rattle.fast_path.specs.Grants.{GrantsInSlot}
+use Rattle.lock_manager.specs.Requests.{account_granted}
+use Rattle.lock_manager.proofs.Lemmas.Requests.Whole.{eligible-weak, weak-counted}
+
+-- An acquire by the fast path alone.
+
+-- Granted, it leaves what is counted.
+pub by_slot-account :
+    (limit number : ℕ) (a b : Account) (before : List TraceEntry) (uses left : ℕ) (tag : Tag) (mode : Mode) → is_eligible_for a.fast.database tag mode ≡ true
+    → GrantsInSlot number a before uses tag mode b left → b ≡ account_granted limit a tag mode b.fast.remembered b.trace
+by_slot-account limit number a b before uses left tag mode eligible granted =
+    granted.account
+    ∙ (λ i. record a {
+      own = own_with a.own tag mode true;
+      fast = record (a.fast) {
+        remembered = sym (ap (λ (x : Account). x.fast.remembered) granted.account) i;
+        counted = weak-counted limit a.fast.counted tag mode (eligible-weak a.fast.database tag mode eligible) i;
+      };
+      trace = sym (ap (λ (x : Account). x.trace) granted.account) i;
+    })

@@ -1,0 +1,2 @@
+-- The calls of a session.
+pub mod Held

@@ -1,0 +1,79 @@
+use Rattle.std.specs.Prelude.{◌≡◌, ◌⊎◌, ◌↔◌, ℕ, ◌<◌, Bool, true, false, List, length, Result, Ok, Err, IsErrOf}
+use Rattle.modes_core.specs.declared.modes.Mode.{Mode}
+use Rattle.modes_core.specs.declared.tags.Tag.{Tag}
+use Rattle.modes_core.specs.declared.sessions.Owner.{Owner}
+use Rattle.modes_core.specs.declared.refusals.Refusal.{Refusal}
+use Rattle.modes_core.specs.declared.refusals.Refusal.TheVariants.{NoMemory, LocalFull, CountFull, NotEligible}
+use Rattle.local_locks.specs.declared.answers.Acquired.{Acquired}
+use Rattle.local_locks.specs.declared.answers.Acquired.TheVariants as acquired
+use Rattle.local_locks.specs.declared.records.Entry.{Entry}
+use Rattle.local_locks.specs.Owned.{Owned, has_entry, owner_count_of, max_count, with_one_more}
+use Rattle.wait_queue.specs.declared.requests.Kind.{Kind}
+use Rattle.wait_queue.specs.declared.requests.Kind.TheVariants.{Conditional}
+use Rattle.wait_queue.specs.declared.requests.Decision.TheVariants as decision
+use Rattle.lock_world.specs.Account.{Account}
+use Rattle.fast_path.specs.Grants.{TriesGrant}
+use Rattle.shared_rule.specs.Boards.{Seated}
+use Rattle.lock_manager.specs.declared.requests.Begun.{Begun}
+use Rattle.lock_manager.specs.declared.requests.Begun.TheVariants.{Granted, AlreadyHeld, Queued}
+use Rattle.lock_manager.specs.Requests.{Requests}
+
+-- An acquire: what it is answered by what the session owns, and what joins its trace. `a` and `uses` are the account and the
+-- use count before it, `b` and `left` those after it.
+
+-- A mode that the session has is counted once more for the owner, unless his count is full. One that it has not, and that may
+-- be had this way, is refused where the session has as many entries as it may have.
+pub record AnswersByOwned {A : Type 0} (owned : Owned) (tag : Tag) (mode : Mode) (owner : Owner) (already : A) (may_be_had : Bool)
+    (result : Result A Refusal) : Type 0 where
+  pub already_held :
+      (result ≡ Ok already) ↔ ((has_entry owned.entries tag mode ≡ true) × (owner_count_of owned.entries tag mode owner < max_count))
+  pub count_full : IsErrOf result CountFull ↔ (owner_count_of owned.entries tag mode owner ≡ max_count)
+  pub local_full :
+      IsErrOf result LocalFull
+      ↔ ((has_entry owned.entries tag mode ≡ false) × (may_be_had ≡ true) × (length owned.entries ≡ owned.max_local))
+
+-- the entries once it has begun
+abbrev pub entries_begun : Begun → List Entry → Tag → Mode → Owner → List Entry
+entries_begun Granted entries tag mode owner = with_one_more entries tag mode owner
+entries_begun AlreadyHeld entries tag mode owner = with_one_more entries tag mode owner
+entries_begun Queued entries tag mode owner = entries
+
+-- What joins the trace of an acquire of either kind, by its answer. One of a mode with an entry makes no step, nor does one that
+-- its own limits refuse, or want of memory for its entry. Every other one is a request.
+abbrev pub Begins : Kind → Seated → Owned → Account → ℕ → Tag → Mode → Result Begun Refusal → Account → ℕ → Type 0
+Begins kind seat owned a uses tag mode (Ok AlreadyHeld) b left = (b ≡ a) × (left ≡ uses)
+Begins kind seat owned a uses tag mode (Ok Granted) b left =
+    Requests kind seat a uses tag mode (Ok decision.Granted) b left
+Begins kind seat owned a uses tag mode (Ok Queued) b left =
+    Requests kind seat a uses tag mode (Ok decision.Queued) b left
+Begins kind seat owned a uses tag mode (Err CountFull) b left = (b ≡ a) × (left ≡ uses)
+Begins kind seat owned a uses tag mode (Err LocalFull) b left = (b ≡ a) × (left ≡ uses)
+Begins kind seat owned a uses tag mode (Err NoMemory) b left =
+    ((has_entry owned.entries tag mode ≡ false) × (owned.room ≡ 0) × (b ≡ a) × (left ≡ uses))
+    ⊎ Requests kind seat a uses tag mode (Err NoMemory) b left
+Begins kind seat owned a uses tag mode (Err refusal) b left = Requests kind seat a uses tag mode (Err refusal) b left
+
+-- One that doesn't wait is over as it has begun.
+abbrev pub begun_at_once : Result Acquired Refusal → Result Begun Refusal
+begun_at_once (Ok acquired.Granted) = Ok Granted
+begun_at_once (Ok acquired.AlreadyHeld) = Ok AlreadyHeld
+begun_at_once (Err refusal) = Err refusal
+
+abbrev pub Acquires : Seated → Owned → Account → ℕ → Tag → Mode → Result Acquired Refusal → Account → ℕ → Type 0
+Acquires seat owned a uses tag mode result b left =
+    Begins Conditional seat owned a uses tag mode (begun_at_once result) b left
+
+-- What joins the trace of an acquire by the fast path alone, by its answer. One of a mode with an entry makes no
+-- step, nor does one that may not go by a slot, nor one that its own limits refuse, or want of memory for its entry.
+-- Every other one is tried once, and waits for nobody.
+abbrev pub AcquiresBySlot : ℕ → Owned → Account → ℕ → Tag → Mode → Result Acquired Refusal → Account → ℕ → Type 0
+AcquiresBySlot number owned a uses tag mode (Ok acquired.AlreadyHeld) b left = (b ≡ a) × (left ≡ uses)
+AcquiresBySlot number owned a uses tag mode (Ok acquired.Granted) b left =
+    TriesGrant number a uses tag mode (Ok tt) b left
+AcquiresBySlot number owned a uses tag mode (Err CountFull) b left = (b ≡ a) × (left ≡ uses)
+AcquiresBySlot number owned a uses tag mode (Err NotEligible) b left = (b ≡ a) × (left ≡ uses)
+AcquiresBySlot number owned a uses tag mode (Err LocalFull) b left = (b ≡ a) × (left ≡ uses)
+AcquiresBySlot number owned a uses tag mode (Err NoMemory) b left =
+    (has_entry owned.entries tag mode ≡ false) × (owned.room ≡ 0) × (b ≡ a) × (left ≡ uses)
+AcquiresBySlot number owned a uses tag mode (Err refusal) b left =
+    TriesGrant number a uses tag mode (Err refusal) b left

@@ -1,0 +1,111 @@
+//! What stands in an object's queue, and who is in the way of one that waits there, over any board.
+
+ghost use Rattle.std.specs.Prelude.{◌≡◌, ◌≤◌, IfOk, IsOkUnless};
+ghost use Rattle.lock_manager.specs.Rest.{IsAtRest};
+ghost use Rattle.lock_manager.specs.Sessions.{IsSame};
+ghost use Rattle.lock_manager.specs.Queues.{LooksAt, IsQueue, AreBlockers};
+
+use crate::sessions::{Own, OwnSession};
+use lock_table::{Move, PartTable, Waiter};
+use modes_core::{Refusal, SessionId, Tag};
+use shared_rule::board::Board;
+use std::sync::Wait;
+use wait_queue::{Blocker, blockers_of, queue_of};
+
+/// A row of an object's queue: who waits, for which mode, and the modes of the object that it held when it joined.
+pub type QueueRow = Waiter;
+
+/// The waits on an object at one moment, in the order of its queue.
+fn queue<T: PartTable, B: Board<T>, R: Wait>(
+    rt: &R,
+    board: &mut B,
+    own: &Own,
+    tag: Tag,
+) -> Result<Vec<QueueRow>, Refusal>
+    requires rest { IsAtRest (B.seat board.old).limit own.now.database own.now.uses
+        (B.view board.old) (B.stack board.old) own.now.locals.entries }
+    ensures looked { LooksAt (λ taken. IfOk result (λ rows. IsQueue tag rows.items taken))
+        (B.view board.old).trace tag (B.view board.new).trace }
+    ensures no_memory { IsOkUnless result Refusal.NoMemory }
+    ensures rest { IsAtRest (B.seat board.old).limit own.now.database own.now.uses
+        (B.view board.new) (B.stack board.new) own.now.locals.entries }
+    ensures seat { B.seat board.new ≡ B.seat board.old }
+{
+    let part = tag.partition();
+    let content = board.take_part(rt, part);
+    let rows = queue_of(own.alloc, &content, &tag);
+    board.put_part(part, &Move::Keep, content);
+    match rows {
+        Ok(rows) => Ok(rows),
+        Err(_) => Err(Refusal::NoMemory),
+    }
+}
+
+/// Those in the way of a session's wait on an object at one moment.
+fn blockers<T: PartTable, B: Board<T>, R: Wait>(
+    rt: &R,
+    board: &mut B,
+    own: &Own,
+    tag: Tag,
+    session: SessionId,
+) -> Result<Vec<Blocker>, Refusal>
+    requires rest { IsAtRest (B.seat board.old).limit own.now.database own.now.uses
+        (B.view board.old) (B.stack board.old) own.now.locals.entries }
+    ensures looked { LooksAt (λ taken. IfOk result (λ found. AreBlockers tag session found.items taken))
+        (B.view board.old).trace tag (B.view board.new).trace }
+    ensures no_memory { IsOkUnless result Refusal.NoMemory }
+    ensures rest { IsAtRest (B.seat board.old).limit own.now.database own.now.uses
+        (B.view board.new) (B.stack board.new) own.now.locals.entries }
+    ensures seat { B.seat board.new ≡ B.seat board.old }
+{
+    let part = tag.partition();
+    let content = board.take_part(rt, part);
+    let found = blockers_of(own.alloc, &content, &tag, session);
+    board.put_part(part, &Move::Keep, content);
+    match found {
+        Ok(found) => Ok(found),
+        Err(_) => Err(Refusal::NoMemory),
+    }
+}
+
+impl<T: PartTable, B: Board<T>> OwnSession<T, B> {
+    /// The object's waits, in the order of its queue, with the modes that each held when it joined: by one episode in the
+    /// object's partition, which changes nothing. Only the list of the answer takes memory; where that is wanting it is refused.
+    pub fn queue<R: Wait>(&mut self, rt: &R, tag: Tag) -> Result<Vec<QueueRow>, Refusal>
+        // What it is answered.
+        ensures looked { LooksAt (λ taken. IfOk result (λ rows. IsQueue tag rows.items taken))
+            (B.view self.old.board).trace tag (B.view self.new.board).trace }
+        ensures no_memory { IsOkUnless result Refusal.NoMemory }
+
+        // What stands after it.
+        ensures owned { self.new.owned ≡ self.old.owned }
+        ensures uses { self.new.uses ≡ self.old.uses }
+        ensures same { IsSame B.seat B.view B.stack self.old self.new }
+    {
+        queue(rt, &mut self.board, &self.own, tag)
+    }
+
+    /// Those who stand in the way of a session that waits on the object (`GetBlockerStatusData` in lock.c, for
+    /// `pg_blocking_pids`): by session and mode those who hold a mode that conflicts with the awaited one, and then, in the order of
+    /// the queue, those before it who await one. Nobody where the session doesn't wait there. It is one episode in the object's
+    /// partition, which changes nothing. A hold in a fast-path slot conflicts with no mode that can wait until it is moved
+    /// into the table. Only the list of the answer takes memory; where that is wanting it is refused.
+    pub fn blockers<R: Wait>(
+        &mut self,
+        rt: &R,
+        tag: Tag,
+        session: SessionId,
+    ) -> Result<Vec<Blocker>, Refusal>
+        // What it is answered.
+        ensures looked { LooksAt (λ taken. IfOk result (λ found. AreBlockers tag session found.items taken))
+            (B.view self.old.board).trace tag (B.view self.new.board).trace }
+        ensures no_memory { IsOkUnless result Refusal.NoMemory }
+
+        // What stands after it.
+        ensures owned { self.new.owned ≡ self.old.owned }
+        ensures uses { self.new.uses ≡ self.old.uses }
+        ensures same { IsSame B.seat B.view B.stack self.old self.new }
+    {
+        blockers(rt, &mut self.board, &self.own, tag, session)
+    }
+}

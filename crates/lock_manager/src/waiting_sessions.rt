@@ -1,0 +1,403 @@
+//! Calls that may wait: a session that has begun to wait is a value of its own, which has the calls of a waiting one.
+
+ghost use Rattle.std.specs.Prelude.{◌≡◌, ◌↔◌, false, true, IsErrOf, IsOkUnless, IfOk, OnOk, OnErr};
+ghost use Rattle.local_locks.specs.Owned.{has_entry, with_one_more};
+ghost use Rattle.lock_manager.specs.declared.requests.Begun.TheVariants as begun;
+ghost use Rattle.lock_manager.specs.Sessions.{IsSame};
+ghost use Rattle.lock_manager.specs.Acquires.{AnswersByOwned, entries_begun, Begins};
+ghost use Rattle.lock_manager.specs.Waiting.{Asks, LooksForWaiters, Polls, Cancels, Waits};
+ghost use Rattle.lock_manager.specs.WaitingSessions.{answer_started, board_started, uses_started, owned_started};
+ghost use Rattle.lock_manager.specs.WaitingSessions.{UnlessQueued, IfQueued};
+ghost use Rattle.lock_manager.specs.WaitingSessions.{answer_polled, board_polled, IfGranted, UnlessGranted};
+ghost use Rattle.lock_manager.specs.WaitingSessions.{was_granted, session_cancelled, acquired_despite};
+ghost use Rattle.lock_manager.specs.WaitingSessions.{answer_waited, session_waited, acquired_after};
+ghost use Rattle.lock_manager.specs.WaitingSessions.{answer_locked, session_locked, Locks, HasBegun, WaitsOn, HasEnded};
+
+use crate::keeper::Part;
+use crate::requests::{Begun, acquire};
+use crate::sessions::{Own, OwnSession};
+use crate::waiting::{self, Asked, Looked};
+use local_locks::Acquired;
+use lock_table::PartTable;
+use modes_core::{Mode, Owner, Refusal, SessionId, Tag};
+use shared_rule::board::Board;
+use shared_rule::seat_board::SeatBoard;
+use std::marker::{Model, PhantomData};
+use std::sync::Wait;
+use wait_queue::Kind;
+
+/// A session of a manager that waits.
+pub type Waiting<'a> = OwnWaiting<Part, SeatBoard<'a, Part>>;
+
+/// A session that waits, over any board and any keeper of the partitions: it can make no call but those of its wait. It
+/// ends by one of them alone: the compiler refuses code that lets one go, which would stand in the queue for ever. Contracts
+/// see its board, its database, what it owns, and what it waits for.
+pub struct OwnWaiting<T: PartTable, B: Board<T>> {
+    board: B,
+    own: Box<Own>,
+    tag: Tag,
+    mode: Mode,
+    owner: Owner,
+    parts: PhantomData<T>,
+}
+
+impl<T: PartTable, B: Board<T>> Model for OwnWaiting<T, B> {
+    ghost use Rattle.std.specs.Prelude.{◌≤◌};
+    ghost use Rattle.local_locks.specs.Owned.{IsWellOwned, IsReserved};
+    ghost use Rattle.lock_manager.specs.Waiting.{IsWaiting};
+    ghost use Rattle.lock_manager.specs.WaitingSessions.{WaitingView};
+
+    ghost Value = { WaitingView B };
+
+    ghost view = { λ waiting. record {
+      board = waiting.board;
+      database = waiting.own.value.database;
+      uses = waiting.own.value.uses;
+      owned = waiting.own.value.locals;
+      tag = waiting.tag;
+      mode = waiting.mode;
+      owner = waiting.owner;
+    } };
+
+    ghost invariant = { λ waiting.
+        IsWaiting (B.seat waiting.board).limit waiting.own.value.database waiting.own.value.uses
+        (B.view waiting.board) (B.stack waiting.board) waiting.own.value.locals.entries waiting.tag waiting.mode
+        × ((B.seat waiting.board).limit ≤ 64) × (waiting.own.value.locals.max_local ≤ 65536)
+        × IsWellOwned waiting.own.value.locals
+        × IsReserved waiting.own.value.locals waiting.tag waiting.mode waiting.owner };
+}
+
+/// How an acquire that may wait began, with the session.
+#[derive(Drop)]
+pub enum Started<S, W> {
+    /// It has the mode newly.
+    Granted(S),
+    /// It had the mode before, and has it once more.
+    AlreadyHeld(S),
+    /// It waits for it.
+    Queued(W),
+    /// It holds what it held.
+    Refused(S, Refusal),
+}
+
+/// What an acquire that waits is answered, with the session.
+#[derive(Drop)]
+pub enum Locked<S> {
+    /// It has the mode newly.
+    Granted(S),
+    /// It had the mode before, and has it once more.
+    AlreadyHeld(S),
+    /// It holds what it held.
+    Refused(S, Refusal),
+}
+
+/// What a session that waits finds when it looks, with the session.
+#[derive(Drop)]
+pub enum Polled<S, W> {
+    /// Its wait was granted, and has ended.
+    Granted(S),
+    /// It waits still.
+    Still(W),
+    /// It waits still, and was asked to cancel.
+    CancelAsked(W),
+}
+
+/// How a wait ended that its session cancelled, with the session.
+#[derive(Drop)]
+pub enum Cancelled<S> {
+    /// It is out of the queue, and holds what it held.
+    Removed(S),
+    /// It had been granted, and has the mode.
+    WasGranted(S),
+}
+
+/// How a wait ended, with the session.
+#[derive(Drop)]
+pub enum Waited<S> {
+    /// It has the mode.
+    Granted(S),
+    /// It is out of the queue, and holds what it held.
+    Refused(S, Refusal),
+}
+
+impl<S> Locked<S> {
+    /// The session, and what its acquire is answered.
+    pub fn into_parts(self) -> (S, Result<Acquired, Refusal>)
+        ensures session { result.0 ≡ session_locked self }
+        ensures answer { result.1 ≡ answer_locked self }
+    {
+        match self {
+            Locked::Granted(session) => (session, Ok(Acquired::Granted)),
+            Locked::AlreadyHeld(session) => (session, Ok(Acquired::AlreadyHeld)),
+            Locked::Refused(session, refusal) => (session, Err(refusal)),
+        }
+    }
+}
+
+impl<S> Waited<S> {
+    /// The session, and what the acquire is answered for which it waited.
+    pub fn into_parts(self) -> (S, Result<Acquired, Refusal>)
+        ensures session { result.0 ≡ session_waited self }
+        ensures answer { result.1 ≡ acquired_after (answer_waited self) }
+    {
+        match self {
+            Waited::Granted(session) => (session, Ok(Acquired::Granted)),
+            Waited::Refused(session, refusal) => (session, Err(refusal)),
+        }
+    }
+}
+
+impl<S> Cancelled<S> {
+    /// The session, and what the acquire is answered whose wait it cancelled: granted, where the grant was first.
+    pub fn into_parts(self) -> (S, Result<Acquired, Refusal>)
+        ensures session { result.0 ≡ session_cancelled self }
+        ensures answer { result.1 ≡ acquired_despite (was_granted self) }
+    {
+        match self {
+            Cancelled::Removed(session) => (session, Err(Refusal::Cancelled)),
+            Cancelled::WasGranted(session) => (session, Ok(Acquired::Granted)),
+        }
+    }
+}
+
+impl<T: PartTable, B: Board<T>> OwnSession<T, B> {
+    /// Takes a mode on an object for an owner, or begins to wait for it (`LockAcquire` in lock.c without `dontWait`, up
+    /// to where `ProcSleep` in proc.c has joined the queue). What the session has already is counted once more, with no
+    /// step on shared state. It is refused, in this order, where the owner's count is full, the local table is full,
+    /// memory runs out, or the wait would close a simple deadlock. After a refusal the session holds what it held.
+    /// There is no timeout: a time limit is this call, then `poll`, and an `ask_cancel` of another session or `cancel`
+    /// when it is over.
+    pub fn start<R: Wait>(
+        self,
+        rt: &R,
+        tag: Tag,
+        mode: Mode,
+        owner: Owner,
+    ) -> Started<Self, OwnWaiting<T, B>>
+        // What it is answered.
+        ensures answers { AnswersByOwned self.owned tag mode owner begun.AlreadyHeld true (answer_started result) }
+        ensures steps { Begins Kind.Waiting (B.seat self.board) self.owned (B.view self.board) self.uses tag mode
+            (answer_started result) (B.view (board_started result)) (uses_started result) }
+
+        // What stands after it.
+        ensures entries { IfOk (answer_started result) (λ answer. (owned_started result).entries
+            ≡ entries_begun answer self.owned.entries tag mode owner) }
+        ensures same_entries { OnErr (answer_started result)
+            ((owned_started result).entries ≡ self.owned.entries) }
+        ensures levels { (owned_started result).outer ≡ self.owned.outer }
+        ensures same { UnlessQueued result (λ session. IsSame B.seat B.view B.stack self session) }
+        ensures waiting { IfQueued result (λ waiting.
+            HasBegun B.seat B.view B.stack self tag mode owner waiting) }
+    {
+        let OwnSession {
+            mut board,
+            mut own,
+            parts,
+        } = self;
+        match acquire(rt, &mut board, &mut own, tag, mode, owner, Kind::Waiting) {
+            Ok(Begun::Granted) => Started::Granted(OwnSession { board, own, parts }),
+            Ok(Begun::AlreadyHeld) => Started::AlreadyHeld(OwnSession { board, own, parts }),
+            Ok(Begun::Queued) => Started::Queued(OwnWaiting {
+                board,
+                own,
+                tag,
+                mode,
+                owner,
+                parts,
+            }),
+            Err(refusal) => Started::Refused(OwnSession { board, own, parts }, refusal),
+        }
+    }
+
+    /// Takes a mode on an object for an owner, and waits for it where it must (`LockAcquire` in lock.c without
+    /// `dontWait`): `start`, and `wait` where that queued the request. It is refused where these are: the wait is over
+    /// then, and the session holds what it held.
+    pub fn lock<R: Wait>(self, rt: &R, tag: Tag, mode: Mode, owner: Owner) -> Locked<Self>
+        // What it is answered.
+        ensures answers { AnswersByOwned self.owned tag mode owner Acquired.AlreadyHeld true (answer_locked result) }
+        ensures steps { Locks (B.seat self.board) self.owned (B.view self.board) self.uses tag mode
+            (answer_locked result) (B.view (session_locked result).board) (session_locked result).uses }
+
+        // What stands after it.
+        ensures entries { OnOk (answer_locked result) ((session_locked result).owned.entries
+            ≡ with_one_more self.owned.entries tag mode owner) }
+        ensures same_entries { OnErr (answer_locked result)
+            ((session_locked result).owned.entries ≡ self.owned.entries) }
+        ensures levels { (session_locked result).owned.outer ≡ self.owned.outer }
+        ensures same { IsSame B.seat B.view B.stack self (session_locked result) }
+    {
+        match self.start(rt, tag, mode, owner) {
+            Started::Granted(session) => Locked::Granted(session),
+            Started::AlreadyHeld(session) => Locked::AlreadyHeld(session),
+            Started::Refused(session, refusal) => Locked::Refused(session, refusal),
+            Started::Queued(waiting) => match waiting.wait(rt) {
+                Waited::Granted(session) => Locked::Granted(session),
+                Waited::Refused(session, refusal) => Locked::Refused(session, refusal),
+            },
+        }
+    }
+
+    /// `lock` on a session that is lent, so that `?` works at its answer (`LockAcquire` in lock.c without `dontWait`). The
+    /// session waits where it must, and can make no other call meanwhile.
+    pub fn acquire<R: Wait>(
+        &mut self,
+        rt: &R,
+        tag: Tag,
+        mode: Mode,
+        owner: Owner,
+    ) -> Result<Acquired, Refusal>
+        // What it is answered.
+        ensures answers { AnswersByOwned self.old.owned tag mode owner Acquired.AlreadyHeld true result }
+        ensures steps { Locks (B.seat self.old.board) self.old.owned (B.view self.old.board) self.old.uses tag mode
+            result (B.view self.new.board) self.new.uses }
+
+        // What stands after it.
+        ensures entries { OnOk result (self.new.owned.entries
+            ≡ with_one_more self.old.owned.entries tag mode owner) }
+        ensures same_entries { OnErr result (self.new.owned.entries ≡ self.old.owned.entries) }
+        ensures levels { self.new.owned.outer ≡ self.old.owned.outer }
+        ensures same { IsSame B.seat B.view B.stack self.old self.new }
+    {
+        waiting::lock(rt, &mut self.board, &mut self.own, tag, mode, owner)
+    }
+
+    /// Whether somebody awaits the object in a mode that conflicts with this one (`LockHasWaiters` in lock.c). It is
+    /// refused where the session hasn't the mode; nothing has changed then.
+    pub fn has_waiters<R: Wait>(&mut self, rt: &R, tag: Tag, mode: Mode) -> Result<bool, Refusal>
+        // What it is answered.
+        ensures not_held { IsErrOf result Refusal.NotHeld ↔ (has_entry self.old.owned.entries tag mode ≡ false) }
+        ensures no_other { IsOkUnless result Refusal.NotHeld }
+        ensures looked { IfOk result (λ is_awaited. LooksForWaiters (B.view self.old.board).trace tag mode is_awaited
+            (B.view self.new.board).trace) }
+
+        // What stands after it.
+        ensures no_step { OnErr result (B.view self.new.board ≡ B.view self.old.board) }
+        ensures owned { self.new.owned ≡ self.old.owned }
+        ensures uses { self.new.uses ≡ self.old.uses }
+        ensures same { IsSame B.seat B.view B.stack self.old self.new }
+    {
+        waiting::has_waiters(rt, &mut self.board, &self.own, tag, mode)
+    }
+
+    /// Asks a session to cancel its wait, and wakes it where it waits (`pg_cancel_backend` in signalfuncs.c). Where it
+    /// doesn't wait nothing stands of it; nor does a session wait that asks itself. An asked session that is granted
+    /// first keeps the grant.
+    pub fn ask_cancel(&mut self, other: SessionId) -> Asked
+        ensures asked { Asks (B.view self.old.board) other result (B.view self.new.board) }
+        ensures oneself { other ≡ (B.seat self.old.board).number → result ≡ Asked.NotWaiting }
+        ensures owned { self.new.owned ≡ self.old.owned }
+        ensures uses { self.new.uses ≡ self.old.uses }
+        ensures same { IsSame B.seat B.view B.stack self.old self.new }
+    {
+        waiting::ask_cancel(&mut self.board, other)
+    }
+}
+
+impl<T: PartTable, B: Board<T>> OwnWaiting<T, B> {
+    /// The session's number.
+    pub fn id(&self) -> SessionId
+        ensures { result ≡ (B.seat self.now.board).number }
+    {
+        self.board.number()
+    }
+
+    /// Looks at the wait once (`ProcSleep` in proc.c where it reads `waitStatus`): it was granted, and has ended, or it
+    /// goes on, and another session may have asked to cancel it.
+    pub fn poll(self) -> Polled<OwnSession<T, B>, Self>
+        // What it is answered.
+        ensures polled { Polls (B.seat self.board).number (B.view self.board).trace (answer_polled result)
+            (B.view (board_polled result)).trace }
+
+        // What stands after it.
+        ensures entries { IfGranted result (λ session. session.owned.entries
+            ≡ with_one_more self.owned.entries self.tag self.mode self.owner) }
+        ensures same { IfGranted result (λ session. HasEnded B.seat B.view B.stack self session) }
+        ensures waiting { UnlessGranted result (λ waiting. WaitsOn B.seat B.view B.stack self waiting) }
+    {
+        let OwnWaiting {
+            mut board,
+            mut own,
+            tag,
+            mode,
+            owner,
+            parts,
+        } = self;
+        match waiting::poll(&mut board, &mut own, tag, mode, owner) {
+            Looked::Granted => Polled::Granted(OwnSession { board, own, parts }),
+            Looked::Still => Polled::Still(OwnWaiting {
+                board,
+                own,
+                tag,
+                mode,
+                owner,
+                parts,
+            }),
+            Looked::CancelAsked => Polled::CancelAsked(OwnWaiting {
+                board,
+                own,
+                tag,
+                mode,
+                owner,
+                parts,
+            }),
+        }
+    }
+
+    /// Ends the wait (`LockErrorCleanup` in proc.c): it is taken out of the queue, and those are granted who may go
+    /// then; or it turns out that it was granted before, and the session has the mode.
+    pub fn cancel<R: Wait>(self, rt: &R) -> Cancelled<OwnSession<T, B>>
+        // What it is answered.
+        ensures steps { Cancels (B.seat self.board).number (B.view self.board).trace self.tag self.mode
+            (was_granted result) (B.view (session_cancelled result).board).trace }
+
+        // What stands after it.
+        ensures entries { was_granted result ≡ true → (session_cancelled result).owned.entries
+            ≡ with_one_more self.owned.entries self.tag self.mode self.owner }
+        ensures same_owned { was_granted result ≡ false →
+            (session_cancelled result).owned ≡ self.owned }
+        ensures same { HasEnded B.seat B.view B.stack self (session_cancelled result) }
+    {
+        let OwnWaiting {
+            mut board,
+            mut own,
+            tag,
+            mode,
+            owner,
+            parts,
+        } = self;
+        if waiting::cancel(rt, &mut board, &mut own, tag, mode, owner) {
+            return Cancelled::WasGranted(OwnSession { board, own, parts });
+        }
+        Cancelled::Removed(OwnSession { board, own, parts })
+    }
+
+    /// Waits until the wait is granted, or another session asks to cancel it (`ProcSleep` in proc.c, with
+    /// `LockErrorCleanup` where it is interrupted). It is refused with `Cancelled` alone: it is out of the queue then,
+    /// and the session holds what it held. Where it was asked to cancel, but granted before it could, the session has
+    /// the mode.
+    pub fn wait<R: Wait>(self, rt: &R) -> Waited<OwnSession<T, B>>
+        // What it is answered.
+        ensures cancelled { IsOkUnless (answer_waited result) Refusal.Cancelled }
+        ensures steps { Waits (B.seat self.board).number (B.view self.board).trace self.tag self.mode
+            (answer_waited result) (B.view (session_waited result).board).trace }
+
+        // What stands after it.
+        ensures entries { OnOk (answer_waited result) ((session_waited result).owned.entries
+            ≡ with_one_more self.owned.entries self.tag self.mode self.owner) }
+        ensures same_owned { OnErr (answer_waited result) ((session_waited result).owned ≡ self.owned) }
+        ensures same { HasEnded B.seat B.view B.stack self (session_waited result) }
+    {
+        let OwnWaiting {
+            mut board,
+            mut own,
+            tag,
+            mode,
+            owner,
+            parts,
+        } = self;
+        match waiting::wait(rt, &mut board, &mut own, tag, mode, owner) {
+            Ok(()) => Waited::Granted(OwnSession { board, own, parts }),
+            Err(refusal) => Waited::Refused(OwnSession { board, own, parts }, refusal),
+        }
+    }
+}

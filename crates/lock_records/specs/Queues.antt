@@ -1,0 +1,48 @@
+use Rattle.std.specs.Prelude.{◌≡◌, ◌≢◌, ℕ, ◌+◌, Bool, false, List, [], ◌∷◌, ◌++◌, length, map, Option, Some, None, slice_index_or, if◌then◌else◌}
+use Rattle.modes_core.specs.declared.tags.Tag.{Tag}
+use Rattle.modes_core.specs.Tag.{tag_eq}
+use Rattle.lock_table.specs.Content.{Wait}
+use Rattle.lock_table.specs.Waiter.{shown_wait}
+use Rattle.lock_records.specs.declared.wait_queues.QueueRecord.{QueueRecord}
+
+-- The queue records of a partition, by their places.
+
+-- the record at a place
+abbrev pub queue_at : List (Option QueueRecord) → ℕ → Option QueueRecord
+queue_at slots place = slice_index_or slots place None
+
+-- whether a place has a record of the object
+abbrev pub is_queue_of : Tag → Option QueueRecord → Bool
+is_queue_of tag None = false
+is_queue_of tag (Some queue) = tag_eq tag queue.tag
+
+-- the waits for the object that a place has
+abbrev pub waits_at : Tag → Option QueueRecord → List Wait
+waits_at tag None = []
+waits_at tag (Some queue) = if tag_eq tag queue.tag then map shown_wait queue.waiters.items else []
+
+-- the queue of an object: the waits that its record has
+unfoldable pub queue_on : List (Option QueueRecord) → Tag → List Wait
+queue_on [] tag = []
+queue_on (slot ∷ slots) tag = waits_at tag slot ++ queue_on slots tag
+
+-- how many waits a place has
+abbrev pub waits_of : Option QueueRecord → ℕ
+waits_of None = 0
+waits_of (Some queue) = length queue.waiters.items
+
+-- how many waits there are
+unfoldable pub waiting_in : List (Option QueueRecord) → ℕ
+waiting_in [] = 0
+waiting_in (slot ∷ slots) = waits_of slot + waiting_in slots
+
+-- The record at the place is the object's.
+pub record IsQueueAt (slots : List (Option QueueRecord)) (tag : Tag) (place : ℕ) : Type 0 where
+  pub queue : QueueRecord
+  pub there : queue_at slots place ≡ Some queue
+  pub on : queue.tag ≡ tag
+
+-- An object has one record at most, and each record has a wait.
+pub record AreQueues (slots : List (Option QueueRecord)) : Type 0 where
+  pub once : (tag : Tag) (k j : ℕ) → IsQueueAt slots tag k → IsQueueAt slots tag j → k ≡ j
+  pub some : (tag : Tag) (place : ℕ) (i : IsQueueAt slots tag place) → i.queue.waiters.items ≢ []

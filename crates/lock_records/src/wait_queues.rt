@@ -1,0 +1,240 @@
+//! The queues of the objects that somebody awaits.
+
+ghost use Rattle.std.specs.Prelude.{◌≡◌, ◌<◌, ◌≤◌, ◌+◌, ◌==◌, [], ◌∷◌, true, length, map, find, option_map, count_by, IfSome, IfNone, OnOk, OnErr};
+ghost use Rattle.std.specs.List.{list_any, HoldsAt};
+ghost use Rattle.std.specs.Option.{ForSome, ForNone};
+ghost use Rattle.modes_core.specs.Tag.{tag_eq};
+ghost use Rattle.slab.specs.Slab.{HasRoomFor};
+ghost use Rattle.lock_table.specs.Put.{put};
+ghost use Rattle.lock_table.specs.Queue.{joined, waits_there, wait_in, queue_without};
+ghost use Rattle.lock_table.specs.Waiter.{shown_wait};
+ghost use Rattle.lock_records.specs.Queues.{queue_at, is_queue_of, queue_on, waiting_in, IsQueueAt};
+ghost use Rattle.lock_records.specs.Rows.{AppendsRows, HasMoreRows, awaited_below};
+
+use crate::listing::push_waits;
+use arrayvec::ArrayVec;
+use lock_table::{NoMemory, TableRow, Waiter};
+use modes_core::{Mode, SessionId, Tag};
+use slab::Slab;
+use std::alloc::Global;
+use std::marker::Model;
+
+/// The waits for an object (`waitProcs` of `LOCK` in lock.h), the first one first. There are at most 64 sessions, and each
+/// waits for it once at most.
+#[derive(Drop)]
+pub struct QueueRecord {
+    pub tag: Tag,
+    pub waiters: ArrayVec<Waiter, 64>,
+}
+
+/// The queue records of a partition, and how many waits they have together. An object has one only while somebody awaits it.
+#[derive(Drop)]
+pub struct WaitQueues {
+    slots: Slab<QueueRecord>,
+    waiting: usize,
+}
+
+impl Model for WaitQueues {
+    ghost use Rattle.std.specs.Prelude.{◌≡◌};
+    ghost use Rattle.slab.specs.Slab.{Slab};
+    ghost use Rattle.lock_records.specs.declared.wait_queues.QueueRecord.{QueueRecord};
+
+    ghost Value = { Slab QueueRecord };
+
+    ghost use Rattle.lock_records.specs.Queues.{AreQueues, waiting_in};
+
+    ghost view = { λ queues. queues.slots };
+
+    ghost invariant = { λ queues. AreQueues queues.slots.slots × (queues.waiting ≡ waiting_in queues.slots.slots) };
+}
+
+impl WaitQueues {
+    /// No queue.
+    pub fn new(alloc: Global) -> Self
+        ensures { result.slots ≡ [] }
+    {
+        WaitQueues {
+            slots: Slab::new(alloc),
+            waiting: 0,
+        }
+    }
+
+    /// Makes room for a queue more.
+    #[inline(always)]
+    pub(crate) fn reserve(&mut self) -> Result<(), NoMemory>
+        ensures room { OnOk result (HasRoomFor self.new 1) }
+        ensures same { self.new.slots ≡ self.old.slots }
+    {
+        self.slots.reserve(1)?;
+        Ok(())
+    }
+
+    /// How many wait.
+    #[inline(always)]
+    pub(crate) fn waiting(&self) -> usize
+        ensures { result ≡ waiting_in self.now.slots }
+    {
+        self.waiting
+    }
+
+    /// Whether the object's record is at the place.
+    #[inline(always)]
+    fn is_at(&self, place: usize, tag: &Tag) -> bool
+        ensures { result ≡ is_queue_of tag.now (queue_at self.now.slots place) }
+    {
+        match self.slots.get(place) {
+            Some(queue) => tag.is_same(queue.tag),
+            None => false,
+        }
+    }
+
+    /// Where the object's record is. The place that its lock record notes is looked at, and the others only where it isn't
+    /// there.
+    pub(crate) fn find(&self, noted: usize, tag: &Tag) -> Option<usize>
+        ensures found { IfSome result (IsQueueAt self.now.slots tag.now) }
+        ensures absent { IfNone result (queue_on self.now.slots tag.now ≡ []) }
+    {
+        if self.is_at(noted, tag) {
+            return Some(noted);
+        }
+        for place in 0..self.slots.capacity() {
+            if self.is_at(place, tag) {
+                return Some(place);
+            }
+        }
+        None
+    }
+
+    /// The waits of the object whose record is at the place, the first one first.
+    pub(crate) fn waiters(&self, at: usize, tag: &Tag) -> &[Waiter]
+        requires { IsQueueAt self.now.slots tag.now at }
+        ensures waits { map shown_wait result.now ≡ queue_on self.now.slots tag.now }
+        ensures fits { length result.now ≤ 64 }
+    {
+        self.slots[at].waiters.as_slice()
+    }
+
+    /// For which mode the session waits there, if it does.
+    pub(crate) fn awaited_mode(&self, at: usize, tag: &Tag, session: SessionId) -> Option<Mode>
+        requires { IsQueueAt self.now.slots tag.now at }
+        ensures { result ≡ option_map (λ wait. wait.mode) (wait_in (queue_on self.now.slots tag.now) session) }
+    {
+        mode_of(self.waiters(at, tag), session)
+    }
+
+    /// Puts a wait into the object's queue, whose record is at the place `at`, before the wait at the place `place`.
+    pub(crate) fn insert(&mut self, at: usize, tag: &Tag, place: usize, waiter: Waiter)
+        requires there { IsQueueAt self.old.slots tag.now at }
+        requires few { length (queue_on self.old.slots tag.now) < 64 }
+        requires countable { waiting_in self.old.slots < usize.MAX }
+        requires place { place ≤ length (queue_on self.old.slots tag.now) }
+        ensures waits { queue_on self.new.slots
+            ≡ put tag_eq (queue_on self.old.slots) tag.now (joined place (shown_wait waiter) (queue_on self.old.slots tag.now)) }
+        ensures one_more { waiting_in self.new.slots ≡ waiting_in self.old.slots + 1 }
+    {
+        self.slots[at].waiters.insert(place, waiter);
+        self.waiting += 1;
+    }
+
+    /// Makes the record of an object that nobody awaits, with this wait in its queue, and says where it is.
+    #[inline(never)]
+    pub(crate) fn start(&mut self, tag: &Tag, waiter: Waiter) -> usize
+        requires none { queue_on self.old.slots tag.now ≡ [] }
+        requires room { HasRoomFor self.old 1 }
+        requires countable { waiting_in self.old.slots < usize.MAX }
+        ensures waits { queue_on self.new.slots ≡ put tag_eq (queue_on self.old.slots) tag.now (shown_wait waiter ∷ []) }
+        ensures one_more { waiting_in self.new.slots ≡ waiting_in self.old.slots + 1 }
+    {
+        let mut waiters = ArrayVec::new();
+        waiters.push(waiter);
+        self.waiting += 1;
+        self.slots
+            .insert_reserved(QueueRecord { tag: *tag, waiters })
+    }
+
+    /// Takes the session's wait out of the object's queue, whose record is at the place, and the record with its last wait.
+    pub(crate) fn leave(&mut self, at: usize, tag: &Tag, session: SessionId)
+        requires there { IsQueueAt self.old.slots tag.now at }
+        requires waits { waits_there (queue_on self.old.slots tag.now) session ≡ true }
+        requires once { count_by (λ wait. wait.session == session) (queue_on self.old.slots tag.now) ≤ 1 }
+        ensures waits { queue_on self.new.slots
+            ≡ put tag_eq (queue_on self.old.slots) tag.now (queue_without (queue_on self.old.slots tag.now) session) }
+        ensures one_less { waiting_in self.new.slots + 1 ≡ waiting_in self.old.slots }
+        ensures room { HasRoomFor self.old 1 → HasRoomFor self.new 1 }
+    {
+        let place = place_of(self.slots[at].waiters.as_slice(), session);
+        self.slots[at].waiters.remove(place);
+        self.waiting -= 1;
+        if self.slots[at].waiters.is_empty() {
+            self.slots.remove(at);
+        }
+    }
+
+    /// Appends a row for each wait. After a refusal some may be there.
+    pub(crate) fn push_rows(&self, rows: &mut Vec<TableRow>) -> Result<(), NoMemory>
+        ensures ok { OnOk result (AppendsRows rows.old.items rows.new.items (awaited_below self.now.slots (length self.now.slots))) }
+        ensures err { OnErr result (HasMoreRows rows.old.items rows.new.items) }
+    {
+        for place in 0..self.slots.capacity() {
+            if let Some(queue) = self.slots.get(place) {
+                if push_waits(&queue.tag, queue.waiters.as_slice(), rows).is_err() {
+                    return Err(NoMemory);
+                }
+            }
+        }
+        Ok(())
+    }
+}
+
+/// Puts a wait into the object's queue before the one at this place, and says where the queue record is.
+pub(crate) fn queue_up(
+    queues: &mut WaitQueues,
+    at: Option<usize>,
+    tag: &Tag,
+    place: usize,
+    waiter: Waiter,
+) -> usize
+    requires there { ForSome at (IsQueueAt queues.old.slots tag.now) }
+    requires none { ForNone at (queue_on queues.old.slots tag.now ≡ []) }
+    requires room { HasRoomFor queues.old 1 }
+    requires few { length (queue_on queues.old.slots tag.now) < 64 }
+    requires countable { waiting_in queues.old.slots < usize.MAX }
+    requires place { place ≤ length (queue_on queues.old.slots tag.now) }
+    ensures waits { queue_on queues.new.slots
+        ≡ put tag_eq (queue_on queues.old.slots) tag.now (joined place (shown_wait waiter) (queue_on queues.old.slots tag.now)) }
+    ensures one_more { waiting_in queues.new.slots ≡ waiting_in queues.old.slots + 1 }
+{
+    match at {
+        Some(at) => {
+            queues.insert(at, tag, place, waiter);
+            at
+        }
+        None => queues.start(tag, waiter),
+    }
+}
+
+/// For which mode the session waits in a queue, if it does.
+fn mode_of(waiters: &[Waiter], session: SessionId) -> Option<Mode>
+    ensures { result ≡ option_map (λ waiter. waiter.mode) (find (λ waiter. waiter.session == session) waiters.now) }
+{
+    waiters
+        .iter()
+        .find(|waiter| waiter.session == session)
+        .map(|waiter| waiter.mode)
+}
+
+/// Where the session's wait stands in a queue.
+fn place_of(waiters: &[Waiter], session: SessionId) -> usize
+    requires { list_any (λ waiter. waiter.session == session) waiters.now ≡ true }
+    ensures within { result < length waiters.now }
+    ensures its { HoldsAt (λ waiter. (waiter.session == session) ≡ true) waiters.now result }
+{
+    let mut left = waiters.len();
+    while left > 0 {
+        if waiters[left - 1].session == session {
+            return left - 1;
+        }
+        left -= 1;
+    }
+    unreachable!()
+}

@@ -1,0 +1,315 @@
+//! Audits, with all open sessions lent, beside numbers that were counted by hand, and beside what one of the sessions sees.
+
+ghost use Rattle.std.specs.Prelude.{◌≡◌, ◌+◌, ◌-◌, ◌<◌, length};
+ghost use Rattle.manager_tests.specs.Crews.{AreOf, SeatsAre};
+
+use super::answers::expect_granted;
+use super::desk::{Desk, append, close_many, open};
+use super::memory::is_wanting;
+use lock_manager::Mode::{
+    AccessExclusive, AccessShare, RowExclusive, RowShare, Share, ShareRowExclusive,
+    ShareUpdateExclusive,
+};
+use lock_manager::Owner::{Session, Transaction};
+use lock_manager::{Audit, Listing, Mode, OwnSession, Owner, Refusal, TableRow, Tag};
+use lock_table::PartTable;
+use shared_rule::board::Board;
+use std::alloc::Global;
+use std::process::Abort;
+use std::sync::Wait;
+
+/// How many sessions there are.
+pub const SESSIONS: u32 = 3;
+
+/// The object of this number: relations of the sessions' database, but for 0, which is no relation.
+fn tag(number: u32) -> Tag {
+    if number == 0 {
+        Tag::object(5, 1_259, 16_384, 0)
+    } else {
+        Tag::relation(5, number)
+    }
+}
+
+/// The session at this place takes a mode on the object of this number.
+type Take = (usize, u32, Mode, Owner);
+
+/// What the sessions take, in this order.
+static TAKES: [Take; 11] = [
+    // Three modes by slots, and one more, which the session's own strong mode moves to the table.
+    (0, 1, AccessShare, Transaction),
+    (0, 1, RowExclusive, Session),
+    (0, 2, RowShare, Session),
+    (0, 3, AccessShare, Transaction),
+    (0, 3, Share, Session),
+    // One by a slot. What is no relation has none, nor has the fourth mode, and neither is strong.
+    (1, 1, AccessShare, Session),
+    (1, 0, Share, Transaction),
+    (1, 4, ShareUpdateExclusive, Session),
+    // Two strong ones. The weak one beside the first is in the table, since that one is counted.
+    (2, 5, AccessExclusive, Transaction),
+    (2, 5, AccessShare, Transaction),
+    (2, 6, ShareRowExclusive, Session),
+];
+
+/// How many modes are in slots, how many are in the table, and how many are strong.
+pub type Numbers = (u64, u64, u64);
+
+/// Once so many sessions have taken theirs.
+static TAKEN: [Numbers; 3] = [(3, 2, 1), (4, 4, 1), (4, 7, 3)];
+
+/// Once all have committed: in slots the first one has two of its own and the second one has one, in the table each has one.
+const COMMITTED: Numbers = (3, 3, 2);
+
+pub const NOTHING: Numbers = (0, 0, 0);
+
+/// The session takes the mode, at the second attempt where there was no memory.
+fn take<T: PartTable, B: Board<T>, R: Abort + Wait>(
+    rt: &R,
+    session: &mut OwnSession<T, B>,
+    tag: Tag,
+    mode: Mode,
+    owner: Owner,
+)
+    ensures seat { B.seat session.new.board ≡ B.seat session.old.board }
+{
+    let mut answer = session.try_lock(rt, tag, mode, owner);
+    if is_wanting(&answer) {
+        answer = session.try_lock(rt, tag, mode, owner);
+    }
+    expect_granted(rt, answer, tag, mode);
+}
+
+/// It takes all that is for its place.
+fn take_each<T: PartTable, B: Board<T>, R: Abort + Wait>(
+    rt: &R,
+    session: &mut OwnSession<T, B>,
+    place: usize,
+)
+    ensures seat { B.seat session.new.board ≡ B.seat session.old.board }
+{
+    'takes: for at in 0..11 {
+        let (whose, number, mode, owner) = TAKES[at];
+        if whose == place {
+            take(rt, session, tag(number), mode, owner);
+        }
+    }
+}
+
+/// An audit was to count these.
+fn expect_counted<R: Abort>(rt: &R, counted: Result<Audit, Refusal>, expected: Numbers) {
+    let (fast, table, strong) = expected;
+    let expected = Audit {
+        fast,
+        table,
+        strong,
+    };
+    assert_eq!(rt; counted, Ok(expected));
+}
+
+/// Lends all open sessions, and counts.
+fn audit<T: PartTable, B: Board<T>, D: Desk<OwnSession<T, B>>, R: Abort + Wait>(
+    rt: &R,
+    desk: &mut D,
+    sessions: &mut Vec<OwnSession<T, B>>,
+) -> Result<Audit, Refusal>
+    requires seats { SeatsAre B.seat D.seat }
+    requires own { AreOf B.seat (D.manager desk.old) sessions.old.items }
+    ensures manager { D.manager desk.new ≡ D.manager desk.old }
+    ensures live { D.live desk.new ≡ D.live desk.old }
+    ensures own { AreOf B.seat (D.manager desk.old) sessions.new.items }
+    ensures as_many { length sessions.new.items ≡ length sessions.old.items }
+{
+    assert_eq!(rt; sessions.len(), desk.live() as usize);
+    desk.audit(rt, sessions)
+}
+
+/// An audit counts these, at the second attempt where there was no memory, since after the first one all is as before.
+pub fn count<T: PartTable, B: Board<T>, D: Desk<OwnSession<T, B>>, R: Abort + Wait>(
+    rt: &R,
+    desk: &mut D,
+    sessions: &mut Vec<OwnSession<T, B>>,
+    expected: Numbers,
+)
+    requires seats { SeatsAre B.seat D.seat }
+    requires own { AreOf B.seat (D.manager desk.old) sessions.old.items }
+    ensures manager { D.manager desk.new ≡ D.manager desk.old }
+    ensures live { D.live desk.new ≡ D.live desk.old }
+    ensures own { AreOf B.seat (D.manager desk.old) sessions.new.items }
+    ensures as_many { length sessions.new.items ≡ length sessions.old.items }
+{
+    let mut counted = audit(rt, desk, sessions);
+    if counted == Err(Refusal::NoMemory) {
+        counted = audit(rt, desk, sessions);
+    }
+    expect_counted(rt, counted, expected);
+}
+
+/// Opens the session at this place, which takes what is for it.
+fn open_and_take<T: PartTable, B: Board<T>, D: Desk<OwnSession<T, B>>, R: Abort + Wait>(
+    rt: &R,
+    desk: &mut D,
+    sessions: &mut Vec<OwnSession<T, B>>,
+    place: usize,
+)
+    requires seats { SeatsAre B.seat D.seat }
+    requires place { place < 3 }
+    requires own { AreOf B.seat (D.manager desk.old) sessions.old.items }
+    ensures manager { D.manager desk.new ≡ D.manager desk.old }
+    ensures own { AreOf B.seat (D.manager desk.old) sessions.new.items }
+    ensures live { D.live desk.new ≡ D.live desk.old + 1 }
+    ensures more { length sessions.new.items ≡ length sessions.old.items + 1 }
+{
+    let mut session = open(rt, desk);
+    take_each(rt, &mut session, place);
+    append(rt, sessions, session);
+    count(rt, desk, sessions, TAKEN[place]);
+}
+
+/// Opens all sessions, with an audit after each.
+fn open_each<T: PartTable, B: Board<T>, D: Desk<OwnSession<T, B>>, R: Abort + Wait>(
+    rt: &R,
+    alloc: Global,
+    desk: &mut D,
+) -> Vec<OwnSession<T, B>>
+    requires seats { SeatsAre B.seat D.seat }
+    ensures manager { D.manager desk.new ≡ D.manager desk.old }
+    ensures own { AreOf B.seat (D.manager desk.old) result.items }
+    ensures live { D.live desk.new ≡ D.live desk.old + length result.items }
+{
+    let mut sessions = Vec::new(alloc);
+    count(rt, desk, &mut sessions, NOTHING);
+    'places: for place in 0..3 {
+        open_and_take(rt, desk, &mut sessions, place);
+    }
+    sessions
+}
+
+/// The transactions of all sessions end, the last one first, with an audit after it.
+pub fn end_each<T: PartTable, B: Board<T>, D: Desk<OwnSession<T, B>>, R: Abort + Wait>(
+    rt: &R,
+    alloc: Global,
+    desk: &mut D,
+    mut sessions: Vec<OwnSession<T, B>>,
+    is_good: bool,
+    expected: Numbers,
+) -> Vec<OwnSession<T, B>>
+    requires seats { SeatsAre B.seat D.seat }
+    requires own { AreOf B.seat (D.manager desk.old) sessions.items }
+    ensures manager { D.manager desk.new ≡ D.manager desk.old }
+    ensures own { AreOf B.seat (D.manager desk.old) result.items }
+    ensures live { D.live desk.new ≡ D.live desk.old }
+    ensures as_many { length result.items ≡ length sessions.items }
+{
+    let mut ended = Vec::new(alloc);
+    'sessions: while let Some(mut session) = sessions.pop() {
+        if is_good {
+            session.commit(rt);
+        } else {
+            session.abort(rt);
+        }
+        append(rt, &mut ended, session);
+    }
+    sessions.destroy_empty();
+    count(rt, desk, &mut ended, expected);
+    ended
+}
+
+/// Three sessions of a desk take modes, commit, and abort, and an audit counts each time what they have.
+pub fn audit_often<T: PartTable, B: Board<T>, D: Desk<OwnSession<T, B>>, R: Abort + Wait>(
+    rt: &R,
+    alloc: Global,
+    desk: &mut D,
+)
+    requires seats { SeatsAre B.seat D.seat }
+    ensures manager { D.manager desk.new ≡ D.manager desk.old }
+    ensures live { D.live desk.new ≡ D.live desk.old }
+{
+    let sessions = open_each(rt, alloc, desk);
+    let sessions = end_each(rt, alloc, desk, sessions, true, COMMITTED);
+    let sessions = end_each(rt, alloc, desk, sessions, false, NOTHING);
+    close_many(rt, desk, sessions);
+}
+
+/// How many of the rows are of holds.
+fn granted_in(rows: &[TableRow]) -> u64 {
+    rows.iter().filter(|row| row.granted).count() as u64
+}
+
+/// What is listed, and how much is counted at all strong lock counters.
+fn numbers_of(listing: &Listing, strong: u64) -> Numbers {
+    (
+        listing.fast.len() as u64,
+        granted_in(listing.table.as_slice()),
+        strong,
+    )
+}
+
+/// The sum of all strong lock counters, as the session sees them.
+fn sum_counters<T: PartTable, B: Board<T>>(session: &mut OwnSession<T, B>) -> u64
+    ensures seat { B.seat session.new.board ≡ B.seat session.old.board }
+{
+    let mut sum = 0u64;
+    'counters: for index in 0..1024 {
+        sum = sum.saturating_add(session.strong_count(index));
+    }
+    sum
+}
+
+/// A listing, at the second attempt where there was no memory.
+fn list_at_last<T: PartTable, B: Board<T>, R: Abort + Wait>(
+    rt: &R,
+    session: &mut OwnSession<T, B>,
+) -> Listing
+    ensures seat { B.seat session.new.board ≡ B.seat session.old.board }
+{
+    match session.list(rt) {
+        Ok(listing) => listing,
+        Err(_) => session.list(rt).expect(rt, "a listing at last"),
+    }
+}
+
+/// What the session sees of all.
+fn look<T: PartTable, B: Board<T>, R: Abort + Wait>(
+    rt: &R,
+    session: &mut OwnSession<T, B>,
+) -> Numbers
+    ensures seat { B.seat session.new.board ≡ B.seat session.old.board }
+{
+    let strong = sum_counters(session);
+    let listing = list_at_last(rt, session);
+    numbers_of(&listing, strong)
+}
+
+/// What the last of these sessions sees of all.
+fn look_last<T: PartTable, B: Board<T>, D: Desk<OwnSession<T, B>>, R: Abort + Wait>(
+    rt: &R,
+    desk: &D,
+    sessions: &mut Vec<OwnSession<T, B>>,
+) -> Numbers
+    requires own { AreOf B.seat (D.manager desk.now) sessions.old.items }
+    ensures own { AreOf B.seat (D.manager desk.now) sessions.new.items }
+    ensures as_many { length sessions.new.items ≡ length sessions.old.items }
+{
+    let Some(mut session) = sessions.pop() else {
+        return NOTHING;
+    };
+    let seen = look(rt, &mut session);
+    append(rt, sessions, session);
+    seen
+}
+
+/// An audit counts what the last of these sessions sees, and all are closed. No other session is open.
+pub fn close_counted<T: PartTable, B: Board<T>, D: Desk<OwnSession<T, B>>, R: Abort + Wait>(
+    rt: &R,
+    desk: &mut D,
+    mut sessions: Vec<OwnSession<T, B>>,
+)
+    requires seats { SeatsAre B.seat D.seat }
+    requires own { AreOf B.seat (D.manager desk.old) sessions.items }
+    ensures manager { D.manager desk.new ≡ D.manager desk.old }
+    ensures live { D.live desk.new ≡ D.live desk.old - length sessions.items }
+{
+    let seen = look_last(rt, desk, &mut sessions);
+    count(rt, desk, &mut sessions, seen);
+    close_many(rt, desk, sessions);
+}

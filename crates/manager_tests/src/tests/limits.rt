@@ -1,0 +1,137 @@
+//! As many local entries as there may be, of one session and of all: granted, counted, listed and given back.
+
+ghost use Rattle.std.specs.Prelude.{◌≡◌, ◌+◌, length};
+ghost use Rattle.manager_tests.specs.Crews.{AreOf, SeatsAre};
+
+use super::answers::{expect_granted, expect_rows};
+use super::audits::{NOTHING, Numbers, count, end_each};
+use super::desk::{Desk, append, close_many, open};
+use lock_manager::{Mode, OwnSession, Owner, Refusal, Tag};
+use lock_table::PartTable;
+use shared_rule::board::Board;
+use std::alloc::Global;
+use std::process::Abort;
+use std::sync::Wait;
+
+/// How many of its entries each session has in its slots.
+const BY_SLOT: u32 = 16;
+
+/// How many sessions there are, and how many entries each has. Each takes more than its slots have room for.
+#[derive(Clone, Copy, Debug)]
+pub struct Limits {
+    pub sessions: u32,
+    pub entries: u32,
+}
+
+impl Limits {
+    /// How many modes stand in slots and in the table, where each session has all that it may have.
+    fn held(self) -> Numbers {
+        let (sessions, by_slot) = (u64::from(self.sessions), u64::from(BY_SLOT));
+        let in_table = u64::from(self.entries).saturating_sub(by_slot);
+        (sessions * by_slot, sessions * in_table, 0)
+    }
+}
+
+/// What the entry of this number locks: the first ones go by slots, and the others, which no other session has, stand in the table.
+fn entry(session: u16, number: u32) -> (Tag, Mode) {
+    if number < BY_SLOT {
+        (Tag::relation(5, number), Mode::AccessShare)
+    } else {
+        (Tag::object(5, 1_259, number, session), Mode::Exclusive)
+    }
+}
+
+/// The session takes so many, and is refused one more.
+fn fill<T: PartTable, B: Board<T>, R: Abort + Wait>(
+    rt: &R,
+    session: &mut OwnSession<T, B>,
+    entries: u32,
+)
+    ensures seat { B.seat session.new.board ≡ B.seat session.old.board }
+{
+    let number = u16::from(session.id().number());
+    'entries: for at in 0..entries {
+        let (tag, mode) = entry(number, at);
+        let answer = session.try_lock(rt, tag, mode, Owner::Transaction);
+        expect_granted(rt, answer, tag, mode);
+    }
+    let (tag, mode) = entry(number, entries);
+    let answer = session.try_lock(rt, tag, mode, Owner::Transaction);
+    assert_eq!(rt; answer, Err(Refusal::LocalFull), "{entries} entries");
+}
+
+/// Opens a session, which takes so many.
+fn open_full<T: PartTable, B: Board<T>, D: Desk<OwnSession<T, B>>, R: Abort + Wait>(
+    rt: &R,
+    desk: &mut D,
+    sessions: &mut Vec<OwnSession<T, B>>,
+    entries: u32,
+)
+    requires seats { SeatsAre B.seat D.seat }
+    requires own { AreOf B.seat (D.manager desk.old) sessions.old.items }
+    ensures manager { D.manager desk.new ≡ D.manager desk.old }
+    ensures own { AreOf B.seat (D.manager desk.old) sessions.new.items }
+    ensures live { D.live desk.new ≡ D.live desk.old + 1 }
+    ensures more { length sessions.new.items ≡ length sessions.old.items + 1 }
+{
+    let mut session = open(rt, desk);
+    fill(rt, &mut session, entries);
+    append(rt, sessions, session);
+}
+
+/// Opens all, and each takes all that it may have.
+fn open_all<T: PartTable, B: Board<T>, D: Desk<OwnSession<T, B>>, R: Abort + Wait>(
+    rt: &R,
+    alloc: Global,
+    desk: &mut D,
+    limits: Limits,
+) -> Vec<OwnSession<T, B>>
+    requires seats { SeatsAre B.seat D.seat }
+    ensures manager { D.manager desk.new ≡ D.manager desk.old }
+    ensures own { AreOf B.seat (D.manager desk.old) result.items }
+    ensures live { D.live desk.new ≡ D.live desk.old + length result.items }
+{
+    let mut sessions = Vec::new(alloc);
+    'sessions: for _ in 0..limits.sessions {
+        open_full(rt, desk, &mut sessions, limits.entries);
+    }
+    sessions
+}
+
+/// The last session lists what all have.
+fn list_all<T: PartTable, B: Board<T>, D: Desk<OwnSession<T, B>>, R: Abort + Wait>(
+    rt: &R,
+    desk: &D,
+    sessions: &mut Vec<OwnSession<T, B>>,
+    expected: Numbers,
+)
+    requires own { AreOf B.seat (D.manager desk.now) sessions.old.items }
+    ensures own { AreOf B.seat (D.manager desk.now) sessions.new.items }
+    ensures as_many { length sessions.new.items ≡ length sessions.old.items }
+{
+    let (fast, table, _) = expected;
+    if let Some(mut session) = sessions.pop() {
+        let listing = session.list(rt).expect(rt, "a listing");
+        expect_rows(rt, &listing, fast as usize, table as usize);
+        append(rt, sessions, session);
+    }
+}
+
+/// All sessions have all that they may have, which is counted and listed, and give it back.
+pub fn hold_all<T: PartTable, B: Board<T>, D: Desk<OwnSession<T, B>>, R: Abort + Wait>(
+    rt: &R,
+    alloc: Global,
+    desk: &mut D,
+    limits: Limits,
+)
+    requires seats { SeatsAre B.seat D.seat }
+    ensures manager { D.manager desk.new ≡ D.manager desk.old }
+    ensures live { D.live desk.new ≡ D.live desk.old }
+{
+    let mut sessions = open_all(rt, alloc, desk, limits);
+    let held = limits.held();
+    count(rt, desk, &mut sessions, held);
+    list_all(rt, desk, &mut sessions, held);
+    let sessions = end_each(rt, alloc, desk, sessions, true, NOTHING);
+    close_many(rt, desk, sessions);
+}

@@ -1,0 +1,32 @@
+//! Requests that tell the allocator which growths to refuse. `.ci/refused_memory` runs this program with an allocator that
+//! listens to them. Any other one grants them as what they are, and refuses nothing.
+
+use std::alloc::Global;
+
+/// A request for so many bytes says that no growth is to be refused any more. With a number more it says that the growth of
+/// this number is to be refused, counted from then on.
+const NONE: usize = 7_000_000;
+
+/// The number that stands for every growth.
+const EVERY: u16 = 1_000;
+
+/// Whether a request for so many bytes is granted.
+fn is_granted(alloc: Global, bytes: usize) -> bool {
+    let taken: Result<Vec<u8>, _> = Vec::with_capacity(alloc, bytes);
+    taken.is_ok()
+}
+
+/// The growth of this number is to be refused. Whether the allocator listens, which refuses the request then.
+pub fn refuse(alloc: Global, growth: u16) -> bool {
+    !is_granted(alloc, NONE + usize::from(growth))
+}
+
+/// Every growth is to be refused. Whether the allocator listens.
+pub fn refuse_all(alloc: Global) -> bool {
+    refuse(alloc, EVERY)
+}
+
+/// None is to be refused any more. Whether one was, since one was to be: the request is refused then.
+pub fn was_refused(alloc: Global) -> bool {
+    refuse(alloc, 0)
+}

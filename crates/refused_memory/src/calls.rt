@@ -1,0 +1,147 @@
+//! Calls of a session that may take memory, each by a function that takes the session and gives it back.
+
+ghost use Rattle.std.specs.Prelude.{◌≡◌};
+ghost use Rattle.lock_manager.specs.Crews.{KeepsSeat};
+
+use lock_manager::{
+    Acquired, Board, How, Mode, OwnSession, Owner, PartTable, Refusal, Started, Tag,
+};
+use std::sync::Wait;
+
+/// What a session asks for, for its transaction.
+#[derive(Clone, Copy)]
+pub enum Call {
+    Try(Tag, Mode),
+    /// By a slot or not at all.
+    Fast(Tag, Mode),
+    /// A wait that begins is cancelled.
+    Start(Tag, Mode),
+    Lock(Tag, Mode),
+    List,
+}
+
+/// What it is answered.
+#[derive(Clone, Copy, PartialEq, Eq)]
+pub enum Answer {
+    Granted,
+    AlreadyHeld,
+    Queued,
+    /// The session of this number holds this mode.
+    Conflict(u8, Mode),
+    /// The refusal of this number.
+    Refused(u8),
+    Rows { fast: usize, table: usize },
+}
+
+impl Answer {
+    /// Whether memory was wanting.
+    pub fn is_wanting(self) -> bool {
+        self == Answer::Refused(Refusal::NoMemory.number())
+    }
+}
+
+/// A refusal, which may name a hold in the way.
+fn refused(refusal: Refusal) -> Answer {
+    let Refusal::Conflict { session, mode, how } = refusal else {
+        return Answer::Refused(refusal.number());
+    };
+    if how == How::Held {
+        Answer::Conflict(session.number(), mode)
+    } else {
+        Answer::Refused(refusal.number())
+    }
+}
+
+/// What a request is answered.
+fn answer_of(answer: Result<Acquired, Refusal>) -> Answer {
+    match answer {
+        Ok(Acquired::Granted) => Answer::Granted,
+        Ok(Acquired::AlreadyHeld) => Answer::AlreadyHeld,
+        Err(refusal) => refused(refusal),
+    }
+}
+
+/// The session, and what it is answered.
+type Answered<T, B> = (OwnSession<T, B>, Answer);
+
+/// Asks for a mode without waiting.
+pub fn try_lock<T: PartTable, B: Board<T>, R: Wait>(
+    rt: &R,
+    mut session: OwnSession<T, B>,
+    tag: Tag,
+    mode: Mode,
+) -> Answered<T, B>
+    ensures seat { KeepsSeat B.seat session result.0 }
+{
+    let answer = session.try_lock(rt, tag, mode, Owner::Transaction);
+    (session, answer_of(answer))
+}
+
+fn try_fast<T: PartTable, B: Board<T>>(
+    mut session: OwnSession<T, B>,
+    tag: Tag,
+    mode: Mode,
+) -> Answered<T, B>
+    ensures seat { KeepsSeat B.seat session result.0 }
+{
+    let answer = session.try_fast(tag, mode, Owner::Transaction);
+    (session, answer_of(answer))
+}
+
+fn start<T: PartTable, B: Board<T>, R: Wait>(
+    rt: &R,
+    session: OwnSession<T, B>,
+    tag: Tag,
+    mode: Mode,
+) -> Answered<T, B>
+    ensures seat { KeepsSeat B.seat session result.0 }
+{
+    match session.start(rt, tag, mode, Owner::Transaction) {
+        Started::Granted(session) => (session, Answer::Granted),
+        Started::AlreadyHeld(session) => (session, Answer::AlreadyHeld),
+        Started::Queued(waiting) => (waiting.cancel(rt).into_parts().0, Answer::Queued),
+        Started::Refused(session, refusal) => (session, refused(refusal)),
+    }
+}
+
+fn lock<T: PartTable, B: Board<T>, R: Wait>(
+    rt: &R,
+    session: OwnSession<T, B>,
+    tag: Tag,
+    mode: Mode,
+) -> Answered<T, B>
+    ensures seat { KeepsSeat B.seat session result.0 }
+{
+    let (session, answer) = session.lock(rt, tag, mode, Owner::Transaction).into_parts();
+    (session, answer_of(answer))
+}
+
+fn list<T: PartTable, B: Board<T>, R: Wait>(rt: &R, mut session: OwnSession<T, B>) -> Answered<T, B>
+    ensures seat { KeepsSeat B.seat session result.0 }
+{
+    let answer = match session.list(rt) {
+        Ok(listing) => Answer::Rows {
+            fast: listing.fast.len(),
+            table: listing.table.len(),
+        },
+        Err(refusal) => refused(refusal),
+    };
+    (session, answer)
+}
+
+/// Makes a call.
+pub fn make<T: PartTable, B: Board<T>, R: Wait>(
+    rt: &R,
+    session: OwnSession<T, B>,
+    call: Call,
+) -> Answered<T, B>
+    ensures seat { KeepsSeat B.seat session result.0 }
+{
+    match call {
+        Call::Try(tag, mode) => try_lock(rt, session, tag, mode),
+        Call::Fast(tag, mode) => try_fast(session, tag, mode),
+        Call::Start(tag, mode) => start(rt, session, tag, mode),
+        Call::Lock(tag, mode) => lock(rt, session, tag, mode),
+        Call::List => list(rt, session),
+    }
+}

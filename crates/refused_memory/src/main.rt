@@ -1,0 +1,93 @@
+//! Tells what calls do for which memory is refused: each growth of a call in turn, and every growth of sessions that go on as
+//! they did before. `.ci/refused_memory` runs it with an allocator that refuses growths as it is asked to. Any other one refuses
+//! none, and then each call is made once.
+#![tactic(auto)]
+
+mod allocator;
+mod calls;
+mod events;
+mod managers;
+mod parts;
+mod steady;
+mod stories;
+mod tales;
+mod telling;
+mod told;
+
+use allocator::{refuse, was_refused};
+use anyhow::bail;
+use std::alloc::Global;
+use std::sync::Wait;
+use stories::{STORIES, Story, tell};
+use tales::TALES;
+use told::Told;
+
+/// How many growths of a call are tried at most.
+const MOST: u16 = 200;
+
+/// How many growths of a call were refused, one after another, until none was left, if all went as it is to.
+fn refused_in_turn<R: Wait>(rt: &R, alloc: Global, story: Story<'_>) -> Option<u16> {
+    for growth in 1..MOST {
+        match tell(rt, alloc, story, growth) {
+            Told::Answered => return Some(growth - 1),
+            Told::Refused => {}
+            Told::Otherwise => return None,
+        }
+    }
+    None
+}
+
+/// Tells a story with each of its growths refused in turn, of which there are so many. Where the allocator doesn't listen it is
+/// told once, and none is refused.
+fn tell_in_turn<R: Wait + Print>(
+    rt: &R,
+    alloc: Global,
+    listens: bool,
+    name: &str,
+    story: Story<'_>,
+    growths: u16,
+) -> anyhow::Result<()> {
+    let Some(refused) = refused_in_turn(rt, alloc, story) else {
+        bail!("{name}: it went otherwise");
+    };
+    if !listens && refused == 0 {
+        println!(rt; "{name}: answered")?;
+        return Ok(());
+    }
+    if refused != growths {
+        bail!("{name}: {refused} growths refused, and not {growths}");
+    }
+    println!(rt; "{name}: {refused} refused")?;
+    Ok(())
+}
+
+/// All stories.
+fn tell_all<R: Wait + Print>(rt: &R, alloc: Global, listens: bool) -> anyhow::Result<()> {
+    for (name, story, growths) in &STORIES {
+        tell_in_turn(rt, alloc, listens, name, *story, *growths)?;
+    }
+    for tale in &TALES {
+        let story = Story::Of(tale);
+        tell_in_turn(rt, alloc, listens, tale.name, story, tale.growths)?;
+    }
+    Ok(())
+}
+
+fn main(rt: HostRuntime) -> anyhow::Result<()> {
+    let listens = refuse(rt.alloc(), 1);
+    was_refused(rt.alloc());
+    if listens {
+        println!(rt; "growths that were refused, one after another")?;
+    } else {
+        println!(rt; "no growth is refused by this allocator")?;
+    }
+    tell_all(&rt, rt.alloc(), listens)?;
+    if managers::go_on(&rt, rt.alloc()) != Told::Answered {
+        bail!("sessions that go on: it went otherwise");
+    }
+    println!(rt;
+        "sessions that go on: nothing grew in {} further rounds",
+        steady::ROUNDS
+    )?;
+    Ok(())
+}

@@ -1,0 +1,166 @@
+//! A partition and a local table, by themselves.
+
+ghost use Rattle.std.specs.Prelude.{◌≡◌, None, OnErr};
+ghost use Rattle.lock_table.specs.Parts.{IsBlank};
+
+use crate::allocator::{refuse, was_refused};
+use crate::told::Told;
+use local_locks::LocalTable;
+use lock_manager::{Mode, Owner, PartTable, Refusal, SessionId, TableRow, Tag};
+use lock_records::RecordPart;
+use lock_table::PlainPart;
+use std::alloc::Global;
+use wait_queue::{Decision, Kind, decide};
+
+const OBJECT: Tag = Tag::Object {
+    database: 5,
+    class: 1_259,
+    object: 16_384,
+    sub_object: 0,
+};
+
+/// A call of a partition that may take memory.
+#[derive(Clone, Copy)]
+pub enum PartCall {
+    Begin,
+    Decide,
+    Rows,
+}
+
+/// Begins a request in a part with nothing in it, and gives it up.
+fn begin<P: PartTable>(alloc: Global, part: &mut P, session: SessionId, growth: u16) -> Told
+    requires blank { IsBlank P.content P.begun part.old }
+{
+    refuse(alloc, growth);
+    let begun = part.begin(session, &OBJECT, Mode::Exclusive).is_ok();
+    let refused = was_refused(alloc);
+    if begun {
+        return Told::of(refused, false, true);
+    }
+    let begun = part.begin(session, &OBJECT, Mode::Exclusive).is_ok();
+    let holds = part.held(session, &OBJECT).mask();
+    Told::of(refused, true, begun && holds == 0)
+}
+
+/// Decides a request there.
+fn ask<P: PartTable>(part: &mut P, session: SessionId) -> Result<Decision, Refusal>
+    requires blank { IsBlank P.content P.begun part.old }
+    ensures begun { P.begun part.new ≡ None }
+    ensures refused { OnErr result (IsBlank P.content P.begun part.new) }
+{
+    decide(part, session, &OBJECT, Mode::Exclusive, Kind::Conditional)
+}
+
+/// Decides it with this growth refused, and once more where it was.
+fn decide_once<P: PartTable>(alloc: Global, part: &mut P, session: SessionId, growth: u16) -> Told
+    requires blank { IsBlank P.content P.begun part.old }
+{
+    refuse(alloc, growth);
+    let answer = ask(part, session);
+    let refused = was_refused(alloc);
+    match answer {
+        Ok(decision) => Told::of(refused, false, decision == Decision::Granted),
+        Err(refusal) => {
+            let again = ask(part, session) == Ok(Decision::Granted);
+            Told::of(refused, refusal == Refusal::NoMemory, again)
+        }
+    }
+}
+
+/// Appends the rows of a part with one hold to a list that has four rows already and no room for more.
+fn rows<P: PartTable>(alloc: Global, part: &mut P, session: SessionId, growth: u16) -> Told
+    requires blank { IsBlank P.content P.begun part.old }
+{
+    let mut rows: Vec<TableRow> = Vec::new(alloc);
+    if ask(part, session).is_err() {
+        return Told::Otherwise;
+    }
+    for _ in 0..4 {
+        if part.rows(&mut rows).is_err() {
+            return Told::Otherwise;
+        }
+    }
+    refuse(alloc, growth);
+    let appended = part.rows(&mut rows).is_ok();
+    let refused = was_refused(alloc);
+    if appended {
+        return Told::of(refused, false, rows.len() == 5);
+    }
+    let kept = rows.len() == 4;
+    let appended = part.rows(&mut rows).is_ok();
+    Told::of(refused, true, kept && appended && rows.len() == 5)
+}
+
+/// Makes a call of a part with nothing in it.
+fn make<P: PartTable>(alloc: Global, part: &mut P, call: PartCall, growth: u16) -> Told
+    requires blank { IsBlank P.content P.begun part.old }
+{
+    let Some(session) = SessionId::new(0) else {
+        return Told::Otherwise;
+    };
+    match call {
+        PartCall::Begin => begin(alloc, part, session, growth),
+        PartCall::Decide => decide_once(alloc, part, session, growth),
+        PartCall::Rows => rows(alloc, part, session, growth),
+    }
+}
+
+/// The same of a part with records.
+pub fn of_records(alloc: Global, call: PartCall, growth: u16) -> Told {
+    match RecordPart::new(alloc) {
+        Ok(mut part) => make(alloc, &mut part, call, growth),
+        Err(_) => Told::Otherwise,
+    }
+}
+
+/// Of a plain one.
+pub fn of_plain(alloc: Global, call: PartCall, growth: u16) -> Told {
+    match PlainPart::new(alloc) {
+        Ok(mut part) => make(alloc, &mut part, call, growth),
+        Err(_) => Told::Otherwise,
+    }
+}
+
+/// Makes a local table.
+pub fn new_local(alloc: Global, growth: u16) -> Told {
+    refuse(alloc, growth);
+    let made = LocalTable::new(alloc, 64);
+    let refused = was_refused(alloc);
+    match made.err() {
+        None => Told::of(refused, false, true),
+        Some(refusal) => {
+            let again = LocalTable::new(alloc, 64).is_ok();
+            Told::of(refused, refusal == Refusal::NoMemory, again)
+        }
+    }
+}
+
+/// The relation of this number.
+fn relation(number: u32) -> Tag {
+    Tag::relation(5, number)
+}
+
+/// Reserves an entry in a table that has sixteen.
+pub fn reserve(alloc: Global, growth: u16) -> Told {
+    let Ok(mut table) = LocalTable::new(alloc, 64) else {
+        return Told::Otherwise;
+    };
+    for number in 0..16 {
+        let tag = relation(number);
+        if table.reserve(tag, Mode::Share, Owner::Session).is_ok() {
+            table.add(tag, Mode::Share, Owner::Session);
+        }
+    }
+    refuse(alloc, growth);
+    let answer = table.reserve(relation(16), Mode::Share, Owner::Session);
+    let refused = was_refused(alloc);
+    if answer.is_ok() {
+        return Told::of(refused, false, true);
+    }
+    let kept = table.total(relation(0), Mode::Share) == 1
+        && table.total(relation(16), Mode::Share) == 0;
+    let again = table
+        .reserve(relation(16), Mode::Share, Owner::Session)
+        .is_ok();
+    Told::of(refused, answer == Err(Refusal::NoMemory), kept && again)
+}

@@ -1,0 +1,221 @@
+//! Two sessions that do the same over and over, over any board: once they have done it, nothing grows any more.
+
+ghost use Rattle.std.specs.Prelude.{◌≡◌};
+ghost use Rattle.lock_manager.specs.Crews.{KeepsSeat, SeatsAre};
+
+use crate::allocator::{refuse_all, was_refused};
+use crate::tales::{Hold, TABLE, object};
+use crate::told::Told;
+use lock_manager::Mode::{AccessExclusive, AccessShare, Exclusive, RowExclusive, Share};
+use lock_manager::{
+    Acquired, Board, Desk, OwnSession, OwnWaiting, Owner, PartTable, Polled, Refusal, Started, Tag,
+    Unlocked,
+};
+use std::alloc::Global;
+use std::sync::Wait;
+
+/// How many rounds there are, after the first one.
+pub const ROUNDS: u32 = 100_000;
+
+const DATABASE: u32 = 5;
+
+/// The object of the others of a round.
+const OBJECT: Tag = Tag::Object {
+    database: 5,
+    class: 1_259,
+    object: 16_384,
+    sub_object: 0,
+};
+
+const ANOTHER_TABLE: Tag = Tag::Relation {
+    database: 5,
+    relation: 16_385,
+};
+
+/// What a session does in a round.
+#[derive(Clone, Copy)]
+enum Deed {
+    Takes,
+    GivesBack,
+    /// Asks for it, and is refused, since the other one has something in the way.
+    IsRefused,
+}
+
+/// Whether the first one does it, what, and of which lock.
+type Turn = (bool, Deed, Hold);
+
+/// A round, but for its wait. The first session has a lock all the while.
+static TURNS: [Turn; 17] = [
+    // First in, first out: by a slot, an object, and a strong mode.
+    (true, Deed::Takes, (TABLE, RowExclusive)),
+    (true, Deed::Takes, (OBJECT, Exclusive)),
+    (true, Deed::Takes, (ANOTHER_TABLE, Share)),
+    (true, Deed::GivesBack, (TABLE, RowExclusive)),
+    (true, Deed::GivesBack, (OBJECT, Exclusive)),
+    (true, Deed::GivesBack, (ANOTHER_TABLE, Share)),
+    // Last in, first out.
+    (true, Deed::Takes, (TABLE, RowExclusive)),
+    (true, Deed::Takes, (OBJECT, Exclusive)),
+    (true, Deed::Takes, (ANOTHER_TABLE, Share)),
+    (true, Deed::GivesBack, (ANOTHER_TABLE, Share)),
+    (true, Deed::GivesBack, (OBJECT, Exclusive)),
+    (true, Deed::GivesBack, (TABLE, RowExclusive)),
+    // A strong mode moves the other session's weak one out of its slot, and the next one of both goes by the table.
+    (true, Deed::Takes, (TABLE, AccessShare)),
+    (false, Deed::Takes, (ANOTHER_TABLE, AccessShare)),
+    (false, Deed::IsRefused, (TABLE, AccessExclusive)),
+    (true, Deed::IsRefused, (ANOTHER_TABLE, AccessExclusive)),
+    (true, Deed::Takes, (OBJECT, Exclusive)),
+];
+
+/// Does it. Whether it went so.
+fn goes<T: PartTable, B: Board<T>, R: Wait>(
+    rt: &R,
+    session: &mut OwnSession<T, B>,
+    deed: Deed,
+    hold: Hold,
+) -> bool
+    ensures seat { KeepsSeat B.seat session.old session.new }
+{
+    let (tag, mode) = hold;
+    if let Deed::GivesBack = deed {
+        return session.unlock(rt, tag, mode, Owner::Transaction) == Ok(Unlocked::Released);
+    }
+    let answer = session.try_lock(rt, tag, mode, Owner::Transaction);
+    match deed {
+        Deed::IsRefused => matches!(answer, Err(Refusal::Conflict { .. })),
+        _ => answer == Ok(Acquired::Granted),
+    }
+}
+
+/// All turns of a round.
+fn turns_go<T: PartTable, B: Board<T>, R: Wait>(
+    rt: &R,
+    first: &mut OwnSession<T, B>,
+    second: &mut OwnSession<T, B>,
+) -> bool
+    ensures first { KeepsSeat B.seat first.old first.new }
+    ensures second { KeepsSeat B.seat second.old second.new }
+{
+    let mut all = true;
+    'turns: for place in 0..17 {
+        let (is_first, deed, hold) = TURNS[place];
+        let goes = if is_first {
+            goes(rt, first, deed, hold)
+        } else {
+            goes(rt, second, deed, hold)
+        };
+        all = all && goes;
+    }
+    all
+}
+
+/// The wait ends, and is found granted.
+fn is_granted<T: PartTable, B: Board<T>, R: Wait>(
+    rt: &R,
+    waiting: OwnWaiting<T, B>,
+) -> (OwnSession<T, B>, bool)
+    ensures seat { B.seat result.0.board ≡ B.seat waiting.board }
+{
+    match waiting.poll() {
+        Polled::Granted(session) => (session, true),
+        Polled::CancelAsked(waiting) => (waiting.cancel(rt).into_parts().0, false),
+        Polled::Still(waiting) => (waiting.cancel(rt).into_parts().0, false),
+    }
+}
+
+/// The second one waits for the object that the first one has, which commits.
+fn hand_over<T: PartTable, B: Board<T>, R: Wait>(
+    rt: &R,
+    first: &mut OwnSession<T, B>,
+    second: OwnSession<T, B>,
+) -> (OwnSession<T, B>, bool)
+    ensures first { KeepsSeat B.seat first.old first.new }
+    ensures second { KeepsSeat B.seat second result.0 }
+{
+    match second.start(rt, OBJECT, Exclusive, Owner::Transaction) {
+        Started::Queued(waiting) => {
+            first.commit(rt);
+            is_granted(rt, waiting)
+        }
+        Started::Granted(second) => (second, false),
+        Started::AlreadyHeld(second) => (second, false),
+        Started::Refused(second, _) => (second, false),
+    }
+}
+
+/// A round, and whether it went as it is to.
+fn go_round<T: PartTable, B: Board<T>, R: Wait>(
+    rt: &R,
+    first: &mut OwnSession<T, B>,
+    second: OwnSession<T, B>,
+) -> (OwnSession<T, B>, bool)
+    ensures first { KeepsSeat B.seat first.old first.new }
+    ensures second { KeepsSeat B.seat second result.0 }
+{
+    let mut second = second;
+    let turned = turns_go(rt, first, &mut second);
+    let (mut second, handed) = hand_over(rt, first, second);
+    second.commit(rt);
+    (second, turned && handed)
+}
+
+/// So many rounds.
+fn go_rounds<T: PartTable, B: Board<T>, R: Wait>(
+    rt: &R,
+    first: &mut OwnSession<T, B>,
+    second: OwnSession<T, B>,
+    rounds: u32,
+) -> (OwnSession<T, B>, bool)
+    ensures first { KeepsSeat B.seat first.old first.new }
+    ensures second { KeepsSeat B.seat second result.0 }
+{
+    let mut second = second;
+    let mut all = true;
+    'rounds: for _ in 0..rounds {
+        let (back, went) = go_round(rt, first, second);
+        second = back;
+        all = all && went;
+    }
+    (second, all)
+}
+
+/// One round, and then the others with every growth refused. None is asked for.
+fn go_on<T: PartTable, B: Board<T>, R: Wait>(
+    rt: &R,
+    alloc: Global,
+    first: &mut OwnSession<T, B>,
+    second: OwnSession<T, B>,
+) -> (OwnSession<T, B>, Told)
+    ensures first { KeepsSeat B.seat first.old first.new }
+    ensures second { KeepsSeat B.seat second result.0 }
+{
+    let kept = first.try_lock(rt, object(0), Share, Owner::Session).is_ok();
+    let (second, went) = go_rounds(rt, first, second, 1);
+    refuse_all(alloc);
+    let (second, all) = go_rounds(rt, first, second, ROUNDS);
+    let refused = was_refused(alloc);
+    (second, Told::of(refused, false, kept && went && all))
+}
+
+/// Two sessions of a desk do so.
+pub fn tell<T: PartTable, B: Board<T>, D: Desk<OwnSession<T, B>>, R: Wait>(
+    rt: &R,
+    alloc: Global,
+    desk: &mut D,
+) -> Told
+    requires seats { SeatsAre B.seat D.seat }
+    ensures manager { D.manager desk.new ≡ D.manager desk.old }
+{
+    let Ok(mut first) = desk.open(DATABASE) else {
+        return Told::Otherwise;
+    };
+    let Ok(second) = desk.open(DATABASE) else {
+        desk.close(rt, first);
+        return Told::Otherwise;
+    };
+    let (second, told) = go_on(rt, alloc, &mut first, second);
+    desk.close(rt, first);
+    desk.close(rt, second);
+    told
+}

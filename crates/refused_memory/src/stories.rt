@@ -1,0 +1,81 @@
+//! What is told, call by call.
+
+use crate::parts::PartCall;
+use crate::tales::Tale;
+use crate::told::Told;
+use crate::{events, managers, parts};
+use std::alloc::Global;
+use std::sync::Wait;
+
+/// A call that may take memory, with what stands before it.
+#[derive(Clone, Copy)]
+pub enum Story<'a> {
+    /// `Manager::new`.
+    MakesManager,
+    /// `Opener::session`.
+    OpensSession,
+    /// `LocalTable::new`.
+    MakesLocalTable,
+    /// `LocalTable::reserve`.
+    Reserves,
+    /// Of a part with records.
+    OfRecords(PartCall),
+    /// Of a plain one.
+    OfPlain(PartCall),
+    /// `run_events`.
+    RunsEvents,
+    /// Of a session.
+    Of(&'a Tale),
+}
+
+/// Each but those of sessions, with its name and how many growths it takes. A manager takes three for each of 16 partitions, one for
+/// each of 128 places of wait lists, and five for the lists of partitions, of slots and of words, and for the table of both. A local
+/// table takes one for its slots, two for their index, and three for the counts of outer levels, a list that grows to 16. A session has
+/// that and a box.
+pub static STORIES: [(&'static str, Story<'static>, u16); 11] = [
+    ("Manager::new", Story::MakesManager, 181),
+    ("Opener::session", Story::OpensSession, 7),
+    ("LocalTable::new", Story::MakesLocalTable, 6),
+    (
+        "LocalTable::reserve, a seventeenth entry",
+        Story::Reserves,
+        4,
+    ),
+    (
+        "begin of a part with records",
+        Story::OfRecords(PartCall::Begin),
+        3,
+    ),
+    (
+        "decide in a part with records",
+        Story::OfRecords(PartCall::Decide),
+        3,
+    ),
+    (
+        "rows of a part with records",
+        Story::OfRecords(PartCall::Rows),
+        1,
+    ),
+    ("begin of a plain part", Story::OfPlain(PartCall::Begin), 2),
+    (
+        "decide in a plain part",
+        Story::OfPlain(PartCall::Decide),
+        2,
+    ),
+    ("rows of a plain part", Story::OfPlain(PartCall::Rows), 1),
+    ("run_events", Story::RunsEvents, 20),
+];
+
+/// Tells a story with this growth refused.
+pub fn tell<R: Wait>(rt: &R, alloc: Global, story: Story<'_>, growth: u16) -> Told {
+    match story {
+        Story::MakesManager => managers::make(alloc, growth),
+        Story::OpensSession => managers::open(rt, alloc, growth),
+        Story::MakesLocalTable => parts::new_local(alloc, growth),
+        Story::Reserves => parts::reserve(alloc, growth),
+        Story::OfRecords(call) => parts::of_records(alloc, call, growth),
+        Story::OfPlain(call) => parts::of_plain(alloc, call, growth),
+        Story::RunsEvents => events::run(alloc, growth),
+        Story::Of(tale) => managers::tell(rt, alloc, tale, growth),
+    }
+}

@@ -1,0 +1,184 @@
+//! What is told of sessions: who has what, what is asked for then, and how many growths that takes.
+
+use crate::calls::{Answer, Call};
+use lock_manager::Mode::{AccessExclusive, AccessShare, Exclusive, RowExclusive, Share};
+use lock_manager::{Mode, Tag};
+
+/// What a session has.
+pub type Hold = (Tag, Mode);
+
+/// A session asks for something, beside three others.
+#[derive(Clone, Copy)]
+pub struct Tale {
+    pub name: &'static str,
+    /// What each of the others has.
+    pub others: [Option<Hold>; 3],
+    /// How many objects the asking one has, each in a mode that nobody else asks for.
+    pub own: u32,
+    pub call: Call,
+    pub answer: Answer,
+    /// How many growths the call takes.
+    pub growths: u16,
+}
+
+pub const TABLE: Tag = Tag::Relation {
+    database: 5,
+    relation: 16_384,
+};
+
+const OBJECT: Tag = Tag::Object {
+    database: 5,
+    class: 1_259,
+    object: 16_384,
+    sub_object: 0,
+};
+
+/// One more in the partition of `TABLE`.
+const MANY: Tag = Tag::Object {
+    database: 5,
+    class: 2_600,
+    object: 16_000,
+    sub_object: 0,
+};
+
+/// The object of this number: all of them are in the partition of `TABLE`.
+pub fn object(number: u32) -> Tag {
+    Tag::object(5, 2_600, 16 * (number % 1_024), 0)
+}
+
+const NOBODY: [Option<Hold>; 3] = [None, None, None];
+
+const READERS: [Option<Hold>; 3] = [
+    Some((TABLE, AccessShare)),
+    Some((TABLE, AccessShare)),
+    Some((TABLE, AccessShare)),
+];
+
+/// The first one has an object that the asking one wants, in a partition that has no other.
+const ONE: [Option<Hold>; 3] = [Some((OBJECT, Exclusive)), None, None];
+
+/// It has one in the partition of those that the asking one has.
+const ONE_OF_MANY: [Option<Hold>; 3] = [Some((MANY, Exclusive)), None, None];
+
+/// All of them.
+pub static TALES: [Tale; 14] = [
+    // Three in a partition that has had nothing yet: a lock record, a holder record, and room for a queue.
+    Tale {
+        name: "try_lock, an object",
+        others: NOBODY,
+        own: 0,
+        call: Call::Try(OBJECT, Exclusive),
+        answer: Answer::Granted,
+        growths: 3,
+    },
+    // Four more in the local table: its slots, the counts of outer levels, and both lists of the index.
+    Tale {
+        name: "try_lock, an object of a session that has sixteen",
+        others: NOBODY,
+        own: 16,
+        call: Call::Try(OBJECT, Exclusive),
+        answer: Answer::Granted,
+        growths: 7,
+    },
+    // Four in the local table, and four in a partition that is full: both lists of its index, lock records, holder records.
+    Tale {
+        name: "try_lock, the seventeenth object of a partition",
+        others: NOBODY,
+        own: 16,
+        call: Call::Try(MANY, Exclusive),
+        answer: Answer::Granted,
+        growths: 8,
+    },
+    Tale {
+        name: "try_lock, a weak mode by a slot",
+        others: NOBODY,
+        own: 16,
+        call: Call::Try(TABLE, AccessShare),
+        answer: Answer::Granted,
+        growths: 4,
+    },
+    // Past the slots of three readers, with so many objects in the same partition: the record that has to grow is now that of the
+    // first reader, now the session's own, now that of the third one, now of the second one. At last the first one is in the way.
+    Tale {
+        name: "try_lock, a strong mode, with nothing beside",
+        others: READERS,
+        own: 0,
+        call: Call::Try(TABLE, AccessExclusive),
+        answer: Answer::Conflict(0, AccessShare),
+        growths: 3,
+    },
+    Tale {
+        name: "try_lock, a strong mode, with one object beside",
+        others: READERS,
+        own: 1,
+        call: Call::Try(TABLE, AccessExclusive),
+        answer: Answer::Conflict(0, AccessShare),
+        growths: 1,
+    },
+    Tale {
+        name: "try_lock, a strong mode, with two objects beside",
+        others: READERS,
+        own: 2,
+        call: Call::Try(TABLE, AccessExclusive),
+        answer: Answer::Conflict(0, AccessShare),
+        growths: 1,
+    },
+    Tale {
+        name: "try_lock, a strong mode, with three objects beside",
+        others: READERS,
+        own: 3,
+        call: Call::Try(TABLE, AccessExclusive),
+        answer: Answer::Conflict(0, AccessShare),
+        growths: 2,
+    },
+    Tale {
+        name: "try_fast",
+        others: NOBODY,
+        own: 16,
+        call: Call::Fast(TABLE, RowExclusive),
+        answer: Answer::Granted,
+        growths: 4,
+    },
+    Tale {
+        name: "start, granted",
+        others: NOBODY,
+        own: 0,
+        call: Call::Start(OBJECT, Share),
+        answer: Answer::Granted,
+        growths: 3,
+    },
+    // Four lock records and four holder records are full.
+    Tale {
+        name: "start, queued",
+        others: ONE_OF_MANY,
+        own: 3,
+        call: Call::Start(MANY, Share),
+        answer: Answer::Queued,
+        growths: 2,
+    },
+    Tale {
+        name: "lock, granted",
+        others: NOBODY,
+        own: 16,
+        call: Call::Lock(OBJECT, Share),
+        answer: Answer::Granted,
+        growths: 7,
+    },
+    Tale {
+        name: "lock, a conflict for a conditional one",
+        others: ONE,
+        own: 0,
+        call: Call::Try(OBJECT, Share),
+        answer: Answer::Conflict(0, Exclusive),
+        growths: 0,
+    },
+    // A list of three rows, and one that grows to four, eight and sixteen.
+    Tale {
+        name: "list, three rows of slots and sixteen of the table",
+        others: READERS,
+        own: 16,
+        call: Call::List,
+        answer: Answer::Rows { fast: 3, table: 16 },
+        growths: 4,
+    },
+];

@@ -1,0 +1,182 @@
+//! Tales told at a desk, over any board.
+
+ghost use Rattle.std.specs.Prelude.{◌≡◌, ◌≤◌};
+ghost use Rattle.lock_manager.specs.Crews.{IsOf, KeepsSeat, SeatsAre};
+
+use crate::allocator::{refuse, was_refused};
+use crate::calls::{Answer, make, try_lock};
+use crate::tales::{Hold, TABLE, Tale, object};
+use crate::told::Told;
+use lock_manager::{Board, Desk, Listing, Mode, OwnSession, Owner, PartTable, SlotRow, TableRow};
+use std::alloc::Global;
+use std::sync::Wait;
+
+/// The database of all sessions.
+const DATABASE: u32 = 5;
+
+/// What is seen before and after a call: the modes that the asking session has the table in, how many rows a listing has, what
+/// the table's strong lock counter shows, and whether of those who have the table the first ones have it in the lock table, and the
+/// others in slots.
+#[derive(Clone, Copy, PartialEq, Eq)]
+struct Seen {
+    held: u16,
+    rows: usize,
+    strong: u64,
+    is_in_order: bool,
+}
+
+/// How many sessions come before the first one that has the table in a slot.
+fn before_slots(rows: &[SlotRow]) -> u8 {
+    let mut before = 64u8;
+    for row in rows {
+        if row.tag == TABLE {
+            before = before.min(row.session.number());
+        }
+    }
+    before
+}
+
+/// How many sessions there are up to the last one that has the table in the lock table.
+fn up_to_table(rows: &[TableRow]) -> u8 {
+    let mut up_to = 0u8;
+    for row in rows {
+        if row.tag == TABLE {
+            up_to = up_to.max(row.session.number().saturating_add(1));
+        }
+    }
+    up_to
+}
+
+/// How many rows a listing has, and whether those of the table are in order.
+fn look_at(listing: &Listing) -> (usize, bool) {
+    let rows = listing.fast.len().saturating_add(listing.table.len());
+    let in_table = up_to_table(listing.table.as_slice());
+    (rows, in_table <= before_slots(listing.fast.as_slice()))
+}
+
+/// Looks.
+fn see<T: PartTable, B: Board<T>, R: Wait>(rt: &R, session: &mut OwnSession<T, B>) -> Seen
+    ensures seat { KeepsSeat B.seat session.old session.new }
+{
+    let held = session.held(TABLE).mask();
+    let strong = session.strong_count(TABLE.strong_index());
+    let (rows, is_in_order) = match session.list(rt) {
+        Ok(listing) => look_at(&listing),
+        Err(_) => (0, false),
+    };
+    Seen {
+        held,
+        rows,
+        strong,
+        is_in_order,
+    }
+}
+
+/// Takes a mode on an object of its own for each number.
+fn take_own<T: PartTable, B: Board<T>, R: Wait>(rt: &R, session: &mut OwnSession<T, B>, number: u32)
+    ensures seat { KeepsSeat B.seat session.old session.new }
+{
+    'own: for place in 0..number {
+        let _answer = session.try_lock(rt, object(place), Mode::RowShare, Owner::Session);
+    }
+}
+
+/// Makes the call with this growth refused, and again where it was.
+fn ask<T: PartTable, B: Board<T>, R: Wait>(
+    rt: &R,
+    alloc: Global,
+    session: OwnSession<T, B>,
+    tale: &Tale,
+    growth: u16,
+) -> (OwnSession<T, B>, Told)
+    ensures seat { KeepsSeat B.seat session result.0 }
+{
+    let mut session = session;
+    let before = see(rt, &mut session);
+    refuse(alloc, growth);
+    let (mut session, answer) = make(rt, session, tale.call);
+    let refused = was_refused(alloc);
+    if !refused {
+        return (
+            session,
+            Told::of(false, answer.is_wanting(), answer == tale.answer),
+        );
+    }
+    let same = see(rt, &mut session) == before;
+    let (session, again) = make(rt, session, tale.call);
+    let is_right = same && again == tale.answer;
+    (session, Told::of(true, answer.is_wanting(), is_right))
+}
+
+/// The asking session takes what it has, and asks.
+fn with_asking<T: PartTable, B: Board<T>, D: Desk<OwnSession<T, B>>, R: Wait>(
+    rt: &R,
+    alloc: Global,
+    desk: &mut D,
+    tale: &Tale,
+    growth: u16,
+) -> Told
+    requires seats { SeatsAre B.seat D.seat }
+    ensures manager { D.manager desk.new ≡ D.manager desk.old }
+{
+    let Ok(mut session) = desk.open(DATABASE) else {
+        return Told::Otherwise;
+    };
+    take_own(rt, &mut session, tale.own);
+    let (session, told) = ask(rt, alloc, session, tale, growth);
+    desk.close(rt, session);
+    told
+}
+
+/// A session takes what it is to have, if anything. Whether it has it.
+fn take<T: PartTable, B: Board<T>, R: Wait>(
+    rt: &R,
+    session: &mut OwnSession<T, B>,
+    hold: Option<Hold>,
+) -> bool
+    ensures seat { KeepsSeat B.seat session.old session.new }
+{
+    match hold {
+        Some((tag, mode)) => session.try_lock(rt, tag, mode, Owner::Transaction).is_ok(),
+        None => true,
+    }
+}
+
+/// The others open from this place on, take what they are to have, and the asking one comes after them.
+fn with_others<T: PartTable, B: Board<T>, D: Desk<OwnSession<T, B>>, R: Wait>(
+    rt: &R,
+    alloc: Global,
+    desk: &mut D,
+    tale: &Tale,
+    place: usize,
+    growth: u16,
+) -> Told
+    requires seats { SeatsAre B.seat D.seat }
+    requires place { place ≤ 3 }
+    ensures manager { D.manager desk.new ≡ D.manager desk.old }
+{
+    if place == 3 {
+        return with_asking(rt, alloc, desk, tale, growth);
+    }
+    let Ok(mut session) = desk.open(DATABASE) else {
+        return Told::Otherwise;
+    };
+    let has = take(rt, &mut session, tale.others[place]);
+    let told = with_others(rt, alloc, desk, tale, place + 1, growth);
+    desk.close(rt, session);
+    if has { told } else { Told::Otherwise }
+}
+
+/// Tells a tale at a desk that has nothing yet, with this growth refused.
+pub fn tell<T: PartTable, B: Board<T>, D: Desk<OwnSession<T, B>>, R: Wait>(
+    rt: &R,
+    alloc: Global,
+    desk: &mut D,
+    tale: &Tale,
+    growth: u16,
+) -> Told
+    requires seats { SeatsAre B.seat D.seat }
+    ensures manager { D.manager desk.new ≡ D.manager desk.old }
+{
+    with_others(rt, alloc, desk, tale, 0, growth)
+}

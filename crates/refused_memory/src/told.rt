@@ -1,0 +1,23 @@
+//! What came of a call for which a growth was to be refused.
+
+/// How a call went.
+#[derive(Clone, Copy, Debug, PartialEq, Eq)]
+pub enum Told {
+    /// No growth of it was refused, and it answered as it is to.
+    Answered,
+    /// One was. It answered that memory was wanting, left what stood, and the same call again answered as it is to.
+    Refused,
+    /// It went otherwise.
+    Otherwise,
+}
+
+impl Told {
+    /// How it went, by whether a growth was refused, whether it answered so, and whether all the rest was right.
+    pub fn of(was_refused: bool, is_wanting: bool, is_right: bool) -> Told {
+        match (was_refused, is_wanting, is_right) {
+            (true, true, true) => Told::Refused,
+            (false, false, true) => Told::Answered,
+            _ => Told::Otherwise,
+        }
+    }
+}

@@ -1,0 +1,14 @@
+use Rattle.std.proofs.Common.{◌≡◌, ℕ, ◌+◌, ◌∙◌, ap, length, sym}
+use Rattle.shared_rule.specs.Boards.{Seated}
+use Rattle.lock_script.proofs.Lending.{All-called, length-with_session}
+use Rattle.scenario.proofs.sessions.Stage.queue.Goals as goal
+
+pub invariant_of-self-clause-counted : goal.invariant_of-self-clause-counted
+invariant_of-self-clause-counted g c =
+    c.args.self.now.counted ∙ ap (λ (n : ℕ). n + length c.args.self.now.sessions.waiting) (sym (length-with_session c.args.self.now.sessions.resting c.args.place c.queue.new.self))
+
+pub invariant_of-self-clause-resting : goal.invariant_of-self-clause-resting
+invariant_of-self-clause-resting g c =
+    All-called c.args.self.now.sessions.resting c.args.place c.session_mut.result.now c.queue.new.self c.requires c.session_mut.ensures.value
+    (λ session. (g.B.Board.seat session.board).table ≡ c.args.self.now.opener.table) c.args.self.now.resting
+    (λ h. ap (λ (seat : Seated). seat.table) c.queue.ensures.same.seat_ ∙ h)

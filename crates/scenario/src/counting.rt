@@ -1,0 +1,114 @@
+//! Desks at which sessions are opened and closed, and what stands in all of them is counted.
+
+ghost use Rattle.std.specs.Prelude.{◌≡◌, ◌+◌, ◌-◌, All, length, IfOk, OnOk, OnErr};
+ghost use Rattle.lock_manager.specs.Managers.{IsOpenerOf};
+
+use lock_manager::{Audit, Manager, Opener, Part, Refusal, Session};
+use shared_rule::board::Board;
+use shared_rule::seat_board::SeatBoard;
+use std::sync::Wait;
+
+/// Opens and closes the sessions of one manager, and counts what they have. What is written against it is over any board, and
+/// the board of the shared table need be named in one call alone, to which an `AuditDesk` is lent.
+pub trait CountingDesk<S> {
+    ghost use Rattle.std.specs.Prelude.{ℕ};
+    ghost use Rattle.shared_rule.specs.Boards.{Seated};
+    ghost use Rattle.lock_manager.specs.Managers.{ManagerView};
+
+    // Whose sessions they are.
+    ghost manager: { Self → ManagerView };
+
+    // How many of them are open.
+    ghost live: { Self → ℕ };
+
+    // At which table a session is, and under which number.
+    ghost seat: { S → Seated };
+
+    /// Opens a session of this database. It is refused where all numbers are given out, and then where memory is wanting.
+    fn open(&mut self, database: u32) -> Result<S, Refusal>
+        ensures manager { manager self.new ≡ manager self.old }
+        ensures own { IfOk result (λ session. (seat session).table ≡ (manager self.old).table) }
+        ensures live { OnOk result (live self.new ≡ live self.old + 1) }
+        ensures refused { OnErr result (live self.new ≡ live self.old) };
+
+    /// Closes one of its sessions.
+    fn close<R: Wait>(&mut self, rt: &R, session: S)
+        requires own { (seat session).table ≡ (manager self.old).table }
+        ensures manager { manager self.new ≡ manager self.old }
+        ensures live { live self.new ≡ live self.old - 1 };
+
+    /// Counts what stands in the manager, all of whose open sessions are lent. It is refused where memory is wanting.
+    fn audit<R: Wait>(&mut self, rt: &R, sessions: &mut Vec<S>) -> Result<Audit, Refusal>
+        requires own { All (λ session. (seat session).table ≡ (manager self.old).table) sessions.old.items }
+        requires all { length sessions.old.items ≡ live self.old }
+        ensures manager { manager self.new ≡ manager self.old }
+        ensures live { live self.new ≡ live self.old }
+        ensures own { All (λ session. (seat session).table ≡ (manager self.old).table) sessions.new.items }
+        ensures as_many { length sessions.new.items ≡ length sessions.old.items };
+}
+
+/// The desk of a manager: the manager with its opener.
+#[derive(Drop)]
+pub struct AuditDesk<'a> {
+    manager: &'a Manager,
+    opener: Opener,
+    ghost own: { opener.table ≡ manager.now.table },
+    ghost size: { opener.limit ≡ manager.now.limit },
+}
+
+impl<'a> AuditDesk<'a> {
+    /// The desk of this manager.
+    pub fn new(manager: &'a Manager, opener: Opener) -> Self
+        requires own { IsOpenerOf opener manager.now }
+        ensures manager { result.manager.now ≡ manager.now }
+        ensures opener { result.opener ≡ opener }
+    {
+        AuditDesk { manager, opener }
+    }
+
+    /// The manager's opener.
+    pub fn into_opener(self) -> Opener
+        ensures opener { result ≡ self.entry.opener }
+        ensures own { IsOpenerOf result self.entry.manager.now }
+    {
+        self.opener
+    }
+}
+
+impl<'a> CountingDesk<Session<'a>> for AuditDesk<'a> {
+    ghost manager = { λ desk. desk.manager.now };
+
+    ghost live = { λ desk. desk.opener.live };
+
+    ghost seat = { λ session. record {
+      number = session.board.number;
+      limit = session.board.sessions;
+      table = session.board.table.now.table_id;
+    } };
+
+    fn open(&mut self, database: u32) -> Result<Session<'a>, Refusal> {
+        self.opener.session(self.manager, database)
+    }
+
+    fn close<R: Wait>(&mut self, rt: &R, session: Session<'a>)
+        requires own { (⟦<SeatBoard<'a, Part> as Board<Part>>⟧.seat session.board).table
+            ≡ self.old.manager.now.table }
+        ensures manager { self.new.manager.now ≡ self.old.manager.now }
+        ensures live { self.new.opener.live ≡ self.old.opener.live - 1 }
+    {
+        session.close(rt, &mut self.opener);
+    }
+
+    fn audit<R: Wait>(&mut self, rt: &R, sessions: &mut Vec<Session<'a>>) -> Result<Audit, Refusal>
+        requires own { let B = ⟦<SeatBoard<'a, Part> as Board<Part>>⟧ in
+            All (λ session. (B.seat session.board).table ≡ self.old.manager.now.table) sessions.old.items }
+        requires all { length sessions.old.items ≡ self.old.opener.live }
+        ensures manager { self.new.manager.now ≡ self.old.manager.now }
+        ensures live { self.new.opener.live ≡ self.old.opener.live }
+        ensures own { let B = ⟦<SeatBoard<'a, Part> as Board<Part>>⟧ in
+            All (λ session. (B.seat session.board).table ≡ self.old.manager.now.table) sessions.new.items }
+        ensures as_many { length sessions.new.items ≡ length sessions.old.items }
+    {
+        self.manager.audit(rt, &mut self.opener, sessions)
+    }
+}

@@ -1,0 +1,230 @@
+//! A hammer: sessions that lock and unlock in threads of their own, and what is counted when they have ended.
+
+ghost use Rattle.std.specs.Prelude.{◌≡◌, ◌≤◌, ◌++◌, ◌∷◌, [], length, MatchResult};
+ghost use Rattle.lock_manager.specs.Crews.{AreOf, SeatsAre};
+
+use crate::arguments::Hammer;
+use crate::counting::{AuditDesk, CountingDesk};
+use crate::progress::{Progress, Unwatched};
+use crate::workers::{Act, DATABASE, Gate, Reports, all_act};
+use lock_manager::{Audit, Board, Config, Final, Manager, OwnSession, Part};
+use lock_script::Fault;
+use std::alloc::{AllocFailed, Global};
+use std::io::Write;
+use std::sync::Wait;
+use std::thread::Threads;
+
+/// How many local entries a session may have.
+const MAX_LOCAL: u32 = 16;
+
+/// So many sessions of a lock manager of its own play so many rounds, each in a thread of its own, once the gate lets it pass. In
+/// round `r` session `s` asks relation `5/(16384 + r % 4)` for the mode with number `1 + (s + r) % 8`, and unlocks what it is granted;
+/// every sixteenth time it waits, and else it is refused where something is in the way. When all threads have ended, each
+/// session takes AccessShareLock on `5/16384`, the first one ShareLock on `5/16385`, and two lines are written: what an audit
+/// counts, and, when all sessions are closed, what the manager has then. Where a gate answered no, or memory was wanting, it ends
+/// with `GateHeld` or `NoMemory` when all threads have ended and all sessions are closed.
+pub fn run_hammer<H: AllocGlobal + Threads + Wait + Sync, G: Gate + Sync, W: Write + Drop>(
+    rt: &H,
+    gate: &G,
+    writer: W,
+    sessions: u32,
+    rounds: u32,
+) -> Result<(), Fault>
+    requires sessions { (1 ≤ sessions) × (sessions ≤ 64) }
+    requires rounds { (1 ≤ rounds) × (rounds ≤ 1000000) }
+{
+    run_watched_hammer(rt, gate, &Unwatched, writer, Hammer { sessions, rounds })
+}
+
+/// The same, with somebody who is told how far it is: of each round that a worker has played, by the worker, and when all have
+/// ended, before anything is written.
+pub fn run_watched_hammer<
+    H: AllocGlobal + Threads + Wait + Sync,
+    G: Gate + Sync,
+    P: Progress + Sync,
+    W: Write + Drop,
+>(rt: &H, gate: &G, progress: &P, writer: W, size: Hammer) -> Result<(), Fault>
+    requires sessions { (1 ≤ size.sessions) × (size.sessions ≤ 64) }
+    requires rounds { (1 ≤ size.rounds) × (size.rounds ≤ 1000000) }
+{
+    let alloc = rt.alloc();
+    let config = Config {
+        sessions: size.sessions,
+        max_local: MAX_LOCAL,
+    };
+    let Ok((manager, opener)) = Manager::new(alloc, config) else {
+        return Err(Fault::NoMemory);
+    };
+    let mut writer = writer;
+    let mut desk = AuditDesk::new(&manager, opener);
+    let reports = Reports::new(progress);
+    let hammered = hammer(rt, alloc, gate, &reports, &mut desk, &mut writer, size);
+    let opener = desk.into_opener();
+    let last = manager.finish(opener);
+    hammered?;
+    print_final(&mut writer, last)
+}
+
+/// Opens the sessions, has them play, and closes them. The board of the shared table is named above alone: this is over any board.
+fn hammer<
+    B: Board<Part> + Send,
+    D: CountingDesk<OwnSession<Part, B>>,
+    G: Gate + Sync,
+    H: Threads + Wait + Sync,
+    P: Progress + Sync,
+    W: Write,
+>(
+    rt: &H,
+    alloc: Global,
+    gate: &G,
+    reports: &Reports<P>,
+    desk: &mut D,
+    writer: &mut W,
+    size: Hammer,
+) -> Result<(), Fault>
+    requires seats { SeatsAre B.seat D.seat }
+    requires none_live { D.live desk.old ≡ 0 }
+    ensures manager { D.manager desk.new ≡ D.manager desk.old }
+    ensures none_live { D.live desk.new ≡ 0 }
+{
+    let mut crew = Vec::new(alloc);
+    let opened = open_many(rt, desk, &mut crew, size.sessions);
+    let hammered = match opened {
+        Ok(()) => play(rt, gate, reports, desk, writer, &mut crew, size.rounds),
+        Err(fault) => Err(fault),
+    };
+    close_many(rt, desk, crew);
+    hammered
+}
+
+/// The sessions play their rounds, take their last locks, and what they have is counted and written.
+fn play<
+    B: Board<Part> + Send,
+    D: CountingDesk<OwnSession<Part, B>>,
+    G: Gate + Sync,
+    H: Threads + Wait + Sync,
+    P: Progress + Sync,
+    W: Write,
+>(
+    rt: &H,
+    gate: &G,
+    reports: &Reports<P>,
+    desk: &mut D,
+    writer: &mut W,
+    crew: &mut Vec<OwnSession<Part, B>>,
+    rounds: u32,
+) -> Result<(), Fault>
+    requires seats { SeatsAre B.seat D.seat }
+    requires own { AreOf B.seat (D.manager desk.old) crew.old.items }
+    requires live { D.live desk.old ≡ length crew.old.items }
+    ensures manager { D.manager desk.new ≡ D.manager desk.old }
+    ensures own { AreOf B.seat (D.manager desk.old) crew.new.items }
+    ensures live { D.live desk.new ≡ length crew.new.items }
+{
+    all_act(rt, gate, reports, Act::Rounds(rounds), crew);
+    reports.end()?;
+    all_act(rt, gate, reports, Act::Weak, crew);
+    all_act(rt, gate, reports, Act::Strong, crew);
+    reports.outcome()?;
+    match desk.audit(rt, crew) {
+        Ok(audit) => print_audit(writer, audit),
+        Err(_) => Err(Fault::NoMemory),
+    }
+}
+
+/// Opens so many sessions, in the order of their numbers, behind those that there are. Where memory is wanting fewer are open.
+fn open_many<B: Board<Part>, D: CountingDesk<OwnSession<Part, B>>, R: Wait>(
+    rt: &R,
+    desk: &mut D,
+    crew: &mut Vec<OwnSession<Part, B>>,
+    number: u32,
+) -> Result<(), Fault>
+    requires seats { SeatsAre B.seat D.seat }
+    requires own { AreOf B.seat (D.manager desk.old) crew.old.items }
+    requires live { D.live desk.old ≡ length crew.old.items }
+    ensures manager { D.manager desk.new ≡ D.manager desk.old }
+    ensures own { AreOf B.seat (D.manager desk.old) crew.new.items }
+    ensures live { D.live desk.new ≡ length crew.new.items }
+{
+    'sessions: for _ in 0..number {
+        open_behind(rt, desk, crew)?;
+    }
+    Ok(())
+}
+
+/// Opens a session, and puts it behind the others. It is closed again where there is no memory to keep it.
+fn open_behind<B: Board<Part>, D: CountingDesk<OwnSession<Part, B>>, R: Wait>(
+    rt: &R,
+    desk: &mut D,
+    crew: &mut Vec<OwnSession<Part, B>>,
+) -> Result<(), Fault>
+    requires seats { SeatsAre B.seat D.seat }
+    requires own { AreOf B.seat (D.manager desk.old) crew.old.items }
+    requires live { D.live desk.old ≡ length crew.old.items }
+    ensures manager { D.manager desk.new ≡ D.manager desk.old }
+    ensures own { AreOf B.seat (D.manager desk.old) crew.new.items }
+    ensures live { D.live desk.new ≡ length crew.new.items }
+{
+    let Ok(session) = desk.open(DATABASE) else {
+        return Err(Fault::NoMemory);
+    };
+    match append(crew, session) {
+        Ok(()) => Ok(()),
+        Err(session) => {
+            desk.close(rt, session);
+            Err(Fault::NoMemory)
+        }
+    }
+}
+
+/// Puts it behind the others. Where memory is wanting it comes back, and the list is as before: a session can't be let go.
+fn append<S>(list: &mut Vec<S>, session: S) -> Result<(), S>
+    ensures { MatchResult result (λ _. list.new.items ≡ list.old.items ++ session ∷ [])
+        (λ back. (back ≡ session) × (list.new.items ≡ list.old.items)) }
+{
+    match list.push(session) {
+        Ok(()) => Ok(()),
+        Err(AllocFailed { value }) => Err(value),
+    }
+}
+
+/// Closes them all.
+fn close_many<B: Board<Part>, D: CountingDesk<OwnSession<Part, B>>, R: Wait>(
+    rt: &R,
+    desk: &mut D,
+    mut crew: Vec<OwnSession<Part, B>>,
+)
+    requires seats { SeatsAre B.seat D.seat }
+    requires own { AreOf B.seat (D.manager desk.old) crew.items }
+    requires live { D.live desk.old ≡ length crew.items }
+    ensures manager { D.manager desk.new ≡ D.manager desk.old }
+    ensures none_live { D.live desk.new ≡ 0 }
+{
+    'sessions: while let Some(session) = crew.pop() {
+        desk.close(rt, session);
+    }
+    crew.destroy_empty();
+}
+
+/// What an audit counted.
+fn print_audit<W: Write>(writer: &mut W, audit: Audit) -> Result<(), Fault> {
+    let Audit {
+        fast,
+        table,
+        strong,
+    } = audit;
+    let written = writeln!(writer, "audit fast {fast} table {table} strong {strong}");
+    written.map_err(|_| Fault::WriteFailed)
+}
+
+/// What stood in the manager at its end.
+fn print_final<W: Write>(writer: &mut W, last: Final) -> Result<(), Fault> {
+    let Final {
+        fast,
+        table,
+        strong,
+    } = last;
+    let written = writeln!(writer, "final fast {fast} table {table} strong {strong}");
+    written.map_err(|_| Fault::WriteFailed)?;
+    writer.flush().map_err(|_| Fault::WriteFailed)
+}

@@ -1,0 +1,149 @@
+//! Readers that fail at each read in turn, and writers at each write.
+use crate::inputs::LINES;
+use crate::scripts::ALL_SESSIONS;
+use lock_script::Fault;
+use scenario::run_script;
+use std::alloc::Global;
+use std::io::{self, ErrorKind, Read, Write};
+use std::process::Abort;
+use std::sync::Wait;
+use std::test::Fail;
+
+/// A reader of a text that gives so many bytes a read, and fails after so many reads.
+#[derive(Drop)]
+struct BrokenReader<'a> {
+    text: &'a [u8],
+    most: usize,
+    reads: usize,
+}
+
+impl Read for BrokenReader<'_> {
+    fn read(&mut self, buf: &mut [u8]) -> io::Result<usize> {
+        if self.reads == 0 {
+            return Err(io::Error::from(ErrorKind::Other));
+        }
+        self.reads -= 1;
+        let most = self.most.min(buf.len());
+        self.text.read(&mut buf[..most])
+    }
+}
+
+/// A writer that takes a byte a write, and fails after so many writes.
+#[derive(Drop)]
+struct BrokenWriter<'a> {
+    taken: &'a mut Vec<u8>,
+    writes: usize,
+}
+
+impl Write for BrokenWriter<'_> {
+    fn write(&mut self, buf: &[u8]) -> io::Result<usize> {
+        let Some(first) = buf.first() else {
+            return Ok(0);
+        };
+        if self.writes == 0 || self.taken.push(*first).is_err() {
+            return Err(io::Error::from(ErrorKind::BrokenPipe));
+        }
+        self.writes -= 1;
+        Ok(1)
+    }
+
+    fn flush(&mut self) -> io::Result<()> {
+        Ok(())
+    }
+}
+
+/// The lines of the script that end within so many bytes, and what they print.
+fn lines_within(alloc: Global, bytes: usize) -> Result<(String, String), Fail> {
+    let mut script = String::new(alloc);
+    let mut printed = String::new(alloc);
+    for row in &LINES {
+        let (line, answer) = *row;
+        if script.len().saturating_add(line.len()) > bytes {
+            return Ok((script, printed));
+        }
+        script.push_str(line)?;
+        printed.push_str(answer)?;
+    }
+    Ok((script, printed))
+}
+
+/// A fault, or none, was to end the script, which was to print this.
+fn expect_end(
+    rt: &impl Abort,
+    ended: Result<(), Fault>,
+    expected: Result<(), Fault>,
+    output: &[u8],
+    printed: &[u8],
+) {
+    assert_eq!(rt; ended, expected);
+    assert_eq!(rt; output, printed);
+}
+
+/// Runs the script with a reader that fails after so many reads of so many bytes. What stands before is run.
+fn expect_read_failed(
+    rt: &(impl Abort + AllocGlobal + Wait),
+    script: &str,
+    most: usize,
+    reads: usize,
+) -> Result<(), Fail> {
+    let alloc = rt.alloc();
+    let reader = BrokenReader {
+        text: script.as_bytes(),
+        most,
+        reads,
+    };
+    let mut output = Vec::new(alloc);
+    let ended = run_script(rt, reader, &mut output, ALL_SESSIONS);
+    let (_, printed) = lines_within(alloc, most.saturating_mul(reads))?;
+    expect_end(
+        rt,
+        ended,
+        Err(Fault::ReadFailed),
+        output.as_slice(),
+        printed.as_bytes(),
+    );
+    Ok(())
+}
+
+/// Runs the script with a writer that fails after so many writes. It has taken what was printed before.
+fn expect_written(
+    rt: &(impl Abort + AllocGlobal + Wait),
+    script: &str,
+    printed: &[u8],
+    writes: usize,
+) {
+    let mut taken = Vec::new(rt.alloc());
+    let writer = BrokenWriter {
+        taken: &mut taken,
+        writes,
+    };
+    let ended = run_script(rt, script.as_bytes(), writer, ALL_SESSIONS);
+    let expected = if writes < printed.len() {
+        Err(Fault::WriteFailed)
+    } else {
+        Ok(())
+    };
+    let most = writes.min(printed.len());
+    expect_end(rt, ended, expected, taken.as_slice(), &printed[..most]);
+}
+
+#[test]
+fn a_read_that_fails_ends_a_script(rt: HostRuntime) -> Result<(), Fail> {
+    let (script, _) = lines_within(rt.alloc(), usize::MAX)?;
+    for most in [1, 7, 4096] {
+        // The last read is the one that finds the end.
+        for reads in 0..=script.len().div_ceil(most.max(1)) {
+            expect_read_failed(&rt, script.as_str(), most, reads)?;
+        }
+    }
+    Ok(())
+}
+
+#[test]
+fn a_write_that_fails_ends_a_script(rt: HostRuntime) -> Result<(), Fail> {
+    let (script, printed) = lines_within(rt.alloc(), usize::MAX)?;
+    for writes in 0..=printed.len() {
+        expect_written(&rt, script.as_str(), printed.as_bytes(), writes);
+    }
+    Ok(())
+}

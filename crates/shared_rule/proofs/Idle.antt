@@ -1,0 +1,149 @@
+use Rattle.std.proofs.Common.{◌≡◌, ℕ, List, [], ◌∷◌, ◌++◌, Option, Some, None, Ok, Err, refl, sym, ap, ◌∙◌, subst, inl, inr}
+use Rattle.std.specs.declared.result.Result.{Result}
+use Rattle.modes_core.specs.Tag.{partition_of}
+use Rattle.lock_table.specs.declared.moves.Move.{Move}
+use Rattle.lock_table.specs.Content.{Content}
+use Rattle.lock_table.specs.OwnWait.{OwnWait}
+use Rattle.lock_world.specs.Account.{Account, InHand, ListAccount}
+use Rattle.shared_rule.specs.declared.history.History.{History}
+use Rattle.shared_rule.specs.declared.history.Mark.{Mark}
+use Rattle.shared_rule.specs.declared.history.Mark.TheVariants as mark
+use Rattle.shared_rule.specs.declared.history.WordMark.{WordMark}
+use Rattle.shared_rule.specs.declared.history.WordMark.TheVariants as word
+use Rattle.shared_rule.specs.declared.history.View.{View}
+use Rattle.shared_rule.specs.Audits.{IsFurther}
+use Rattle.shared_rule.specs.Boards.{lists_told, no_content, IsIdle, AreIdle}
+use Rattle.shared_rule.specs.LwLocks.{no_lists}
+use Rattle.shared_rule.specs.Slots.{TriesFast}
+use Rattle.shared_rule.specs.Seats.{all_but_last, last_of, behind_of}
+use Rattle.shared_rule.specs.History.{blank_account, noted, noted_words, told, first_account, lone}
+use Rattle.shared_rule.specs.History.{account_granting_by, account_granting, account_cleared, account_left, in_hand}
+
+-- What a history tells of wait lists doesn't depend on how contents are read.
+
+granting-lists : (made : Option Move) (a : Account) (part : ℕ) (mine : InHand) (other : ℕ) (done : Move) (woken : List ℕ) (now : Content)
+    → (account_granting_by made a part mine other done woken now).lists ≡ a.lists
+granting-lists None a part mine other done woken now = refl
+granting-lists (Some made) a part mine other done woken now = refl
+
+cleared-lists : (number : ℕ) (a : Account) (wait : Option OwnWait) → (account_cleared number a wait).lists ≡ a.lists
+cleared-lists number a None = refl
+cleared-lists number a (Some wait) = refl
+
+left-lists : (a : Account) (wait : Option OwnWait) (now : Content) (woken : List ℕ) → (account_left a wait now woken).lists ≡ a.lists
+left-lists a None now woken = refl
+left-lists a (Some wait) now woken = refl
+
+-- what a step makes of the lists of an account, by the lists alone
+abbrev lists_after : {T : Type 0} → ℕ → ListAccount → Mark T → ListAccount
+lists_after number lists m = (noted no_content number (record blank_account { lists = lists }) m).lists
+
+words-lists : (number : ℕ) (a : Account) (step : WordMark) → (noted_words number a step).lists ≡ (noted_words number (record blank_account { lists = a.lists }) step).lists
+words-lists number a (word.TookFast owner database words) = refl
+words-lists number a (word.PutFast owner) = refl
+words-lists number a (word.SharedFast owner database words) = refl
+words-lists number a (word.UnsharedFast owner) = refl
+words-lists number a (word.Passed owner tag mode) = refl
+words-lists number a (word.Counted tag mode) = refl
+words-lists number a (word.Uncounted tag mode) = refl
+words-lists number a (word.LoadedWait shown) = refl
+words-lists number a (word.Asked other before) = refl
+words-lists number a word.ClearedWait = cleared-lists number a a.awaited
+words-lists number a (word.LoadedDatabase owner shown) = refl
+words-lists number a (word.LoadedSlot owner place shown) = refl
+words-lists number a (word.LoadedFast shown) = refl
+words-lists number a (word.LoadedStrong index shown) = refl
+words-lists number a (word.SetSlot place tag mode) = refl
+words-lists number a (word.ClearedSlot place tag mode) = refl
+words-lists number a (word.TransferredSlot owner place tag mode) = refl
+words-lists number a (word.StoredDatabase database) = refl
+words-lists number a (word.LockedList lock waiters) = refl
+words-lists number a word.UnlockedList = refl
+words-lists number a (word.JoinedList mode) = refl
+words-lists number a word.LeftList = refl
+words-lists number a (word.TookOff other) = refl
+words-lists number a (word.Told other) = refl
+words-lists number a (word.LoadedSleep shown) = refl
+words-lists number a (word.SetReleaseOk lock) = refl
+words-lists number a (word.SetHasWaiters lock) = refl
+
+module _ {T : Type 0} (content : T → Content) where
+  step-lists : (number : ℕ) (a : Account) (m : Mark T) → (noted content number a m).lists ≡ lists_after number a.lists m
+  step-lists number a (mark.TookPart part taken) = refl
+  step-lists number a (mark.PutPart part done put) = refl
+  step-lists number a (mark.SetWaiting tag mode now) = refl
+  step-lists number a (mark.MarkedGranted part other done woken now) = granting-lists (in_hand (a.hand part)).recorded a part (in_hand (a.hand part)) other done woken (content now)
+  step-lists number a (mark.LeftQueue woken now) = left-lists a a.awaited (content now) woken
+  step-lists number a (mark.OfWords step) = words-lists number a step
+
+told-lists : {T : Type 0} (content : T → Content) (number : ℕ) (marks : List (Mark T)) → (told content number marks).lists ≡ (told no_content number marks).lists
+told-lists content number [] = refl
+told-lists content number (m ∷ marks) =
+    step-lists content number (told content number marks) m
+    ∙ ap (λ lists. lists_after number lists m) (told-lists content number marks)
+    ∙ sym (step-lists no_content number (told no_content number marks) m)
+
+-- So what a view tells of them is what its session's account has.
+pub lists-told : {T : Type 0} (content : T → Content) (sessions : List (History T)) → (first_account content sessions).lists ≡ lists_told sessions
+lists-told content [] = refl
+lists-told content (history ∷ others) = told-lists content history.number history.marks
+
+-- A call that leaves them as they were leaves a session idle.
+pub idle-still : {T : Type 0} (content : T → Content) (sessions after : List (History T))
+    → (first_account content after).lists ≡ (first_account content sessions).lists → IsIdle sessions → IsIdle after
+idle-still content sessions after same idle = record {
+  none = sym (lists-told content after) ∙ same ∙ lists-told content sessions ∙ idle.none;
+}
+
+-- Trying for the lock of the own slots leaves them.
+pub tries-lists : {R E : Type 0} (number : ℕ) (a : Account) (result : Result R E) (b : Account) → TriesFast number a result b → b.lists ≡ a.lists
+tries-lists number a (Ok unit) b took = ap (λ (c : Account). c.lists) took.takes.account
+tries-lists number a (Err error) b (inl held) = ap (λ (c : Account). c.lists) held.account
+tries-lists number a (Err error) b (inr changed) = ap (λ (c : Account). c.lists) changed.account
+
+-- Sessions gathered at a seat: each is idle there,
+module _ {T : Type 0} where
+  pub idle-with : (sessions others : List (History T)) → AreIdle sessions → AreIdle others → AreIdle (sessions ++ others)
+  idle-with [] others are its = its
+  idle-with (history ∷ rest) others are its = (are.0, idle-with rest others are.1 its)
+
+  pub idle-lone : (view : View T) (number : ℕ) (marks : List (Mark T)) → view ≡ lone number marks → IsIdle view.sessions → AreIdle view.sessions
+  idle-lone view number marks is idle =
+      subst (λ (v : View T). AreIdle v.sessions) (sym is) (subst (λ (v : View T). IsIdle v.sessions) is idle, tt)
+
+  -- the last one goes on so, and so do those that stay,
+  pub idle-last : (sessions : List (History T)) → AreIdle sessions → AreIdle (last_of sessions)
+  idle-last [] are = tt
+  idle-last (history ∷ []) are = are
+  idle-last (history ∷ next ∷ others) are = idle-last (next ∷ others) are.1
+
+  pub idle-left : (sessions : List (History T)) → AreIdle sessions → AreIdle (all_but_last sessions)
+  idle-left [] are = tt
+  idle-left (history ∷ []) are = tt
+  idle-left (history ∷ next ∷ others) are = (are.0, idle-left (next ∷ others) are.1)
+
+  first-idle : (sessions : List (History T)) → AreIdle sessions → lists_told sessions ≡ no_lists
+  first-idle [] are = refl
+  first-idle (history ∷ others) are = are.0.none
+
+  pub idle-one : (sessions : List (History T)) → AreIdle sessions → IsIdle sessions
+  idle-one sessions are = record { none = first-idle sessions are }
+
+  behind-idle : (sessions : List (History T)) → AreIdle sessions → AreIdle (behind_of sessions)
+  behind-idle [] are = tt
+  behind-idle (history ∷ others) are = are.1
+
+  -- and the first one where its steps left its lists as they were.
+  pub idle-further : (content : T → Content) (before after : View T) → IsFurther before after
+      → (first_account content after.sessions).lists ≡ (first_account content before.sessions).lists
+      → AreIdle before.sessions → AreIdle after.sessions
+  idle-further content before after further same are =
+      let some = further.some in
+      subst AreIdle (sym some.sessions) (
+        record {
+          none = sym (lists-told content (some.history ∷ []))
+              ∙ ap (λ (sessions : List (History T)). (first_account content sessions).lists) (sym some.sessions) ∙ same
+              ∙ lists-told content before.sessions ∙ first-idle before.sessions are;
+        },
+        subst AreIdle (sym further.behind ∙ ap behind_of some.sessions) (behind-idle before.sessions are),
+      )

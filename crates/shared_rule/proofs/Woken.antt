@@ -1,0 +1,69 @@
+use Rattle.std.proofs.Common.{◌≡◌, ℕ, ◌≤◌, true, false, List, Some, None, refl, sym, ap, ◌∙◌, subst}
+use Rattle.std.proofs.lemmas.Bool.{false_from_ne_true}
+use Rattle.atomic_table.specs.declared.shared.Seat.{Seat}
+use Rattle.lw_word.specs.declared.wait_lists.LwWaiter.{LwWaiter}
+use Rattle.lw_word.specs.WaitList.{stands_in, times_in, taken_off, left_waiting}
+use Rattle.lock_table.specs.Content.{Content}
+use Rattle.lock_world.specs.Account.{Account, ListAccount}
+use Rattle.lock_world.specs.AccountSteps.{account_locking_list, account_unlocking_list}
+use Rattle.shared_rule.specs.declared.history.View.{View}
+use Rattle.shared_rule.specs.declared.kept.Kept.{Kept}
+use Rattle.shared_rule.specs.Led.{Led}
+use Rattle.shared_rule.specs.LwLocks.{no_lists}
+use Rattle.shared_rule.specs.Plays.{account_at, number_at}
+use Rattle.shared_rule.specs.Wakeups.{all_taken_off, all_told, MayTakeAllOff, MayTellAll}
+use Rattle.shared_rule.proofs.Led.{led-again, led-as}
+use Rattle.shared_rule.proofs.TakenOff.{with_list, to_tell, may_take-off, left-waiting, may_tell-all, all-told}
+
+-- A wakeup, step by step: the list is locked, some are taken off it, it is unlocked, and they are told.
+
+-- Whoever stands in no list by its account doesn't stand in one that it locks.
+pub not-there : (lists : ListAccount) (number lock : ℕ) (waiters : List LwWaiter) → lists ≡ no_lists
+    → (stands_in number waiters ≡ true → lists.stands ≡ Some lock) → stands_in number waiters ≡ false
+not-there lists number lock waiters idle stands = false_from_ne_true (stands_in number waiters) (λ there.
+    let never : None ≡ Some lock = sym (ap (λ (l : ListAccount). l.stands) idle) ∙ stands there in cc (never))
+
+module _ {T : Type 0} (content : T → Content) (before locked : Seat (Kept T) (View T)) (lock : ℕ) (ws : List LwWaiter)
+    (locks : Led content before locked (account_locking_list (account_at content before) lock ws))
+    (idle : (account_at content before).lists ≡ no_lists) (once : (k : ℕ) → times_in k ws ≤ 1)
+    (other : stands_in (number_at before) ws ≡ false) (taken : List LwWaiter) (is : taken ≡ taken_off ws) where
+  abbrev a : Account
+  a = account_at content before
+
+  at-locked : account_at content locked ≡ with_list a lock ws (λ _. false)
+  at-locked = locks.account
+      ∙ ap (λ (lists : ListAccount). record a { lists = record lists { in_hand = Some (record { lock = lock; waiters = ws }) } }) idle
+
+  pub may-take_all_off : MayTakeAllOff (number_at locked) (account_at content locked) taken
+  may-take_all_off =
+      subst (MayTakeAllOff (number_at locked) (account_at content locked)) (sym is)
+      (subst (λ n. MayTakeAllOff n (account_at content locked) (taken_off ws)) (sym locks.number)
+      (subst (λ b. MayTakeAllOff (number_at before) b (taken_off ws)) (sym at-locked) (may_take-off (number_at before) a lock ws once other)))
+
+  module _ (off : Seat (Kept T) (View T)) (takes : Led content locked off (all_taken_off (account_at content locked) taken)) where
+    at-off : account_at content off ≡ with_list a lock (left_waiting ws) (λ k. stands_in k (taken_off ws))
+    at-off = takes.account ∙ ap (all_taken_off (account_at content locked)) is ∙ ap (λ b. all_taken_off b (taken_off ws)) at-locked
+        ∙ left-waiting (number_at before) a lock ws once other
+
+    pub left-in_hand : (left : List LwWaiter) → left ≡ left_waiting ws → (account_at content off).lists.in_hand ≡ Some (record { lock = lock; waiters = left })
+    left-in_hand left same = ap (λ (b : Account). b.lists.in_hand) at-off ∙ ap (λ (waiters : List LwWaiter). Some (record { lock = lock; waiters = waiters })) (sym same)
+
+    module _ (unlocked : Seat (Kept T) (View T)) (unlocks : Led content off unlocked (account_unlocking_list (account_at content off))) where
+      at-unlocked : account_at content unlocked ≡ to_tell a (λ k. stands_in k (taken_off ws))
+      at-unlocked = unlocks.account ∙ ap account_unlocking_list at-off
+
+      pub may-tell_all : (its : List LwWaiter) → its ≡ taken_off ws → MayTellAll (account_at content unlocked) its
+      may-tell_all its same =
+          subst (MayTellAll (account_at content unlocked)) (sym same)
+          (subst (λ b. MayTellAll b (taken_off ws)) (sym at-unlocked) (may_tell-all (number_at before) a lock ws once other))
+
+      pub woken : (after : Seat (Kept T) (View T)) (its : List LwWaiter) → its ≡ taken_off ws → Led content unlocked after (all_told (account_at content unlocked) its)
+          → Led content before after a
+      woken after its same tells =
+          let one = led-again content before locked off _ _ locks takes in
+          let two = led-again content before off unlocked _ _ one unlocks in
+          let three = led-again content before unlocked after _ _ two tells in
+          led-as content before after (account_at content after) a three
+          (tells.account ∙ ap (all_told (account_at content unlocked)) same ∙ ap (λ b. all_told b (taken_off ws)) at-unlocked
+          ∙ all-told (number_at before) a lock ws once other
+          ∙ (λ i. record a { lists = sym idle i }))

@@ -1,0 +1,31 @@
+use Rattle.std.proofs.Common.{rules, ◌≡◌, ◌<◌, List, ap, ◌∙◌, subst}
+use Rattle.lock_world.specs.declared.events.Word.TheVariants.{Sleep}
+use Rattle.shared_rule.specs.declared.history.History.{History}
+use Rattle.shared_rule.specs.Marks.{LoadedSleep}
+use Rattle.shared_rule.specs.Layout.{index_of_word}
+use Rattle.shared_rule.specs.History.{first_number}
+use Rattle.shared_rule.specs.Plays.{Side}
+use Rattle.shared_rule.proofs.Events.Words.{marks_at}
+use Rattle.shared_rule.proofs.Events.Lists.{loading_sleep-lawful}
+use Rattle.shared_rule.proofs.Led.{led-noted}
+use Rattle.shared_rule.proofs.lists.load_sleep.Goals as goal
+
+pub load_as-requires-clause-allowed : goal.load_as-requires-clause-allowed
+load_as-requires-clause-allowed g c =
+    let content = g.T.PartTable.content in
+    let place = c.args.place.now in
+    let session = c.requires.session in
+    let own : c.args.number ≡ session.history.number = c.requires.own
+    ∙ ap (λ (sessions : List (History g.row.T.Denot)). first_number sessions) session.sessions in
+    let exists : session.history.number < 64 = subst (λ n. n < 64) own (search rules) in
+    let at = c.sleep_word.ensures.index ∙ ap (λ n. index_of_word (Sleep n)) own in
+    marks_at content g.T.PartTable.begun c.args.top.now.key c.args.top.now.table_id.slots place.id place.me
+    session.history session.others session.sessions
+    (Sleep session.history.number) (tt, exists) c.sleep_word.result at (λ n. n) LoadedSleep
+    (loading_sleep-lawful content c.args.top.now.key session.history)
+
+pub returns-clause-led : goal.returns-clause-led
+returns-clause-led g c =
+    led-noted g.T.PartTable.content c.args.place.now c.load_as.new.place (LoadedSleep c.load_as.result)
+    c.requires.session c.load_as.ensures.seat
+    (ap (λ (side : Side g.row.T.Denot). side.0) c.load_as.ensures.side)

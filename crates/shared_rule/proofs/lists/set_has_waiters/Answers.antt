@@ -1,0 +1,39 @@
+use Rattle.std.proofs.Common.{◌≡◌, ◌^◌, List, Some, bit_or, sym, ap, ◌∙◌, subst}
+use Rattle.shared_rule.specs.Marks.{SetHasWaiters}
+use Rattle.lock_world.specs.Account.{ListInHand}
+use Rattle.shared_rule.specs.declared.history.History.{History}
+use Rattle.shared_rule.specs.History.{first_account, noting}
+use Rattle.shared_rule.specs.LwLocks.{word_of_lock, lock_number}
+use Rattle.shared_rule.specs.Plays.{Side}
+use Rattle.shared_rule.proofs.Events.Words.{IsAlwaysLawful, looks_at}
+use Rattle.shared_rule.proofs.Events.Lists.{lock-word_there, setting_has_waiters-lawful}
+use Rattle.shared_rule.proofs.Led.{led-noted}
+use Rattle.shared_rule.proofs.lists.set_has_waiters.Goals as goal
+
+pub fetch_or_as-requires-clause-allowed : goal.fetch_or_as-requires-clause-allowed
+fetch_or_as-requires-clause-allowed g c =
+    let content = g.T.PartTable.content in
+    let place = c.args.place.now in
+    let session = c.requires.session in
+    let lock = c.args.lock.now in
+    let may = subst (λ (sessions : List (History g.row.T.Denot)). (mine : ListInHand)
+    × ((first_account content sessions).lists.in_hand ≡ Some mine) × (mine.lock ≡ lock_number lock)) session.sessions
+    c.requires.lawful in
+    looks_at content g.T.PartTable.begun c.args.top.now.key c.args.top.now.table_id.slots place.id place.me
+    session.history session.others session.sessions
+    (word_of_lock lock) (lock-word_there lock c.requires.there) c.word.result c.word.ensures.index (2 ^ 30)
+    (λ n. bit_or n (2 ^ 30)) g.M.Marking.mark
+    (subst (IsAlwaysLawful content c.args.top.now.key session.history (word_of_lock lock) (λ _. Unit {0})
+    (λ n. bit_or n (2 ^ 30))) (sym c.requires.mark)
+    (setting_has_waiters-lawful content c.args.top.now.key session.history lock may.0 may.1 may.2))
+
+pub returns-clause-led : goal.returns-clause-led
+returns-clause-led g c =
+    let place = c.args.place.now in
+    led-noted g.T.PartTable.content place c.fetch_or_as.new.place (SetHasWaiters (lock_number c.args.lock.now))
+    c.requires.session c.fetch_or_as.ensures.seat
+    (ap (λ (side : Side g.row.T.Denot). side.0) (c.fetch_or_as.ensures.side
+    ∙ ap (λ m. (noting place.me.0 (m c.fetch_or_as.result), place.me.1)) c.requires.mark))
+
+pub returns-clause-slots : goal.returns-clause-slots
+returns-clause-slots g c = ap (λ (side : Side g.row.T.Denot). side.1) c.fetch_or_as.ensures.side

@@ -1,0 +1,34 @@
+use Rattle.std.proofs.Common.{◌^◌, bit_or, sym, ap, ◌∙◌, subst}
+use Rattle.shared_rule.specs.Marks.{SetReleaseOk}
+use Rattle.shared_rule.specs.History.{noting}
+use Rattle.shared_rule.specs.LwLocks.{word_of_lock, lock_number}
+use Rattle.shared_rule.specs.Plays.{Side}
+use Rattle.shared_rule.proofs.Events.Words.{IsAlwaysLawful, looks_at}
+use Rattle.shared_rule.proofs.Events.Lists.{lock-word_there, setting_release_ok-lawful}
+use Rattle.shared_rule.proofs.Led.{led-noted}
+use Rattle.shared_rule.proofs.lists.set_release_ok.Goals as goal
+
+pub fetch_or_as-requires-clause-allowed : goal.fetch_or_as-requires-clause-allowed
+fetch_or_as-requires-clause-allowed g c =
+    let content = g.T.PartTable.content in
+    let place = c.args.place.now in
+    let session = c.requires.session in
+    let lock = c.args.lock.now in
+    looks_at content g.T.PartTable.begun c.args.top.now.key c.args.top.now.table_id.slots place.id place.me
+    session.history session.others session.sessions
+    (word_of_lock lock) (lock-word_there lock c.requires.there) c.word.result c.word.ensures.index (2 ^ 29)
+    (λ n. bit_or n (2 ^ 29)) g.M.Marking.mark
+    (subst (IsAlwaysLawful content c.args.top.now.key session.history (word_of_lock lock) (λ _. Unit {0})
+    (λ n. bit_or n (2 ^ 29))) (sym c.requires.mark)
+    (setting_release_ok-lawful content c.args.top.now.key session.history lock c.requires.exists))
+
+pub returns-clause-led : goal.returns-clause-led
+returns-clause-led g c =
+    let place = c.args.place.now in
+    led-noted g.T.PartTable.content place c.fetch_or_as.new.place (SetReleaseOk (lock_number c.args.lock.now))
+    c.requires.session c.fetch_or_as.ensures.seat
+    (ap (λ (side : Side g.row.T.Denot). side.0) (c.fetch_or_as.ensures.side
+    ∙ ap (λ m. (noting place.me.0 (m c.fetch_or_as.result), place.me.1)) c.requires.mark))
+
+pub returns-clause-slots : goal.returns-clause-slots
+returns-clause-slots g c = ap (λ (side : Side g.row.T.Denot). side.1) c.fetch_or_as.ensures.side

@@ -1,0 +1,91 @@
+use Rattle.std.proofs.Common.{rules, ◌≡◌, ◌∷◌, List, None, sym, ap, ◌∙◌, subst}
+use Rattle.lock_world.specs.AccountSteps.{account_locking_list}
+use Rattle.shared_rule.specs.declared.history.History.{History}
+use Rattle.shared_rule.specs.Marks.{LockedList}
+use Rattle.shared_rule.specs.declared.kept.Kept.TheVariants as kept
+use Rattle.shared_rule.specs.Layout.{list_slot_of}
+use Rattle.shared_rule.specs.LwLocks.{lock_number}
+use Rattle.shared_rule.specs.History.{noting, first_account}
+use Rattle.shared_rule.proofs.Events.Lists.{locks_list_at, list-same}
+use Rattle.std.specs.Global.{Box}
+use Rattle.lw_word.specs.declared.wait_lists.LwWaiter.{LwWaiter}
+use Rattle.lw_word.specs.WaitList.{stands_in}
+use Rattle.shared_rule.specs.Plays.{Side, account_at, number_at}
+use Rattle.shared_rule.proofs.Led.{led-noted, led-as}
+use Rattle.shared_rule.proofs.Sides.{last-slot, last-came, last-set}
+use Rattle.shared_rule.proofs.lists.try_lock_list.Goals as goal
+
+pub fetch_or-found-requires : goal.fetch_or-found-requires
+fetch_or-found-requires g c =
+    let content = g.T.PartTable.content in
+    let place = c.args.place.now in
+    let session = c.requires.session in
+    let free = subst (λ (sessions : List (History g.row.T.Denot)). (first_account content sessions).lists.in_hand ≡ None)
+    session.sessions c.requires.no_list in (
+      c.requires.table.at,
+      search rules,
+      locks_list_at content g.T.PartTable.begun c.args.top.now.key c.args.top.now.table_id.slots place.id place.me
+          session.history session.others session.sessions c.args.lock.now c.requires.there c.requires.exists
+          (record { no_list = free }) c.word.result c.word.ensures.index,
+    )
+
+pub exchange-kept-requires : goal.exchange-kept-requires
+exchange-kept-requires g c =
+    let n = lock_number c.args.lock.now in
+    let took = c.fetch_or-found.ensures.2.0 (search rules) c.args.lock.now c.requires.there c.word.ensures.index in (
+      c.fetch_or-found.ensures.0 ∙ c.requires.table.at,
+      (
+        kept.List took.list,
+        last-slot c.fetch_or-found.new.seat.me (noting c.args.place.now.me.0 (LockedList n took.list.value)) c.list_slot.result
+            (list_slot_of n) (kept.List took.list) c.args.place.now.me.1 took.side c.list_slot.ensures.slot,
+      ),
+    )
+
+pub into_list-requires : goal.into_list-requires
+into_list-requires g c =
+    let n = lock_number c.args.lock.now in
+    let took = c.fetch_or-found.ensures.2.0 (search rules) c.args.lock.now c.requires.there c.word.ensures.index in (
+      took.list,
+      last-came c.fetch_or-found.new.seat.me (noting c.args.place.now.me.0 (LockedList n took.list.value)) c.list_slot.result
+          (list_slot_of n) (kept.List took.list) c.exchange-kept.result c.args.place.now.me.1 took.side c.exchange-kept.ensures.2,
+    )
+
+pub returns-then-found-eq0-clause-led : goal.returns-then-found-eq0-clause-led
+returns-then-found-eq0-clause-led g c =
+    let content = g.T.PartTable.content in
+    let place = c.args.place.now in
+    let n = lock_number c.args.lock.now in
+    let took = c.fetch_or-found.ensures.2.0 (search rules) c.args.lock.now c.requires.there c.word.ensures.index in
+    let came = last-came c.fetch_or-found.new.seat.me (noting place.me.0 (LockedList n took.list.value)) c.list_slot.result
+    (list_slot_of n) (kept.List took.list) c.exchange-kept.result place.me.1 took.side c.exchange-kept.ensures.2 in
+    let same : took.list ≡ c.into_list.result = list-same took.list c.into_list.result (sym came ∙ c.into_list.ensures) in
+    let set = last-set c.fetch_or-found.new.seat.me c.exchange-kept.new.seat.me
+    (noting place.me.0 (LockedList n took.list.value)) c.list_slot.result (list_slot_of n) (kept.List took.list) kept.Nothing
+    place.me.1 took.side c.list_slot.ensures.slot c.exchange-kept.ensures.3 in
+    led-as content place c.exchange-kept.new.seat _ _
+    (led-noted content place c.exchange-kept.new.seat (LockedList n took.list.value) c.requires.session
+    (record {
+      table_id = c.exchange-kept.ensures.0 ∙ c.fetch_or-found.ensures.0;
+      id = c.exchange-kept.ensures.1 ∙ c.fetch_or-found.ensures.1;
+    })
+    (ap (λ (side : Side g.row.T.Denot). side.0) set))
+    (ap (λ (list : Box (List LwWaiter)). account_locking_list (account_at content place) n list.value) same)
+
+pub returns-then-found-eq0-clause-slots : goal.returns-then-found-eq0-clause-slots
+returns-then-found-eq0-clause-slots g c =
+    let place = c.args.place.now in
+    let n = lock_number c.args.lock.now in
+    let took = c.fetch_or-found.ensures.2.0 (search rules) c.args.lock.now c.requires.there c.word.ensures.index in
+    ap (λ (side : Side g.row.T.Denot). side.1) (last-set c.fetch_or-found.new.seat.me c.exchange-kept.new.seat.me
+    (noting place.me.0 (LockedList n took.list.value)) c.list_slot.result (list_slot_of n) (kept.List took.list) kept.Nothing
+    place.me.1 took.side c.list_slot.ensures.slot c.exchange-kept.ensures.3)
+
+pub returns-then-found-eq0-clause-stands : goal.returns-then-found-eq0-clause-stands
+returns-then-found-eq0-clause-stands g c = λ there.
+    let place = c.args.place.now in
+    let n = lock_number c.args.lock.now in
+    let took = c.fetch_or-found.ensures.2.0 (search rules) c.args.lock.now c.requires.there c.word.ensures.index in
+    let came = last-came c.fetch_or-found.new.seat.me (noting place.me.0 (LockedList n took.list.value)) c.list_slot.result
+    (list_slot_of n) (kept.List took.list) c.exchange-kept.result place.me.1 took.side c.exchange-kept.ensures.2 in
+    let same : took.list ≡ c.into_list.result = list-same took.list c.into_list.result (sym came ∙ c.into_list.ensures) in
+    took.stands (ap (λ (list : Box (List LwWaiter)). stands_in (number_at place) list.value) same ∙ there)

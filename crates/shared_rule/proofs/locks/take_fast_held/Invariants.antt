@@ -1,6 +1,0 @@
-use Rattle.std.proofs.Common.{◌≡◌}
-use Rattle.shared_rule.specs.Plays.{IsSameSeat}
-use Rattle.shared_rule.proofs.locks.take_fast_held.Given as goal
-
-abbrev pub invariant-loop : goal.invariant-loop
-invariant-loop g l = IsSameSeat l.fn.place l.place × (l.place.me ≡ l.fn.place.me)

@@ -1,0 +1,43 @@
+use Rattle.std.proofs.Common.{◌≡◌, List, [], ◌∷◌, ◌++◌, refl, sym, ap, ◌∙◌, subst}
+use Rattle.shared_rule.specs.declared.history.History.{History}
+use Rattle.shared_rule.specs.declared.history.View.{View}
+use Rattle.shared_rule.specs.Boards.{first_marks, AreIdle}
+use Rattle.shared_rule.specs.History.{first_account}
+use Rattle.shared_rule.specs.Openers.{OpenerState}
+use Rattle.shared_rule.specs.Plays.{Side, IsSized}
+use Rattle.shared_rule.proofs.Idle.{idle-with, idle-lone}
+use Rattle.shared_rule.proofs.opener.Opener.gather.Goals as goal
+
+pub invariant_of-self : goal.invariant_of-self
+invariant_of-self g c =
+    let board = c.args.board in
+    let side = ap (λ (m : Side g.row.T.Denot). m.0) c.keep_apart.ensures.side in
+    let came : c.into_place-place.result.1.me.0 ≡ board.place.me.0 = ap (λ place. place.me.0) c.into_place-place.ensures.1 in
+    let its : AreIdle board.place.me.0.sessions = idle-lone board.place.me.0 board.number (first_marks board.place.me.0.sessions) board.lone board.idle in (
+      ap (λ (view : View g.row.T.Denot). view.next) side ∙ c.self.invariant.0,
+      c.self.invariant.1,
+      c.self.invariant.2,
+      subst IsSized (sym c.keep_apart.ensures.seat.table_id) c.self.invariant.3,
+      subst (λ (view : View g.row.T.Denot). AreIdle view.sessions) (sym side)
+          (idle-with c.self.inside.place.me.0.sessions c.into_place-place.result.1.me.0.sessions c.self.invariant.4
+          (subst (λ (view : View g.row.T.Denot). AreIdle view.sessions) (sym came) its)),
+    )
+
+pub returns-clause-gathered : goal.returns-clause-gathered
+returns-clause-gathered g c =
+    let board = c.args.board in
+    let had = c.self.inside.place in
+    let last : History g.row.T.Denot = record { number = board.number; marks = first_marks board.place.me.0.sessions } in
+    let side = ap (λ (m : Side g.row.T.Denot). m.0) c.keep_apart.ensures.side in
+    let came : c.into_place-place.result.1.me.0 ≡ board.place.me.0 = ap (λ place. place.me.0) c.into_place-place.ensures.1 in
+    let table = c.keep_apart.ensures.seat.table_id in
+    let closed = ap (λ (view : View g.row.T.Denot). view.closed) side in
+    let gathered = ap (λ (view : View g.row.T.Denot). view.sessions) side
+    ∙ ap (λ (view : View g.row.T.Denot). had.me.0.sessions ++ view.sessions) (came ∙ board.lone) in
+    record {
+      last = last;
+      number_ = refl;
+      account_ = ap (λ (view : View g.row.T.Denot). first_account g.T.PartTable.content view.sessions) (sym board.lone);
+      opener = (λ i. record { table = table i; issued = c.self.inside.issued; limit = c.self.inside.sessions; closed = closed i; gathered = gathered i })
+          ∙ ap (λ (old : OpenerState g.row.T.Denot). record old { gathered = old.gathered ++ last ∷ [] }) c.self.view_is;
+    }

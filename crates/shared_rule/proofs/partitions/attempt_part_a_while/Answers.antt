@@ -1,0 +1,12 @@
+use Rattle.shared_rule.proofs.Acquires.{nothing-then, nothing-then_part}
+use Rattle.shared_rule.proofs.partitions.attempt_part_a_while.Goals as goal
+
+pub returns-in-Some-clause-won : goal.returns-in-Some-clause-won
+returns-in-Some-clause-won g c =
+    nothing-then_part g.T.PartTable.content c.args.place.now c.loop.place c.attempt_free_part.new.place c.loop.invariant
+    g.T.PartTable.begun c.args.part c.in-Some.content (c.in-Some.ensures {u = tt}).won
+
+pub loop-preserved : goal.loop-preserved
+loop-preserved g c =
+    nothing-then g.T.PartTable.content c.args.place.now c.loop.place c.attempt_free_part.new.place c.loop.invariant
+    (c.in_default.ensures {u = tt}).lost

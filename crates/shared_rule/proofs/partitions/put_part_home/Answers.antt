@@ -1,0 +1,52 @@
+use Rattle.std.proofs.Common.{List, sym, ap, ◌∙◌, subst}
+use Rattle.atomic_table.specs.Table.{rest}
+use Rattle.lock_world.specs.Account.{InHand}
+use Rattle.shared_rule.specs.Lawful.{MayPutPart}
+use Rattle.shared_rule.specs.declared.history.History.{History}
+use Rattle.shared_rule.specs.declared.kept.Kept.TheVariants.{Part}
+use Rattle.shared_rule.specs.Plays.{Side}
+use Rattle.shared_rule.specs.Layout.{content_slot_of}
+use Rattle.shared_rule.specs.History.{first_account, first_number, noting}
+use Rattle.shared_rule.proofs.Events.Partitions.{puts_part_at}
+use Rattle.shared_rule.specs.Marks.{PutPart}
+use Rattle.shared_rule.proofs.Led.{led-noted}
+use Rattle.shared_rule.proofs.Sides.{last-slot}
+use Rattle.shared_rule.proofs.partitions.put_part_home.Goals as goal
+
+pub put_home_as-requires-clause-allowed : goal.put_home_as-requires-clause-allowed
+put_home_as-requires-clause-allowed g c =
+    let content = g.T.PartTable.content in
+    let place = c.exchange.new.seat in
+    let session = c.requires.session in
+    let set = c.exchange.ensures.3 in
+    let is = ap (λ (m : Side g.row.T.Denot). m.0.sessions) set ∙ session.sessions in
+    let slot = c.content_slot.ensures.slot in
+    let may = subst (λ (sessions : List (History g.row.T.Denot)). (mine : InHand) × MayPutPart c.args.top.now.key (first_number sessions) (first_account content sessions) c.args.part mine c.args.done.now (content c.args.content))
+    session.sessions c.requires.lawful in
+    puts_part_at content g.T.PartTable.begun c.args.top.now.key place.id place.me session.history session.others is
+    c.args.part c.requires.exists c.args.top.now.table_id.slots c.partition_word.result c.requires.table.sized.slots c.partition_word.ensures.index
+    may.0 c.args.done.now c.args.content may.1 c.requires.none_begun
+    (last-slot place.me c.args.place.now.me.0 (content_slot_of c.args.part) c.content_slot.result (Part c.args.content) (rest c.args.place.now.me.1) set (sym slot))
+    g.M.Marking.mark c.requires.mark
+
+pub returns-clause-led : goal.returns-clause-led
+returns-clause-led g c =
+    let place = c.args.place.now in
+    let set = c.exchange.ensures.3 in
+    led-noted g.T.PartTable.content place c.put_home_as.new.place (PutPart c.args.part c.args.done.now c.args.content)
+    c.requires.session
+    (record {
+      table_id = c.put_home_as.ensures.seat.table_id ∙ c.exchange.ensures.0;
+      id = c.put_home_as.ensures.seat.id ∙ c.exchange.ensures.1;
+    })
+    (ap (λ (s : Side g.row.T.Denot). s.0) c.put_home_as.ensures.side
+    ∙ ap (λ (s : Side g.row.T.Denot). noting s.0 (g.M.Marking.mark c.put_home_as.result)) set
+    ∙ ap (λ m. noting place.me.0 (m c.put_home_as.result)) c.requires.mark)
+
+pub returns-clause-side : goal.returns-clause-side
+returns-clause-side g c =
+    let place = c.args.place.now in
+    let set = c.exchange.ensures.3 in
+    c.put_home_as.ensures.side
+    ∙ ap (λ (s : Side g.row.T.Denot). (noting s.0 (g.M.Marking.mark c.put_home_as.result), rest s.1)) set
+    ∙ ap (λ m. (noting place.me.0 (m c.put_home_as.result), rest place.me.1)) c.requires.mark

@@ -1,0 +1,28 @@
+use Rattle.std.proofs.Common.{◌∙◌}
+use Rattle.lock_world.specs.AccountSteps.{account_loading_sleep}
+use Rattle.shared_rule.specs.Plays.{account_at}
+use Rattle.shared_rule.proofs.Led.{led-as, led-then, slept-told, slept-on}
+use Rattle.shared_rule.proofs.queues.sleep_until_told.Goals as goal
+
+pub returns-then-shown-eq0-clause-led : goal.returns-then-shown-eq0-clause-led
+returns-then-shown-eq0-clause-led g c =
+    let content = g.T.PartTable.content in
+    let place = c.args.place.now in
+    let shown = c.load_sleep-shown.result in
+    led-as content place c.load_sleep-shown.new.place _ _
+    (led-then content place c.loop.place c.load_sleep-shown.new.place (account_at content place)
+    (λ a. account_loading_sleep a shown) c.loop.invariant.led c.load_sleep-shown.ensures.led)
+    (slept-told (account_at content place) shown c.if-shown-eq0.true)
+
+pub loop-preserved : goal.loop-preserved
+loop-preserved g c =
+    let content = g.T.PartTable.content in
+    let place = c.args.place.now in
+    let shown = c.load_sleep-shown.result in
+    record {
+      led = led-as content place c.load_sleep-shown.new.place _ _
+          (led-then content place c.loop.place c.load_sleep-shown.new.place (account_at content place)
+          (λ a. account_loading_sleep a shown) c.loop.invariant.led c.load_sleep-shown.ensures.led)
+          (slept-on (account_at content place) shown c.if-shown-eq0.false);
+      slots = c.load_sleep-shown.ensures.slots ∙ c.loop.invariant.slots;
+    }

@@ -1,0 +1,31 @@
+use Rattle.std.proofs.Common.{rules, List, ◌+◌, ◌-◌, ◌%◌, ◌^◌, sym, ap, ◌∙◌, subst}
+use Rattle.lock_world.specs.declared.events.Word.TheVariants.{Fast}
+use Rattle.lock_world.specs.Account.{SlotsInHand}
+use Rattle.lock_world.specs.AccountLaw.{MayUnshareFastBy}
+use Rattle.shared_rule.specs.declared.history.History.{History}
+use Rattle.shared_rule.specs.Marks.{UnsharedFast}
+use Rattle.shared_rule.specs.History.{first_account, noting}
+use Rattle.shared_rule.proofs.Events.Words.{IsAlwaysLawful, marks_at}
+use Rattle.shared_rule.proofs.Events.Locks.{unsharing_fast-lawful}
+use Rattle.shared_rule.specs.Plays.{Side}
+use Rattle.shared_rule.proofs.Led.{led-noted}
+use Rattle.shared_rule.proofs.sharing.unshare_fast_home.Goals as goal
+
+pub fetch_sub_as-requires-clause-allowed : goal.fetch_sub_as-requires-clause-allowed
+fetch_sub_as-requires-clause-allowed g c =
+    let content = g.T.PartTable.content in
+    let place = c.args.place.now in
+    let session = c.requires.session in
+    let may = subst (λ (sessions : List (History g.row.T.Denot)). (slots : SlotsInHand) × MayUnshareFastBy (first_account content sessions) c.args.owner slots) session.sessions c.requires.lawful in
+    marks_at content g.T.PartTable.begun c.args.top.now.key c.args.top.now.table_id.slots place.id place.me session.history session.others session.sessions
+    (Fast c.args.owner) (tt, search rules) c.fast_word.result c.fast_word.ensures.index (λ n. (n + (2 ^ 64 - c.amount.result)) % 2 ^ 64) g.M.Marking.mark
+    (subst (IsAlwaysLawful content c.args.top.now.key session.history (Fast c.args.owner) (λ _. Unit {0}) (λ n. (n + (2 ^ 64 - c.amount.result)) % 2 ^ 64)) (sym c.requires.mark)
+    (subst (λ k. IsAlwaysLawful content c.args.top.now.key session.history (Fast c.args.owner) (λ _. Unit {0}) (λ n. (n + (2 ^ 64 - k)) % 2 ^ 64) (λ _. UnsharedFast c.args.owner)) (sym c.amount.ensures)
+    (unsharing_fast-lawful content c.args.top.now.key session.history c.args.owner c.requires.exists may.0 may.1)))
+
+pub returns-clause-led : goal.returns-clause-led
+returns-clause-led g c =
+    let place = c.args.place.now in
+    led-noted g.T.PartTable.content place c.fetch_sub_as.new.place (UnsharedFast c.args.owner) c.requires.session c.fetch_sub_as.ensures.seat
+    (ap (λ (side : Side g.row.T.Denot). side.0) c.fetch_sub_as.ensures.side
+    ∙ ap (λ m. noting place.me.0 (m c.fetch_sub_as.result)) c.requires.mark)

@@ -1,0 +1,21 @@
+use Rattle.shared_rule.proofs.Acquires.{nothing-then, nothing-then_slots, may-still}
+use Rattle.shared_rule.proofs.slot_acquires.attempt_slots_unless_held.Goals as goal
+
+pub returns-then-attempt_slots-clause-won : goal.returns-then-attempt_slots-clause-won
+returns-then-attempt_slots-clause-won g c =
+    nothing-then_slots g.T.PartTable.content c.args.place.now c.loop.place c.attempt_slots.new.place c.loop.invariant c.args.mode c.args.owner
+    (c.if-attempt_slots.ensures {u = tt}).won
+
+pub loop-preserved : goal.loop-preserved
+loop-preserved g c =
+    nothing-then g.T.PartTable.content c.args.place.now c.loop.place c.attempt_slots.new.place c.loop.invariant
+    (c.if-attempt_slots.ensures {u = tt}).lost
+
+pub attempt_slots-requires-clause-lawful : goal.attempt_slots-requires-clause-lawful
+attempt_slots-requires-clause-lawful g c =
+    may-still g.T.PartTable.content c.args.place.now c.loop.place c.loop.place c.loop.invariant c.args.mode c.args.owner c.requires.lawful
+
+pub returns-then-is_held-clause-lost : goal.returns-then-is_held-clause-lost
+returns-then-is_held-clause-lost g c =
+    nothing-then g.T.PartTable.content c.args.place.now c.loop.place c.attempt_slots.new.place c.loop.invariant
+    (c.if-attempt_slots.ensures {u = tt}).lost

@@ -1,0 +1,21 @@
+use Rattle.shared_rule.proofs.Acquires.{nothing-then, nothing-then_slots, may-still, where-true, where-false}
+use Rattle.shared_rule.proofs.slot_acquires.get_slots_in_turn.Goals as goal
+
+pub returns-clause-won : goal.returns-clause-won
+returns-clause-won g c =
+    where-true c.get_slots_or_sleep.result _ _
+    (nothing-then_slots g.T.PartTable.content c.args.place.now c.attempt_slots_a_while.new.place
+    c.get_slots_or_sleep.new.place (c.if-attempt_slots_a_while.ensures {u = tt}).lost c.args.mode c.args.owner)
+    c.get_slots_or_sleep.ensures.won
+
+pub returns-clause-lost : goal.returns-clause-lost
+returns-clause-lost g c =
+    where-false c.get_slots_or_sleep.result _ _
+    (nothing-then g.T.PartTable.content c.args.place.now c.attempt_slots_a_while.new.place
+    c.get_slots_or_sleep.new.place (c.if-attempt_slots_a_while.ensures {u = tt}).lost)
+    c.get_slots_or_sleep.ensures.lost
+
+pub get_slots_or_sleep-requires-clause-lawful : goal.get_slots_or_sleep-requires-clause-lawful
+get_slots_or_sleep-requires-clause-lawful g c =
+    may-still g.T.PartTable.content c.args.place.now c.attempt_slots_a_while.new.place c.attempt_slots_a_while.new.place
+    (c.if-attempt_slots_a_while.ensures {u = tt}).lost c.args.mode c.args.owner c.requires.lawful

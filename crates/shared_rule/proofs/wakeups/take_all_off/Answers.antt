@@ -1,0 +1,50 @@
+use Rattle.std.proofs.Common.{refl, sym, ◌∙◌, subst, arith, drop, ◌+◌}
+use Rattle.shared_rule.specs.History.{list_here}
+use Rattle.shared_rule.specs.Plays.{account_at, number_at}
+use Rattle.shared_rule.specs.Wakeups.{MayTakeAllOff}
+use Rattle.shared_rule.proofs.Led.{led-as, led-again, led-self}
+use Rattle.shared_rule.proofs.Queueing.{may_take_off-first, off-next, off-last}
+use Rattle.shared_rule.proofs.wakeups.take_all_off.Goals as goal
+
+pub loop-waiter-init : goal.loop-waiter-init
+loop-waiter-init g c = record {
+  led = led-self g.T.PartTable.content c.args.place.now c.requires.session;
+  lawful = c.requires.lawful;
+  ends = refl;
+  slots = refl;
+}
+
+pub take_off-requires-clause-lawful : goal.take_off-requires-clause-lawful
+take_off-requires-clause-lawful g c =
+    let place = c.loop-waiter.place in
+    (may_take_off-first g.T.PartTable.content c.args.taken.now c.loop-waiter.waiter-index c.waiter-item.result
+    c.loop-waiter-test.true c.waiter-item.is (number_at place) (account_at g.T.PartTable.content place)
+    c.loop-waiter.invariant.lawful).0
+
+pub loop-waiter-preserved : goal.loop-waiter-preserved
+loop-waiter-preserved g c =
+    let content = g.T.PartTable.content in
+    let items = c.args.taken.now in
+    let i = c.loop-waiter.waiter-index in
+    let waiter = c.waiter-item.result in
+    let place = c.loop-waiter.place in
+    let after = c.take_off.new.place in
+    let led = c.take_off.ensures.led in
+    let may = may_take_off-first content items i waiter c.loop-waiter-test.true c.waiter-item.is (number_at place)
+    (account_at content place) c.loop-waiter.invariant.lawful in
+    record {
+      led = led-again content c.args.place.now place after _ _ c.loop-waiter.invariant.led led;
+      lawful = subst (λ n. MayTakeAllOff n (account_at content after) (drop (i + 1) items)) (sym led.number)
+          (subst (λ a. MayTakeAllOff (number_at place) a (drop (i + 1) items)) (sym led.account) may.1);
+      ends = off-next content items i waiter c.loop-waiter-test.true c.waiter-item.is (account_at content place)
+          (account_at content after) _ c.loop-waiter.invariant.ends led.account;
+      slots = c.take_off.ensures.slots ∙ c.loop-waiter.invariant.slots;
+    }
+
+pub returns-clause-led : goal.returns-clause-led
+returns-clause-led g c =
+    let content = g.T.PartTable.content in
+    let place = c.loop-waiter.place in
+    led-as content c.args.place.now place _ _ c.loop-waiter.invariant.led
+    (off-last c.args.taken.now c.loop-waiter.waiter-index (account_at content place) _ (omega arith)
+    c.loop-waiter.invariant.ends)

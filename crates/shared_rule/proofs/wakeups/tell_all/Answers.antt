@@ -1,0 +1,48 @@
+use Rattle.std.proofs.Common.{refl, sym, ◌∙◌, subst, arith, drop, ◌+◌}
+use Rattle.shared_rule.specs.Plays.{account_at}
+use Rattle.shared_rule.specs.Wakeups.{MayTellAll}
+use Rattle.shared_rule.proofs.Led.{led-as, led-again, led-self}
+use Rattle.shared_rule.proofs.Queueing.{may_tell-first, told-next, told-last}
+use Rattle.shared_rule.proofs.wakeups.tell_all.Goals as goal
+
+pub loop-waiter-init : goal.loop-waiter-init
+loop-waiter-init g c = record {
+  led = led-self g.T.PartTable.content c.args.place.now c.requires.session;
+  lawful = c.requires.lawful;
+  ends = refl;
+  slots = refl;
+}
+
+pub tell-requires-clause-lawful : goal.tell-requires-clause-lawful
+tell-requires-clause-lawful g c =
+    let place = c.loop-waiter.place in
+    (may_tell-first g.T.PartTable.content c.args.taken.now c.loop-waiter.waiter-index c.waiter-item.result
+    c.loop-waiter-test.true c.waiter-item.is (account_at g.T.PartTable.content place)
+    c.loop-waiter.invariant.lawful).0
+
+pub loop-waiter-preserved : goal.loop-waiter-preserved
+loop-waiter-preserved g c =
+    let content = g.T.PartTable.content in
+    let items = c.args.taken.now in
+    let i = c.loop-waiter.waiter-index in
+    let waiter = c.waiter-item.result in
+    let place = c.loop-waiter.place in
+    let after = c.tell.new.place in
+    let led = c.tell.ensures.led in
+    let may = may_tell-first content items i waiter c.loop-waiter-test.true c.waiter-item.is
+    (account_at content place) c.loop-waiter.invariant.lawful in
+    record {
+      led = led-again content c.args.place.now place after _ _ c.loop-waiter.invariant.led led;
+      lawful = subst (λ a. MayTellAll a (drop (i + 1) items)) (sym led.account) may.1;
+      ends = told-next content items i waiter c.loop-waiter-test.true c.waiter-item.is (account_at content place)
+          (account_at content after) _ c.loop-waiter.invariant.ends led.account;
+      slots = c.tell.ensures.slots ∙ c.loop-waiter.invariant.slots;
+    }
+
+pub returns-clause-led : goal.returns-clause-led
+returns-clause-led g c =
+    let content = g.T.PartTable.content in
+    let place = c.loop-waiter.place in
+    led-as content c.args.place.now place _ _ c.loop-waiter.invariant.led
+    (told-last c.args.taken.now c.loop-waiter.waiter-index (account_at content place) _ (omega arith)
+    c.loop-waiter.invariant.ends)

@@ -1,0 +1,77 @@
+use Rattle.std.proofs.Common.{◌≡◌, ℕ, ◌≤◌, List, ap, ◌∙◌, subst}
+use Rattle.lw_word.specs.declared.wait_lists.LwWaiter.{LwWaiter}
+use Rattle.lw_word.specs.WaitList.{times_in, taken_off, left_waiting}
+use Rattle.shared_rule.specs.LwLocks.{lock_number}
+use Rattle.shared_rule.specs.Plays.{account_at, number_at}
+use Rattle.shared_rule.proofs.Woken.{not-there, may-take_all_off, left-in_hand, may-tell_all, woken}
+use Rattle.shared_rule.proofs.wakeups.wake_waiters.Goals as goal
+
+pub take_all_off-requires-clause-lawful : goal.take_all_off-requires-clause-lawful
+take_all_off-requires-clause-lawful g c =
+    let content = g.T.PartTable.content in
+    let place = c.args.place.now in
+    let n = lock_number c.args.lock.now in
+    let ws = c.in-Some.list.value in
+    let locks = (c.in-Some.ensures {u = tt}).led in
+    let once : (k : ℕ) → times_in k ws ≤ 1 =
+    λ k. subst (λ (l : List LwWaiter). times_in k l ≤ 1) (c.waiters-each_once.ensures.value ∙ c.deref.ensures)
+    (c.waiters-each_once.ensures.once.once k) in
+    let other = not-there (account_at content place).lists (number_at place) n ws c.requires.idle
+    (c.in-Some.ensures {u = tt}).stands in
+    let taken : c.wake_split-wakeup.result.taken.items ≡ taken_off ws =
+    c.wake_split-wakeup.ensures.taken ∙ ap taken_off c.deref_mut.ensures.value in
+    may-take_all_off content place c.try_lock_list.new.place n ws locks c.requires.idle once other c.as_slice.result.now (c.as_slice.ensures.value ∙ taken)
+
+pub unlock_after_wakeup-requires-clause-in_hand : goal.unlock_after_wakeup-requires-clause-in_hand
+unlock_after_wakeup-requires-clause-in_hand g c =
+    let content = g.T.PartTable.content in
+    let place = c.args.place.now in
+    let n = lock_number c.args.lock.now in
+    let ws = c.in-Some.list.value in
+    let locks = (c.in-Some.ensures {u = tt}).led in
+    let once : (k : ℕ) → times_in k ws ≤ 1 =
+    λ k. subst (λ (l : List LwWaiter). times_in k l ≤ 1) (c.waiters-each_once.ensures.value ∙ c.deref.ensures)
+    (c.waiters-each_once.ensures.once.once k) in
+    let other = not-there (account_at content place).lists (number_at place) n ws c.requires.idle
+    (c.in-Some.ensures {u = tt}).stands in
+    let taken : c.wake_split-wakeup.result.taken.items ≡ taken_off ws =
+    c.wake_split-wakeup.ensures.taken ∙ ap taken_off c.deref_mut.ensures.value in
+    left-in_hand content place c.try_lock_list.new.place n ws locks c.requires.idle once other c.as_slice.result.now (c.as_slice.ensures.value ∙ taken)
+    c.take_all_off.new.place c.take_all_off.ensures.led c.wake_split-wakeup.new.self
+    (c.wake_split-wakeup.ensures.left ∙ ap left_waiting c.deref_mut.ensures.value)
+
+pub tell_all-requires-clause-lawful : goal.tell_all-requires-clause-lawful
+tell_all-requires-clause-lawful g c =
+    let content = g.T.PartTable.content in
+    let place = c.args.place.now in
+    let n = lock_number c.args.lock.now in
+    let ws = c.in-Some.list.value in
+    let locks = (c.in-Some.ensures {u = tt}).led in
+    let once : (k : ℕ) → times_in k ws ≤ 1 =
+    λ k. subst (λ (l : List LwWaiter). times_in k l ≤ 1) (c.waiters-each_once.ensures.value ∙ c.deref.ensures)
+    (c.waiters-each_once.ensures.once.once k) in
+    let other = not-there (account_at content place).lists (number_at place) n ws c.requires.idle
+    (c.in-Some.ensures {u = tt}).stands in
+    let taken : c.wake_split-wakeup.result.taken.items ≡ taken_off ws =
+    c.wake_split-wakeup.ensures.taken ∙ ap taken_off c.deref_mut.ensures.value in
+    may-tell_all content place c.try_lock_list.new.place n ws locks c.requires.idle once other c.as_slice.result.now (c.as_slice.ensures.value ∙ taken)
+    c.take_all_off.new.place c.take_all_off.ensures.led c.unlock_after_wakeup.new.place c.unlock_after_wakeup.ensures.led
+    c.as_slice-2.result.now (c.as_slice-2.ensures.value ∙ taken)
+
+pub returns-clause-led : goal.returns-clause-led
+returns-clause-led g c =
+    let content = g.T.PartTable.content in
+    let place = c.args.place.now in
+    let n = lock_number c.args.lock.now in
+    let ws = c.in-Some.list.value in
+    let locks = (c.in-Some.ensures {u = tt}).led in
+    let once : (k : ℕ) → times_in k ws ≤ 1 =
+    λ k. subst (λ (l : List LwWaiter). times_in k l ≤ 1) (c.waiters-each_once.ensures.value ∙ c.deref.ensures)
+    (c.waiters-each_once.ensures.once.once k) in
+    let other = not-there (account_at content place).lists (number_at place) n ws c.requires.idle
+    (c.in-Some.ensures {u = tt}).stands in
+    let taken : c.wake_split-wakeup.result.taken.items ≡ taken_off ws =
+    c.wake_split-wakeup.ensures.taken ∙ ap taken_off c.deref_mut.ensures.value in
+    woken content place c.try_lock_list.new.place n ws locks c.requires.idle once other c.as_slice.result.now (c.as_slice.ensures.value ∙ taken)
+    c.take_all_off.new.place c.take_all_off.ensures.led c.unlock_after_wakeup.new.place c.unlock_after_wakeup.ensures.led
+    c.tell_all.new.place c.as_slice-2.result.now (c.as_slice-2.ensures.value ∙ taken) c.tell_all.ensures.led

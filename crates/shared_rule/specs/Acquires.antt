@@ -1,0 +1,51 @@
+use Rattle.std.specs.Prelude.{◌≡◌, ℕ, ◌∷◌, Option, None}
+use Rattle.atomic_table.specs.declared.shared.Seat.{Seat}
+use Rattle.lock_table.specs.declared.request.Request.{Request}
+use Rattle.lock_table.specs.Content.{Content}
+use Rattle.lw_word.specs.declared.words.LwMode.{LwMode}
+use Rattle.lw_word.specs.declared.words.LwMode.TheVariants.{Exclusive, Shared}
+use Rattle.lock_world.specs.Account.{Account, SlotsInHand}
+use Rattle.lock_world.specs.AccountLaw.{MayShareFastBy}
+use Rattle.lock_world.specs.AccountSteps.{account_taking, account_taking_fast, account_sharing_fast}
+use Rattle.lock_world.specs.AccountFacts.{KnowsContent, KnowsSlots}
+use Rattle.shared_rule.specs.declared.history.View.{View}
+use Rattle.shared_rule.specs.declared.kept.Kept.{Kept}
+use Rattle.shared_rule.specs.declared.kept.Kept.TheVariants.{Nothing}
+use Rattle.shared_rule.specs.Layout.{content_slot_of}
+use Rattle.shared_rule.specs.Led.{Led}
+use Rattle.shared_rule.specs.Plays.{account_at, number_at}
+
+-- What an acquire of a lightweight lock leads to, whether it won at once or waited in the lock's list.
+
+-- What getting the lock of a session's slots makes of the account: exclusively, or to share it.
+abbrev pub account_getting : LwMode → ℕ → Account → ℕ → SlotsInHand → Account
+account_getting Exclusive number a owner slots = account_taking_fast number a owner slots
+account_getting Shared number a owner slots = account_sharing_fast number a owner slots
+
+-- The session may get it so: it doesn't share it yet.
+abbrev pub MayGetSlots : LwMode → Account → ℕ → Type 0
+MayGetSlots Exclusive a owner = Unit {0}
+MayGetSlots Shared a owner = MayShareFastBy a owner
+
+module _ {T : Type 0} (content : T → Content) where
+  -- It got nothing: the account, and what is in hand, are as before.
+  pub record IsAsBefore (before after : Seat (Kept T) (View T)) : Type 0 where
+    pub led : Led content before after (account_at content before)
+    pub slots : after.me.1 ≡ before.me.1
+
+  -- It got the lock of a session's slots in this mode, with what they show.
+  pub record GetsSlots (mode : LwMode) (owner : ℕ) (before after : Seat (Kept T) (View T)) : Type 0 where
+    pub shown : SlotsInHand
+    pub knows : KnowsSlots (number_at before) (account_at content before) owner shown
+    pub led :
+        Led content before after
+        (account_getting mode (number_at before) (account_at content before) owner shown)
+    pub slots : after.me.1 ≡ before.me.1
+
+module _ {T : Type 0} (content : T → Content) (begun : T → Option Request) where
+  -- It got a partition, with this content.
+  pub record TakesPartition (part : ℕ) (before after : Seat (Kept T) (View T)) (taken : T) : Type 0 where
+    pub led : Led content before after (account_taking (account_at content before) part (content taken))
+    pub slots : after.me.1 ≡ (content_slot_of part, Nothing) ∷ before.me.1
+    pub none_begun : begun taken ≡ None
+    pub knows : KnowsContent (number_at before) (account_at content before) part (content taken)

@@ -1,0 +1,37 @@
+use Rattle.std.specs.Prelude.{◌≡◌, ℕ, ◌<◌, List, [], Option, Some, None}
+use Rattle.lw_word.specs.declared.wait_lists.LwWaiter.{LwWaiter}
+use Rattle.lock_world.specs.declared.events.Word.{Word}
+use Rattle.lock_world.specs.declared.events.Word.TheVariants.{Partition, Fast}
+use Rattle.lock_world.specs.WaitLists.{partition_lock, fast_lock}
+use Rattle.lock_world.specs.Account.{ListInHand, ListAccount}
+use Rattle.shared_rule.specs.declared.lw_lock.LwLock.{LwLock}
+use Rattle.shared_rule.specs.declared.lw_lock.LwLock.TheVariants.{OfPart, OfSlots}
+
+-- The lightweight locks of the table: each has a word and, by its number, a wait list.
+
+abbrev pub word_of_lock : LwLock → Word
+word_of_lock (OfPart partition) = Partition partition
+word_of_lock (OfSlots owner) = Fast owner
+
+abbrev pub lock_number : LwLock → ℕ
+lock_number (OfPart partition) = partition_lock partition
+lock_number (OfSlots owner) = fast_lock owner
+
+-- There is this lock where there can be so many sessions,
+abbrev pub LockExists : ℕ → LwLock → Type 0
+LockExists limit (OfPart partition) = partition < 16
+LockExists limit (OfSlots owner) = owner < limit
+
+-- and it has its places in the table.
+abbrev pub LockIsInTable : LwLock → Type 0
+LockIsInTable (OfPart partition) = partition < 16
+LockIsInTable (OfSlots owner) = owner < 64
+
+-- What a session knows of wait lists between two calls: it has none in hand, stands in none, and owes nobody that it
+-- was taken off one,
+abbrev pub no_lists : ListAccount
+no_lists = record { in_hand = None; stands = None; off = λ _. Rattle.std.specs.Prelude.false }
+
+-- and while it waits for a lock, in whose list it stands unless somebody has taken it off.
+abbrev pub queued_for : ℕ → ListAccount
+queued_for lock = record { in_hand = None; stands = Some lock; off = λ _. Rattle.std.specs.Prelude.false }

@@ -1,0 +1,208 @@
+//! The steps of a session on the wait lists of lightweight locks, and on the sleep words of those who stand there. A list
+//! is in hand while its bit in the lock's word is set; changes of it are made in memory beside the step that is told.
+
+ghost use Rattle.std.specs.Prelude.{◌≡◌, ◌≢◌, ◌∷◌, ℕ, Some, None, IfSome, IfNone, true};
+ghost use Rattle.atomic_table.specs.Table.{rest};
+ghost use Rattle.lw_word.specs.WaitList.{stands_in};
+ghost use Rattle.lock_world.specs.Account.{ListInHand};
+ghost use Rattle.lock_world.specs.AccountLaw.{MayJoinListBy, MayLeaveListBy, MayTakeOffBy, MayTellBy};
+ghost use Rattle.lock_world.specs.AccountSteps.{account_locking_list, account_unlocking_list};
+ghost use Rattle.lock_world.specs.AccountSteps.{account_joining_list, account_leaving_list, account_taking_off};
+ghost use Rattle.lock_world.specs.AccountSteps.{account_telling, account_loading_sleep};
+ghost use Rattle.shared_rule.specs.Marks.{JoinedList, TookOff, Told};
+ghost use Rattle.shared_rule.specs.Marks.{SetReleaseOk, SetHasWaiters};
+ghost use Rattle.shared_rule.specs.declared.kept.Kept.TheVariants.{Nothing};
+ghost use Rattle.shared_rule.specs.History.{list_here, noting};
+ghost use Rattle.shared_rule.specs.Layout.{list_slot_of};
+ghost use Rattle.shared_rule.specs.Led.{Led};
+ghost use Rattle.shared_rule.specs.LwLocks.{lock_number, LockExists, LockIsInTable};
+ghost use Rattle.shared_rule.specs.Plays.{account_at, number_at, FitsTable, HasSession, IsSameSeat};
+
+use crate::kept::Kept;
+use crate::layout::sleep_word;
+use crate::lw_lock::LwLock;
+use crate::plays::{LocksList, Marking};
+use crate::rule::{Place, Top};
+use crate::words::{fetch_or_as, load_as, store_as, unlock_as};
+use lock_table::PartTable;
+use lw_word::{LwMode, LwWord, WaitList};
+use modes_core::SessionId;
+use std::marker::Brand;
+
+/// One attempt to lock the wait list of a lightweight lock (`LWLockWaitListLock` in lwlock.c). Who gets it is told that the
+/// session stands there only if it knows that it waits for that lock.
+pub(crate) fn try_lock_list<T: PartTable>(
+    top: &Top<T>,
+    place: &mut Place<T>,
+    lock: &LwLock,
+) -> Option<Box<WaitList>>
+    requires table { FitsTable place.old top.now.table_id }
+    requires exists { LockExists top.now.key lock.now }
+    requires there { LockIsInTable lock.now }
+    requires session { HasSession place.old.me.0 }
+    requires no_list { (account_at T.content place.old).lists.in_hand ≡ None }
+    ensures seat { IsSameSeat place.old place.new }
+    ensures led { IfSome result (λ list. Led T.content place.old place.new
+        (account_locking_list (account_at T.content place.old) (lock_number lock.now) list.value)) }
+    ensures slots { IfSome result (λ list. place.new.me.1
+        ≡ (list_slot_of (lock_number lock.now), Nothing) ∷ place.old.me.1) }
+    ensures stands { IfSome result (λ list. stands_in (number_at place.old) list.value ≡ true
+        → (account_at T.content place.old).lists.stands ≡ Some (lock_number lock.now)) }
+    ensures none { IfNone result (place.new.me ≡ place.old.me) }
+{
+    let found = top.fetch_or::<LocksList>(place, lock.word(), LwWord::LIST_LOCKED);
+    if found / LwWord::LIST_LOCKED % 2 == 0 {
+        let kept = top.exchange(place, lock.list_slot(), Kept::Nothing);
+        Some(kept.into_list())
+    } else {
+        None
+    }
+}
+
+/// Puts the list in hand home and unlocks it; of the two flags those go that are not to stay (`LWLockWaitListUnlock`, and
+/// the end of `LWLockWakeup`, in lwlock.c).
+pub(crate) fn unlock_list<T: PartTable>(
+    top: &Top<T>,
+    place: &mut Place<T>,
+    lock: &LwLock,
+    list: Box<WaitList>,
+    has_waiters: bool,
+    release_ok: bool,
+)
+    requires table { FitsTable place.old top.now.table_id }
+    requires there { LockIsInTable lock.now }
+    requires session { HasSession place.old.me.0 }
+    requires out { place.old.me.1 ≡ (list_slot_of (lock_number lock.now), Nothing) ∷ rest place.old.me.1 }
+    requires in_hand { (account_at T.content place.old).lists.in_hand
+        ≡ Some (record { lock = lock_number lock.now; waiters = list.value }) }
+    ensures led { Led T.content place.old place.new (account_unlocking_list (account_at T.content place.old)) }
+    ensures slots { place.new.me.1 ≡ rest place.old.me.1 }
+{
+    match top.exchange(place, lock.list_slot(), Kept::List(list)) {
+        Kept::Nothing => unlock_as::<T, Brand>(
+            top,
+            place,
+            lock.word(),
+            LwWord::kept_bits(has_waiters, release_ok),
+        ),
+        Kept::Part(_) | Kept::List(_) => unreachable!(),
+    }
+}
+
+/// Stores in the own sleep word that the session waits in the list in hand (`LWLockQueueSelf` in lwlock.c sets
+/// `lwWaiting`).
+pub(crate) fn join_list<T: PartTable, M: Marking<T>>(
+    top: &Top<T>,
+    place: &mut Place<T>,
+    number: SessionId,
+    mode: LwMode,
+)
+    requires table { FitsTable place.old top.now.table_id }
+    requires session { HasSession place.old.me.0 }
+    requires own { number ≡ number_at place.old }
+    requires lawful { (mine : ListInHand) × MayJoinListBy (account_at T.content place.old) mine }
+    requires mark { M.mark ≡ (λ _. JoinedList mode) }
+    ensures led { Led T.content place.old place.new (account_joining_list (account_at T.content place.old)
+        (list_here (account_at T.content place.old).lists.in_hand) (record { session = number; mode = mode })) }
+    ensures slots { place.new.me.1 ≡ place.old.me.1 }
+{
+    store_as::<T, M>(top, place, sleep_word(number), 1);
+}
+
+/// Stores there that it waits no more, with itself in the list in hand (`LWLockDequeueSelf` in lwlock.c).
+pub(crate) fn leave_list<T: PartTable>(top: &Top<T>, place: &mut Place<T>, number: SessionId)
+    requires table { FitsTable place.old top.now.table_id }
+    requires session { HasSession place.old.me.0 }
+    requires own { number ≡ number_at place.old }
+    requires lawful { (mine : ListInHand)
+        × MayLeaveListBy (number_at place.old) (account_at T.content place.old) mine }
+    ensures led { Led T.content place.old place.new (account_leaving_list (account_at T.content place.old)
+        (list_here (account_at T.content place.old).lists.in_hand) number) }
+    ensures slots { place.new.me.1 ≡ place.old.me.1 }
+{
+    store_as::<T, Brand>(top, place, sleep_word(number), 0);
+}
+
+/// Takes another session off the list in hand: its sleep word shows that it is to be told (the first loop of
+/// `LWLockWakeup` in lwlock.c, and `LW_WS_PENDING_WAKEUP`).
+pub(crate) fn take_off<T: PartTable, M: Marking<T>>(
+    top: &Top<T>,
+    place: &mut Place<T>,
+    other: SessionId,
+)
+    requires table { FitsTable place.old top.now.table_id }
+    requires session { HasSession place.old.me.0 }
+    requires lawful { (mine : ListInHand)
+        × MayTakeOffBy (number_at place.old) (account_at T.content place.old) mine other }
+    requires mark { M.mark ≡ (λ _. TookOff other) }
+    ensures led { Led T.content place.old place.new (account_taking_off (account_at T.content place.old)
+        (list_here (account_at T.content place.old).lists.in_hand) other) }
+    ensures slots { place.new.me.1 ≡ place.old.me.1 }
+{
+    store_as::<T, M>(top, place, sleep_word(other), 2);
+}
+
+/// Tells a session that was taken off a list that it may go on (the second loop of `LWLockWakeup` in lwlock.c).
+pub(crate) fn tell<T: PartTable, M: Marking<T>>(
+    top: &Top<T>,
+    place: &mut Place<T>,
+    other: SessionId,
+)
+    requires table { FitsTable place.old top.now.table_id }
+    requires session { HasSession place.old.me.0 }
+    requires lawful { MayTellBy (account_at T.content place.old) other }
+    requires mark { M.mark ≡ (λ _. Told other) }
+    ensures led { Led T.content place.old place.new (account_telling (account_at T.content place.old) other) }
+    ensures slots { place.new.me.1 ≡ place.old.me.1 }
+{
+    store_as::<T, M>(top, place, sleep_word(other), 0);
+}
+
+/// Loads the own sleep word (`lwWaiting` in proc.h, as the sleep of `LWLockAcquire` in lwlock.c reads it).
+pub(crate) fn load_sleep<T: PartTable>(top: &Top<T>, place: &mut Place<T>, number: SessionId) -> u64
+    requires table { FitsTable place.old top.now.table_id }
+    requires session { HasSession place.old.me.0 }
+    requires own { number ≡ number_at place.old }
+    ensures led { Led T.content place.old place.new
+        (account_loading_sleep (account_at T.content place.old) result) }
+    ensures slots { place.new.me.1 ≡ place.old.me.1 }
+{
+    load_as::<T, Brand>(top, place, sleep_word(number))
+}
+
+/// Sets release-ok in a lock's word: releases may wake waiters again (`LW_FLAG_RELEASE_OK` in lwlock.c).
+pub(crate) fn set_release_ok<T: PartTable, M: Marking<T>>(
+    top: &Top<T>,
+    place: &mut Place<T>,
+    lock: &LwLock,
+)
+    requires table { FitsTable place.old top.now.table_id }
+    requires exists { LockExists top.now.key lock.now }
+    requires there { LockIsInTable lock.now }
+    requires session { HasSession place.old.me.0 }
+    requires mark { M.mark ≡ (λ _. SetReleaseOk (lock_number lock.now)) }
+    ensures led { Led T.content place.old place.new (account_at T.content place.old) }
+    ensures side { place.new.me ≡ (noting place.old.me.0 (SetReleaseOk (lock_number lock.now)), place.old.me.1) }
+    ensures slots { place.new.me.1 ≡ place.old.me.1 }
+{
+    fetch_or_as::<T, M>(top, place, lock.word(), LwWord::RELEASE_OK);
+}
+
+/// Sets has-waiters there, with the lock's list in hand (`LWLockQueueSelf` in lwlock.c).
+pub(crate) fn set_has_waiters<T: PartTable, M: Marking<T>>(
+    top: &Top<T>,
+    place: &mut Place<T>,
+    lock: &LwLock,
+)
+    requires table { FitsTable place.old top.now.table_id }
+    requires exists { LockExists top.now.key lock.now }
+    requires there { LockIsInTable lock.now }
+    requires session { HasSession place.old.me.0 }
+    requires lawful { (mine : ListInHand) × ((account_at T.content place.old).lists.in_hand ≡ Some mine)
+        × (mine.lock ≡ lock_number lock.now) }
+    requires mark { M.mark ≡ (λ _. SetHasWaiters (lock_number lock.now)) }
+    ensures led { Led T.content place.old place.new (account_at T.content place.old) }
+    ensures slots { place.new.me.1 ≡ place.old.me.1 }
+{
+    fetch_or_as::<T, M>(top, place, lock.word(), LwWord::HAS_WAITERS);
+}

@@ -1,0 +1,43 @@
+//! The lightweight locks of the table.
+
+ghost use Rattle.std.specs.Prelude.{◌≡◌, ◌<◌};
+ghost use Rattle.shared_rule.specs.declared.layout.TheConstants.{TABLE_WORDS};
+ghost use Rattle.shared_rule.specs.Layout.{index_of_word, list_slot_of};
+ghost use Rattle.shared_rule.specs.LwLocks.{word_of_lock, lock_number, LockIsInTable};
+
+use crate::layout::{fast_word, list_slot, partition_word};
+use modes_core::SessionId;
+
+/// A lightweight lock, with a word and a wait list of its own (`LWLock` in lwlock.h).
+#[derive(Drop)]
+pub(crate) enum LwLock {
+    /// That of a partition (`LockHashPartitionLock` in lock.h).
+    OfPart(u8),
+    /// That of a session's fast-path slots (`fpInfoLock` in proc.h).
+    OfSlots(SessionId),
+}
+
+impl LwLock {
+    /// The index of its word.
+    pub(crate) fn word(&self) -> usize
+        requires there { LockIsInTable self.now }
+        ensures index { result ≡ index_of_word (word_of_lock self.now) }
+        ensures within { result < TABLE_WORDS }
+    {
+        match self {
+            LwLock::OfPart(part) => partition_word(*part),
+            LwLock::OfSlots(owner) => fast_word(*owner),
+        }
+    }
+
+    /// The slot in which its wait list lies while nobody has it in hand.
+    pub(crate) fn list_slot(&self) -> usize
+        requires there { LockIsInTable self.now }
+        ensures slot { result ≡ list_slot_of (lock_number self.now) }
+    {
+        match self {
+            LwLock::OfPart(part) => list_slot(2 * *part),
+            LwLock::OfSlots(owner) => list_slot(2 * owner.number() + 1),
+        }
+    }
+}

@@ -1,0 +1,148 @@
+//! Waiting for a lightweight lock in its list (`LWLockAcquire` in lwlock.c, from the first lost attempt on).
+//!
+//! No wake-up is lost, by these six, of which no clause tells: has-waiters is set before the attempt that follows the
+//! queueing (`queue_self`), so that whoever holds the lock then sees it; that attempt is repeated until it wins or sees the
+//! lock held; whoever was woken sets release-ok before it attempts again; nobody leaves another list than the one it stands
+//! in (`dequeue_self` requires it); a release that finds the list locked may go, since whoever has the list attempts the lock
+//! afterwards, holds it, or has taken somebody off; and `park` looks at the sleep word again in the kernel.
+
+ghost use Rattle.std.specs.Prelude.{◌≡◌, ◌∷◌, true, None, Some};
+ghost use Rattle.lw_word.specs.WaitList.{stands_in};
+ghost use Rattle.lock_world.specs.AccountSteps.{account_locking_list};
+ghost use Rattle.shared_rule.specs.declared.kept.Kept.TheVariants.{Nothing};
+ghost use Rattle.shared_rule.specs.Layout.{list_slot_of};
+ghost use Rattle.shared_rule.specs.Led.{Led};
+ghost use Rattle.shared_rule.specs.LwLocks.{lock_number, LockExists, LockIsInTable, no_lists, queued_for};
+ghost use Rattle.shared_rule.specs.Plays.{account_at, number_at, FitsTable, HasSession};
+
+use crate::layout::sleep_word;
+use crate::lists::{
+    join_list, leave_list, load_sleep, set_has_waiters, set_release_ok, try_lock_list, unlock_list,
+};
+use crate::lw_lock::LwLock;
+use crate::rule::{Place, Top};
+use crossbeam_utils::Backoff;
+use lock_table::PartTable;
+use lw_word::{LwMode, WaitList};
+use modes_core::SessionId;
+use std::marker::Brand;
+use std::sync::Wait;
+
+/// How many attempts a session makes before it queues, with a short pause before each, each twice as long as the one before
+/// (PostgreSQL spins so for spin locks, `perform_spin_delay` in s_lock.c).
+pub(crate) const SPINS: u32 = 6;
+
+/// Locks the wait list of a lightweight lock: it tries until it has it, with pauses between (`LWLockWaitListLock` in
+/// lwlock.c). A list is in hand for a few steps only.
+fn lock_list<T: PartTable, R: Wait>(
+    rt: &R,
+    top: &Top<T>,
+    place: &mut Place<T>,
+    lock: &LwLock,
+) -> Box<WaitList>
+    requires table { FitsTable place.old top.now.table_id }
+    requires exists { LockExists top.now.key lock.now }
+    requires there { LockIsInTable lock.now }
+    requires session { HasSession place.old.me.0 }
+    requires no_list { (account_at T.content place.old).lists.in_hand ≡ None }
+    ensures led { Led T.content place.old place.new
+        (account_locking_list (account_at T.content place.old) (lock_number lock.now) result.value) }
+    ensures slots { place.new.me.1 ≡ (list_slot_of (lock_number lock.now), Nothing) ∷ place.old.me.1 }
+    ensures stands { stands_in (number_at place.old) result.value ≡ true
+        → (account_at T.content place.old).lists.stands ≡ Some (lock_number lock.now) }
+{
+    let backoff = Backoff::new();
+    for _ in rt.forever() {
+        if let Some(list) = try_lock_list(top, place, lock) {
+            return list;
+        }
+        backoff.snooze();
+    }
+    unreachable!()
+}
+
+/// Queues the session at the end of a lock's wait list (`LWLockQueueSelf` in lwlock.c). Has-waiters stands before the
+/// session does, so whoever releases the lock from then on sees it. The caller attempts the lock once more after it.
+pub(crate) fn queue_self<T: PartTable, R: Wait>(
+    rt: &R,
+    top: &Top<T>,
+    place: &mut Place<T>,
+    number: SessionId,
+    lock: &LwLock,
+    mode: LwMode,
+)
+    requires table { FitsTable place.old top.now.table_id }
+    requires exists { LockExists top.now.key lock.now }
+    requires there { LockIsInTable lock.now }
+    requires session { HasSession place.old.me.0 }
+    requires own { number ≡ number_at place.old }
+    requires idle { (account_at T.content place.old).lists ≡ no_lists }
+    ensures led { Led T.content place.old place.new
+        (record (account_at T.content place.old) { lists = queued_for (lock_number lock.now) }) }
+    ensures slots { place.new.me.1 ≡ place.old.me.1 }
+{
+    let mut list = lock_list(rt, top, place, lock);
+    set_has_waiters::<T, Brand>(top, place, lock);
+    join_list::<T, Brand>(top, place, number, mode);
+    list.join(number, mode);
+    unlock_list(top, place, lock, list, true, true);
+}
+
+/// Sleeps until the own sleep word shows 0: whoever took the session off its list has told it so (the sleep on the
+/// semaphore in `LWLockAcquire` in lwlock.c). The kernel compares the word before a thread sleeps, so nothing that is told
+/// meanwhile is slept through.
+pub(crate) fn sleep_until_told<T: PartTable, R: Wait>(
+    rt: &R,
+    top: &Top<T>,
+    place: &mut Place<T>,
+    number: SessionId,
+)
+    requires table { FitsTable place.old top.now.table_id }
+    requires session { HasSession place.old.me.0 }
+    requires own { number ≡ number_at place.old }
+    ensures led { Led T.content place.old place.new (record (account_at T.content place.old) {
+      lists = record ((account_at T.content place.old).lists) { stands = None };
+    }) }
+    ensures slots { place.new.me.1 ≡ place.old.me.1 }
+{
+    for _ in rt.forever() {
+        let shown = load_sleep(top, place, number);
+        if shown == 0 {
+            return;
+        }
+        let low_bits = (shown & u64::from(u32::MAX)) as u32;
+        top.park(rt, sleep_word(number), low_bits);
+    }
+    unreachable!()
+}
+
+/// Leaves the list of a lock that the session has got meanwhile. Where somebody has taken it off already, it is told so in
+/// any case: it waits for that, and sets release-ok in that one's stead (`LWLockDequeueSelf` in lwlock.c).
+pub(crate) fn dequeue_self<T: PartTable, R: Wait>(
+    rt: &R,
+    top: &Top<T>,
+    place: &mut Place<T>,
+    number: SessionId,
+    lock: &LwLock,
+)
+    requires table { FitsTable place.old top.now.table_id }
+    requires exists { LockExists top.now.key lock.now }
+    requires there { LockIsInTable lock.now }
+    requires session { HasSession place.old.me.0 }
+    requires own { number ≡ number_at place.old }
+    requires queued { (account_at T.content place.old).lists ≡ queued_for (lock_number lock.now) }
+    ensures led { Led T.content place.old place.new
+        (record (account_at T.content place.old) { lists = no_lists }) }
+    ensures slots { place.new.me.1 ≡ place.old.me.1 }
+{
+    let mut list = lock_list(rt, top, place, lock);
+    if list.leave(number) {
+        leave_list(top, place, number);
+        let some_left = !list.is_empty();
+        unlock_list(top, place, lock, list, some_left, true);
+    } else {
+        unlock_list(top, place, lock, list, true, true);
+        set_release_ok::<T, Brand>(top, place, lock);
+        sleep_until_told(rt, top, place, number);
+    }
+}

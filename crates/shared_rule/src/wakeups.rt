@@ -1,0 +1,136 @@
+//! Waking those who wait for a lightweight lock (`LWLockReleaseInternal` and `LWLockWakeup` in lwlock.c).
+
+ghost use Rattle.std.specs.Prelude.{◌≡◌, ◌∷◌, Some};
+ghost use Rattle.atomic_table.specs.Table.{rest};
+ghost use Rattle.lw_word.specs.declared.words.LwMode.TheVariants.{Exclusive, Shared};
+ghost use Rattle.lw_word.specs.LockState.{state_of, put_in, must_wake};
+ghost use Rattle.lock_world.specs.AccountSteps.{account_unlocking_list};
+ghost use Rattle.shared_rule.specs.declared.kept.Kept.TheVariants.{Nothing};
+ghost use Rattle.shared_rule.specs.Layout.{list_slot_of};
+ghost use Rattle.shared_rule.specs.Led.{Led};
+ghost use Rattle.shared_rule.specs.LwLocks.{lock_number, LockExists, LockIsInTable, no_lists};
+ghost use Rattle.shared_rule.specs.Plays.{account_at, number_at, FitsTable, HasSession};
+ghost use Rattle.shared_rule.specs.Wakeups.{all_taken_off, all_told, MayTakeAllOff, MayTellAll};
+
+use crate::layout::sleep_word;
+use crate::lists::{set_release_ok, take_off, tell, try_lock_list, unlock_list};
+use crate::lw_lock::LwLock;
+use crate::rule::{Place, Top};
+use lock_table::PartTable;
+use lw_word::{LwMode, LwWaiter, LwWord, WaitList};
+use std::marker::Brand;
+
+/// Whether whoever held a lock exclusively has to wake waiters, by the number that its fetch-and-subtract found in the
+/// lock's word (`check_waiters` in `LWLockReleaseInternal`).
+pub(crate) fn must_wake_after(found: u64) -> bool
+    ensures { result ≡ must_wake (put_in Exclusive (state_of found)) }
+{
+    found % LwMode::Exclusive.amount() == 0
+        && found / LwWord::HAS_WAITERS % 2 == 1
+        && found / LwWord::RELEASE_OK % 2 == 1
+}
+
+/// The same of whoever shared it: the last one to put it.
+pub(crate) fn must_wake_after_sharing(found: u64) -> bool
+    ensures { result ≡ must_wake (put_in Shared (state_of found)) }
+{
+    found % LwMode::Exclusive.amount() <= 1
+        && found / LwMode::Exclusive.amount() % 2 == 0
+        && found / LwWord::HAS_WAITERS % 2 == 1
+        && found / LwWord::RELEASE_OK % 2 == 1
+}
+
+// Takes these off the list in hand, one after the other.
+fn take_all_off<T: PartTable>(top: &Top<T>, place: &mut Place<T>, taken: &[LwWaiter])
+    requires table { FitsTable place.old top.now.table_id }
+    requires session { HasSession place.old.me.0 }
+    requires lawful { MayTakeAllOff (number_at place.old) (account_at T.content place.old) taken.now }
+    ensures led { Led T.content place.old place.new (all_taken_off (account_at T.content place.old) taken.now) }
+    ensures slots { place.new.me.1 ≡ place.old.me.1 }
+{
+    for waiter in taken {
+        take_off::<T, Brand>(top, place, waiter.session);
+    }
+}
+
+// Tells each of these that it may go on, and wakes it: the sleep word shows 0 before the wake, so that nobody sleeps through
+// it.
+fn tell_all<T: PartTable>(top: &Top<T>, place: &mut Place<T>, taken: &[LwWaiter])
+    requires table { FitsTable place.old top.now.table_id }
+    requires session { HasSession place.old.me.0 }
+    requires lawful { MayTellAll (account_at T.content place.old) taken.now }
+    ensures led { Led T.content place.old place.new (all_told (account_at T.content place.old) taken.now) }
+    ensures slots { place.new.me.1 ≡ place.old.me.1 }
+{
+    for waiter in taken {
+        tell::<T, Brand>(top, place, waiter.session);
+        top.wake_one(sleep_word(waiter.session));
+    }
+}
+
+// Sets release-ok where a wakeup says so: it took nobody off.
+fn set_release_ok_if<T: PartTable>(
+    top: &Top<T>,
+    place: &mut Place<T>,
+    lock: &LwLock,
+    release_ok: bool,
+)
+    requires table { FitsTable place.old top.now.table_id }
+    requires exists { LockExists top.now.key lock.now }
+    requires there { LockIsInTable lock.now }
+    requires session { HasSession place.old.me.0 }
+    ensures led { Led T.content place.old place.new (account_at T.content place.old) }
+    ensures slots { place.new.me.1 ≡ place.old.me.1 }
+{
+    if !release_ok {
+        return;
+    }
+    set_release_ok::<T, Brand>(top, place, lock);
+}
+
+// Puts the list home after a wakeup, with has-waiters where somebody is left, and release-ok as the wakeup says.
+fn unlock_after_wakeup<T: PartTable>(
+    top: &Top<T>,
+    place: &mut Place<T>,
+    lock: &LwLock,
+    list: Box<WaitList>,
+    release_ok: bool,
+)
+    requires table { FitsTable place.old top.now.table_id }
+    requires exists { LockExists top.now.key lock.now }
+    requires there { LockIsInTable lock.now }
+    requires session { HasSession place.old.me.0 }
+    requires out { place.old.me.1 ≡ (list_slot_of (lock_number lock.now), Nothing) ∷ rest place.old.me.1 }
+    requires in_hand { (account_at T.content place.old).lists.in_hand
+        ≡ Some (record { lock = lock_number lock.now; waiters = list.value }) }
+    ensures led { Led T.content place.old place.new (account_unlocking_list (account_at T.content place.old)) }
+    ensures slots { place.new.me.1 ≡ rest place.old.me.1 }
+{
+    set_release_ok_if(top, place, lock, release_ok);
+    let some_left = !list.is_empty();
+    unlock_list(top, place, lock, list, some_left, release_ok);
+}
+
+/// Wakes those first in a lock's wait list: one who wants it exclusively, or all who want to share it (`LWLockWakeup`). Where
+/// another session has the list, it leaves that to it: who has a list in hand attempts the lock afterwards, holds it, or has
+/// taken somebody off.
+#[cold]
+#[inline(never)]
+pub(crate) fn wake_waiters<T: PartTable>(top: &Top<T>, place: &mut Place<T>, lock: &LwLock)
+    requires table { FitsTable place.old top.now.table_id }
+    requires exists { LockExists top.now.key lock.now }
+    requires there { LockIsInTable lock.now }
+    requires session { HasSession place.old.me.0 }
+    requires idle { (account_at T.content place.old).lists ≡ no_lists }
+    ensures led { Led T.content place.old place.new (account_at T.content place.old) }
+    ensures slots { place.new.me.1 ≡ place.old.me.1 }
+{
+    let Some(mut list) = try_lock_list(top, place, lock) else {
+        return;
+    };
+    let _each_once = list.waiters();
+    let wakeup = list.wake_split();
+    take_all_off(top, place, wakeup.taken.as_slice());
+    unlock_after_wakeup(top, place, lock, list, wakeup.release_ok);
+    tell_all(top, place, wakeup.taken.as_slice());
+}

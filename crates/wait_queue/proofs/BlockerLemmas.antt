@@ -1,0 +1,58 @@
+use Rattle.std.proofs.Common.{◌≡◌, ◌≢◌, ℕ, zero, suc, ◌+◌, ◌<◌, ◌≤◌, Bool, true, false, not, cond, List, [], ◌∷◌, ◌++◌, length, take, map, Option, Some, None, refl, sym, ap, ◌∙◌, arith, append_assoc, append-nil}
+use Rattle.std.specs.Prelude.{slice_get, ◌==◌}
+use Rattle.std.specs.List.{list_any, before_first, prefix_len, position_or_len}
+use Rattle.std.proofs.lemmas.List.{map-append, length-append}
+use Rattle.std.proofs.lemmas.Option.{slice_get_within}
+use Rattle.lock_table.proofs.FindLemmas.{take-at}
+use Rattle.std.proofs.lemmas.Bool.{or_parts, ne_eqb, cond-false}
+use Rattle.modes_core.specs.declared.modes.Mode.{Mode}
+use Rattle.modes_core.specs.declared.tags.Tag.{Tag}
+use Rattle.modes_core.specs.Conflict.{conflict}
+use Rattle.lock_table.specs.Content.{Content}
+use Rattle.wait_queue.specs.declared.queues.Blocker.{Blocker}
+use Rattle.wait_queue.specs.Queues.{by_modes, holding_of, lists_below}
+
+-- What stands before the first element that passes is what stands before a place where one does, and none before it.
+position-at : {X : Type 0} (p : X → Bool) (xs : List X) (i : ℕ) (x : X) → list_any p (take i xs) ≡ false → slice_get xs i ≡ Some x → p x ≡ true → position_or_len p xs ≡ i
+position-at p [] i x none at passes = absurd (cc)
+position-at p (y ∷ xs) zero x none at passes = let same : y ≡ x = cc in ap (λ b. cond (not b) (1 + position_or_len p xs) 0) (ap p same ∙ passes)
+position-at p (y ∷ xs) (suc i) x none at passes =
+    let parts = or_parts (p y) (list_any p (take i xs)) none in
+    let rest : position_or_len p xs ≡ i = position-at p xs i x parts.1 at passes in
+    ap (λ b. cond (not b) (1 + position_or_len p xs) 0) parts.0 ∙ omega arith
+
+pub before-at : {X : Type 0} (p : X → Bool) (xs : List X) (i : ℕ) (x : X) → list_any p (take i xs) ≡ false → slice_get xs i ≡ Some x → p x ≡ true → take i xs ≡ before_first p xs
+before-at p xs i x none at passes = ap (λ n. take n xs) (sym (position-at p xs i x none at passes))
+
+-- Lists, one behind another: none at first, and one more.
+pub lists_below-start : (old : List Blocker) (lists : ℕ → List Blocker) → old ≡ old ++ lists_below 0 lists
+unfolding lists_below
+lists_below-start old lists = sym (append-nil old)
+
+pub lists_below-more :
+    (limit : ℕ) (lists : ℕ → List Blocker) (old before after : List Blocker) → before ≡ old ++ lists_below limit lists
+    → after ≡ before ++ lists limit → after ≡ old ++ lists_below (limit + 1) lists
+unfolding lists_below
+lists_below-more limit lists old before after so_far more =
+    let one : suc limit ≡ limit + 1 = omega arith in
+    more ∙ ap (λ xs. xs ++ lists limit) so_far ∙ append_assoc old (lists_below limit lists) (lists limit)
+    ∙ ap (λ n. old ++ lists_below n lists) one
+
+-- Another session stands in the way by the modes that it holds and that conflict.
+pub holding-another :
+    (content : Content) (tag : Tag) (session : ℕ) (mode : Mode) (other : ℕ) (held against : Mode → Bool) → other ≢ session
+    → held ≡ content.holds other tag → against ≡ conflict mode → by_modes other held against ≡ holding_of content tag session mode other
+holding-another content tag session mode other held against another its conflicting =
+    ap (λ (set : Mode → Bool). by_modes other set against) its ∙ ap (by_modes other (content.holds other tag)) conflicting
+    ∙ sym (cond-false (other == session) [] (by_modes other (content.holds other tag) (conflict mode)) (ne_eqb other session another))
+
+-- A copy of the front of a list, with one element more.
+pub copied-more :
+    {A B : Type 0} (f : A → B) (xs : List B) (ys zs : List A) (y : A) → map f ys ≡ take (length ys) xs → slice_get xs (length ys) ≡ Some (f y)
+    → zs ≡ ys ++ y ∷ [] → (length ys < length xs) × (length zs ≡ length ys + 1) × (map f zs ≡ take (length zs) xs)
+copied-more f xs ys zs y so_far at is =
+    let len : length zs ≡ length ys + 1 = ap length is ∙ length-append ys (y ∷ []) in (
+      slice_get_within xs (length ys) (f y) at,
+      len,
+      ap (map f) is ∙ map-append f ys (y ∷ []) ∙ ap (λ l. l ++ f y ∷ []) so_far ∙ sym (take-at xs (length ys) (f y) at) ∙ ap (λ n. take n xs) (sym len),
+    )

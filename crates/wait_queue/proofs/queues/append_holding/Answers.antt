@@ -1,0 +1,21 @@
+use Rattle.std.proofs.Common.{◌≡◌, ℕ, ◌++◌, Some, sym, ap, ◌∙◌, arith, subst}
+use Rattle.std.specs.Prelude.{IfSome}
+use Rattle.wait_queue.specs.Queues.{holding_of, lists_below}
+use Rattle.wait_queue.proofs.BlockerLemmas.{lists_below-start, lists_below-more}
+use Rattle.wait_queue.proofs.queues.append_holding.Goals as goal
+
+pub loop-number-init : goal.loop-number-init
+loop-number-init g c = lists_below-start c.args.found.now.items (holding_of (g.P.PartTable.content c.args.part.now) c.args.tag.now c.args.session c.args.mode)
+
+pub loop-number-preserved : goal.loop-number-preserved
+loop-number-preserved g c =
+    let lists = holding_of (g.P.PartTable.content c.args.part.now) c.args.tag.now c.args.session c.args.mode in
+    let other : c.unwrap-other.result ≡ c.loop-number.number = subst (λ found. IfSome found (λ id. id ≡ c.loop-number.number)) c.unwrap-other.ensures c.new.ensures.value in
+    lists_below-more c.loop-number.number lists c.args.found.now.items c.loop-number.found.items c.append_holding_of.new.found.items c.loop-number.invariant
+    (c.in_ok-append_holding_of.ensures ∙ ap (λ (k : ℕ). c.loop-number.found.items ++ lists k) other)
+
+pub returns : goal.returns
+returns g c =
+    let all : c.loop-number.number ≡ 64 = omega (arith, c.loop-number-test.false, c.loop-number.auto.number-end) in
+    c.loop-number.invariant
+    ∙ ap (λ (k : ℕ). c.args.found.now.items ++ lists_below k (holding_of (g.P.PartTable.content c.args.part.now) c.args.tag.now c.args.session c.args.mode)) all
