@@ -4,7 +4,7 @@ ghost use Rattle.std.specs.Prelude.{◌≡◌};
 
 use crate::crew::{Crew, Job, on_map};
 use anyhow::Result;
-use bench_base::keys::{Key, Kind, keys, keys_of_partition};
+use bench_base::keys::{Key, Kind, keys_of_partition, list_keys};
 use bench_base::rounds::{
     ROUNDS, Spread, Times, WIDTH, print_header, print_ratio, print_time, wall_nanos,
 };
@@ -63,7 +63,13 @@ impl Case {
             Case::OneObject => keys_of_partition(alloc, database, 0, 0, 1),
             Case::OnePartition => keys_of_partition(alloc, database, 0, from, OWN_KEYS),
             Case::OwnPartitions => keys_of_partition(alloc, database, thread, from, OWN_KEYS),
-            Case::OneRelation => keys(alloc, Kind::Relations(Mode::AccessShare), database, 0, 1),
+            Case::OneRelation => list_keys(
+                alloc,
+                Kind::Relations(Mode::AccessShare),
+                database,
+                0,
+                1,
+            ),
         }
     }
 
