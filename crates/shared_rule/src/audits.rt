@@ -30,8 +30,7 @@ use crate::plays::{LooksOver, Marking, TellsAll};
 use crate::rule::{Place, Top};
 use lock_table::{Move, NoMemory, PartTable, TableRow};
 use lw_word::SlotWord;
-use modes_core::tags::PARTITIONS;
-use modes_core::{Mode, SessionId};
+use modes_core::{Mode, PARTITIONS, SessionId};
 use std::marker::Brand;
 use std::sync::Wait;
 
