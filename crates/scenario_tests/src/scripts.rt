@@ -2,7 +2,7 @@
 use crate::inputs::INPUTS;
 use crate::pipes::Pipe;
 use crate::rows::{self, BadRow, Copies, Row};
-use crate::scenarios::SCENARIOS;
+use crate::scenarios::{deadlocks, owners, the_fast_path, the_queue};
 use crate::{advisory, nested, queues, waiting};
 use lock_manager::{Config, MOST_LOCAL, MOST_SESSIONS};
 use lock_script::{Defect, Fault};
@@ -140,10 +140,25 @@ fn expect_rows(
     Ok(())
 }
 
-// A test for each list: the proof of one that plays them all goes past the prover's step limit.
+// A test for each list: the proof of one that plays several goes past the prover's step limit.
 #[test]
-fn the_scenarios_print_what_their_files_say(rt: HostRuntime) -> Result<(), Fail> {
-    expect_rows(&rt, EIGHT, &SCENARIOS)
+fn scenarios_of_deadlocks_print_what_their_files_say(rt: HostRuntime) -> Result<(), Fail> {
+    expect_rows(&rt, EIGHT, &deadlocks::ROWS)
+}
+
+#[test]
+fn scenarios_of_owners_print_what_their_files_say(rt: HostRuntime) -> Result<(), Fail> {
+    expect_rows(&rt, EIGHT, &owners::ROWS)
+}
+
+#[test]
+fn scenarios_of_the_fast_path_print_what_their_files_say(rt: HostRuntime) -> Result<(), Fail> {
+    expect_rows(&rt, EIGHT, &the_fast_path::ROWS)
+}
+
+#[test]
+fn scenarios_of_the_queue_print_what_their_files_say(rt: HostRuntime) -> Result<(), Fail> {
+    expect_rows(&rt, EIGHT, &the_queue::ROWS)
 }
 
 #[test]

@@ -2,7 +2,7 @@
 use crate::rows::Row;
 
 /// `an_upgrade_of_two_shared_locks.scn`.
-pub const AN_UPGRADE_OF_TWO_SHARED_LOCKS: Row<'static> = (
+const AN_UPGRADE_OF_TWO_SHARED_LOCKS: Row<'static> = (
     0,
     "\
 # Two transactions share a table and then each wants it for itself. The first one waits for the second, so the second would
@@ -37,7 +37,7 @@ anna: committed
 );
 
 /// `a_deadlock_over_two_tables.scn`.
-pub const A_DEADLOCK_OVER_TWO_TABLES: Row<'static> = (
+const A_DEADLOCK_OVER_TWO_TABLES: Row<'static> = (
     0,
     "\
 # Two transactions lock two tables, each in its own order, and then each wants the other's table. PostgreSQL finds such a
@@ -84,3 +84,6 @@ rows 2
 ",
     "",
 );
+
+/// All of them.
+pub static ROWS: [Row<'static>; 2] = [AN_UPGRADE_OF_TWO_SHARED_LOCKS, A_DEADLOCK_OVER_TWO_TABLES];

@@ -2,7 +2,7 @@
 use crate::rows::Row;
 
 /// `an_alter_in_a_savepoint.scn`.
-pub const AN_ALTER_IN_A_SAVEPOINT: Row<'static> = (
+const AN_ALTER_IN_A_SAVEPOINT: Row<'static> = (
     0,
     "\
 # A migration tries an ALTER TABLE in a savepoint, and a read that comes meanwhile waits for it. The ALTER
@@ -47,7 +47,7 @@ migration: committed
 );
 
 /// `a_lock_that_outlives_its_transaction.scn`.
-pub const A_LOCK_THAT_OUTLIVES_ITS_TRANSACTION: Row<'static> = (
+const A_LOCK_THAT_OUTLIVES_ITS_TRANSACTION: Row<'static> = (
     0,
     "\
 # An advisory lock of the session outlives the transaction that took it, also one that is rolled back. So a connection that goes
@@ -88,7 +88,7 @@ other: granted after waiting
 );
 
 /// `two_workers_of_a_job_queue.scn`.
-pub const TWO_WORKERS_OF_A_JOB_QUEUE: Row<'static> = (
+const TWO_WORKERS_OF_A_JOB_QUEUE: Row<'static> = (
     0,
     "\
 # Two workers of a job queue. A worker takes the lock of a job without waiting, for its session, and goes on to
@@ -147,3 +147,10 @@ anna: closed
 ",
     "",
 );
+
+/// All of them.
+pub static ROWS: [Row<'static>; 3] = [
+    AN_ALTER_IN_A_SAVEPOINT,
+    A_LOCK_THAT_OUTLIVES_ITS_TRANSACTION,
+    TWO_WORKERS_OF_A_JOB_QUEUE,
+];

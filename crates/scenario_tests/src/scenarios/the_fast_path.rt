@@ -2,7 +2,7 @@
 use crate::rows::Row;
 
 /// `fast_path_in_a_listing.scn`.
-pub const FAST_PATH_IN_A_LISTING: Row<'static> = (
+const FAST_PATH_IN_A_LISTING: Row<'static> = (
     0,
     "\
 # Weak locks on relations of the session's own database go by its own sixteen slots, and a listing has them first: the session,
@@ -68,7 +68,7 @@ rows 2
 );
 
 /// `sixteen_slots_and_one_more.scn`.
-pub const SIXTEEN_SLOTS_AND_ONE_MORE: Row<'static> = (
+const SIXTEEN_SLOTS_AND_ONE_MORE: Row<'static> = (
     0,
     "\
 # A report reads seventeen relations. Sixteen of them take its sixteen slots, from the highest to the lowest, and the
@@ -169,7 +169,7 @@ rows 0
 );
 
 /// `an_alter_moves_slots.scn`.
-pub const AN_ALTER_MOVES_SLOTS: Row<'static> = (
+const AN_ALTER_MOVES_SLOTS: Row<'static> = (
     0,
     "\
 # Five readers hold a table in slots of their own, which no other session looks at. An ALTER TABLE is counted, moves
@@ -237,7 +237,7 @@ alter: committed
 );
 
 /// `another_relation_with_the_same_counter.scn`.
-pub const ANOTHER_RELATION_WITH_THE_SAME_COUNTER: Row<'static> = (
+const ANOTHER_RELATION_WITH_THE_SAME_COUNTER: Row<'static> = (
     0,
     "\
 # There are 1,024 strong lock counters, and relations share them: 5/16384 and 5/17408 have counter 796, and 5/16385 another.
@@ -286,3 +286,11 @@ rows 3
 ",
     "",
 );
+
+/// All of them.
+pub static ROWS: [Row<'static>; 4] = [
+    FAST_PATH_IN_A_LISTING,
+    SIXTEEN_SLOTS_AND_ONE_MORE,
+    AN_ALTER_MOVES_SLOTS,
+    ANOTHER_RELATION_WITH_THE_SAME_COUNTER,
+];

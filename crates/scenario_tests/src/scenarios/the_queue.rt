@@ -2,7 +2,7 @@
 use crate::rows::Row;
 
 /// `alter_behind_a_long_read.scn`.
-pub const ALTER_BEHIND_A_LONG_READ: Row<'static> = (
+const ALTER_BEHIND_A_LONG_READ: Row<'static> = (
     0,
     "\
 # A long read, an ALTER TABLE that waits behind it, and the reads that queue up behind the ALTER.
@@ -53,7 +53,7 @@ web2: granted after waiting
 );
 
 /// `a_convoy_behind_an_idle_transaction.scn`.
-pub const A_CONVOY_BEHIND_AN_IDLE_TRANSACTION: Row<'static> = (
+const A_CONVOY_BEHIND_AN_IDLE_TRANSACTION: Row<'static> = (
     0,
     "\
 # A convoy. A session reads and then sits idle in its transaction. An ALTER TABLE waits for it, and all of the site's queries wait for the
@@ -116,7 +116,7 @@ idle: committed
 );
 
 /// `a_migration_that_never_waits.scn`.
-pub const A_MIGRATION_THAT_NEVER_WAITS: Row<'static> = (
+const A_MIGRATION_THAT_NEVER_WAITS: Row<'static> = (
     0,
     "\
 # A migration that keeps nobody waiting: LOCK TABLE .. NOWAIT is refused at once where somebody is in its way, and is tried again
@@ -166,7 +166,7 @@ migration: committed
 );
 
 /// `an_index_build_stops_the_writers.scn`.
-pub const AN_INDEX_BUILD_STOPS_THE_WRITERS: Row<'static> = (
+const AN_INDEX_BUILD_STOPS_THE_WRITERS: Row<'static> = (
     0,
     "\
 # CREATE INDEX holds its table in ShareLock until its transaction ends: reads go on, and writes wait. CREATE INDEX CONCURRENTLY holds it
@@ -224,7 +224,7 @@ builder: released
 );
 
 /// `an_index_built_concurrently.scn`.
-pub const AN_INDEX_BUILT_CONCURRENTLY: Row<'static> = (
+const AN_INDEX_BUILT_CONCURRENTLY: Row<'static> = (
     0,
     "\
 # CREATE INDEX CONCURRENTLY holds its table for the session in ShareUpdateExclusiveLock, through several transactions. Reads and
@@ -269,7 +269,7 @@ vacuum: committed
 );
 
 /// `two_index_builds_over_two_writers.scn`.
-pub const TWO_INDEX_BUILDS_OVER_TWO_WRITERS: Row<'static> = (
+const TWO_INDEX_BUILDS_OVER_TWO_WRITERS: Row<'static> = (
     0,
     "\
 # Two index builds of one table. Both wait for the writes that go on, and for neither of them alone: the last one to end lets both
@@ -328,7 +328,7 @@ late: committed
 );
 
 /// `a_dump_against_a_truncate.scn`.
-pub const A_DUMP_AGAINST_A_TRUNCATE: Row<'static> = (
+const A_DUMP_AGAINST_A_TRUNCATE: Row<'static> = (
     0,
     "\
 # pg_dump holds every table in AccessShareLock until it ends. A TRUNCATE of one of them waits for it, and the writes of that
@@ -381,7 +381,7 @@ shop: committed
 );
 
 /// `an_insert_checks_a_foreign_key.scn`.
-pub const AN_INSERT_CHECKS_A_FOREIGN_KEY: Row<'static> = (
+const AN_INSERT_CHECKS_A_FOREIGN_KEY: Row<'static> = (
     0,
     "\
 # Orders (5/16385) refer to customers (5/16384). An INSERT into orders locks both tables: its own in RowExclusiveLock, and
@@ -420,7 +420,7 @@ report: committed
 );
 
 /// `a_holder_passes_the_queue.scn`.
-pub const A_HOLDER_PASSES_THE_QUEUE: Row<'static> = (
+const A_HOLDER_PASSES_THE_QUEUE: Row<'static> = (
     0,
     "\
 # Whoever has a lock on a table may pass the queue. Where somebody waits for what it has, the two would else wait for one another.
@@ -485,7 +485,7 @@ alter: committed
 );
 
 /// `object_lock.scn`.
-pub const OBJECT_LOCK: Row<'static> = (
+const OBJECT_LOCK: Row<'static> = (
     0,
     "\
 session a 5
@@ -513,3 +513,17 @@ a: you don't own a lock of type ExclusiveLock
 ",
     "",
 );
+
+/// All of them.
+pub static ROWS: [Row<'static>; 10] = [
+    ALTER_BEHIND_A_LONG_READ,
+    A_CONVOY_BEHIND_AN_IDLE_TRANSACTION,
+    A_MIGRATION_THAT_NEVER_WAITS,
+    AN_INDEX_BUILD_STOPS_THE_WRITERS,
+    AN_INDEX_BUILT_CONCURRENTLY,
+    TWO_INDEX_BUILDS_OVER_TWO_WRITERS,
+    A_DUMP_AGAINST_A_TRUNCATE,
+    AN_INSERT_CHECKS_A_FOREIGN_KEY,
+    A_HOLDER_PASSES_THE_QUEUE,
+    OBJECT_LOCK,
+];
