@@ -1,5 +1,6 @@
 mod Loading
 mod Words
+pub mod UseCounts
 mod Looking
 mod Granting
 mod Releasing

@@ -61,6 +61,7 @@ fn print_size<R: Wait + CpuClock + AllocGlobal + Print>(
     let config = Config {
         sessions: size.sessions,
         max_local: 65536,
+        slot_groups: 1,
     };
     let (manager, mut opener) = Manager::new(rt.alloc(), config)?;
     let mut pair = Pair::open(rt, &manager, &mut opener, page.database)?;

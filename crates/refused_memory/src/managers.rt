@@ -14,6 +14,7 @@ use std::sync::Wait;
 const CONFIG: Config = Config {
     sessions: 4,
     max_local: 64,
+    slot_groups: 1,
 };
 
 /// Tells a tale at the desk of a manager of its own, with this growth refused.

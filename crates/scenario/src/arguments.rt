@@ -6,6 +6,7 @@ use crate::style::{DRAWINGS, Drawing, Style};
 use clap::error::ErrorKind;
 use clap::{Arg, ArgAction, ArgMatches, Command, Error, value_parser};
 use local_locks::MOST_LOCAL;
+use lock_manager::MOST_GROUPS;
 use modes_core::SESSIONS;
 use std::alloc::{AllocError, Global};
 
@@ -21,6 +22,11 @@ const USUAL_SESSIONS_SHOWN: &str = "8";
 const USUAL_LOCAL: u32 = 1024;
 
 const USUAL_LOCAL_SHOWN: &str = "1024";
+
+/// How many groups of fast-path slots a session has, where the command line doesn't say, and as `--help` shows it.
+const USUAL_GROUPS: u32 = 1;
+
+const USUAL_GROUPS_SHOWN: &str = "1";
 
 /// The version that `--version` shows.
 const VERSION: &str = "0.1.0";
@@ -135,7 +141,7 @@ fn with_styles<'a>(alloc: Global, run: Command<'a>) -> Result<Command<'a>, Alloc
     run.arg(echo)?.arg(json)?.arg(graph)
 }
 
-/// The command line: `run [--sessions N] [--max-local M] [--echo] [--json] [--graph LANGUAGE]`, `modes`, or
+/// The command line: `run [--sessions N] [--max-local M] [--slot-groups G] [--echo] [--json] [--graph LANGUAGE]`, `modes`, or
 /// `hammer --sessions N --rounds K`.
 fn command<'a>(alloc: Global) -> Result<Command<'a>, AllocError> {
     let sessions = Arg::new(alloc, "sessions")
@@ -150,11 +156,18 @@ fn command<'a>(alloc: Global) -> Result<Command<'a>, AllocError> {
         .help("How many different locks a session may have")
         .value_parser(value_parser!(u32).range(1..=i64::from(MOST_LOCAL)))
         .default_value(USUAL_LOCAL_SHOWN);
+    let slot_groups = Arg::new(alloc, "slot-groups")
+        .long("slot-groups")
+        .value_name("G")
+        .help("How many groups of sixteen fast-path slots a session has")
+        .value_parser(value_parser!(u32).range(1..=i64::from(MOST_GROUPS)))
+        .default_value(USUAL_GROUPS_SHOWN);
     let run = Command::new(alloc, "run")
         .about("Run the script on standard input")
         .after_help(FORMS)
         .arg(sessions)?
-        .arg(max_local)?;
+        .arg(max_local)?
+        .arg(slot_groups)?;
     let run = with_styles(alloc, run)?;
     let modes = Command::new(alloc, MODES)
         .about("Print which lock modes conflict")
@@ -176,6 +189,8 @@ pub struct Limits {
     pub sessions: u32,
     /// How many local entries each may have.
     pub max_local: u32,
+    /// How many groups of fast-path slots each has.
+    pub slot_groups: u32,
 }
 
 /// How long a hammer the words ask for.
@@ -223,12 +238,14 @@ impl NoRun {
     }
 }
 
-/// What the words ask for, with each limit in its range: 1 to 64 sessions, 1 to 65,536 local entries, 1 to 1,000,000 rounds. The first word is the
-/// program's name.
+/// What the words ask for, with each limit in its range: 1 to 64 sessions, 1 to 65,536 local entries, 1 to 8 groups of slots,
+/// 1 to 1,000,000 rounds. The first word is the program's name.
 pub fn parse_arguments(alloc: Global, words: &[String]) -> Result<Task, NoRun>
     ensures sessions { IfOk result (λ task. OfRun task (λ limits. (1 ≤ limits.sessions) × (limits.sessions ≤ 64))) }
     ensures max_local { IfOk result (λ task. OfRun task
         (λ limits. (1 ≤ limits.max_local) × (limits.max_local ≤ 65536))) }
+    ensures slot_groups { IfOk result (λ task. OfRun task
+        (λ limits. (1 ≤ limits.slot_groups) × (limits.slot_groups ≤ 8))) }
     ensures hammer { IfOk result (λ task. OfHammer task
         (λ hammer. (1 ≤ hammer.sessions) × (hammer.sessions ≤ 64))) }
     ensures rounds { IfOk result (λ task. OfHammer task
@@ -245,25 +262,29 @@ fn task_of<'a>(alloc: Global, words: &'a [String]) -> Result<Task, Error>
     ensures sessions { IfOk result (λ task. OfRun task (λ limits. (1 ≤ limits.sessions) × (limits.sessions ≤ 64))) }
     ensures max_local { IfOk result (λ task. OfRun task
         (λ limits. (1 ≤ limits.max_local) × (limits.max_local ≤ 65536))) }
+    ensures slot_groups { IfOk result (λ task. OfRun task
+        (λ limits. (1 ≤ limits.slot_groups) × (limits.slot_groups ≤ 8))) }
     ensures hammer { IfOk result (λ task. OfHammer task
         (λ hammer. (1 ≤ hammer.sessions) × (hammer.sessions ≤ 64))) }
     ensures rounds { IfOk result (λ task. OfHammer task
         (λ hammer. (1 ≤ hammer.rounds) × (hammer.rounds ≤ 1000000))) }
 {
     let matches = command(alloc)?.try_get_matches_from(words)?;
-    let (sessions, max_local, style) = match matches.subcommand() {
+    let (sessions, max_local, slot_groups, style) = match matches.subcommand() {
         Some((name, _)) if name == MODES => return Ok(Task::Modes),
         Some((name, hammer)) if name == HAMMER => return Ok(Task::Hammer(hammer_of(hammer))),
         Some((_, run)) => (
             run.get_one::<u32>("sessions").unwrap_or(USUAL_SESSIONS),
             run.get_one::<u32>("max-local").unwrap_or(USUAL_LOCAL),
+            run.get_one::<u32>("slot-groups").unwrap_or(USUAL_GROUPS),
             style_of(run),
         ),
-        None => (USUAL_SESSIONS, USUAL_LOCAL, Style::PLAIN),
+        None => (USUAL_SESSIONS, USUAL_LOCAL, USUAL_GROUPS, Style::PLAIN),
     };
     let limits = Limits {
         sessions: sessions.clamp(1, MOST_SESSIONS),
         max_local: max_local.clamp(1, MOST_LOCAL),
+        slot_groups: slot_groups.clamp(1, MOST_GROUPS),
     };
     Ok(Task::Run(limits, style))
 }

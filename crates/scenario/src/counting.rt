@@ -81,7 +81,8 @@ impl<'a> CountingDesk<Session<'a>> for AuditDesk<'a> {
 
     ghost seat = { λ session. record {
       number = session.board.number;
-      limit = session.board.sessions;
+      limit = session.board.sizes.sessions;
+      groups = session.board.sizes.groups;
       table = session.board.table.now.table_id;
     } };
 

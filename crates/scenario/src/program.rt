@@ -89,6 +89,7 @@ fn run_words<
             let config = Config {
                 sessions: limits.sessions,
                 max_local: limits.max_local,
+                slot_groups: limits.slot_groups,
             };
             if input.is_terminal {
                 invite(errors.writer);

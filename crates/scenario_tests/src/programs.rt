@@ -34,11 +34,16 @@ fn words_of(alloc: Global, line: &str) -> Result<Vec<String>, Fail> {
 }
 
 /// Words, and how many sessions and local entries or rounds they ask for, where they aren't refused.
-static WORDS: [(&str, Option<(u32, u32)>); 26] = [
+static WORDS: [(&str, Option<(u32, u32)>); 30] = [
     ("lock_scenario run", Some((8, 1024))),
     ("lock_scenario run --sessions 1", Some((1, 1024))),
     ("lock_scenario run --sessions=64", Some((64, 1024))),
     ("lock_scenario run --max-local 1", Some((8, 1))),
+    ("lock_scenario run --slot-groups 1", Some((8, 1024))),
+    (
+        "lock_scenario run --slot-groups 8 --sessions 2",
+        Some((2, 1024)),
+    ),
     (
         "lock_scenario run --max-local 65536 --sessions 2",
         Some((2, 65_536)),
@@ -68,7 +73,9 @@ static WORDS: [(&str, Option<(u32, u32)>); 26] = [
     ("lock_scenario run --sessions 1 --sessions 2", None),
     ("lock_scenario run --max-local 0", None),
     ("lock_scenario run --max-local 65537", None),
-    ("lock_scenario run --slot-groups 1", None),
+    ("lock_scenario run --slot-groups 0", None),
+    ("lock_scenario run --slot-groups 9", None),
+    ("lock_scenario run --slot-groups x", None),
     ("lock_scenario run more", None),
 ];
 
@@ -125,6 +132,7 @@ Usage: lock_scenario run [OPTIONS]
 Options:
       --sessions <N>      How many sessions the script may open [default: 8]
       --max-local <M>     How many different locks a session may have [default: 1024]
+      --slot-groups <G>   How many groups of sixteen fast-path slots a session has [default: 1]
       --echo              Print each line of the script before its answers
       --json              Print an object of JSON for each line, instead of its text
       --graph <LANGUAGE>  Draw who waits for whom behind the rows of each list [possible values: mermaid, dot]

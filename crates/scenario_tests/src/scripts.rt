@@ -3,8 +3,8 @@ use crate::inputs::INPUTS;
 use crate::pipes::Pipe;
 use crate::rows::{self, BadRow, Copies, Row};
 use crate::scenarios::{deadlocks, owners, the_fast_path, the_queue};
-use crate::{advisory, nested, queues, waiting};
-use lock_manager::{Config, MOST_LOCAL, MOST_SESSIONS};
+use crate::{advisory, groups, nested, queues, waiting};
+use lock_manager::{Config, MOST_GROUPS, MOST_LOCAL, MOST_SESSIONS};
 use lock_script::{Defect, Fault};
 use scenario::run_script;
 use std::alloc::Global;
@@ -35,21 +35,38 @@ impl Read for Script<'_> {
 const EIGHT: Config = Config {
     sessions: 8,
     max_local: 1024,
+    slot_groups: 1,
 };
 
 const TWO_LOCKS: Config = Config {
     sessions: 8,
     max_local: 2,
+    slot_groups: 1,
 };
 
 const ONE_SESSION: Config = Config {
     sessions: 1,
     max_local: 1024,
+    slot_groups: 1,
 };
 
 pub const ALL_SESSIONS: Config = Config {
     sessions: 64,
     max_local: 1024,
+    slot_groups: 1,
+};
+
+const TWO_GROUPS: Config = Config {
+    sessions: 8,
+    max_local: 1024,
+    slot_groups: 2,
+};
+
+/// As many groups as there can be.
+const ALL_GROUPS: Config = Config {
+    sessions: 2,
+    max_local: 1024,
+    slot_groups: 8,
 };
 
 /// Runs a script that is read so many bytes at a time, and checks what it prints and the fault that ends it, both as
@@ -71,6 +88,7 @@ fn expect_read(
     let within = Config {
         sessions: config.sessions.clamp(1, MOST_SESSIONS),
         max_local: config.max_local.clamp(1, MOST_LOCAL),
+        slot_groups: config.slot_groups.clamp(1, MOST_GROUPS),
     };
     let mut output = Vec::new(alloc);
     let ended = match run_script(rt, reader, &mut output, within) {
@@ -224,6 +242,56 @@ fn a_cancel_takes_a_wait_back(rt: HostRuntime) -> Result<(), Fail> {
 #[test]
 fn a_release_passes_the_queue(rt: HostRuntime) -> Result<(), Fail> {
     expect_rows(&rt, ALL_SESSIONS, &waiting::PASSES)
+}
+
+#[test]
+fn scripts_of_two_groups_of_slots_print_what_the_rows_say(rt: HostRuntime) -> Result<(), Fail> {
+    expect_rows(&rt, TWO_GROUPS, &groups::TWO_GROUPS)
+}
+
+/// Lines that lock 128 relations and one more, and those of their listing: the first 128 are in as many slots.
+fn fill_all_groups(alloc: Global) -> Result<(String, String), Fail> {
+    let mut script = String::from_str(alloc, "session a 5\nsession b 5\n")?;
+    let mut printed = String::from_str(
+        alloc,
+        "a: session 0 database 5\nb: session 1 database 5\n",
+    )?;
+    for number in 0..129u32 {
+        let line = format!(in alloc; "lock a 5/{} AccessShareLock\n", number.wrapping_add(16384))?;
+        script.push_str(line.as_str())?;
+        printed.push_str("a: granted\n")?;
+    }
+    script.push_str("fast a 5/16513 AccessShareLock\nlist b\n")?;
+    printed.push_str("a: refused 9 slots full\n")?;
+    for slot in 0..128u32 {
+        let relation = (15 - slot % 16) * 8 + slot / 16;
+        let line = format!(in alloc;
+            "fast a {slot} 5/{} AccessShareLock\n",
+            relation.wrapping_add(16384)
+        )?;
+        printed.push_str(line.as_str())?;
+    }
+    printed.push_str("table a 5/16512 AccessShareLock granted\nrows 129\n")?;
+    Ok((script, printed))
+}
+
+#[test]
+fn eight_groups_have_128_slots(rt: HostRuntime) -> Result<(), Fail> {
+    let (mut script, mut printed) = fill_all_groups(rt.alloc())?;
+    for number in 0..128u32 {
+        let relation = number.wrapping_add(16384);
+        let line = format!(in rt.alloc();
+            "try b 5/{relation} AccessExclusiveLock\nunlock a 5/{relation} AccessShareLock\n"
+        )?;
+        script.push_str(line.as_str())?;
+        printed.push_str("b: refused 1 conflict a AccessShareLock held\na: released\n")?;
+    }
+    script.push_str("list b\nfast a 5/16513 AccessShareLock\nlist b\n")?;
+    printed.push_str(
+        "table a 5/16512 AccessShareLock granted\nrows 1\na: granted\n\
+         fast a 31 5/16513 AccessShareLock\ntable a 5/16512 AccessShareLock granted\nrows 2\n",
+    )?;
+    expect_run(&rt, ALL_GROUPS, script.as_str(), printed.as_str(), "")
 }
 
 /// Checks that each of these lines is a fault behind the others, and the end of the script.

@@ -5,7 +5,7 @@ ghost use Rattle.shared_rule.specs.Boards.{nothing_due};
 ghost use Rattle.shared_rule.specs.History.{blank_account};
 ghost use Rattle.shared_rule.specs.Seats.{MayCloseBy};
 
-use super::{empty_slots, one_thread};
+use super::{SIZES, empty_slots, one_thread};
 use lock_table::{Move, PartTable, PlainPart};
 use shared_rule::{Board, open};
 use std::process::Abort;
@@ -69,7 +69,7 @@ fn in_two_threads<B: Board<PlainPart> + Send, R: Threads + Wait + Sync>(
 #[test]
 fn two_threads_take_one_partition(rt: HostRuntime) -> Result<(), Fail> {
     let alloc = rt.alloc();
-    let Ok((table, mut opener)) = open(alloc, 2, empty_slots(alloc)?) else {
+    let Ok((table, mut opener)) = open(alloc, &SIZES, empty_slots(alloc)?) else {
         return Err("out of memory".into());
     };
     let Some(mut first) = opener.session(&table.shared) else {

@@ -16,7 +16,7 @@ use lock_manager::Owner::{Session, Transaction};
 use lock_table::{Move, PartTable, PlainPart, Woken, empty_parts};
 use lw_word::SlotWord;
 use modes_core::{Mode, SessionId, Tag};
-use shared_rule::{Board, Busy, Kept, OneThread, in_slots};
+use shared_rule::{Board, Busy, Kept, OneThread, Sizes, in_slots};
 use std::alloc::Global;
 use std::process::Abort;
 use std::sync::Wait;
@@ -75,6 +75,10 @@ impl<'a, T: PartTable, B: Board<T>> Board<T> for CountingBoard<'a, B> {
 
     fn sessions(&self) -> u8 {
         self.board.sessions()
+    }
+
+    fn groups(&self) -> u8 {
+        self.board.groups()
     }
 
     fn take_part<R: Wait>(&mut self, rt: &R, part: u8) -> T {
@@ -360,7 +364,11 @@ fn one_thread(alloc: Global) -> Result<OneThread<PlainPart>, Fail>
     ensures limit { let B = ⟦<OneThread<PlainPart> as Board<PlainPart>>⟧ in
         IfOk result (λ board. (B.seat board).limit ≡ 1) }
 {
-    match OneThread::new(alloc, 1, empty_slots(alloc)?) {
+    let sizes = Sizes {
+        sessions: 1,
+        groups: 1,
+    };
+    match OneThread::new(alloc, &sizes, empty_slots(alloc)?) {
         Ok(board) => Ok(board),
         Err(_) => Err("out of memory".into()),
     }

@@ -98,7 +98,8 @@ impl<'a> Desk<Session<'a>> for ManagerDesk<'a> {
 
     ghost seat = { λ session. record {
       number = session.board.number;
-      limit = session.board.sessions;
+      limit = session.board.sizes.sessions;
+      groups = session.board.sizes.groups;
       table = session.board.table.now.table_id;
     } };
 
