@@ -22,8 +22,16 @@ const USUAL_LOCAL: u32 = 1024;
 
 const USUAL_LOCAL_SHOWN: &str = "1024";
 
-/// The version that `--version` shows.
-const VERSION: &str = "0.1.0";
+/// The program's name, and the version that `--version` shows.
+pub const PROGRAM: &str = "lock_scenario";
+
+pub const VERSION: &str = "0.1.0";
+
+/// What `--help` says first.
+pub const ABOUT: &str = "Run scripts against PostgreSQL's lock manager";
+
+/// The option that prints the man page.
+const MAN: &str = "--man";
 
 /// What `--help` shows of the script language, and of a run.
 const LINES_AND_EXAMPLE: &str = "Lines of a script begin with:
@@ -159,11 +167,16 @@ fn command<'a>(alloc: Global) -> Result<Command<'a>, AllocError> {
     let modes = Command::new(alloc, MODES)
         .about("Print which lock modes conflict")
         .after_help(MASKS);
-    Command::new(alloc, "lock_scenario")
+    let man = Arg::new(alloc, "man")
+        .long("man")
+        .help("Print the man page")
+        .action(ArgAction::SetTrue);
+    Command::new(alloc, PROGRAM)
         .version(VERSION)
-        .about("Run scripts against PostgreSQL's lock manager")
+        .about(ABOUT)
         .after_help(LINES_AND_EXAMPLE)
         .subcommand_required(true)
+        .arg(man)?
         .subcommand(run)?
         .subcommand(modes)?
         .subcommand(hammer_command(alloc)?)
@@ -196,6 +209,8 @@ pub enum Task {
     Hammer(Hammer),
     /// To print the conflict table.
     Modes,
+    /// To print the man page.
+    Man,
 }
 
 /// What words come to that ask for no run.
@@ -234,9 +249,29 @@ pub fn parse_arguments(alloc: Global, words: &[String]) -> Result<Task, NoRun>
     ensures rounds { IfOk result (λ task. OfHammer task
         (λ hammer. (1 ≤ hammer.rounds) × (hammer.rounds ≤ 1000000))) }
 {
+    if asks_for_man(words) {
+        return Ok(Task::Man);
+    }
     match task_of(alloc, words) {
         Ok(task) => Ok(task),
         Err(error) => Err(NoRun::of(alloc, &error)),
+    }
+}
+
+/// Whether the first word behind the program's name is the option that prints the man page. No subcommand is wanted then, as
+/// none is for the help.
+fn asks_for_man(words: &[String]) -> bool {
+    match words.get(1) {
+        Some(word) => word.as_str() == MAN,
+        None => false,
+    }
+}
+
+/// The text of the help that these words ask for.
+pub fn help_text(alloc: Global, words: &'static [&'static str]) -> Result<String, AllocError> {
+    match command(alloc)?.try_get_matches_from(words) {
+        Ok(_) => Ok(String::new(alloc)),
+        Err(error) => format!(in alloc; "{error}"),
     }
 }
 

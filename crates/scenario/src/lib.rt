@@ -7,6 +7,7 @@ mod counting;
 mod desk;
 mod hammer;
 mod json;
+mod man;
 mod modes;
 mod output;
 mod picture;

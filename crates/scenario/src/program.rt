@@ -3,12 +3,14 @@ ghost use Rattle.std.specs.Prelude.{◌≤◌, IfOk};
 
 use crate::arguments::{Hammer, NoRun, Task, parse_arguments};
 use crate::hammer::{run_hammer, run_watched_hammer};
+use crate::man::man_page;
 use crate::modes::print_modes;
 use crate::progress::ProgressLine;
 use crate::run::run_styled_script;
 use crate::workers::OpenGate;
 use lock_manager::Config;
 use lock_script::Fault;
+use std::alloc::Global;
 use std::io::{self, BufWriter, Read, Write};
 use std::sync::Wait;
 use std::thread::Threads;
@@ -80,6 +82,10 @@ fn run_words<
             print_modes(output)?;
             Ok(SUCCESS)
         }
+        Ok(Task::Man) => {
+            print_man(alloc, output)?;
+            Ok(SUCCESS)
+        }
         Ok(Task::Hammer(hammer)) => {
             swing(rt, hammer, output, errors)?;
             Ok(SUCCESS)
@@ -126,6 +132,14 @@ fn swing<H: AllocGlobal + Clock + Threads + Wait + Sync, W: Write + Drop, E: Wri
         }
     }
     run_hammer(rt, &OpenGate, output, hammer.sessions, hammer.rounds)
+}
+
+/// Prints the man page.
+fn print_man<W: Write + Drop>(alloc: Global, output: W) -> Result<(), Fault> {
+    match man_page(alloc) {
+        Ok(page) => print_text(output, page.as_str()),
+        Err(_) => Err(Fault::NoMemory),
+    }
 }
 
 /// Says to somebody at a terminal that the script is read from there.
