@@ -95,6 +95,27 @@ the strong lock counters: by an audit then, and when all sessions are closed.
 Example:
   lock_scenario hammer --sessions 4 --rounds 1000";
 
+/// What `orders --help` shows beside its options.
+const MERGES: &str =
+    "The lines that open sessions come first. Each session's other lines keep their order, and
+those of different sessions are merged in every way. An order in which a line addresses
+a session that waits is none, and is counted apart. For each way to end, the answers of
+each session and who is left waiting, it prints how many orders lead there, and the first
+of them as a script.
+
+Example:
+  lock_scenario orders < scenarios/orders/two_sessions_upgrade.scn";
+
+/// The subcommand that runs a script's lines in every order.
+const ORDERS: &str = "orders";
+
+/// How many orders it runs at most, and how many where the command line doesn't say, and as `--help` shows it.
+const MOST_ORDERS: u32 = 1_000_000;
+
+const USUAL_ORDERS: u32 = 10_000;
+
+const USUAL_ORDERS_SHOWN: &str = "10000";
+
 /// The subcommand that prints the conflict table.
 const MODES: &str = "modes";
 
@@ -143,9 +164,8 @@ fn with_styles<'a>(alloc: Global, run: Command<'a>) -> Result<Command<'a>, Alloc
     run.arg(echo)?.arg(json)?.arg(graph)
 }
 
-/// The command line: `run [--sessions N] [--max-local M] [--echo] [--json] [--graph LANGUAGE]`, `modes`, or
-/// `hammer --sessions N --rounds K`.
-fn command<'a>(alloc: Global) -> Result<Command<'a>, AllocError> {
+/// The subcommand with the options of how large the lock manager is.
+fn with_limits<'a>(alloc: Global, command: Command<'a>) -> Result<Command<'a>, AllocError> {
     let sessions = Arg::new(alloc, "sessions")
         .long("sessions")
         .value_name("N")
@@ -158,11 +178,30 @@ fn command<'a>(alloc: Global) -> Result<Command<'a>, AllocError> {
         .help("How many different locks a session may have")
         .value_parser(value_parser!(u32).range(1..=i64::from(MOST_LOCAL)))
         .default_value(USUAL_LOCAL_SHOWN);
+    command.arg(sessions)?.arg(max_local)
+}
+
+/// The subcommand `orders [--sessions N] [--max-local M] [--limit K]`.
+fn orders_command<'a>(alloc: Global) -> Result<Command<'a>, AllocError> {
+    let limit = Arg::new(alloc, "limit")
+        .long("limit")
+        .value_name("K")
+        .help("How many orders are run at most")
+        .value_parser(value_parser!(u32).range(1..=i64::from(MOST_ORDERS)))
+        .default_value(USUAL_ORDERS_SHOWN);
+    let orders = Command::new(alloc, ORDERS)
+        .about("Run the script's lines in every order, and count how it ends")
+        .after_help(MERGES);
+    with_limits(alloc, orders)?.arg(limit)
+}
+
+/// The command line: `run [--sessions N] [--max-local M] [--echo] [--json] [--graph LANGUAGE]`,
+/// `orders [--sessions N] [--max-local M] [--limit K]`, `modes`, `hammer --sessions N --rounds K`, or `--man`.
+fn command<'a>(alloc: Global) -> Result<Command<'a>, AllocError> {
     let run = Command::new(alloc, "run")
         .about("Run the script on standard input")
-        .after_help(FORMS)
-        .arg(sessions)?
-        .arg(max_local)?;
+        .after_help(FORMS);
+    let run = with_limits(alloc, run)?;
     let run = with_styles(alloc, run)?;
     let modes = Command::new(alloc, MODES)
         .about("Print which lock modes conflict")
@@ -178,6 +217,7 @@ fn command<'a>(alloc: Global) -> Result<Command<'a>, AllocError> {
         .subcommand_required(true)
         .arg(man)?
         .subcommand(run)?
+        .subcommand(orders_command(alloc)?)?
         .subcommand(modes)?
         .subcommand(hammer_command(alloc)?)
 }
@@ -205,6 +245,8 @@ pub struct Hammer {
 pub enum Task {
     /// To run the script on standard input, and to show it in this style.
     Run(Limits, Style),
+    /// To run the lines of the script on standard input in so many orders at most.
+    Orders(Limits, u32),
     /// To have sessions lock and unlock in threads.
     Hammer(Hammer),
     /// To print the conflict table.
@@ -286,21 +328,29 @@ fn task_of<'a>(alloc: Global, words: &'a [String]) -> Result<Task, Error>
         (λ hammer. (1 ≤ hammer.rounds) × (hammer.rounds ≤ 1000000))) }
 {
     let matches = command(alloc)?.try_get_matches_from(words)?;
-    let (sessions, max_local, style) = match matches.subcommand() {
-        Some((name, _)) if name == MODES => return Ok(Task::Modes),
-        Some((name, hammer)) if name == HAMMER => return Ok(Task::Hammer(hammer_of(hammer))),
-        Some((_, run)) => (
-            run.get_one::<u32>("sessions").unwrap_or(USUAL_SESSIONS),
-            run.get_one::<u32>("max-local").unwrap_or(USUAL_LOCAL),
-            style_of(run),
-        ),
-        None => (USUAL_SESSIONS, USUAL_LOCAL, Style::PLAIN),
-    };
-    let limits = Limits {
+    match matches.subcommand() {
+        Some((name, _)) if name == MODES => Ok(Task::Modes),
+        Some((name, hammer)) if name == HAMMER => Ok(Task::Hammer(hammer_of(hammer))),
+        Some((name, orders)) if name == ORDERS => {
+            let most = orders.get_one::<u32>("limit").unwrap_or(USUAL_ORDERS);
+            Ok(Task::Orders(limits_of(orders), most))
+        }
+        Some((_, run)) => Ok(Task::Run(limits_of(run), style_of(run))),
+        None => Ok(Task::Man),
+    }
+}
+
+/// How large a lock manager the words ask for.
+fn limits_of(words: &ArgMatches) -> Limits
+    ensures sessions { (1 ≤ result.sessions) × (result.sessions ≤ 64) }
+    ensures max_local { (1 ≤ result.max_local) × (result.max_local ≤ 65536) }
+{
+    let sessions = words.get_one::<u32>("sessions").unwrap_or(USUAL_SESSIONS);
+    let max_local = words.get_one::<u32>("max-local").unwrap_or(USUAL_LOCAL);
+    Limits {
         sessions: sessions.clamp(1, MOST_SESSIONS),
         max_local: max_local.clamp(1, MOST_LOCAL),
-    };
-    Ok(Task::Run(limits, style))
+    }
 }
 
 /// The style that the words of a run ask for.

@@ -9,6 +9,7 @@ mod hammer;
 mod json;
 mod man;
 mod modes;
+mod orders;
 mod output;
 mod picture;
 mod program;

@@ -4,9 +4,13 @@ use crate::arguments::{ABOUT, PROGRAM, VERSION, help_text};
 use std::alloc::{AllocError, Global};
 
 /// The sections that are texts of the help: their titles, and the words that ask for them.
-static HELPS: [(&str, &[&str]); 4] = [
+static HELPS: [(&str, &[&str]); 5] = [
     ("DESCRIPTION", &["lock_scenario", "--help"]),
     ("LOCK_SCENARIO RUN", &["lock_scenario", "run", "--help"]),
+    (
+        "LOCK_SCENARIO ORDERS",
+        &["lock_scenario", "orders", "--help"],
+    ),
     ("LOCK_SCENARIO MODES", &["lock_scenario", "modes", "--help"]),
     (
         "LOCK_SCENARIO HAMMER",
@@ -16,7 +20,7 @@ static HELPS: [(&str, &[&str]); 4] = [
 
 /// What the page says of the status.
 const STATUS: &str = "\
-0  the script or the hammer ran to its end, or a text was asked for
+0  the script, its orders or the hammer ran to their end, or a text was asked for
 1  a fault of input, output or memory
 2  the program's own words were refused
 3  a bad line of a script; what the lines before it printed stays";
