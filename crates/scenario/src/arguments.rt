@@ -42,7 +42,7 @@ Example:
   lock_scenario run --sessions 2 < scenarios/object_lock.scn";
 
 /// What `run --help` shows beside its options: each line of a script with its words, and what they may be.
-const FORMS: &str = "Lines of a script, after lock_scenario run < FILE:
+pub const FORMS: &str = "Lines of a script, after lock_scenario run < FILE:
   session NAME DB                 open a session of a database
   try NAME TAG MODE [session]     take a lock, if nothing is in the way
   fast NAME TAG MODE [session]    take a lock by a fast-path slot, or not at all
@@ -104,7 +104,7 @@ each session and who is left waiting, it prints how many orders lead there, and 
 of them as a script.
 
 Example:
-  lock_scenario orders < scenarios/orders/two_sessions_upgrade.scn";
+  lock_scenario orders < scenarios/an_upgrade_of_two_shared_locks.scn";
 
 /// The subcommand that runs a script's lines in every order.
 const ORDERS: &str = "orders";
@@ -115,6 +115,17 @@ const MOST_ORDERS: u32 = 1_000_000;
 const USUAL_ORDERS: u32 = 10_000;
 
 const USUAL_ORDERS_SHOWN: &str = "10000";
+
+/// What `shell --help` shows beside its options.
+const TYPED: &str =
+    "Type the lines of a script, which lock_scenario run --help has, and help, help COMMAND,
+help STATEMENT, as in help alter table, or end. A bad line is told, and the shell goes on.
+
+Example:
+  lock_scenario shell";
+
+/// The subcommand that runs lines as they are typed.
+const SHELL: &str = "shell";
 
 /// The subcommand that prints the conflict table.
 const MODES: &str = "modes";
@@ -196,13 +207,17 @@ fn orders_command<'a>(alloc: Global) -> Result<Command<'a>, AllocError> {
 }
 
 /// The command line: `run [--sessions N] [--max-local M] [--echo] [--json] [--graph LANGUAGE]`,
-/// `orders [--sessions N] [--max-local M] [--limit K]`, `modes`, `hammer --sessions N --rounds K`, or `--man`.
+/// `orders [--sessions N] [--max-local M] [--limit K]`, `shell [--sessions N] [--max-local M]`, `modes`,
+/// `hammer --sessions N --rounds K`, or `--man`.
 fn command<'a>(alloc: Global) -> Result<Command<'a>, AllocError> {
     let run = Command::new(alloc, "run")
         .about("Run the script on standard input")
         .after_help(FORMS);
     let run = with_limits(alloc, run)?;
     let run = with_styles(alloc, run)?;
+    let shell = Command::new(alloc, SHELL)
+        .about("Run lines as they are typed, with help")
+        .after_help(TYPED);
     let modes = Command::new(alloc, MODES)
         .about("Print which lock modes conflict")
         .after_help(MASKS);
@@ -218,6 +233,7 @@ fn command<'a>(alloc: Global) -> Result<Command<'a>, AllocError> {
         .arg(man)?
         .subcommand(run)?
         .subcommand(orders_command(alloc)?)?
+        .subcommand(with_limits(alloc, shell)?)?
         .subcommand(modes)?
         .subcommand(hammer_command(alloc)?)
 }
@@ -247,6 +263,8 @@ pub enum Task {
     Run(Limits, Style),
     /// To run the lines of the script on standard input in so many orders at most.
     Orders(Limits, u32),
+    /// To run lines as they are typed.
+    Shell(Limits),
     /// To have sessions lock and unlock in threads.
     Hammer(Hammer),
     /// To print the conflict table.
@@ -331,6 +349,7 @@ fn task_of<'a>(alloc: Global, words: &'a [String]) -> Result<Task, Error>
     match matches.subcommand() {
         Some((name, _)) if name == MODES => Ok(Task::Modes),
         Some((name, hammer)) if name == HAMMER => Ok(Task::Hammer(hammer_of(hammer))),
+        Some((name, shell)) if name == SHELL => Ok(Task::Shell(limits_of(shell))),
         Some((name, orders)) if name == ORDERS => {
             let most = orders.get_one::<u32>("limit").unwrap_or(USUAL_ORDERS);
             Ok(Task::Orders(limits_of(orders), most))

@@ -4,13 +4,14 @@ use crate::arguments::{ABOUT, PROGRAM, VERSION, help_text};
 use std::alloc::{AllocError, Global};
 
 /// The sections that are texts of the help: their titles, and the words that ask for them.
-static HELPS: [(&str, &[&str]); 5] = [
+static HELPS: [(&str, &[&str]); 6] = [
     ("DESCRIPTION", &["lock_scenario", "--help"]),
     ("LOCK_SCENARIO RUN", &["lock_scenario", "run", "--help"]),
     (
         "LOCK_SCENARIO ORDERS",
         &["lock_scenario", "orders", "--help"],
     ),
+    ("LOCK_SCENARIO SHELL", &["lock_scenario", "shell", "--help"]),
     ("LOCK_SCENARIO MODES", &["lock_scenario", "modes", "--help"]),
     (
         "LOCK_SCENARIO HAMMER",

@@ -7,7 +7,7 @@ use crate::man::man_page;
 use crate::modes::print_modes;
 use crate::orders::OnManagers;
 use crate::progress::ProgressLine;
-use crate::run::run_styled_script;
+use crate::run::{run_shell, run_styled_script};
 use crate::workers::OpenGate;
 use lock_manager::Config;
 use lock_script::Fault;
@@ -104,6 +104,10 @@ fn run_words<
             run_styled_script(rt, input.reader, output, config, style)?;
             Ok(SUCCESS)
         }
+        Ok(Task::Shell(limits)) => {
+            talk(rt, limits, input, output)?;
+            Ok(SUCCESS)
+        }
         Ok(Task::Orders(limits, most)) => {
             merge(rt, limits, most, input.reader, output, errors)?;
             Ok(SUCCESS)
@@ -158,6 +162,24 @@ fn merge<H: AllocGlobal + Wait, R: Read + Drop, W: Write + Drop, E: Write>(
         writer: errors.writer,
     };
     run_orders(rt, &OnManagers { limits }, reader, output, &mut line, most)
+}
+
+/// Runs lines as they are typed.
+fn talk<H: AllocGlobal + Wait, R: Read + Drop, W: Write + Drop>(
+    rt: &H,
+    limits: Limits,
+    input: Source<R>,
+    output: W,
+) -> Result<(), Fault>
+    requires sessions { (1 ≤ limits.sessions) × (limits.sessions ≤ 64) }
+    requires max_local { (1 ≤ limits.max_local) × (limits.max_local ≤ 65536) }
+{
+    let output = BufWriter::new(rt.alloc(), output).map_err(|_| Fault::NoMemory)?;
+    let config = Config {
+        sessions: limits.sessions,
+        max_local: limits.max_local,
+    };
+    run_shell(rt, input.reader, output, config, input.is_terminal)
 }
 
 /// Prints the man page.

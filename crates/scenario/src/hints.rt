@@ -1,0 +1,247 @@
+//! What somebody at a shell is told: help, and what is wrong with a line.
+
+use crate::arguments::FORMS;
+use crate::statements::push_statements;
+use lock_script::{Defect, Name, parse_name, split_words};
+use modes_core::Mode;
+use std::alloc::{AllocError, Global};
+use strsim::levenshtein;
+
+/// The first words of lines.
+static VERBS: [&str; 21] = [
+    "session",
+    "try",
+    "fast",
+    "lock",
+    "unlock",
+    "commit",
+    "abort",
+    "begin",
+    "subcommit",
+    "subabort",
+    "owned",
+    "waiters",
+    "queue",
+    "blockers",
+    "cancel",
+    "list",
+    "count",
+    "hash",
+    "close",
+    "help",
+    "end",
+];
+
+/// What a shell has beside the lines of a script.
+const SHELL_LINES: &str = "  help                            this
+  help COMMAND                    the form of a command
+  help STATEMENT                  the locks of an SQL command, as help alter table
+  end                             close all sessions, and end
+";
+
+/// What is answered to `help` with these words behind it.
+pub fn help(alloc: Global, words: &[&str]) -> Result<String, AllocError> {
+    let mut text = String::new(alloc);
+    if words.is_empty() {
+        push_all(&mut text)?;
+        return Ok(text);
+    }
+    let topic = topic_of(alloc, words)?;
+    push_forms(&mut text, topic.as_str())?;
+    push_statements(&mut text, topic.as_str())?;
+    if text.len() == 0 {
+        write!(text, "no help on {:?}; help lists the commands\n", topic)?;
+    }
+    Ok(text)
+}
+
+/// These words with a blank between two of them.
+fn topic_of(alloc: Global, words: &[&str]) -> Result<String, AllocError> {
+    let mut topic = String::new(alloc);
+    let mut before = "";
+    for word in words {
+        write!(topic, "{before}{word}")?;
+        before = " ";
+    }
+    Ok(topic)
+}
+
+/// Adds the forms of all lines, and what their words may be.
+fn push_all(text: &mut String) -> Result<(), AllocError> {
+    let forms = match FORMS.split_once("\n\nExamples:") {
+        Some((forms, _)) => forms,
+        None => FORMS,
+    };
+    text.push_str(forms)?;
+    text.push_str("\n\nLines of a shell:\n")?;
+    text.push_str(SHELL_LINES)
+}
+
+/// Adds the form of a command, with the lines behind it that go on with it.
+fn push_forms(text: &mut String, verb: &str) -> Result<(), AllocError> {
+    let mut is_its = false;
+    for line in FORMS.lines() {
+        is_its = match line.strip_prefix("  ") {
+            Some(form) if form.starts_with(' ') => is_its,
+            Some(form) => first_word(form) == verb,
+            None => false,
+        };
+        if is_its {
+            write!(text, "{line}\n")?;
+        }
+    }
+    Ok(())
+}
+
+/// What stands before the first blank.
+fn first_word(text: &str) -> &str {
+    match text.split_once(' ') {
+        Some((word, _)) => word,
+        None => text,
+    }
+}
+
+/// What is wrong with a line: the defect, the word that has it, and the nearest good one or what it may be.
+pub fn correction(
+    alloc: Global,
+    line: &str,
+    what: Defect,
+    names: &[Name],
+) -> Result<String, AllocError> {
+    let words = split_words(line);
+    let mut text = format!(in alloc; "bad line: {what}")?;
+    if let Some(word) = word_meant(what, words.as_slice(), names) {
+        write!(text, " {word:?}")?;
+        push_nearest(alloc, &mut text, what, word, names)?;
+    }
+    push_rule(&mut text, what, words.as_slice())?;
+    text.push('\n')?;
+    Ok(text)
+}
+
+/// The word of a line that has the defect, if it is one's.
+fn word_meant<'a>(what: Defect, words: &[&'a str], names: &[Name]) -> Option<&'a str> {
+    let place = match what {
+        Defect::UnknownCommand => 0,
+        Defect::SessionExists | Defect::SessionWaits => 1,
+        Defect::BadNumber => 2,
+        Defect::BadMode => 3,
+        Defect::BadOwner => 4,
+        Defect::BadObject => place_of_tag(words),
+        Defect::BadName => place_behind(words, |word| parse_name(word).is_some()),
+        Defect::NoSuchSession => place_behind(words, |word| is_open(names, word)),
+        Defect::TooManyLines
+        | Defect::LineTooLong
+        | Defect::NotAsciiText
+        | Defect::WrongNumberOfWords => return None,
+    };
+    words.get(place).copied()
+}
+
+/// Where the object stands in a line.
+fn place_of_tag(words: &[&str]) -> usize {
+    match words.first() {
+        Some(verb) if *verb == "hash" => 1,
+        Some(verb) if *verb == "blockers" => 3,
+        _ => 2,
+    }
+}
+
+/// Which of the two words behind the first one isn't good: the second, where the first one is.
+fn place_behind<F: Fn(&str) -> bool>(words: &[&str], is_good: F) -> usize
+    requires { F.IsAlwaysCallable is_good }
+{
+    match words.get(1) {
+        Some(word) if is_good(*word) => 2,
+        _ => 1,
+    }
+}
+
+/// Whether a session of this name is open.
+fn is_open(names: &[Name], word: &str) -> bool {
+    names.iter().any(|name| name.as_str() == word)
+}
+
+/// Adds the nearest word that is good in this one's place, where good words can be listed.
+fn push_nearest(
+    alloc: Global,
+    text: &mut String,
+    what: Defect,
+    word: &str,
+    names: &[Name],
+) -> Result<(), AllocError> {
+    let mut nearest = Nearest::to(alloc, word)?;
+    match what {
+        Defect::UnknownCommand => {
+            for verb in &VERBS {
+                nearest.look_at(alloc, verb)?;
+            }
+        }
+        Defect::BadMode => {
+            for mode in &Mode::ALL {
+                nearest.look_at(alloc, mode.name())?;
+            }
+        }
+        Defect::NoSuchSession => {
+            for name in names {
+                nearest.look_at(alloc, name.as_str())?;
+            }
+        }
+        Defect::BadOwner => nearest.look_at(alloc, "session")?,
+        _ => {}
+    }
+    if let Some((found, _)) = nearest.found {
+        write!(text, ", perhaps {found:?}")?;
+    }
+    Ok(())
+}
+
+/// The nearest of the words that were looked at, by how many letters have to change, whatever their case.
+#[derive(Drop)]
+struct Nearest<'a> {
+    word: String,
+    found: Option<(&'a str, usize)>,
+}
+
+impl<'a> Nearest<'a> {
+    /// Nothing was looked at.
+    fn to(alloc: Global, word: &str) -> Result<Self, AllocError> {
+        let word = word.to_ascii_lowercase(alloc)?;
+        Ok(Nearest { word, found: None })
+    }
+
+    /// Looks at a word. Of two that are equally near the first one stays.
+    fn look_at(&mut self, alloc: Global, other: &'a str) -> Result<(), AllocError> {
+        let lower = other.to_ascii_lowercase(alloc)?;
+        let edits = levenshtein(alloc, self.word.as_str(), lower.as_str())?;
+        let is_nearer = match self.found {
+            Some((_, fewest)) => edits < fewest,
+            None => true,
+        };
+        if is_nearer {
+            self.found = Some((other, edits));
+        }
+        Ok(())
+    }
+}
+
+/// Adds what the word may be, where that is a rule, or the form of the command.
+fn push_rule(text: &mut String, what: Defect, words: &[&str]) -> Result<(), AllocError> {
+    match what {
+        Defect::BadName => text.push_str("; a name is 1 to 16 of a to z, 0 to 9 and _"),
+        Defect::BadNumber => text.push_str(
+            "; a number has 1 to 10 digits, and an INDEX is below 1024",
+        ),
+        Defect::BadObject => {
+            text.push_str("; an object is DB/REL, DB/CLASS/OBJ/SUB or adv/DB/K1/K2/SUB")
+        }
+        Defect::WrongNumberOfWords => match words.first() {
+            Some(verb) => {
+                text.push_str(":\n")?;
+                push_forms(text, verb)
+            }
+            None => Ok(()),
+        },
+        _ => Ok(()),
+    }
+}
