@@ -5,32 +5,10 @@ use crate::statements::push_statements;
 use lock_script::{Defect, Name, parse_name, split_words};
 use modes_core::Mode;
 use std::alloc::{AllocError, Global};
-use strsim::levenshtein;
+use strsim::jaro_winkler;
 
-/// The first words of lines.
-static VERBS: [&str; 21] = [
-    "session",
-    "try",
-    "fast",
-    "lock",
-    "unlock",
-    "commit",
-    "abort",
-    "begin",
-    "subcommit",
-    "subabort",
-    "owned",
-    "waiters",
-    "queue",
-    "blockers",
-    "cancel",
-    "list",
-    "count",
-    "hash",
-    "close",
-    "help",
-    "end",
-];
+/// The words with which lines of a shell begin and those of a script don't.
+static SHELL_VERBS: [&str; 2] = ["help", "end"];
 
 /// What a shell has beside the lines of a script.
 const SHELL_LINES: &str = "  help                            this
@@ -77,10 +55,18 @@ fn push_all(text: &mut String) -> Result<(), AllocError> {
     text.push_str(SHELL_LINES)
 }
 
+/// The forms of a script's lines, below a title.
+fn forms() -> &'static str {
+    match FORMS.split_once("\n\n") {
+        Some((forms, _)) => forms,
+        None => FORMS,
+    }
+}
+
 /// Adds the form of a command, with the lines behind it that go on with it.
 fn push_forms(text: &mut String, verb: &str) -> Result<(), AllocError> {
     let mut is_its = false;
-    for line in FORMS.lines() {
+    for line in forms().lines() {
         is_its = match line.strip_prefix("  ") {
             Some(form) if form.starts_with(' ') => is_its,
             Some(form) => first_word(form) == verb,
@@ -115,7 +101,6 @@ pub fn correction(
         push_nearest(alloc, &mut text, what, word, names)?;
     }
     push_rule(&mut text, what, words.as_slice())?;
-    text.push('\n')?;
     Ok(text)
 }
 
@@ -172,11 +157,7 @@ fn push_nearest(
 ) -> Result<(), AllocError> {
     let mut nearest = Nearest::to(alloc, word)?;
     match what {
-        Defect::UnknownCommand => {
-            for verb in &VERBS {
-                nearest.look_at(alloc, verb)?;
-            }
-        }
+        Defect::UnknownCommand => nearest.look_at_verbs(alloc)?,
         Defect::BadMode => {
             for mode in &Mode::ALL {
                 nearest.look_at(alloc, mode.name())?;
@@ -196,11 +177,11 @@ fn push_nearest(
     Ok(())
 }
 
-/// The nearest of the words that were looked at, by how many letters have to change, whatever their case.
+/// The word most like another one of those that were looked at, in letters of either case.
 #[derive(Drop)]
 struct Nearest<'a> {
     word: String,
-    found: Option<(&'a str, usize)>,
+    found: Option<(&'a str, f64)>,
 }
 
 impl<'a> Nearest<'a> {
@@ -210,38 +191,50 @@ impl<'a> Nearest<'a> {
         Ok(Nearest { word, found: None })
     }
 
-    /// Looks at a word. Of two that are equally near the first one stays.
+    /// Looks at the words with which lines begin.
+    fn look_at_verbs(&mut self, alloc: Global) -> Result<(), AllocError> {
+        for line in forms().lines() {
+            if let Some(form) = line.strip_prefix("  ") {
+                self.look_at(alloc, first_word(form))?;
+            }
+        }
+        for verb in &SHELL_VERBS {
+            self.look_at(alloc, verb)?;
+        }
+        Ok(())
+    }
+
+    /// Looks at a word. Of two that are equally like it the first one stays.
     fn look_at(&mut self, alloc: Global, other: &'a str) -> Result<(), AllocError> {
         let lower = other.to_ascii_lowercase(alloc)?;
-        let edits = levenshtein(alloc, self.word.as_str(), lower.as_str())?;
+        let likeness = jaro_winkler(alloc, self.word.as_str(), lower.as_str())?;
         let is_nearer = match self.found {
-            Some((_, fewest)) => edits < fewest,
+            Some((_, most)) => most < likeness,
             None => true,
         };
         if is_nearer {
-            self.found = Some((other, edits));
+            self.found = Some((other, likeness));
         }
         Ok(())
     }
 }
 
-/// Adds what the word may be, where that is a rule, or the form of the command.
+/// Ends the line with what the word may be, where that is a rule, or with the form of the command.
 fn push_rule(text: &mut String, what: Defect, words: &[&str]) -> Result<(), AllocError> {
-    match what {
-        Defect::BadName => text.push_str("; a name is 1 to 16 of a to z, 0 to 9 and _"),
-        Defect::BadNumber => text.push_str(
-            "; a number has 1 to 10 digits, and an INDEX is below 1024",
-        ),
-        Defect::BadObject => {
-            text.push_str("; an object is DB/REL, DB/CLASS/OBJ/SUB or adv/DB/K1/K2/SUB")
-        }
-        Defect::WrongNumberOfWords => match words.first() {
-            Some(verb) => {
-                text.push_str(":\n")?;
-                push_forms(text, verb)
-            }
-            None => Ok(()),
-        },
+    text.push_str(rule_of(what))?;
+    match (what, words.first()) {
+        (Defect::WrongNumberOfWords, Some(verb)) => push_forms(text, *verb),
         _ => Ok(()),
+    }
+}
+
+/// What stands at the end of the line that tells of a defect.
+fn rule_of(what: Defect) -> &'static str {
+    match what {
+        Defect::BadName => "; a name is 1 to 16 of a to z, 0 to 9 and _\n",
+        Defect::BadNumber => "; a number has 1 to 10 digits, and an INDEX is below 1024\n",
+        Defect::BadObject => "; an object is DB/REL, DB/CLASS/OBJ/SUB or adv/DB/K1/K2/SUB\n",
+        Defect::WrongNumberOfWords => "; its form is\n",
+        _ => "\n",
     }
 }

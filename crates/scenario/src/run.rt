@@ -129,10 +129,7 @@ fn play<
 {
     let stage = Stage::new(alloc, manager, opener)?;
     let mut scene = Scene { stage, output };
-    let ended = match shell {
-        None => scene.play(desk, rt, reader),
-        Some(shell) => scene.talk(desk, rt, reader, shell),
-    };
+    let ended = scene.act_out(desk, rt, reader, shell);
     Ok((scene.into_stage().into_opener(), ended))
 }
 
@@ -175,18 +172,16 @@ impl<'a, T: PartTable, B: Board<T>, W: Write + Drop> Scene<'a, T, B, W> {
         ensures none_open { self.new.stage.sessions.resting ≡ [] }
         ensures none_live { self.new.stage.opener.live ≡ 0 }
     {
-        let ended = self.run_lines(desk, rt, reader);
-        self.stage.close_all(desk, rt);
-        ended
+        self.act_out(desk, rt, reader, None)
     }
 
-    /// Plays a shell: runs its lines as somebody types them, and then closes the sessions that are open.
-    fn talk<D: Desk<'a, OwnSession<T, B>>, H: Wait, R: Read + Drop>(
+    /// Plays a script, or has a shell, and then closes the sessions that are open.
+    fn act_out<D: Desk<'a, OwnSession<T, B>>, H: Wait, R: Read + Drop>(
         &mut self,
         desk: &D,
         rt: &H,
         reader: R,
-        shell: Shell,
+        shell: Option<Shell>,
     ) -> Result<(), Fault>
         requires seats { SeatsAre B.seat D.seat }
         ensures manager { self.new.stage.manager.now ≡ self.old.stage.manager.now }
@@ -194,9 +189,26 @@ impl<'a, T: PartTable, B: Board<T>, W: Write + Drop> Scene<'a, T, B, W> {
         ensures none_open { self.new.stage.sessions.resting ≡ [] }
         ensures none_live { self.new.stage.opener.live ≡ 0 }
     {
-        let ended = self.converse(desk, rt, reader, shell);
+        let ended = self.run_all(desk, rt, reader, shell);
         self.stage.close_all(desk, rt);
         ended
+    }
+
+    /// Runs the lines of a script, or of a shell.
+    fn run_all<D: Desk<'a, OwnSession<T, B>>, H: Wait, R: Read + Drop>(
+        &mut self,
+        desk: &D,
+        rt: &H,
+        reader: R,
+        shell: Option<Shell>,
+    ) -> Result<(), Fault>
+        requires seats { SeatsAre B.seat D.seat }
+        ensures manager { self.new.stage.manager.now ≡ self.old.stage.manager.now }
+    {
+        match shell {
+            None => self.run_lines(desk, rt, reader),
+            Some(shell) => self.converse(desk, rt, reader, shell),
+        }
     }
 
     /// Runs the lines of the reader, to its end or to the first fault.

@@ -42,7 +42,7 @@ impl Shell {
     fn understand(self, line: &str) -> Result<Asked, AllocError> {
         let words = split_words(line);
         match words.as_slice().split_first() {
-            Some((verb, [])) if *verb == "end" => Ok(Asked::End),
+            Some((verb, _)) if *verb == "end" => Ok(Asked::End),
             Some((verb, words)) if *verb == "help" => Ok(Asked::Help(help(self.alloc, words)?)),
             _ => Ok(Asked::Line),
         }

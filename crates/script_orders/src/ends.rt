@@ -2,6 +2,7 @@
 
 use crate::stories::{Script, Story};
 use std::alloc::{AllocError, Global};
+use std::fmt;
 use std::io::{self, Write};
 
 /// A way to end: what is told of it, how many orders lead there, and the first of them as a script.
@@ -10,6 +11,18 @@ struct End {
     told: String,
     orders: u32,
     script: Script,
+}
+
+/// How many orders there are, in words.
+struct Orders(u32);
+
+impl fmt::Display for Orders {
+    fn fmt<W: fmt::Write>(&self, f: &mut fmt::Formatter<W>) -> fmt::Result {
+        match self.0 {
+            1 => write!(f, "1 order"),
+            many => write!(f, "{many} orders"),
+        }
+    }
 }
 
 /// The ways in which orders ended, in the order in which they came first.
@@ -59,15 +72,15 @@ impl Ends {
         let (possible, left_out) = (self.possible, self.left_out);
         let run = possible.saturating_add(left_out);
         if !is_whole {
-            writeln!(output, "# the first {run} orders, and there are more")?;
+            writeln!(output, "# the first {}, and there are more", Orders(run))?;
         }
         writeln!(
             output,
-            "# {run} orders: {possible} possible, {left_out} in which a line addresses a session that waits"
+            "# {}: {possible} possible, {left_out} in which a line addresses a session that waits",
+            Orders(run)
         )?;
-        writeln!(output, "# {} ways to end", self.ends.len())?;
         for (place, end) in self.ends.iter().enumerate() {
-            writeln!(output, "\n# way {}: {} orders", place + 1, end.orders)?;
+            writeln!(output, "\n# way {}: {}", place + 1, Orders(end.orders))?;
             write!(output, "{}{}", end.told, end.script.text)?;
         }
         output.flush()
