@@ -21,7 +21,7 @@ static HELPS: [(&str, &[&str]); 6] = [
 
 /// What the page says of the status.
 const STATUS: &str = "\
-0  the script, its orders or the hammer ran to their end, or a text was asked for
+0  the script, its orders, the shell or the hammer ran to their end, or a text was asked for
 1  a fault of input, output or memory
 2  the program's own words were refused
 3  a bad line of a script; what the lines before it printed stays";

@@ -11,7 +11,7 @@ const HEAD: &str = ".TH LOCK_SCENARIO 1 \"\" \"lock_scenario 0.1.0\" \"User Comm
     lock_scenario \\- Run scripts against PostgreSQL\\(aqs lock manager\n";
 
 const TAIL: &str = ".SH EXIT STATUS\n.nf\n\
-    0  the script, its orders or the hammer ran to their end, or a text was asked for\n\
+    0  the script, its orders, the shell or the hammer ran to their end, or a text was asked for\n\
     1  a fault of input, output or memory\n\
     2  the program\\(aqs own words were refused\n\
     3  a bad line of a script; what the lines before it printed stays\n.fi\n";

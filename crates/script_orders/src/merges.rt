@@ -1,7 +1,7 @@
 //! The merges of several sessions' lines. A merge is a list of sessions, each as often as it has lines: whose line comes when. So
 //! each session's lines keep their order in every merge.
 
-ghost use Rattle.std.specs.Prelude.{◌≡◌, ◌≢◌, ℕ, ◌<◌, ◌≤◌, ◌+◌, ◌-◌, ◌×◌, [], true, length, take, slice_index, IfSome, OnSome};
+ghost use Rattle.std.specs.Prelude.{◌≡◌, ◌<◌, ◌≤◌, ◌+◌, true, false, length, take, slice_index, IfSome};
 ghost use Rattle.std.specs.List.Sorted.{IsPermutation};
 ghost use Rattle.script_orders.specs.Merges.{ComesLater};
 
@@ -10,6 +10,7 @@ ghost use Rattle.script_orders.specs.Merges.{ComesLater};
 pub fn next_merge(merge: &mut [usize]) -> bool
     ensures same { IsPermutation merge.old merge.new }
     ensures later { result ≡ true → ComesLater merge.old merge.new }
+    ensures last { result ≡ false → merge.new ≡ merge.old }
 {
     let Some(place) = last_ascent(merge) else {
         return false;
@@ -26,9 +27,9 @@ fn last_ascent(merge: &[usize]) -> Option<usize>
         × (slice_index merge.now place < slice_index merge.now (place + 1))) }
 {
     let mut found = None;
-    'places: for place in 1..merge.len() {
-        if merge[place - 1] < merge[place] {
-            found = Some(place - 1);
+    'places: for place in 0..merge.len().saturating_sub(1) {
+        if merge[place] < merge[place + 1] {
+            found = Some(place);
         }
     }
     found
