@@ -4,7 +4,7 @@ use crate::programs::{Run, expect_program, words_of};
 use std::test::Fail;
 
 /// Lines of a shell, and what each is answered.
-static ANSWERS: [(&str, &str); 25] = [
+static ANSWERS: [(&str, &str); 26] = [
     ("session a 5", "a: session 0 database 5\n"),
     ("session bob 5", "bob: session 1 database 5\n"),
     ("", ""),
