@@ -14,6 +14,7 @@ struct End {
 }
 
 /// How many orders there are, in words.
+#[derive(Clone, Copy)]
 struct Orders(u32);
 
 impl fmt::Display for Orders {
