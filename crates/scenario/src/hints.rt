@@ -113,8 +113,9 @@ fn word_meant<'a>(what: Defect, words: &[&'a str], names: &[Name]) -> Option<&'a
         Defect::BadMode => 3,
         Defect::BadOwner => 4,
         Defect::BadObject => place_of_tag(words),
-        Defect::BadName => place_behind(words, |word| parse_name(word).is_some()),
-        Defect::NoSuchSession => place_behind(words, |word| is_open(names, word)),
+        Defect::BadName if is_named(words) => 2,
+        Defect::NoSuchSession if is_open(words, names) => 2,
+        Defect::BadName | Defect::NoSuchSession => 1,
         Defect::TooManyLines
         | Defect::LineTooLong
         | Defect::NotAsciiText
@@ -132,19 +133,20 @@ fn place_of_tag(words: &[&str]) -> usize {
     }
 }
 
-/// Which of the two words behind the first one isn't good: the second, where the first one is.
-fn place_behind<F: Fn(&str) -> bool>(words: &[&str], is_good: F) -> usize
-    requires { F.IsAlwaysCallable is_good }
-{
+/// Whether the second word is a name.
+fn is_named(words: &[&str]) -> bool {
     match words.get(1) {
-        Some(word) if is_good(*word) => 2,
-        _ => 1,
+        Some(word) => parse_name(*word).is_some(),
+        None => false,
     }
 }
 
-/// Whether a session of this name is open.
-fn is_open(names: &[Name], word: &str) -> bool {
-    names.iter().any(|name| name.as_str() == word)
+/// Whether the second word names an open session.
+fn is_open(words: &[&str], names: &[Name]) -> bool {
+    match words.get(1) {
+        Some(word) => names.iter().any(|name| name.as_str() == *word),
+        None => false,
+    }
 }
 
 /// Adds the nearest word that is good in this one's place, where good words can be listed.
