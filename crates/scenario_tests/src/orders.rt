@@ -188,6 +188,7 @@ static TALES: [Tale; 3] = [
 ];
 
 /// How many orders are possible, and how many are none.
+#[derive(Clone, Copy)]
 struct Counts {
     possible: u32,
     left_out: u32,
