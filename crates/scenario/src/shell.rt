@@ -8,7 +8,7 @@ use crate::run::Scene;
 use lock_manager::OwnSession;
 use lock_script::{Defect, Fault, LineReader, Name, OpenSessions, parse, split_words};
 use lock_table::PartTable;
-use shared_rule::board::Board;
+use shared_rule::Board;
 use std::alloc::{AllocError, Global};
 use std::io::{Read, Write};
 use std::sync::Wait;
