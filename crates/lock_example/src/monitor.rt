@@ -85,19 +85,17 @@ fn print_wait<R: Print>(
     queue: &[QueueRow],
 ) -> io::Result<()> {
     print!(rt; "{} waits for {} on {}:", row.session, row.mode, row.tag)?;
-    let mut before = " ";
-    for blocker in blockers {
+    for (place, blocker) in blockers.iter().enumerate() {
+        let before = if place == 0 { " " } else { ", " };
         let does = match blocker.how {
             InTheWay::Holds => "holds",
             InTheWay::StandsBefore => "awaits",
         };
         print!(rt; "{before}{} {does} {}", blocker.session, blocker.mode)?;
-        before = ", ";
     }
-    let mut before = "; queue ";
-    for waiter in queue {
+    for (place, waiter) in queue.iter().enumerate() {
+        let before = if place == 0 { "; queue " } else { ", " };
         print!(rt; "{before}{}", waiter.session)?;
-        before = ", ";
     }
     println!(rt;)
 }

@@ -36,10 +36,11 @@ pub fn help(alloc: Global, words: &[&str]) -> Result<String, AllocError> {
 /// These words with a blank between two of them.
 fn topic_of(alloc: Global, words: &[&str]) -> Result<String, AllocError> {
     let mut topic = String::new(alloc);
-    let mut before = "";
     for word in words {
-        write!(topic, "{before}{word}")?;
-        before = " ";
+        if topic.len() > 0 {
+            topic.push(' ')?;
+        }
+        topic.push_str(*word)?;
     }
     Ok(topic)
 }

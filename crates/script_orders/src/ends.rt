@@ -101,17 +101,23 @@ pub fn tell(
     for (actor, answers) in story.actors.iter().zip(answers.as_slice()) {
         write!(told, "#   {}: {answers}\n", actor.name)?;
     }
-    let mut before = "#   left waiting: ";
+    let mut is_any = false;
     for (actor, answers) in story.actors.iter().zip(answers.as_slice()) {
         if is_waiting(answers.as_str()) {
-            write!(told, "{before}{}", actor.name)?;
-            before = ", ";
+            told.push_str(before_name(is_any))?;
+            told.push_str(actor.name.as_str())?;
+            is_any = true;
         }
     }
-    if before == ", " {
+    if is_any {
         told.push('\n')?;
     }
     Ok(told)
+}
+
+/// What stands before the name of a session that waits yet: whether another one was told.
+fn before_name(is_any: bool) -> &'static str {
+    if is_any { ", " } else { "#   left waiting: " }
 }
 
 /// Whether a session with these answers waits.
