@@ -4,7 +4,7 @@ use crate::programs::{Run, expect_program, words_of};
 use std::test::Fail;
 
 /// Lines of a shell, and what each is answered.
-static ANSWERS: [(&str, &str); 26] = [
+static ANSWERS: [(&str, &str); 25] = [
     ("session a 5", "a: session 0 database 5\n"),
     ("session bob 5", "bob: session 1 database 5\n"),
     ("", ""),
@@ -80,10 +80,6 @@ static ANSWERS: [(&str, &str); 26] = [
          \u{20} LOCK TABLE takes AccessExclusiveLock, or the mode that it names\n",
     ),
     ("help alt", "no help on \"alt\"; help lists the commands\n"),
-    (
-        "end now",
-        "bad line: unknown command \"end\", perhaps \"end\"\n",
-    ),
 ];
 
 /// All lines in one shell, with `end` behind them, and what stands there is read no more.
