@@ -18,7 +18,7 @@ comes_later old swapped new place other before within above s e = record {
   place = place;
   within = omega (arith, before, within);
   front = λ k h. same_at (place + 1) k new swapped (omega (arith, h)) e
-      ∙ s.1.1 k 0 (λ same. omega (arith, h, same)) (λ same. omega (arith, h, before, same));
+      ∙ s.2 k 0 (λ same. omega (arith, h, same)) (λ same. omega (arith, h, before, same));
   later =
       let there : slice_index new place ≡ slice_index old other =
       same_at (place + 1) place new swapped (omega arith) e ∙ s.0 0 in

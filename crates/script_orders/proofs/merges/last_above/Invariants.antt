@@ -1,4 +1,4 @@
-use Rattle.std.proofs.Common.{ℕ, ◌<◌, length, slice_index}
+use Rattle.std.proofs.Common.{◌<◌, length, slice_index}
 use Rattle.script_orders.proofs.merges.last_above.Given as goal
 
 abbrev pub invariant-places : goal.invariant-places
