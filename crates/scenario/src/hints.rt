@@ -174,20 +174,20 @@ fn push_nearest(
         Defect::BadOwner => nearest.look_at(alloc, "session")?,
         _ => {}
     }
-    if let Some((found, _)) = nearest.found {
-        write!(text, ", perhaps {found:?}")?;
+    match &nearest.found {
+        Some((found, _)) => write!(text, ", perhaps {found:?}"),
+        None => Ok(()),
     }
-    Ok(())
 }
 
 /// The word most like another one of those that were looked at, in letters of either case.
 #[derive(Drop)]
-struct Nearest<'a> {
+struct Nearest {
     word: String,
-    found: Option<(&'a str, f64)>,
+    found: Option<(String, f64)>,
 }
 
-impl<'a> Nearest<'a> {
+impl Nearest {
     /// Nothing was looked at.
     fn to(alloc: Global, word: &str) -> Result<Self, AllocError> {
         let word = word.to_ascii_lowercase(alloc)?;
@@ -208,14 +208,15 @@ impl<'a> Nearest<'a> {
     }
 
     /// Looks at a word. Of two that are equally like it the first one stays.
-    fn look_at(&mut self, alloc: Global, other: &'a str) -> Result<(), AllocError> {
+    fn look_at(&mut self, alloc: Global, other: &str) -> Result<(), AllocError> {
         let lower = other.to_ascii_lowercase(alloc)?;
         let likeness = jaro_winkler(alloc, self.word.as_str(), lower.as_str())?;
-        let is_nearer = match self.found {
-            Some((_, most)) => most < likeness,
+        let is_nearer = match &self.found {
+            Some((_, most)) => *most < likeness,
             None => true,
         };
         if is_nearer {
+            let other = String::from_str(alloc, other)?;
             self.found = Some((other, likeness));
         }
         Ok(())
