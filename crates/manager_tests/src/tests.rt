@@ -10,6 +10,7 @@ mod audits;
 mod busy;
 mod conflicts;
 mod counted;
+mod crowds;
 mod deeds;
 mod desk;
 mod gates;
@@ -23,8 +24,10 @@ mod scenes;
 mod threads;
 mod turn_lists;
 mod turns;
+mod unsteady;
 mod waits;
 mod wakes;
+mod watched;
 mod watches;
 
 use desk::{Desk, ManagerDesk};
@@ -39,8 +42,10 @@ use std::process::Abort;
 use std::sync::Wait;
 use std::test::Fail;
 use std::thread::Threads;
+use std::time::Clock;
 use threads::Plan;
 use turn_lists::LISTS;
+use unsteady::Contest;
 
 /// What the sessions of a manager do.
 #[derive(Clone, Copy)]
@@ -60,6 +65,8 @@ enum Story<'a> {
     Asked(u32),
     /// One lists while three lock and unlock, each in a thread of its own.
     Watch,
+    /// As many as there can be lock and unlock on one partition.
+    Crowd,
     /// One sleeps in a queue until the wait ahead of it is cancelled.
     LetGoByCancel,
     /// One sleeps in a queue until it is asked to cancel.
@@ -70,7 +77,7 @@ enum Story<'a> {
 fn tell<
     B: Board<Part> + Send,
     D: Desk<OwnSession<Part, B>>,
-    R: Abort + Threads + Wait + Sync + Print,
+    R: Abort + Clock + Threads + Wait + Sync + Print,
 >(rt: &R, alloc: Global, desk: &mut D, story: Story<'_>)
     requires seats { SeatsAre B.seat D.seat }
     ensures manager { D.manager desk.new ≡ D.manager desk.old }
@@ -88,8 +95,9 @@ fn tell<
         Story::Holds(limits) => limits::hold_all(rt, alloc, desk, limits),
         Story::Asks(number, plan) => threads::ask_in_threads(rt, alloc, desk, number, plan),
         Story::Queue(mode) => queues::wake_sleepers(rt, alloc, desk, mode),
-        Story::Asked(rounds) => asked::race_three(rt, alloc, desk, rounds),
-        Story::Watch => watches::list_beside(rt, alloc, desk),
+        Story::Asked(rounds) => asked::race_at(rt, alloc, desk, rounds),
+        Story::Watch => watches::watch_at(rt, alloc, desk),
+        Story::Crowd => crowds::crowd_at(rt, alloc, desk),
         Story::LetGoByCancel => wakes::let_go_by_a_cancel(rt, alloc, desk),
         Story::WokenAsAsked => wakes::woken_as_asked(rt, alloc, desk),
     }
@@ -106,7 +114,7 @@ fn make_at_last(alloc: Global, config: Config) -> Result<(Manager, Opener), Refu
 }
 
 /// Tells it at the desk of a manager.
-fn tell_at<R: Abort + Threads + Wait + Sync + Print>(
+fn tell_at<R: Abort + Clock + Threads + Wait + Sync + Print>(
     rt: &R,
     alloc: Global,
     desk: &mut ManagerDesk<'_>,
@@ -119,7 +127,7 @@ fn tell_at<R: Abort + Threads + Wait + Sync + Print>(
 }
 
 /// A story from the manager's beginning to its end.
-fn run<R: Abort + Threads + Wait + Sync + Print>(
+fn run<R: Abort + Clock + Threads + Wait + Sync + Print>(
     rt: &R,
     alloc: Global,
     config: Config,
@@ -247,6 +255,32 @@ fn a_thousand_races_end_as_one_of_the_two_had_won(rt: HostRuntime) -> Result<(),
 }
 
 #[test]
+fn races_end_so_where_threads_pause_between_steps(rt: HostRuntime) -> Result<(), Fail> {
+    let rounds = 1_000;
+    for contest in [
+        Contest::OfTwo(
+            Race::WeakAgainstStrong(Mode::AccessShare, Mode::AccessExclusive),
+            rounds,
+        ),
+        Contest::OfTwo(
+            Race::StrongOverWeak(Mode::RowExclusive, Mode::Share),
+            rounds,
+        ),
+        Contest::OfTwo(
+            Race::CancelAgainstRelease(Mode::AccessExclusive, Mode::AccessShare),
+            rounds,
+        ),
+        Contest::OfTwo(Race::AskAgainstSleep, rounds),
+        Contest::OfThree(rounds),
+        Contest::Listing,
+        Contest::Crowd,
+    ] {
+        unsteady::contend_with_pauses(&rt, rt.alloc(), contest)?;
+    }
+    Ok(())
+}
+
+#[test]
 fn many_sessions_do_as_the_stories_say(rt: HostRuntime) -> Result<(), Fail> {
     for (sessions, story) in [
         (4, Story::Asks(4, Plan::of(10_000, 4, false))),
@@ -257,6 +291,7 @@ fn many_sessions_do_as_the_stories_say(rt: HostRuntime) -> Result<(), Fail> {
         (watches::SESSIONS, Story::Watch),
         (queues::MANY + 1, Story::Queue(Mode::AccessExclusive)),
         (queues::MANY + 1, Story::Queue(Mode::AccessShare)),
+        (crowds::SESSIONS, Story::Crowd),
         (3, Story::LetGoByCancel),
         (2, Story::WokenAsAsked),
     ] {

@@ -133,8 +133,28 @@ fn play_side_by_side<B: Board<Part> + Send, R: Abort + Threads + Wait + Sync>(
     for_each_mut(rt, sessions, threads, &|_, session| play(rt, ring, session));
 }
 
-/// Three sessions of a desk race so, round after round. Both ends of the wait come about.
-pub fn race_three<
+/// Three sessions race so, round after round. Both ends of the wait come about.
+pub fn race_three<B: Board<Part> + Send, R: Abort + Threads + Wait + Sync + Print>(
+    rt: &R,
+    sessions: &mut [OwnSession<Part, B>],
+    rounds: u32,
+)
+    ensures own { (manager : ManagerView) → AreOf B.seat manager sessions.old → AreOf B.seat manager sessions.new }
+{
+    let ring = Ring {
+        rounds,
+        all: Gate::new(),
+        two: Gate::new(),
+        wins: Wins::none(),
+        waiter: SessionId::new(1).expect(rt, "a session number"),
+    };
+    play_side_by_side(rt, &ring, sessions);
+    ring.wins
+        .expect_both(rt, "a release against a request to cancel");
+}
+
+/// Those of a desk do.
+pub fn race_at<
     B: Board<Part> + Send,
     D: Desk<OwnSession<Part, B>>,
     R: Abort + Threads + Wait + Sync + Print,
@@ -144,15 +164,6 @@ pub fn race_three<
     ensures live { D.live desk.new ≡ D.live desk.old }
 {
     let mut sessions = open_many(rt, alloc, desk, SESSIONS);
-    let ring = Ring {
-        rounds,
-        all: Gate::new(),
-        two: Gate::new(),
-        wins: Wins::none(),
-        waiter: SessionId::new(1).expect(rt, "a session number"),
-    };
-    play_side_by_side(rt, &ring, sessions.as_mut_slice());
+    race_three(rt, sessions.as_mut_slice(), rounds);
     close_counted(rt, desk, sessions);
-    ring.wins
-        .expect_both(rt, "a release against a request to cancel");
 }

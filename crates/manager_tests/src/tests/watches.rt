@@ -245,8 +245,19 @@ fn play_side_by_side<B: Board<Part> + Send, R: Abort + Threads + Wait + Sync>(
     );
 }
 
-/// A session of a desk lists while three others lock and unlock.
-pub fn list_beside<
+/// A session lists while three others lock and unlock.
+pub fn list_beside<B: Board<Part> + Send, R: Abort + Threads + Wait + Sync>(
+    rt: &R,
+    sessions: &mut [OwnSession<Part, B>],
+)
+    ensures own { (manager : ManagerView) → AreOf B.seat manager sessions.old → AreOf B.seat manager sessions.new }
+{
+    let words = Words::new();
+    play_side_by_side(rt, &words, sessions);
+}
+
+/// Those of a desk do.
+pub fn watch_at<
     B: Board<Part> + Send,
     D: Desk<OwnSession<Part, B>>,
     R: Abort + Threads + Wait + Sync,
@@ -256,7 +267,6 @@ pub fn list_beside<
     ensures live { D.live desk.new ≡ D.live desk.old }
 {
     let mut sessions = open_many(rt, alloc, desk, SESSIONS);
-    let words = Words::new();
-    play_side_by_side(rt, &words, sessions.as_mut_slice());
+    list_beside(rt, sessions.as_mut_slice());
     close_counted(rt, desk, sessions);
 }
