@@ -45,7 +45,7 @@ use std::thread::Threads;
 use std::time::Clock;
 use threads::Plan;
 use turn_lists::LISTS;
-use unsteady::Contest;
+use unsteady::Crew;
 
 /// What the sessions of a manager do.
 #[derive(Clone, Copy)]
@@ -256,26 +256,21 @@ fn a_thousand_races_end_as_one_of_the_two_had_won(rt: HostRuntime) -> Result<(),
 
 #[test]
 fn races_end_so_where_threads_pause_between_steps(rt: HostRuntime) -> Result<(), Fail> {
-    let rounds = 1_000;
-    for contest in [
-        Contest::OfTwo(
-            Race::WeakAgainstStrong(Mode::AccessShare, Mode::AccessExclusive),
-            rounds,
-        ),
-        Contest::OfTwo(
-            Race::StrongOverWeak(Mode::RowExclusive, Mode::Share),
-            rounds,
-        ),
-        Contest::OfTwo(
-            Race::CancelAgainstRelease(Mode::AccessExclusive, Mode::AccessShare),
-            rounds,
-        ),
-        Contest::OfTwo(Race::AskAgainstSleep, rounds),
-        Contest::OfThree(rounds),
-        Contest::Listing,
-        Contest::Crowd,
+    for race in [
+        Race::WeakAgainstStrong(Mode::AccessShare, Mode::AccessExclusive),
+        Race::StrongOverWeak(Mode::RowExclusive, Mode::Share),
+        Race::CancelAgainstRelease(Mode::AccessExclusive, Mode::AccessShare),
+        Race::AskAgainstSleep,
     ] {
-        unsteady::contend_with_pauses(&rt, rt.alloc(), contest)?;
+        unsteady::race_with_pauses(&rt, rt.alloc(), race, 1_000)?;
+    }
+    Ok(())
+}
+
+#[test]
+fn many_sessions_do_so_where_threads_pause_between_steps(rt: HostRuntime) -> Result<(), Fail> {
+    for crew in [Crew::Asked(1_000), Crew::Watch, Crew::Crowd] {
+        unsteady::act_with_pauses(&rt, rt.alloc(), crew)?;
     }
     Ok(())
 }

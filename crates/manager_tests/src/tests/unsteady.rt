@@ -9,7 +9,7 @@ ghost use Rattle.shared_rule.specs.Opening.{AreNew};
 use super::desk::append;
 use super::gates::mixed;
 use super::pair::Pair;
-use super::races::{Race, race_often, see_nothing};
+use super::races::{Race, race_often};
 use super::watched::{Watch, WatchedBoard};
 use super::{asked, crowds, watches};
 use lock_manager::{OwnSession, Part};
@@ -83,29 +83,26 @@ impl Watch for Pauses {
     }
 }
 
-/// What sessions race for.
+/// What more than two sessions do.
 #[derive(Clone, Copy)]
-pub enum Contest {
-    /// Two for a table, so many rounds.
-    OfTwo(Race, u32),
+pub enum Crew {
     /// One waits for what another gives back while a third one asks it to cancel, so many times.
-    OfThree(u32),
+    Asked(u32),
     /// One lists while three lock and unlock.
-    Listing,
+    Watch,
     /// As many as there can be lock and unlock on one partition.
     Crowd,
 }
 
-impl Contest {
+impl Crew {
     /// How many sessions there are.
     fn sessions(self) -> u8
         ensures few { result ≤ 64 }
     {
         match self {
-            Contest::OfTwo(_, _) => 2,
-            Contest::OfThree(_) => 3,
-            Contest::Listing => 4,
-            Contest::Crowd => 64,
+            Crew::Asked(_) => 3,
+            Crew::Watch => 4,
+            Crew::Crowd => 64,
         }
     }
 }
@@ -201,64 +198,59 @@ fn close_all<'a, R: Wait>(rt: &R, opener: &mut Opener<Part>, mut sessions: Vec<U
     sessions.destroy_empty();
 }
 
-/// The last two race.
-fn race_two<B: Board<Part> + Send, R: Abort + Threads + Wait + Sync + Print>(
+/// These sessions do so.
+fn act<B: Board<Part> + Send, R: Abort + Clock + Threads + Wait + Sync + Print>(
     rt: &R,
-    sessions: &mut Vec<OwnSession<Part, B>>,
-    race: Race,
-    rounds: u32,
+    sessions: &mut [OwnSession<Part, B>],
+    crew: Crew,
 )
-    ensures own { (manager : ManagerView) → AreOf B.seat manager sessions.old.items → AreOf B.seat manager sessions.new.items }
+    ensures own { (manager : ManagerView) → AreOf B.seat manager sessions.old → AreOf B.seat manager sessions.new }
 {
-    let Some(second) = sessions.pop() else {
-        panic!(rt; "no session")
-    };
-    let Some(first) = sessions.pop() else {
-        panic!(rt; "one session")
-    };
-    let Pair { first, second } = race_often(rt, Pair { first, second }, race, rounds);
-    append(rt, sessions, first);
-    append(rt, sessions, second);
-}
-
-/// The last one sees that nothing stands.
-fn look_at_last<B: Board<Part>, R: Abort + Wait>(rt: &R, sessions: &mut Vec<OwnSession<Part, B>>)
-    ensures own { (manager : ManagerView) → AreOf B.seat manager sessions.old.items → AreOf B.seat manager sessions.new.items }
-{
-    let Some(mut session) = sessions.pop() else {
-        panic!(rt; "no session")
-    };
-    see_nothing(rt, &mut session);
-    append(rt, sessions, session);
-}
-
-/// These sessions race.
-fn contend<B: Board<Part> + Send, R: Abort + Clock + Threads + Wait + Sync + Print>(
-    rt: &R,
-    sessions: &mut Vec<OwnSession<Part, B>>,
-    contest: Contest,
-)
-    ensures own { (manager : ManagerView) → AreOf B.seat manager sessions.old.items → AreOf B.seat manager sessions.new.items }
-{
-    match contest {
-        Contest::OfTwo(race, rounds) => race_two(rt, sessions, race, rounds),
-        Contest::OfThree(rounds) => asked::race_three(rt, sessions.as_mut_slice(), rounds),
-        Contest::Listing => watches::list_beside(rt, sessions.as_mut_slice()),
-        Contest::Crowd => crowds::crowd(rt, sessions.as_mut_slice()),
+    match crew {
+        Crew::Asked(rounds) => asked::race_three(rt, sessions, rounds),
+        Crew::Watch => watches::list_beside(rt, sessions),
+        Crew::Crowd => crowds::crowd(rt, sessions),
     }
-    look_at_last(rt, sessions);
 }
 
-/// As many sessions as there are to be race at a table of their own, on boards that pause.
-pub fn contend_with_pauses<R: Abort + Clock + Threads + Wait + Sync + Print>(
+/// Those of a list do, which comes back.
+fn act_all<B: Board<Part> + Send, R: Abort + Clock + Threads + Wait + Sync + Print>(
+    rt: &R,
+    mut sessions: Vec<OwnSession<Part, B>>,
+    crew: Crew,
+) -> Vec<OwnSession<Part, B>>
+    ensures own { (manager : ManagerView) → AreOf B.seat manager sessions.items → AreOf B.seat manager result.items }
+{
+    act(rt, sessions.as_mut_slice(), crew);
+    sessions
+}
+
+/// As many sessions as there are to be do so at a table of their own, on boards that pause.
+pub fn act_with_pauses<R: Abort + Clock + Threads + Wait + Sync + Print>(
     rt: &R,
     alloc: Global,
-    contest: Contest,
+    crew: Crew,
 ) -> Result<(), Fail> {
-    let number = contest.sessions();
+    let number = crew.sessions();
     let (table, mut opener) = open_table(alloc, number)?;
-    let mut sessions = open_all(rt, alloc, &table.shared, &mut opener, number);
-    contend(rt, &mut sessions, contest);
+    let sessions = open_all(rt, alloc, &table.shared, &mut opener, number);
+    let sessions = act_all(rt, sessions, crew);
     close_all(rt, &mut opener, sessions);
+    Ok(())
+}
+
+/// Two sessions race at a table of their own, on boards that pause.
+pub fn race_with_pauses<R: Abort + Threads + Wait + Sync + Print>(
+    rt: &R,
+    alloc: Global,
+    race: Race,
+    rounds: u32,
+) -> Result<(), Fail> {
+    let (table, mut opener) = open_table(alloc, 2)?;
+    let first = open_next(rt, alloc, &table.shared, &mut opener);
+    let second = open_next(rt, alloc, &table.shared, &mut opener);
+    let Pair { first, second } = race_often(rt, Pair { first, second }, race, rounds);
+    close(rt, &mut opener, second);
+    close(rt, &mut opener, first);
     Ok(())
 }
