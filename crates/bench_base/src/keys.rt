@@ -86,7 +86,7 @@ impl KeyList {
             KeyList::Refused => (objects, 100_000, size.held),
             KeyList::OfOther => (Kind::Objects(Mode::AccessExclusive), 100_000, size.held),
         };
-        keys(alloc, kind, database, from, count)
+        list_keys(alloc, kind, database, from, count)
     }
 }
 
@@ -105,7 +105,7 @@ fn key(kind: Kind, database: u32, number: u32) -> Key {
 }
 
 /// Keys from a number on, so many, each once, not in the order of their numbers.
-pub fn keys(
+pub fn list_keys(
     alloc: Global,
     kind: Kind,
     database: u32,

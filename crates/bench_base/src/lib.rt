@@ -2,13 +2,22 @@
 //! page, the map that stands beside the lock manager, and the bare atomic steps of its fast path.
 #![tactic(auto)]
 
-pub mod doors;
-pub mod floors;
-pub mod keys;
+mod doors;
+mod floors;
+mod keys;
 pub mod levels_page;
-pub mod local_bed;
+mod local_bed;
 pub mod local_page;
-pub mod loops;
-pub mod rounds;
-pub mod rows;
-pub mod shared_map;
+mod loops;
+mod rounds;
+mod rows;
+mod shared_map;
+
+pub use floors::Words;
+pub use keys::{Key, KeyList, Kind, Size, keys_of_partition, list_keys};
+pub use loops::{double_passes, passes};
+pub use rounds::{
+    ROUNDS, Spread, Times, WIDTH, cpu_nanos, print_header, print_ratio, print_time, wall_nanos,
+};
+pub use rows::{Line, Row, STEPS, lines, print_ratios, print_times};
+pub use shared_map::{SharedMap, count_held, map_all, map_and_uncount, map_pairs};

@@ -9,7 +9,7 @@ ghost use Rattle.fast_path.specs.Grants.{Grants, TriesGrant, GrantsHeld, HasOwnS
 use crate::slot_words::{SLOTS, Sighting, look_through};
 use lock_table::PartTable;
 use modes_core::{Mode, Refusal, Tag};
-use shared_rule::board::Board;
+use shared_rule::Board;
 use std::sync::Wait;
 
 /// Grants a mode that the session hasn't, on a relation of its database, in one of its slots

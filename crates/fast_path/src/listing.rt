@@ -11,7 +11,7 @@ use crate::slot_words::{SLOTS, load_slots};
 use lock_table::{NoMemory, PartTable, SlotRow};
 use lw_word::SlotWord;
 use modes_core::{Mode, SessionId, Tag};
-use shared_rule::board::Board;
+use shared_rule::Board;
 use std::sync::Wait;
 
 /// Appends a row for each mode that a slot of any session shows: by session, by slot, by mode. The lock of each session's

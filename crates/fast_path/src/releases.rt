@@ -10,7 +10,7 @@ ghost use Rattle.fast_path.specs.Releases.{Ungrants};
 use crate::slot_words::{Sighting, look_through};
 use lock_table::PartTable;
 use modes_core::{Mode, Tag};
-use shared_rule::board::Board;
+use shared_rule::Board;
 use std::sync::Wait;
 
 /// Releases a mode on a relation of the session's database, where one of its slots has it, and says whether one did

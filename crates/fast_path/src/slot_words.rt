@@ -9,7 +9,7 @@ ghost use Rattle.fast_path.specs.Slots.{account_loading, AreWords, Sights};
 use lock_table::PartTable;
 use lw_word::SlotWord;
 use modes_core::SessionId;
-use shared_rule::board::Board;
+use shared_rule::Board;
 
 /// How many fast-path slots a session has (`FP_LOCK_SLOTS_PER_BACKEND` in proc.h).
 pub const SLOTS: u8 = 16;

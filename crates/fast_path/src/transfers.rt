@@ -13,7 +13,7 @@ use crate::slot_words::{Sighting, look_through};
 use lock_table::{Move, NoMemory, PartTable};
 use lw_word::SlotWord;
 use modes_core::{Mode, SessionId, Tag};
-use shared_rule::board::Board;
+use shared_rule::Board;
 use std::sync::Wait;
 
 /// Counts a strong lock, and goes past every session there can be, issued or not and its own too, once its locks on

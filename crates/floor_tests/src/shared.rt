@@ -7,14 +7,10 @@ ghost use Rattle.shared_rule.specs.Opening.{AreNew};
 
 use lock_table::{PartTable, PlainPart, empty_parts};
 use modes_core::SessionId;
-use shared_rule::board::Board;
-use shared_rule::kept::Kept;
-use shared_rule::layout::{
-    CONTENT_SLOTS, TABLE_SLOTS, TABLE_WORDS, content_slot, database_word, fast_word,
-    partition_word, sleep_word, slot_word, strong_word, wait_word,
+use shared_rule::{
+    Board, CONTENT_SLOTS, Kept, OneThread, TABLE_SLOTS, TABLE_WORDS, content_slot, database_word,
+    fast_word, in_slots, partition_word, sleep_word, slot_word, strong_word, wait_word,
 };
-use shared_rule::one_thread::OneThread;
-use shared_rule::table::in_slots;
 use std::alloc::Global;
 use std::process::Abort;
 use std::test::Fail;

@@ -165,11 +165,6 @@ pub outer-same :
 outer-same zero a b f g same = refl
 outer-same (suc level) a b f g same = λ i. outer-same level a b f g (λ k within. same k (omega arith)) i ++ same level (omega arith) i ∷ []
 
--- and in the first level
-pub outer-first : (depth : ℕ) (a b : Slots) (f g : ℕ → List ℕ) → depth ≡ 0 → outer_of depth a f ≡ outer_of depth b g
-outer-first zero a b f g first = refl
-outer-first (suc level) a b f g first = absurd (omega arith)
-
 -- without the last of them
 pub outer-taken : (level : ℕ) (slots : Slots) (rows : ℕ → List ℕ) → take (length (outer_of (suc level) slots rows) - 1) (outer_of (suc level) slots rows) ≡ outer_of level slots rows
 outer-taken level slots rows =

@@ -8,7 +8,7 @@ use Rattle.modes_core.specs.declared.tags.Tag.{Tag}
 use Rattle.modes_core.specs.declared.sessions.Owner.{Owner}
 use Rattle.modes_core.specs.declared.sessions.Owner.TheVariants.{Session, Transaction}
 use Rattle.local_locks.specs.declared.records.Entry.{Entry}
-use Rattle.local_locks.specs.Owned.{raised, lowered, count_for, count_in_all, max_count, new_entry, after_end}
+use Rattle.local_locks.specs.Owned.{raised, lowered, count_for, count_in_all, max_count, after_end}
 use Rattle.local_locks.specs.Slots.{Slots, opened, entry_at, slot_at, present, back_to, IsIndexed, IsPast, IsPlaceOf, IsTakenOut, IsTable}
 use Rattle.place_index.specs.Notes.{Notes, HasSameNotes, no_place}
 use Rattle.local_locks.specs.declared.ends.End.{End}
@@ -366,10 +366,6 @@ only-inner (suc depth) row Transaction e rises some one level below = omega (ari
 
 -- ---- a new last entry
 
-new-now : (tag : Tag) (mode : Mode) (owner : Owner) → (new_entry tag mode owner).transaction ≤ 1
-new-now tag mode Session = omega arith
-new-now tag mode Transaction = omega arith
-
 pub leveled-pushed :
     (slots : Slots) (rows rows' : Rows) (depth touched touched' : ℕ) (e : Entry) → IsLeveled slots rows depth touched →
     Keeps_outer rows rows' depth touched touched' (length slots) 0 →
@@ -565,9 +561,6 @@ grown-table {es} {es'} {cap} {cap'} {index} {index'} {len} {max_local} {progress
       lists = omega (arith, ap (λ (l : List Entry). length l) same, was.lists, longer);
       enough = enough;
     }
-
-pub outer-grown : (depth : ℕ) (slots : Slots) (rows rows' : Rows) → ((k : ℕ) → row_at rows' k ≡ row_at rows k) → outer_of depth slots (row_at rows') ≡ outer_of depth slots (row_at rows)
-outer-grown depth slots rows rows' same = ap (outer_of depth slots) (λ i k. same k i)
 
 -- ---- the end of the transaction
 

@@ -2,47 +2,15 @@ use Rattle.std.proofs.Common.{◌≡◌, ◌≢◌, ◌⊎◌, ℕ, ◌+◌, ◌
 use Rattle.std.specs.Prelude.{Option, Some, None, IfSome, IsSomeAnd, ◌==◌}
 use Rattle.std.specs.Option.{option_map}
 use Rattle.std.proofs.lemmas.Bool.{cases_eq, cases_lt}
-use Rattle.std.proofs.lemmas.List.{get_or_past, get_or-take, get_or-set_same, get_or-set_other, get_or_push, get_or_append_left, length-take, length-set, length_push}
+use Rattle.std.proofs.lemmas.List.{get_or_past, get_or-set_same, get_or-set_other, length-set}
 use Rattle.local_locks.specs.declared.records.Entry.{Entry}
 use Rattle.local_locks.specs.Owned.{count_in_all}
 use Rattle.local_locks.specs.Slots.{Slots, opened, entry_at, entry_in, slot_at}
-use Rattle.local_locks.specs.Levels.{Rows, row_at, had_in, told, had, without_level, AreEmpty, AreMoved, AreSettled}
+use Rattle.local_locks.specs.Levels.{Rows, row_at, told, had, without_level, AreEmpty, AreMoved, AreSettled}
 use Rattle.local_locks.proofs.SlotLaws.{slot_at-set, slot_at-set_other, slot_at-within}
 use Rattle.local_locks.proofs.OpenLaws.{slot_at-opened, opened-set, entry_in-held, entry_in-empty, length-opened}
 
--- ---- one list
-
--- a list that is filled by one more
-pub filled-next : (counts : List ℕ) (level now k : ℕ) → level < length counts → had_in (take (level + 1) (set counts level now)) k now ≡ had_in (take level counts) k now
-filled-next counts level now k within =
-    elim (cases_lt k level) [
-      | inl before ↦
-          get_or-take (level + 1) (set counts level now) k now (omega arith)
-          ∙ (get_or-set_other counts level k now now (λ same. omega arith) ∙ sym (get_or-take level counts k now before))
-      | inr past ↦
-          (elim (cases_eq k level) [
-            | inl same ↦
-                get_or-take (level + 1) (set counts level now) k now (omega arith)
-                ∙ (ap (λ n. had_in (set counts level now) n now) same ∙ get_or-set_same counts level now now within)
-            | inr apart ↦ get_or_past (take (level + 1) (set counts level now)) k now (omega (arith, apart, length-take (level + 1) (set counts level now)))
-          ])
-          ∙ sym (get_or_past (take level counts) k now (omega (arith, length-take level counts)))
-    ]
-
 -- ---- all lists
-
--- one more that is empty
-pub row_at-push : (rows : Rows) (k : ℕ) → row_at (rows ++ [] ∷ []) k ≡ row_at rows k
-row_at-push rows k =
-    elim (cases_lt k (length rows)) [
-      | inl within ↦ get_or_append_left rows ([] ∷ []) [] k within
-      | inr past ↦
-          (elim (cases_eq k (length rows)) [
-            | inl same ↦ get_or_push rows [] [] k (sym same)
-            | inr apart ↦ get_or_past (rows ++ [] ∷ []) k [] (omega (arith, apart, length_push rows []))
-          ])
-          ∙ sym (get_or_past rows k [] past)
-    ]
 
 pub row_at-set : (rows : Rows) (place : ℕ) (row : List ℕ) → place < length rows → row_at (set rows place row) place ≡ row
 row_at-set rows place row within = get_or-set_same rows place row [] within
@@ -94,9 +62,6 @@ moved-on a b c f g h first then_ =
           (back.0, back.1, second.2 ∙ back.2);
       empty = then_.empty;
     }
-
-pub moved-same : (a : Slots) (f : Rows) → AreEmpty a f → AreMoved a f a f
-moved-same a f empty = record { number = refl; from = λ k e at. (k, at, refl); empty = empty }
 
 -- one entry moved down
 pub moved-down :

@@ -45,7 +45,7 @@ count_for Transaction entry = entry.transaction
 abbrev pub count_in_all : Entry → ℕ
 count_in_all entry = entry.transaction + entry.session
 
--- the entry with one count more of this owner
+-- the entry with one more count of this owner
 abbrev pub raised : Owner → Entry → Entry
 raised Session entry = record entry { session = entry.session + 1 }
 raised Transaction entry = record entry { transaction = entry.transaction + 1 }

@@ -3,14 +3,14 @@
 //! one of several counts with no look at shared state.
 #![tactic(auto)]
 
-pub mod answers;
-pub mod ends;
-pub mod entries;
-pub mod levels;
+mod answers;
+mod ends;
+mod entries;
+mod levels;
 mod looks;
-pub mod records;
+mod records;
 mod slots;
-pub mod tables;
+mod tables;
 
 pub use answers::{Acquired, AtOnce, Unlocked};
 pub use ends::End;

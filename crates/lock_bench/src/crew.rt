@@ -5,13 +5,10 @@ ghost use Rattle.lock_manager.specs.Managers.{IsOpenerOf};
 
 use crate::pair::Pair;
 use crate::session_loops::lock_pairs;
-use bench_base::keys::Key;
-use bench_base::rounds::Spread;
-use bench_base::shared_map::{SharedMap, map_pairs};
+use bench_base::{Key, SharedMap, Spread, map_pairs};
 use lock_manager::{Manager, Opener, OwnSession, Part, Refusal};
 use modes_core::Owner;
-use shared_rule::board::Board;
-use shared_rule::seat_board::SeatBoard;
+use shared_rule::{Board, SeatBoard};
 use std::sync::Wait;
 use std::thread::{Threads, join, join_mut};
 

@@ -3,8 +3,7 @@
 use crate::session_bed::Work;
 use crate::session_page::{Page, print_page};
 use anyhow::Result;
-use bench_base::keys::{KeyList, Size};
-use bench_base::rows::{Row, STEPS};
+use bench_base::{KeyList, Row, STEPS, Size};
 use modes_core::Owner;
 use std::sync::Wait;
 use std::time::CpuClock;

@@ -5,12 +5,10 @@ ghost use Rattle.std.specs.Prelude.{◌≡◌};
 use crate::pair::Pair;
 use crate::turns::{Plan, pass_lock, pass_turn};
 use anyhow::{Result, bail};
-use bench_base::rounds::{
-    ROUNDS, Spread, Times, WIDTH, print_header, print_ratio, print_time, wall_nanos,
-};
+use bench_base::{ROUNDS, Spread, Times, WIDTH, print_header, print_ratio, print_time, wall_nanos};
 use lock_manager::{Config, Manager, Part};
 use modes_core::{Mode, Owner, Tag};
-use shared_rule::board::Board;
+use shared_rule::Board;
 use std::io;
 use std::sync::Wait;
 use std::thread::Threads;

@@ -5,8 +5,7 @@ ghost use Rattle.lock_manager.specs.Managers.{IsOpenerOf};
 
 use lock_manager::{Manager, Opener, OwnSession, Part, Refusal};
 use lock_table::PartTable;
-use shared_rule::board::Board;
-use shared_rule::seat_board::SeatBoard;
+use shared_rule::{Board, SeatBoard};
 use std::sync::Wait;
 
 /// Two sessions of one manager, over any board.

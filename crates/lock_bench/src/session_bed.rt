@@ -8,16 +8,14 @@ use crate::session_loops::{
     count_refused, count_strong_counted, lock_all, lock_and_commit, lock_and_end, lock_pairs,
 };
 use anyhow::Result;
-use bench_base::floors::Words;
-use bench_base::keys::{Key, KeyList, Size};
-use bench_base::loops::{double_passes, passes};
-use bench_base::rounds::cpu_nanos;
-use bench_base::rows::Line;
-use bench_base::shared_map::{SharedMap, count_held, map_all, map_and_uncount, map_pairs};
+use bench_base::{
+    Key, KeyList, Line, SharedMap, Size, Words, count_held, cpu_nanos, double_passes, map_all,
+    map_and_uncount, map_pairs, passes,
+};
 use lock_manager::OwnSession;
 use lock_table::PartTable;
 use modes_core::{Owner, Refusal};
-use shared_rule::board::Board;
+use shared_rule::Board;
 use std::alloc::AllocError;
 use std::collections::HashMap;
 use std::sync::{Mutex, Wait};

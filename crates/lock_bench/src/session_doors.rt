@@ -5,7 +5,7 @@ ghost use Rattle.std.specs.Prelude.{◌≡◌};
 use lock_manager::{Acquired, OwnSession, Unlocked};
 use lock_table::PartTable;
 use modes_core::{Mode, Owner, Refusal, Tag};
-use shared_rule::board::Board;
+use shared_rule::Board;
 use std::sync::Wait;
 
 #[inline(never)]

@@ -4,12 +4,11 @@ ghost use Rattle.std.specs.Prelude.{◌≡◌};
 
 use crate::session_doors::{commit, try_fast, try_lock, unlock};
 use anyhow::Result;
-use bench_base::keys::Key;
-use bench_base::rounds::cpu_nanos;
+use bench_base::{Key, cpu_nanos};
 use lock_manager::OwnSession;
 use lock_table::PartTable;
 use modes_core::{Owner, Refusal};
-use shared_rule::board::Board;
+use shared_rule::Board;
 use std::sync::Wait;
 use std::time::CpuClock;
 

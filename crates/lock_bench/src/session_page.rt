@@ -6,13 +6,13 @@ use crate::pair::Pair;
 use crate::session_bed::{Bed, Work};
 use crate::session_loops::lock_all;
 use anyhow::Result;
-use bench_base::keys::{KeyList, Size};
-use bench_base::rounds::{ROUNDS, WIDTH, print_header};
-use bench_base::rows::{Line, Row, lines, print_ratios, print_times};
+use bench_base::{
+    KeyList, Line, ROUNDS, Row, Size, WIDTH, lines, print_header, print_ratios, print_times,
+};
 use lock_manager::{Config, Manager, OwnSession};
 use lock_table::PartTable;
 use modes_core::Owner;
-use shared_rule::board::Board;
+use shared_rule::Board;
 use std::io;
 use std::sync::Wait;
 use std::time::CpuClock;

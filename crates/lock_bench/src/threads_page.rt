@@ -4,14 +4,13 @@ ghost use Rattle.std.specs.Prelude.{◌≡◌};
 
 use crate::crew::{Crew, Job, on_map};
 use anyhow::Result;
-use bench_base::keys::{Key, Kind, keys, keys_of_partition};
-use bench_base::rounds::{
-    ROUNDS, Spread, Times, WIDTH, print_header, print_ratio, print_time, wall_nanos,
+use bench_base::{
+    Key, Kind, ROUNDS, SharedMap, Spread, Times, WIDTH, keys_of_partition, list_keys, print_header,
+    print_ratio, print_time, wall_nanos,
 };
-use bench_base::shared_map::SharedMap;
 use lock_manager::{Config, Manager, Part};
 use modes_core::{Mode, Owner};
-use shared_rule::board::Board;
+use shared_rule::Board;
 use std::alloc::{AllocError, Global};
 use std::collections::HashMap;
 use std::sync::{Mutex, Wait};
@@ -63,7 +62,13 @@ impl Case {
             Case::OneObject => keys_of_partition(alloc, database, 0, 0, 1),
             Case::OnePartition => keys_of_partition(alloc, database, 0, from, OWN_KEYS),
             Case::OwnPartitions => keys_of_partition(alloc, database, thread, from, OWN_KEYS),
-            Case::OneRelation => keys(alloc, Kind::Relations(Mode::AccessShare), database, 0, 1),
+            Case::OneRelation => list_keys(
+                alloc,
+                Kind::Relations(Mode::AccessShare),
+                database,
+                0,
+                1,
+            ),
         }
     }
 

@@ -3,12 +3,12 @@
 ghost use Rattle.std.specs.Prelude.{◌≡◌};
 
 use crate::pair::Pair;
-use bench_base::keys::Key;
+use bench_base::Key;
 use crossbeam_utils::Backoff;
 use lock_manager::{OwnSession, Part};
 use lock_table::PartTable;
 use modes_core::Owner;
-use shared_rule::board::Board;
+use shared_rule::Board;
 use std::sync::atomic::{AtomicU64, Ordering};
 use std::sync::{Condvar, Mutex, Wait};
 use std::thread::{Threads, join, join_mut};

@@ -11,7 +11,7 @@ use crate::releases::end_all;
 use crate::sessions::{Own, OwnSession};
 use local_locks::End;
 use lock_table::PartTable;
-use shared_rule::board::Board;
+use shared_rule::Board;
 use std::alloc::Global;
 use std::sync::Wait;
 

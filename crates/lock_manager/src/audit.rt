@@ -14,12 +14,7 @@ use crate::manager::{Manager, Opener};
 use crate::sessions::{OwnSession, Session};
 use lock_table::{NoMemory, TableRow};
 use modes_core::Refusal;
-use shared_rule::audits::Audit;
-use shared_rule::board::Board;
-use shared_rule::gatherings::Absent;
-use shared_rule::opener::Opener as NumberOpener;
-use shared_rule::rule::Top;
-use shared_rule::seat_board::SeatBoard;
+use shared_rule::{Absent, Audit, Board, Opener as NumberOpener, SeatBoard, Top};
 use std::sync::Wait;
 
 impl Manager {

@@ -2,7 +2,7 @@ ghost use Rattle.std.specs.Prelude.{◌≡◌};
 ghost use Rattle.lock_manager.specs.Managers.{is_in_range};
 
 use local_locks::MOST_LOCAL;
-use modes_core::sessions::SESSIONS;
+use modes_core::SESSIONS;
 
 /// How many sessions a manager may open over its life at most.
 pub const MOST_SESSIONS: u32 = SESSIONS as u32;

@@ -7,8 +7,7 @@ use crate::keeper::Part;
 use crate::manager::{Manager, Opener};
 use crate::sessions::Session;
 use modes_core::Refusal;
-use shared_rule::board::Board;
-use shared_rule::seat_board::SeatBoard;
+use shared_rule::{Board, SeatBoard};
 use std::sync::Wait;
 
 /// Opens and closes the sessions of one manager. A program that is written against it is over any board, which makes its

@@ -7,11 +7,9 @@ ghost use Rattle.lock_manager.specs.Listings.{Lists, ListsTable, ListsFrom};
 
 use crate::sessions::Own;
 use fast_path::slot_rows;
-use lock_table::rows::sort_rows;
-use lock_table::{Move, NoMemory, PartTable, SlotRow, TableRow};
-use modes_core::Refusal;
-use modes_core::tags::PARTITIONS;
-use shared_rule::board::Board;
+use lock_table::{Move, NoMemory, PartTable, SlotRow, TableRow, sort_rows};
+use modes_core::{PARTITIONS, Refusal};
+use shared_rule::Board;
 use std::sync::Wait;
 
 /// What is held and awaited: in the sessions' fast-path slots, and in the lock table.

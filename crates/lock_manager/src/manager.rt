@@ -10,10 +10,7 @@ use crate::keeper::Part;
 use crate::sessions::{Own, OwnSession, Session};
 use lock_table::empty_parts;
 use modes_core::Refusal;
-use shared_rule::board::Board;
-use shared_rule::opener::Opener as NumberOpener;
-use shared_rule::seat_board::SeatBoard;
-use shared_rule::table::{SharedTable, in_slots, open};
+use shared_rule::{Board, Opener as NumberOpener, SeatBoard, SharedTable, in_slots, open};
 use std::alloc::Global;
 use std::marker::Model;
 

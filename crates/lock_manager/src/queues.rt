@@ -8,7 +8,7 @@ ghost use Rattle.lock_manager.specs.Queues.{LooksAt, IsQueue, AreBlockers};
 use crate::sessions::{Own, OwnSession};
 use lock_table::{Move, PartTable, Waiter};
 use modes_core::{Refusal, SessionId, Tag};
-use shared_rule::board::Board;
+use shared_rule::Board;
 use std::sync::Wait;
 use wait_queue::{Blocker, blockers_of, queue_of};
 

@@ -20,7 +20,7 @@ use fast_path::ungrant;
 use local_locks::End;
 use lock_table::{Move, PartTable, Woken};
 use modes_core::{Mode, Tag, is_eligible, is_strong};
-use shared_rule::board::Board;
+use shared_rule::Board;
 use std::sync::Wait;
 use wait_queue::take_hold_out;
 

@@ -16,7 +16,7 @@ use fast_path::{grant, transfer, try_grant};
 use local_locks::Acquired;
 use lock_table::{Move, PartTable};
 use modes_core::{Mode, Owner, Refusal, Tag, is_eligible, is_strong};
-use shared_rule::board::Board;
+use shared_rule::Board;
 use std::sync::Wait;
 use wait_queue::{Decision, Kind, decide};
 

@@ -17,7 +17,7 @@ use local_locks::Acquired;
 use lock_table::{Move, PartTable};
 use lw_word::{is_asked, wait_state};
 use modes_core::{Mode, Owner, Refusal, SessionId, Tag, is_strong};
-use shared_rule::board::Board;
+use shared_rule::Board;
 use std::sync::Wait;
 use wait_queue::{Kind, awaited_in_conflict, remove_waiter};
 

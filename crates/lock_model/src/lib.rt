@@ -2,7 +2,7 @@
 //! stand the names of the lock table and of the World.
 #![tactic(auto)]
 
-pub mod machine;
+mod machine;
 
 pub use lock_table::{
     Clash, Move, NoMemory, PartTable, PlainPart, Request, TableRow, Waiter, Woken,

@@ -63,7 +63,7 @@ hold-else holds s t m b k n not_it =
       | elsewhere not_here is ↦ is
     ]
 
--- With a hold more, one more is granted of its mode; with a hold less, one less.
+-- With one more hold, one more is granted of its mode; with one less, one less.
 pub granted-more : (holds : Holds) (s : ℕ) (t : Tag) (m : Mode) → s < 64 → holds s t m ≡ false →
     (n : Mode) → granted_of (set_hold holds s t m true) t n ≡ one_more (granted_of holds t) m n
 granted-more holds s t m small new n =

@@ -1,9 +1,9 @@
 use Rattle.std.proofs.Common.{◌≡◌, ◌≢◌, ◌⊎◌, ℕ, ◌+◌, ◌<◌, true, ◌==◌, List, Option, Some, None, arith, refl, sym, ap, ◌∙◌, subst, inl, inr}
 use Rattle.std.specs.Prelude.{if◌then◌else◌}
-use Rattle.std.proofs.lemmas.Bool.{cases_eq, cases_Bool, eq-eqb, ne_eqb, false≢true}
+use Rattle.std.proofs.lemmas.Bool.{cases_eq, cases_Bool, eq-eqb, ne_eqb}
 use Rattle.modes_core.specs.declared.tags.Tag.{Tag}
 use Rattle.modes_core.specs.Tag.{tag_eq}
-use Rattle.modes_core.proofs.Laws.{tag_eq-same, tag_eq-refl}
+use Rattle.modes_core.proofs.Laws.{tag_eq-refl}
 use Rattle.lock_table.proofs.Options.{one_some}
 use Rattle.place_index.specs.Notes.{Notes, times, once_at, IsOneMore}
 use Rattle.lock_records.specs.declared.locks.LockRecord.{LockRecord}
@@ -15,12 +15,6 @@ same-lock slots k l m one two = one_some (lock_at slots k) l m one two
 -- A place with a record of the object passes the test, and is noted under the object's key.
 pub is_on-at : (slots : List (Option LockRecord)) (tag : Tag) (k : ℕ) → IsLockAt slots tag k → is_on tag (lock_at slots k) ≡ true
 is_on-at slots tag k i = ap (is_on tag) i.there ∙ ap (tag_eq tag) i.on ∙ tag_eq-refl tag
-
-pub is_on-from : (slots : List (Option LockRecord)) (tag : Tag) (k : ℕ) → is_on tag (lock_at slots k) ≡ true → IsLockAt slots tag k
-is_on-from slots tag k is = at (lock_at slots k) refl is where
-  at : (slot : Option LockRecord) → lock_at slots k ≡ slot → is_on tag slot ≡ true → IsLockAt slots tag k
-  at None there e = absurd (false≢true e)
-  at (Some l) there e = record { lock = l; there = there; on = sym (tag_eq-same tag l.tag e) }
 
 pub noted-at : (slots : List (Option LockRecord)) (index : Notes) (tag : Tag) (k : ℕ) → AreNoted slots index → IsLockAt slots tag k → times index (key_of tag) k ≡ 1
 noted-at slots index tag k are i =

@@ -25,7 +25,7 @@ use Rattle.lock_table.proofs.ListingLemmas.{count_by-same, once_or_not}
 use Rattle.lock_table.proofs.WaitLists.{eqb_comm}
 use Rattle.lock_records.specs.declared.holders.HolderRecord.{HolderRecord}
 use Rattle.lock_records.specs.Holders.{holder_at, slot_holds, holds_in, IsHolderAt, AreHolders}
-use Rattle.lock_records.specs.Rows.{AppendsRows, HasMoreRows, shown_by, shown_below, awaited_row, awaited_in, awaited_at, awaited_below}
+use Rattle.lock_records.specs.Rows.{AppendsRows, shown_by, shown_below, awaited_row, awaited_in, awaited_at, awaited_below}
 use Rattle.lock_records.specs.View.{RecordView, content_of}
 use Rattle.lock_records.proofs.Held.{ShowsHold, slot-shows, slot-at, held-from, held-to}
 use Rattle.lock_records.proofs.Tallies.{number-within}
@@ -61,12 +61,6 @@ appends-more old mid new times more times' sum_is one two = record {
       let sum : count_by (row_eq row) (one.added ++ two.added) ≡ times row + more row = omega arith in
       sum ∙ sum_is row;
 }
-
-pub more-from : (old new new' : List TableRow) (times : TableRow → ℕ) → new' ≡ new → AppendsRows old new times → HasMoreRows old new'
-more-from old new new' times same appends = record { added = appends.added; behind = same ∙ appends.behind }
-
-pub more-then : (old mid new : List TableRow) (times : TableRow → ℕ) → AppendsRows old mid times → HasMoreRows mid new → HasMoreRows old new
-more-then old mid new times one two = record { added = one.added ++ two.added; behind = two.behind ∙ ap (λ rows. rows ++ two.added) one.behind ∙ append_assoc old one.added two.added }
 
 -- How often the modes of a record below a number show a row.
 abbrev pub shown_under : HolderRecord → ℕ → TableRow → ℕ

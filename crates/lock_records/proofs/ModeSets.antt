@@ -13,7 +13,7 @@ use Rattle.modes_core.specs.declared.modes.Mode.TheVariants.{AccessExclusive}
 pub mode_ne : (n m : Mode) → n ≢ m → mode_eq n m ≡ false
 mode_ne n m other = false_from_ne_true (mode_eq n m) (λ e. other (mode_eq-same n m e))
 
--- A set with a mode more, and with one less.
+-- A set with one more mode, and with one less.
 pub with-own : (old new : ℕ) (m : Mode) → set_has new ≡ (λ other. mode_eq other m || set_has old other) → set_has new m ≡ true
 with-own old new m is = ap (λ f. f m) is ∙ or_left (mode_eq m m) (set_has old m) (mode_eq-refl m)
 

@@ -133,9 +133,6 @@ module _
 module _
     (old new : List (Option HolderRecord)) (s : ℕ) (t : Tag) (m : Mode) (place modes first : ℕ) (are : AreHolders old t) (vacant : holder_at old place ≡ None)
     (w : IsWritten old new place (Some (record { tag = t; next = first; modes = modes; session = s }))) where
-  put : HolderRecord
-  put = record { tag = t; next = first; modes = modes; session = s }
-
   not-there : (k : ℕ) (h : HolderRecord) → holder_at old k ≡ Some h → k ≢ place
   not-there k h there e = let none : holder_at old k ≡ None = ap (holder_at old) e ∙ vacant in cc
 

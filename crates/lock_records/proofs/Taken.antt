@@ -73,9 +73,6 @@ module _ (old mid : List (Option HolderRecord)) (t : Tag) (are : AreHolders old 
   -- Else what it showed goes into the session's record.
   module _ (new : List (Option HolderRecord)) (s place : ℕ) (gap : IsHolderAt old s t place) (apart : place ≢ first)
       (v : IsWritten mid new place (Some (record gap.holder { session = head.holder.session; modes = head.holder.modes }))) where
-    filled : HolderRecord
-    filled = record gap.holder { session = head.holder.session; modes = head.holder.modes }
-
     gap_mid : holder_at mid place ≡ Some gap.holder
     gap_mid = w.others place apart ∙ gap.there
 

@@ -77,7 +77,7 @@ sum-least xs mode nine =
     let within : number_of mode < 9 = (number-within mode).1 in
     get_or-le-sum_by (λ x. x) xs (number_of mode) 0 (omega arith)
 
--- The mask with a mode more, and with one less.
+-- The mask with one more mode, and with one less.
 pub mask-with : (old new : ℕ) (mode : Mode) (n : ℕ) → set_has new ≡ (λ other. mode_eq other mode || set_has old other) →
     (m : Mode) → set_has new m ≡ (if mode_eq m mode then not (n + 1 == 0) else set_has old m)
 mask-with old new mode n is m =

@@ -2,16 +2,16 @@
 //! masks, and a holder record for each session that holds something of it.
 #![tactic(auto)]
 
-pub mod counts;
-pub mod holders;
+mod counts;
+mod holders;
 mod listing;
-pub mod locks;
-pub mod objects;
-pub mod part;
-pub mod records;
+mod locks;
+mod objects;
+mod part;
+mod records;
 mod sets;
-pub mod tally;
-pub mod wait_queues;
+mod tally;
+mod wait_queues;
 
 pub use counts::Counts;
 pub use part::RecordPart;

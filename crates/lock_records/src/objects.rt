@@ -148,7 +148,7 @@ pub(crate) fn queue_place(lock: &LockRecord, queues: &WaitQueues, tag: &Tag) -> 
     queues.find(lock.queue, tag)
 }
 
-/// Counts a wait more for the mode, and notes where the object's queue record is.
+/// Counts one more wait for the mode, and notes where the object's queue record is.
 pub(crate) fn raise_awaited(
     locks: &mut Slab<LockRecord>,
     place: usize,

@@ -8,9 +8,7 @@ use crate::objects::{
     add_hold, holder_in_the_way, lower_awaited, make_room, queue_place, raise_awaited, remove_hold,
 };
 use crate::wait_queues::{WaitQueues, queue_up};
-use lock_table::answering::walk::is_against;
-use lock_table::rows::sort_rows;
-use lock_table::{NoMemory, PartTable, Request, TableRow, Waiter, Woken};
+use lock_table::{NoMemory, PartTable, Request, TableRow, Waiter, Woken, is_against, sort_rows};
 use modes_core::{Mode, ModeSet, SessionId, Tag};
 use place_index::PlaceIndex;
 use slab::Slab;

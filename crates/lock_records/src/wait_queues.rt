@@ -59,7 +59,7 @@ impl WaitQueues {
         }
     }
 
-    /// Makes room for a queue more.
+    /// Makes room for one more queue.
     #[inline(always)]
     pub(crate) fn reserve(&mut self) -> Result<(), NoMemory>
         ensures room { OnOk result (HasRoomFor self.new 1) }

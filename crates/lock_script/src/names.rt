@@ -2,8 +2,7 @@
 ghost use Rattle.std.specs.Prelude.{◌≡◌, ◌<◌, [], ◌∷◌, ◌++◌, length, slice_get};
 
 use arrayvec::{ArrayString, ArrayVec};
-use modes_core::SessionId;
-use modes_core::sessions::SESSIONS;
+use modes_core::{SESSIONS, SessionId};
 use std::marker::Model;
 
 /// How many sessions there are at most.

@@ -5,7 +5,7 @@ ghost use Rattle.std.specs.List.{HoldsAt};
 ghost use Rattle.lock_script.specs.Names.{IsByName, IsCalled, IsFree, NotAfter, PutsIn};
 
 use crate::names::Name;
-use modes_core::sessions::SESSIONS;
+use modes_core::SESSIONS;
 use std::alloc::{AllocError, Global};
 use std::marker::Model;
 

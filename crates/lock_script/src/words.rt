@@ -6,8 +6,7 @@ ghost use Rattle.lock_script.specs.Words.{is_blank, is_word, words_of, is_name_b
 
 use crate::names::Name;
 use arrayvec::ArrayVec;
-use modes_core::tags::STRONG_COUNTERS;
-use modes_core::{Owner, Tag};
+use modes_core::{Owner, STRONG_COUNTERS, Tag};
 
 /// The first six words of a line: what spaces and tabs part. No command has as many.
 pub fn split_words(line: &str) -> ArrayVec<&str, 6>

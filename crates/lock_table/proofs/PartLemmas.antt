@@ -13,9 +13,6 @@ all-push P (z ∷ zs) y last all zero x there = all zero x there
 all-push P (z ∷ zs) y last all (suc i) x there = all-push P zs y last (λ j w at. all (suc j) w at) i x there
 
 module _ {T : Type 0} (content : T → Content) (begun : T → Option Request) where
-  pub AreEmptyParts-none : AreEmptyParts content begun []
-  AreEmptyParts-none i part there = absurd (cc (there))
-
   pub AreEmptyParts-push : (parts : List T) (part : T) → IsBlank content begun part → AreEmptyParts content begun parts → AreEmptyParts content begun (parts ++ part ∷ [])
   AreEmptyParts-push parts part blank are = all-push (IsBlank content begun) parts part blank are
 

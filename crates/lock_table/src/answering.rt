@@ -4,13 +4,13 @@
 ghost use Rattle.lock_table.specs.Clash.{ClashIs};
 ghost use Rattle.lock_table.specs.Queue.{WaitingAnswer};
 
-pub mod place;
-pub mod walk;
+mod place;
+mod walk;
 
 use crate::part_table::PartTable;
 use modes_core::{How, Mode, SessionId, Tag};
 pub use place::answer_by_place;
-pub use walk::first_against;
+pub use walk::{first_against, is_against};
 
 /// What stands in the way of a request: another session, with its mode.
 #[derive(Clone, Copy)]

@@ -5,7 +5,7 @@ ghost use Rattle.lock_table.specs.Parts.{IsBlank, AreEmptyParts};
 
 use crate::no_memory::NoMemory;
 use crate::part_table::PartTable;
-use modes_core::tags::PARTITIONS;
+use modes_core::PARTITIONS;
 use std::alloc::Global;
 
 /// The partitions of a lock table in which nothing is held or awaited (`InitLocks` in lock.c): sixteen of

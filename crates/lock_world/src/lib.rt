@@ -2,7 +2,7 @@
 //! is safe between any two of them.
 #![tactic(auto)]
 
-pub mod events;
+mod events;
 pub mod laws;
 
 pub use events::{Event, Step, Word};

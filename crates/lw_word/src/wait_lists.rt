@@ -3,8 +3,7 @@ ghost use Rattle.lw_word.specs.WaitList.{wants_to_share};
 
 use crate::LwMode;
 use arrayvec::ArrayVec;
-use modes_core::SessionId;
-use modes_core::sessions::SESSIONS;
+use modes_core::{SESSIONS, SessionId};
 use std::marker::Model;
 
 /// A session that waits for a lightweight lock, and how it wants to take it (`lwWaitMode` of a `PGPROC` in proc.h).

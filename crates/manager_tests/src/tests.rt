@@ -36,7 +36,7 @@ use lock_manager::{Config, Final, Manager, Mode, Opener, OwnSession, Part, Refus
 use pair::Pair;
 use races::Race;
 use scenes::{Scene, perform};
-use shared_rule::board::Board;
+use shared_rule::Board;
 use std::alloc::Global;
 use std::process::Abort;
 use std::sync::Wait;

@@ -2,14 +2,16 @@
 //! tags with their hash, session numbers, owners and refusals.
 #![tactic(auto)]
 
-pub mod mode_sets;
-pub mod modes;
-pub mod refusals;
-pub mod sessions;
-pub mod tags;
+mod mode_sets;
+mod modes;
+mod refusals;
+mod sessions;
+mod tags;
 
-pub use mode_sets::{ModeSet, conflicts};
+pub use mode_sets::{
+    ModeSet, conflict_is_symmetric, conflicts, slot_modes_conflict_with_counted_ones,
+};
 pub use modes::Mode;
 pub use refusals::{How, Refusal};
-pub use sessions::{Owner, SessionId};
-pub use tags::{LockMethod, Tag, is_eligible, is_strong};
+pub use sessions::{Owner, SESSIONS, SessionId};
+pub use tags::{LockMethod, PARTITIONS, STRONG_COUNTERS, Tag, is_eligible, is_strong};

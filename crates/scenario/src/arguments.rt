@@ -6,7 +6,7 @@ use crate::style::{DRAWINGS, Drawing, Style};
 use clap::error::ErrorKind;
 use clap::{Arg, ArgAction, ArgMatches, Command, Error, value_parser};
 use local_locks::MOST_LOCAL;
-use modes_core::sessions::SESSIONS;
+use modes_core::SESSIONS;
 use std::alloc::{AllocError, Global};
 
 /// How many sessions a script may open at most.

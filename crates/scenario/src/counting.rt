@@ -4,8 +4,7 @@ ghost use Rattle.std.specs.Prelude.{◌≡◌, ◌+◌, ◌-◌, All, length, If
 ghost use Rattle.lock_manager.specs.Managers.{IsOpenerOf};
 
 use lock_manager::{Audit, Manager, Opener, Part, Refusal, Session};
-use shared_rule::board::Board;
-use shared_rule::seat_board::SeatBoard;
+use shared_rule::{Board, SeatBoard};
 use std::sync::Wait;
 
 /// Opens and closes the sessions of one manager, and counts what they have. What is written against it is over any board, and

@@ -6,8 +6,7 @@ ghost use Rattle.shared_rule.specs.declared.history.History.{History};
 ghost use Rattle.lock_manager.specs.Managers.{IsOpenerOf};
 
 use lock_manager::{Manager, Opener, Part, Refusal, Session};
-use shared_rule::board::Board;
-use shared_rule::seat_board::SeatBoard;
+use shared_rule::{Board, SeatBoard};
 use std::sync::Wait;
 
 /// Opens and closes sessions. What is written against it is over any board, and the board of the shared table need be named

@@ -6,7 +6,7 @@ use crate::output::name_of;
 use crate::style::{Drawing, Pen};
 use lock_manager::{Blocker, InTheWay, Mode, SessionId, TableRow, Tag};
 use lock_script::Names;
-use modes_core::sessions::SESSIONS;
+use modes_core::SESSIONS;
 use std::alloc::AllocError;
 use std::fmt::Write;
 

@@ -12,7 +12,7 @@ use crate::style::Style;
 use lock_manager::{Config, Manager, Opener, OwnSession, Owner, Refusal, TableRow, Tag};
 use lock_script::{Caller, Command, Fault, LineReader, Name, Opened, Target, parse};
 use lock_table::PartTable;
-use shared_rule::board::Board;
+use shared_rule::Board;
 use std::alloc::{AllocError, Global};
 use std::io::{Read, Write};
 use std::sync::Wait;

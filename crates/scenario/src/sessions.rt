@@ -13,7 +13,7 @@ use lock_manager::{
 };
 use lock_script::{Name, Named, Names, OpenSessions, Place};
 use lock_table::PartTable;
-use shared_rule::board::Board;
+use shared_rule::Board;
 use std::alloc::{AllocError, Global};
 use std::sync::Wait;
 

@@ -7,7 +7,7 @@ use crate::scripts::{ALL_SESSIONS, expect_run};
 use lock_manager::{Manager, Opener, OwnSession};
 use lock_table::PartTable;
 use scenario::{Desk, Scene, SharedDesk, Stage};
-use shared_rule::board::Board;
+use shared_rule::Board;
 use std::alloc::Global;
 use std::process::Abort;
 use std::sync::Wait;

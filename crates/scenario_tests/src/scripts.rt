@@ -2,7 +2,7 @@
 use crate::inputs::INPUTS;
 use crate::pipes::Pipe;
 use crate::rows::{self, BadRow, Copies, Row};
-use crate::scenarios::SCENARIOS;
+use crate::scenarios::{deadlocks, owners, the_fast_path, the_queue};
 use crate::{advisory, nested, queues, waiting};
 use lock_manager::{Config, MOST_LOCAL, MOST_SESSIONS};
 use lock_script::{Defect, Fault};
@@ -140,25 +140,89 @@ fn expect_rows(
     Ok(())
 }
 
+// A test for each list: the proof of one that plays several goes past the prover's step limit.
 #[test]
-fn scripts_print_what_the_rows_say(rt: HostRuntime) -> Result<(), Fail> {
-    expect_rows(&rt, EIGHT, &SCENARIOS)?;
-    expect_rows(&rt, EIGHT, &rows::LINES)?;
-    expect_rows(&rt, EIGHT, &INPUTS)?;
-    expect_rows(&rt, EIGHT, &rows::ENDS)?;
-    expect_rows(&rt, EIGHT, &rows::LISTINGS)?;
-    expect_rows(&rt, TWO_LOCKS, &rows::TWO_LOCKS)?;
+fn scenarios_of_deadlocks_print_what_their_files_say(rt: HostRuntime) -> Result<(), Fail> {
+    expect_rows(&rt, EIGHT, &deadlocks::ROWS)
+}
+
+#[test]
+fn scenarios_of_owners_print_what_their_files_say(rt: HostRuntime) -> Result<(), Fail> {
+    expect_rows(&rt, EIGHT, &owners::ROWS)
+}
+
+#[test]
+fn scenarios_of_the_fast_path_print_what_their_files_say(rt: HostRuntime) -> Result<(), Fail> {
+    expect_rows(&rt, EIGHT, &the_fast_path::ROWS)
+}
+
+#[test]
+fn scenarios_of_the_queue_print_what_their_files_say(rt: HostRuntime) -> Result<(), Fail> {
+    expect_rows(&rt, EIGHT, &the_queue::ROWS)
+}
+
+#[test]
+fn lines_are_answered(rt: HostRuntime) -> Result<(), Fail> {
+    expect_rows(&rt, EIGHT, &rows::LINES)
+}
+
+#[test]
+fn inputs_are_read_to_their_bounds(rt: HostRuntime) -> Result<(), Fail> {
+    expect_rows(&rt, EIGHT, &INPUTS)
+}
+
+#[test]
+fn ends_release_what_they_say(rt: HostRuntime) -> Result<(), Fail> {
+    expect_rows(&rt, EIGHT, &rows::ENDS)
+}
+
+#[test]
+fn listings_show_slots_and_table(rt: HostRuntime) -> Result<(), Fail> {
+    expect_rows(&rt, EIGHT, &rows::LISTINGS)
+}
+
+#[test]
+fn a_full_local_table_refuses(rt: HostRuntime) -> Result<(), Fail> {
+    expect_rows(&rt, TWO_LOCKS, &rows::TWO_LOCKS)
+}
+
+#[test]
+fn a_second_session_is_refused_where_one_is_all(rt: HostRuntime) -> Result<(), Fail> {
     expect_rows(&rt, ONE_SESSION, &rows::ONE_SESSION)
 }
 
 #[test]
-fn scripts_of_each_kind_of_lock_print_what_the_rows_say(rt: HostRuntime) -> Result<(), Fail> {
-    expect_rows(&rt, EIGHT, &advisory::ADVISORY)?;
-    expect_rows(&rt, EIGHT, &queues::QUEUES)?;
-    expect_rows(&rt, EIGHT, &nested::NESTED)?;
-    expect_rows(&rt, EIGHT, &waiting::WAITS)?;
-    expect_rows(&rt, EIGHT, &waiting::PLACES)?;
-    expect_rows(&rt, EIGHT, &waiting::CANCELS)?;
+fn advisory_locks_stand_by_their_method(rt: HostRuntime) -> Result<(), Fail> {
+    expect_rows(&rt, EIGHT, &advisory::ADVISORY)
+}
+
+#[test]
+fn queues_and_blockers_are_told(rt: HostRuntime) -> Result<(), Fail> {
+    expect_rows(&rt, EIGHT, &queues::QUEUES)
+}
+
+#[test]
+fn savepoints_release_what_they_took(rt: HostRuntime) -> Result<(), Fail> {
+    expect_rows(&rt, EIGHT, &nested::NESTED)
+}
+
+#[test]
+fn who_is_in_the_way_is_waited_for(rt: HostRuntime) -> Result<(), Fail> {
+    expect_rows(&rt, EIGHT, &waiting::WAITS)
+}
+
+#[test]
+fn a_wait_joins_the_queue_at_its_place(rt: HostRuntime) -> Result<(), Fail> {
+    expect_rows(&rt, EIGHT, &waiting::PLACES)
+}
+
+#[test]
+fn a_cancel_takes_a_wait_back(rt: HostRuntime) -> Result<(), Fail> {
+    expect_rows(&rt, EIGHT, &waiting::CANCELS)
+}
+
+#[test]
+fn a_release_passes_the_queue(rt: HostRuntime) -> Result<(), Fail> {
     expect_rows(&rt, ALL_SESSIONS, &waiting::PASSES)
 }
 

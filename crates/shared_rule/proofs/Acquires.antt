@@ -18,10 +18,10 @@ use Rattle.shared_rule.specs.History.{slots_shown}
 use Rattle.shared_rule.specs.Layout.{content_slot_of}
 use Rattle.shared_rule.specs.Led.{Led}
 use Rattle.shared_rule.specs.LwLocks.{no_lists, queued_for}
-use Rattle.shared_rule.specs.Slots.{TakesFast, SharesFast}
+use Rattle.shared_rule.specs.Slots.{TakesFast}
 use Rattle.shared_rule.specs.Acquires.{IsAsBefore, GetsSlots, MayGetSlots, account_getting, TakesPartition}
 use Rattle.shared_rule.specs.Plays.{Side, account_at, number_at, HasSession, IsSameSeat, TookSlots, SharedSlots}
-use Rattle.shared_rule.proofs.Led.{led-noted, led-as, led-then, led-self}
+use Rattle.shared_rule.proofs.Led.{led-noted, led-as, led-then}
 
 -- How the calls of an acquire make it up.
 
@@ -111,10 +111,6 @@ module _ {T : Type 0} (content : T → Content) where
     slots = ap (λ (side : Side T). side.1) shares.side;
   }
 
-  -- Nothing was done.
-  pub as-before : (place : Seat (Kept T) (View T)) → HasSession place.me.0 → IsAsBefore content place place
-  as-before place has = record { led = led-self content place has; slots = refl }
-
   module _ (before middle after : Seat (Kept T) (View T)) (first : IsAsBefore content before middle) where
     -- A call that got nothing, and one more.
     pub nothing-then : IsAsBefore content middle after → IsAsBefore content before after
@@ -147,11 +143,6 @@ module _ {T : Type 0} (content : T → Content) where
       knows = subst (λ n. KnowsContent n (account_at content before) part (content taken)) first.led.number
           (subst (λ a. KnowsContent (number_at middle) a part (content taken)) first.led.account takes.knows);
     }
-
-  -- Whoever shares the lock of slots knows them.
-  pub shares-slots : (owner : ℕ) (before after : Seat (Kept T) (View T)) → GetsSlots content Shared owner before after
-      → SharesFast (number_at before) (account_at content before) owner (account_at content after)
-  shares-slots owner before after shares = record { slots = shares.shown; knows = shares.knows; account = shares.led.account }
 
   -- Between queueing and leaving the list.
   module _ (lock : ℕ) (before queued attempted after : Seat (Kept T) (View T)) (idle : (account_at content before).lists ≡ no_lists)
@@ -215,13 +206,6 @@ module _ {T : Type 0} (content : T → Content) where
           led = led-as content before after (with_lists a no_lists) a three (idle-same a idle);
           slots = last ∙ rest ∙ lost.slots ∙ same;
         }
-
-    -- The account that leaves the list stands in it still.
-    pub queued-still : Led content queued attempted (account_at content queued) → (account_at content attempted).lists ≡ queued_for lock
-    queued-still led = ap (λ (b : Account). b.lists) (led.account ∙ queues.account)
-
-    pub queued-part : (begun : T → Option Request) (part : ℕ) (taken : T) → TakesPartition content begun part queued attempted taken → (account_at content attempted).lists ≡ queued_for lock
-    queued-part begun part taken takes = ap (λ (b : Account). b.lists) takes.led.account ∙ ap (λ (b : Account). b.lists) queues.account
 
     pub queued-slots : (mode : LwMode) (owner : ℕ) → GetsSlots content mode owner queued attempted → (account_at content attempted).lists ≡ queued_for lock
     queued-slots mode owner takes =

@@ -318,7 +318,7 @@ module _ {T : Type 0} (content : T → Content) where
 
 -- ---- counters
 
--- Where the own slots are not in hand a counter that is read joins the trace alone.
+-- Where its own slots are not in hand a counter that is read joins the trace alone.
 reading-traces : (number : ℕ) (a : Account) (index shown : ℕ) → a.fast.slots number ≡ None → account_reading number a index shown ≡ account_tracing a (Loaded (Strong index) shown)
 reading-traces number a index shown none =
     let off : ((shown == 0) && is_some (a.fast.slots number)) ≡ false = and_right (shown == 0) (is_some (a.fast.slots number)) (ap is_some none) in

@@ -34,7 +34,7 @@ pub after-none : (i j : ℕ) → i < j → 0 < j
 after-none i j less = omega (arith, less)
 
 module _ {T : Type 0} where
-  -- The first history with a step more, or another as it was.
+  -- The first history with one more step, or another as it was.
   noting-get :
       (x : History T) (others : List (History T)) (mark : Mark T) (j : ℕ) (y : History T) → slice_get (noting_first (x ∷ others) mark) j ≡ Some y
       → ((j ≡ 0) × (y ≡ record { number = x.number; marks = mark ∷ x.marks })) ⊎ ((j ≢ 0) × (slice_get (x ∷ others) j ≡ Some y))

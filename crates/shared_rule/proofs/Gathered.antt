@@ -256,7 +256,7 @@ module _ {T : Type 0} (content : T → Content) (w : World) (limit : ℕ) (event
             ap (λ (a : Account). a.awaited) (sym (live-among k alive)) ∙ ap (λ (a : Account). a.awaited) (among-none gathered k not_there)
       ]
 
-  -- Where the own holds of each stand,
+  -- Where each one's own holds stand,
   pub stands-among : (first : History T) → slice_get view.sessions 0 ≡ Some first → (contents : ℕ → Content) → NoneWaits gathered → HasAllInHand (told content first.number first.marks) contents
       → (k : ℕ) → OwnStand k (account_among gathered k) contents
   stands-among first get contents none has k =

@@ -95,7 +95,7 @@ idle-still content sessions after same idle = record {
   none = sym (lists-told content after) ∙ same ∙ lists-told content sessions ∙ idle.none;
 }
 
--- Trying for the lock of the own slots leaves them.
+-- Trying for the lock of its own slots leaves them.
 pub tries-lists : {R E : Type 0} (number : ℕ) (a : Account) (result : Result R E) (b : Account) → TriesFast number a result b → b.lists ≡ a.lists
 tries-lists number a (Ok unit) b took = ap (λ (c : Account). c.lists) took.takes.account
 tries-lists number a (Err error) b (inl held) = ap (λ (c : Account). c.lists) held.account

@@ -77,7 +77,7 @@ pub led-self : {T : Type 0} (content : T → Content) (place : Seat (Kept T) (Vi
     → Led content place place (account_at content place)
 led-self content place has = led-none content place place has (record { table_id = refl; id = refl }) refl
 
--- What a load of the own sleep word makes of the account: where it shows 0 the session stands in no list, and else
+-- What a load of its own sleep word makes of the account: where it shows 0 the session stands in no list, and else
 -- nothing is changed.
 pub slept-told : (a : Account) (shown : ℕ) → shown ≡ 0
     → account_loading_sleep a shown ≡ record a { lists = record (a.lists) { stands = None } }

@@ -141,7 +141,7 @@ pub record CountsTo (limit : ℕ) (counters : ℕ → ℕ) (word : ℕ → ℕ �
   pub table : audit.table ≡ count_by (λ (row : TableRow). row.granted) rows
   pub strong : audit.strong ≡ total 1024 counters
 
--- An audit of those gathered, by the trace of the first. Where memory is wanting for the rows it counts nothing, and has made the same
+-- An audit of those gathered, by the trace of the first. Where memory runs out for the rows it counts nothing, and has made the same
 -- steps.
 pub record Counts {E : Type 0} (limit : ℕ) (before : List TraceEntry) (result : Result Audit E) (after : List TraceEntry) : Type 0 where
   pub counters : ℕ → ℕ

@@ -65,7 +65,7 @@ module _ {T : Type 0} (content : T → Content) where
   gathered_in sessions = map gathered_as sessions
 
   -- What the seat knows of a number that is found in a word, where they are all that there are. A slot shows, with all partitions in
-  -- hand, the own holds of its session that no content has; a strong lock counter shows what they have counted.
+  -- hand, its session's own holds that no content has; a strong lock counter shows what they have counted.
   abbrev pub KnowsOfAll : View T → Word → ℕ → Type 0
   KnowsOfAll view (Partition partition) found = Unit {0}
   KnowsOfAll view (Fast owner) found = Unit {0}
@@ -85,7 +85,7 @@ module _ {T : Type 0} (content : T → Content) where
       → KnowsOfAll before.0 word found)
 
   -- What the seat knows where they are all that there are: who they are, and, with all partitions in hand and nobody waiting, where
-  -- the own holds of each stand.
+  -- each one's own holds stand.
   pub record KnowsAll (issued : ℕ) (view : View T) : Type 0 where
     pub distinct : AreDistinct issued (gathered_in view.sessions)
     pub stand :

@@ -84,11 +84,11 @@ account_granting_by (Some made) a part mine other done woken now =
 abbrev pub account_granting : Account → ℕ → InHand → ℕ → Move → List ℕ → Content → Account
 account_granting a part mine other done woken now = account_granting_by mine.recorded a part mine other done woken now
 
--- whether the own wait was granted, as far as the session can tell: it has seen that, or the content in hand has it
+-- whether its own wait was granted, as far as the session can tell: it has seen that, or the content in hand has it
 abbrev pub is_granted : ℕ → Account → OwnWait → Bool
 is_granted number a wait = a.seen || (in_hand (a.hand (partition_of wait.tag))).now.holds number wait.tag wait.mode
 
--- what clearing the own wait word makes of it, and what leaving the queue by that does
+-- what clearing its own wait word makes of it, and what leaving the queue by that does
 abbrev pub account_cleared : ℕ → Account → Option OwnWait → Account
 account_cleared number a None = a
 account_cleared number a (Some wait) = account_clearing a wait (is_granted number a wait)

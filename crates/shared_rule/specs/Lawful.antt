@@ -42,11 +42,11 @@ abbrev pub MayPutPart : ℕ → ℕ → Account → ℕ → InHand → Move → 
 MayPutPart limit number a partition mine done content =
     MayPutBy limit number a partition mine done content ⊎ PutsRecorded a partition mine done content
 
--- Clearing the own wait word: the grant was seen, or the wait is gone from the content in hand.
+-- Clearing its own wait word: the grant was seen, or the wait is gone from the content in hand.
 abbrev pub MayClearBy : ℕ → Account → OwnWait → Type 0
 MayClearBy number a wait = MayClearSeenBy a wait ⊎ ((mine : InHand) × MayClearInHandBy number a wait mine)
 
--- Sleeping on the own wait word, which is no step: the session waits and has no word in hand, and its trace ends with a
+-- Sleeping on its own wait word, which is no step: the session waits and has no word in hand, and its trace ends with a
 -- load of that word, which showed this: neither a grant nor that it was asked to cancel.
 pub record HasJustLooked (number : ℕ) (a : Account) (shown : ℕ) : Type 0 where
   pub wait : OwnWait

@@ -128,7 +128,7 @@ module _ {T : Type 0} (content : T → Content) where
       × (found / 2 ^ 28 % 2 ≢ 0 → after ≡ before)
 
 module _ {T : Type 0} where
-  -- A lost exchange is not noted, or is noted as a load of the own word.
+  -- A lost exchange is not noted, or is noted as a load of its own word.
   abbrev pub unnoted : ℕ → View T → View T
   unnoted found view = view
 

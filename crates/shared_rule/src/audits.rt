@@ -30,8 +30,7 @@ use crate::plays::{LooksOver, Marking, TellsAll};
 use crate::rule::{Place, Top};
 use lock_table::{Move, NoMemory, PartTable, TableRow};
 use lw_word::SlotWord;
-use modes_core::tags::PARTITIONS;
-use modes_core::{Mode, SessionId};
+use modes_core::{Mode, PARTITIONS, SessionId};
 use std::marker::Brand;
 use std::sync::Wait;
 
@@ -100,7 +99,7 @@ fn look_over_strong<T: PartTable, M: Marking<T>>(
     look_over_as::<T, M>(top, place, strong_word(index))
 }
 
-// Tells who is there, and where the own holds of each stand. It loads a word, and ignores what it finds.
+// Tells who is there, and where each one's own holds stand. It loads a word, and ignores what it finds.
 fn tell_all<T: PartTable>(top: &Top<T>, place: &mut Place<T>)
     requires table { FitsTable place.old top.now.table_id }
     requires session { HasSession place.old.me.0 }
@@ -203,7 +202,7 @@ fn put_back<T: PartTable>(top: &Top<T>, place: &mut Place<T>, part: u8, content:
 }
 
 /// Takes the partitions from this one on, in rising order, counts with all in hand what slots show, and puts them back as
-/// they were, in the opposite order, with their rows appended to the list. Where memory is wanting for these it is refused,
+/// they were, in the opposite order, with their rows appended to the list. Where memory runs out for these it is refused,
 /// and all partitions are put back as well.
 pub(crate) fn count_from<T: PartTable, R: Wait>(
     rt: &R,
@@ -248,7 +247,7 @@ fn granted_in(rows: &[TableRow]) -> u64
 impl<T: PartTable> Opener<T> {
     /// Counts what stands in the table, with all sessions gathered here that are open, and nobody waiting: the strong lock
     /// counters, each by a load; what fast-path slots show, each loaded with all partitions in hand; and the rows of these,
-    /// which are appended to an empty list. The first session makes the steps. Where memory is wanting for the rows it is
+    /// which are appended to an empty list. The first session makes the steps. Where memory runs out for the rows it is
     /// refused, and all is as before as well.
     pub fn count<R: Wait>(
         &mut self,

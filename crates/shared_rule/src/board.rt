@@ -97,7 +97,7 @@ pub trait Board<T: PartTable> {
         ensures taken { TakesFast (seat self.old).number (view self.old) owner (view self.new) }
         ensures stack { stack self.new ≡ stack self.old };
 
-    /// Takes the lock of the own slots if nobody holds it: a load of its word and, where bits 0 to 24 are all 0, one
+    /// Takes the lock of its own slots if nobody holds it: a load of its word and, where bits 0 to 24 are all 0, one
     /// exchange that expects the very number loaded (`LWLockConditionalAcquire` in lwlock.c). `Busy` where somebody
     /// holds it, or changed it meanwhile.
     fn try_take_fast(&mut self) -> Result<(), Busy>
@@ -170,7 +170,7 @@ pub trait Board<T: PartTable> {
             → slots.holds ≡ slot_holds result slots.word }
         ensures own { owner ≡ (seat self.old).number → result ≡ (view self.old).fast.database };
 
-    /// Stores the own database, once (`InitPostgres` in postinit.c).
+    /// Stores its own database, once (`InitPostgres` in postinit.c).
     fn store_database(&mut self, database: u32)
         requires unset { (view self.old).fast.database ≡ 0 }
         ensures seat { seat self.new ≡ seat self.old }
@@ -188,7 +188,7 @@ pub trait Board<T: PartTable> {
         ensures of_shared_slots { (slots : SlotsInHand) → (view self.old).fast.shared_slots owner ≡ Some slots
             → result ≡ slots.word place };
 
-    /// Loads a strong lock counter. Where it is 0, and the own slots are in hand, slots may be set for objects of its
+    /// Loads a strong lock counter. Where it is 0, and its own slots are in hand, slots may be set for objects of its
     /// index until they are put (`FastPathStrongRelationLocks->count` in `LockAcquireExtended` of lock.c).
     fn load_strong(&mut self, index: u16) -> u64
         requires within { index < 1024 }
@@ -196,7 +196,7 @@ pub trait Board<T: PartTable> {
         ensures view { view self.new ≡ account_reading (seat self.old).number (view self.old) index result }
         ensures stack { stack self.new ≡ stack self.old };
 
-    /// Sets a mode in the own slot that shows this (`FastPathGrantRelationLock` in lock.c).
+    /// Sets a mode in the session's own slot that shows this (`FastPathGrantRelationLock` in lock.c).
     fn set_slot(&mut self, place: u8, shown: SlotWord, tag: &Tag, mode: Mode)
         requires lawful { (mine : SlotsInHand)
             × MaySetSlotBy (seat self.old).number (view self.old) mine place tag.now mode
@@ -206,7 +206,7 @@ pub trait Board<T: PartTable> {
             (slots_here ((view self.old).fast.slots (seat self.old).number)) place tag.now mode }
         ensures stack { stack self.new ≡ stack self.old };
 
-    /// Clears a mode in the own slot that shows this (`FastPathUnGrantRelationLock` in lock.c).
+    /// Clears a mode in the session's own slot that shows this (`FastPathUnGrantRelationLock` in lock.c).
     fn clear_slot(&mut self, place: u8, shown: SlotWord, tag: &Tag, mode: Mode)
         requires lawful { (mine : SlotsInHand)
             × MayClearSlotBy (seat self.old).number (view self.old) mine place tag.now mode
@@ -239,7 +239,7 @@ pub trait Board<T: PartTable> {
             (in_hand ((view self.old).hand (partition_of tag.now))) tag.now mode }
         ensures stack { stack self.new ≡ stack self.old };
 
-    /// Stores in the own wait word that the session waits, with its join made in the content in hand (`ProcSleep` in
+    /// Stores in its own wait word that the session waits, with its join made in the content in hand (`ProcSleep` in
     /// proc.c sets `waitStatus` so).
     fn set_waiting(&mut self, tag: &Tag, mode: Mode, content: &T)
         requires lawful { (mine : InHand) × MayMoveBy (seat self.old).limit (seat self.old).number (view self.old)
@@ -266,7 +266,7 @@ pub trait Board<T: PartTable> {
             (sessions_told woken.now.items) (T.content content.now) }
         ensures stack { stack self.new ≡ stack_owing (stack self.old) other };
 
-    /// Loads the own wait word: 2 in bits 0 to 1 where the wait was granted, bit 2 set where it was asked to cancel
+    /// Loads its own wait word: 2 in bits 0 to 1 where the wait was granted, bit 2 set where it was asked to cancel
     /// (`waitStatus` in proc.h, as `ProcSleep` in proc.c reads it).
     fn load_wait(&mut self) -> u64
         ensures seat { seat self.new ≡ seat self.old }
@@ -283,7 +283,7 @@ pub trait Board<T: PartTable> {
         ensures stack { stack self.new ≡ stack_asking (stack self.old) other result }
         ensures own { other ≡ (seat self.old).number → (view self.old).awaited ≡ None → wait_state result ≡ 0 };
 
-    /// Clears the own wait word: the wait is over, since the grant was seen or the wait is gone from the content in
+    /// Clears its own wait word: the wait is over, since the grant was seen or the wait is gone from the content in
     /// hand.
     fn clear_wait(&mut self)
         requires lawful { (wait : OwnWait) × MayClearBy (seat self.old).number (view self.old) wait }
@@ -291,7 +291,7 @@ pub trait Board<T: PartTable> {
         ensures view { view self.new ≡ account_cleared (seat self.old).number (view self.old) (view self.old).awaited }
         ensures stack { stack self.new ≡ stack self.old };
 
-    /// Clears the own wait word and records that the wait was taken out of the queue of the content in hand, which
+    /// Clears its own wait word and records that the wait was taken out of the queue of the content in hand, which
     /// granted the waits of those told (`RemoveFromWaitQueue` in lock.c).
     fn leave_queue(&mut self, woken: &Woken, content: &T)
         requires lawful { (wait : OwnWait) × (mine : InHand) × (granted : List contents.Wait)
@@ -303,7 +303,7 @@ pub trait Board<T: PartTable> {
             (sessions_told woken.now.items) }
         ensures stack { stack self.new ≡ stack self.old };
 
-    /// Sleeps while the own wait word shows this, until somebody wakes the session; it may also return for no reason
+    /// Sleeps while its own wait word shows this, until somebody wakes the session; it may also return for no reason
     /// (`WaitLatch` in `ProcSleep` of proc.c). The session has loaded that number just before, so no grant and no
     /// request to cancel that came since is slept through.
     fn sleep<R: Wait>(&self, rt: &R, shown: u64)

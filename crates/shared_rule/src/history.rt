@@ -76,13 +76,13 @@ pub enum WordMark {
         index: u16,
         shown: u64,
     },
-    /// It set a mode in an own slot.
+    /// It set a mode in a slot of its own.
     SetSlot {
         place: u8,
         tag: Tag,
         mode: Mode,
     },
-    /// It cleared a mode in an own slot.
+    /// It cleared a mode in a slot of its own.
     ClearedSlot {
         place: u8,
         tag: Tag,

@@ -11,9 +11,7 @@ ghost use Rattle.lock_world.specs.declared.events.Word.TheVariants.{Partition, F
 ghost use Rattle.lock_world.specs.declared.events.Word.TheVariants.{Wait, Strong, Sleep};
 ghost use Rattle.shared_rule.specs.Layout.{index_of_word, block_start, content_slot_of, list_slot_of, lock_count};
 
-use modes_core::SessionId;
-use modes_core::sessions::SESSIONS;
-use modes_core::tags::{PARTITIONS, STRONG_COUNTERS};
+use modes_core::{PARTITIONS, SESSIONS, STRONG_COUNTERS, SessionId};
 
 /// 128 bytes, in words.
 pub(crate) const GAP: usize = 16;

@@ -2,31 +2,47 @@
 //! holds between any two steps.
 #![tactic(auto)]
 
-pub mod audits;
-pub mod board;
-pub mod busy;
+mod audits;
+mod board;
+mod busy;
 mod counters;
-pub mod gatherings;
-pub mod history;
-pub mod kept;
+mod gatherings;
+mod history;
+mod kept;
 pub mod laws;
-pub mod layout;
+mod layout;
 mod lists;
 mod locks;
 mod lw_lock;
-pub mod one_thread;
-pub mod opener;
+mod one_thread;
+mod opener;
 mod owed;
 mod partitions;
 mod plays;
 mod queues;
-pub mod rule;
-pub mod seat_board;
+mod rule;
+mod seat_board;
 mod seats;
 mod sharing;
 mod slot_acquires;
 mod slots;
-pub mod table;
+mod table;
 mod waits;
 mod wakeups;
 mod words;
+
+pub use audits::Audit;
+pub use board::Board;
+pub use busy::Busy;
+pub use gatherings::Absent;
+pub use history::{History, Mark, View, WordMark};
+pub use kept::Kept;
+pub use layout::{
+    CONTENT_SLOTS, TABLE_SLOTS, TABLE_WORDS, content_slot, database_word, fast_word,
+    partition_word, sleep_word, slot_word, strong_word, wait_word,
+};
+pub use one_thread::OneThread;
+pub use opener::Opener;
+pub use rule::{Law, Place, Top};
+pub use seat_board::SeatBoard;
+pub use table::{SharedTable, in_slots, open};

@@ -89,7 +89,7 @@ pub(crate) fn unlock_list<T: PartTable>(
     }
 }
 
-/// Stores in the own sleep word that the session waits in the list in hand (`LWLockQueueSelf` in lwlock.c sets
+/// Stores in its own sleep word that the session waits in the list in hand (`LWLockQueueSelf` in lwlock.c sets
 /// `lwWaiting`).
 pub(crate) fn join_list<T: PartTable, M: Marking<T>>(
     top: &Top<T>,
@@ -158,7 +158,7 @@ pub(crate) fn tell<T: PartTable, M: Marking<T>>(
     store_as::<T, M>(top, place, sleep_word(other), 0);
 }
 
-/// Loads the own sleep word (`lwWaiting` in proc.h, as the sleep of `LWLockAcquire` in lwlock.c reads it).
+/// Loads its own sleep word (`lwWaiting` in proc.h, as the sleep of `LWLockAcquire` in lwlock.c reads it).
 pub(crate) fn load_sleep<T: PartTable>(top: &Top<T>, place: &mut Place<T>, number: SessionId) -> u64
     requires table { FitsTable place.old top.now.table_id }
     requires session { HasSession place.old.me.0 }

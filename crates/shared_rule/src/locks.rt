@@ -95,7 +95,7 @@ pub(crate) fn take_fast<T: PartTable, R: Wait>(
     }
 }
 
-// Loads the word of the lock of the own slots.
+// Loads the word of the lock of its own slots.
 fn load_fast<T: PartTable, M: Marking<T>>(
     top: &Top<T>,
     place: &mut Place<T>,
@@ -111,7 +111,7 @@ fn load_fast<T: PartTable, M: Marking<T>>(
     load_as::<T, M>(top, place, fast_word(number))
 }
 
-// Takes the lock of the own slots where its word still shows this number, and tells the number that it showed.
+// Takes the lock of its own slots where its word still shows this number, and tells the number that it showed.
 fn take_own_fast<T: PartTable>(
     top: &Top<T>,
     place: &mut Place<T>,
@@ -130,7 +130,7 @@ fn take_own_fast<T: PartTable>(
     top.compare_exchange::<TriesSlots>(place, fast_word(number), shown, taken)
 }
 
-/// Takes the lock of the own slots if nobody holds it, by a load and one exchange that expects the very number loaded
+/// Takes the lock of its own slots if nobody holds it, by a load and one exchange that expects the very number loaded
 /// (`LWLockConditionalAcquire` in lwlock.c).
 pub(crate) fn try_take_fast<T: PartTable>(
     top: &Top<T>,

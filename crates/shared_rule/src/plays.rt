@@ -82,7 +82,7 @@ impl<T: PartTable> Play<Kept<T>, View<T>> for SharesSlots {
     ghost then = { SharedSlotsOr T.content unnoted };
 }
 
-/// The same as `TakesSlots` of the own slots, where a lost exchange is noted as a load of the word.
+/// The same as `TakesSlots` of its own slots, where a lost exchange is noted as a load of the word.
 pub struct TriesSlots;
 
 impl<T: PartTable> Play<Kept<T>, View<T>> for TriesSlots {
@@ -130,7 +130,7 @@ impl<T: PartTable, M: Marking<T>> Play<Kept<T>, View<T>> for LooksOver<M> {
     ghost then = { LookedOver T.content M.mark };
 }
 
-/// A load that changes nothing, and tells such a seat who is there, and where the own holds of each stand.
+/// A load that changes nothing, and tells such a seat who is there, and where each one's own holds stand.
 pub struct TellsAll;
 
 impl<T: PartTable> Play<Kept<T>, View<T>> for TellsAll {

@@ -88,7 +88,7 @@ pub(crate) fn queue_self<T: PartTable, R: Wait>(
     unlock_list(top, place, lock, list, true, true);
 }
 
-/// Sleeps until the own sleep word shows 0: whoever took the session off its list has told it so (the sleep on the
+/// Sleeps until its own sleep word shows 0: whoever took the session off its list has told it so (the sleep on the
 /// semaphore in `LWLockAcquire` in lwlock.c). The kernel compares the word before a thread sleeps, so nothing that is told
 /// meanwhile is slept through.
 pub(crate) fn sleep_until_told<T: PartTable, R: Wait>(

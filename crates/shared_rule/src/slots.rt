@@ -61,7 +61,7 @@ pub(crate) fn load_slot<T: PartTable, M: Marking<T>>(
     SlotWord::from_number(look_as::<T, M>(top, place, slot_word(owner, slot)))
 }
 
-/// Sets a mode in the own slot that shows this (`FastPathGrantRelationLock` in lock.c).
+/// Sets a mode in the session's own slot that shows this (`FastPathGrantRelationLock` in lock.c).
 pub(crate) fn set_slot<T: PartTable, M: Marking<T>>(
     top: &Top<T>,
     place: &mut Place<T>,
@@ -84,7 +84,7 @@ pub(crate) fn set_slot<T: PartTable, M: Marking<T>>(
     store_as::<T, M>(top, place, slot_word(number, slot), word.number());
 }
 
-/// Clears a mode in the own slot that shows this (`FastPathUnGrantRelationLock` in lock.c).
+/// Clears a mode in the session's own slot that shows this (`FastPathUnGrantRelationLock` in lock.c).
 pub(crate) fn clear_slot<T: PartTable, M: Marking<T>>(
     top: &Top<T>,
     place: &mut Place<T>,
@@ -135,7 +135,7 @@ pub(crate) fn transfer_slot<T: PartTable, M: Marking<T>>(
     store_as::<T, M>(top, place, slot_word(owner, slot), word.number());
 }
 
-/// Stores the own database, once (`InitPostgres` in postinit.c).
+/// Stores its own database, once (`InitPostgres` in postinit.c).
 pub(crate) fn store_database<T: PartTable, M: Marking<T>>(
     top: &Top<T>,
     place: &mut Place<T>,

@@ -81,7 +81,7 @@ fn next_list<T: PartTable>(alloc: Global, index: usize) -> Result<Kept<T>, NoMem
 }
 
 /// The slots of the table with these parts of the sixteen partitions, each in its place (`content_slot`), and with the
-/// wait lists of all lightweight locks. Where memory is wanting the parts are let go.
+/// wait lists of all lightweight locks. Where memory runs out the parts are let go.
 pub fn in_slots<T: PartTable + Drop>(
     alloc: Global,
     mut parts: Vec<T>,

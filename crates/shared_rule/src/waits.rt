@@ -23,7 +23,7 @@ use crate::words::{fetch_add_as, fetch_or_as, load_as, store_as};
 use lock_table::{Move, PartTable, Woken};
 use modes_core::{Mode, SessionId, Tag};
 
-/// Stores in the own wait word that the session waits, with its join made in the content in hand (`ProcSleep` in
+/// Stores in its own wait word that the session waits, with its join made in the content in hand (`ProcSleep` in
 /// proc.c sets `waitStatus` so).
 pub(crate) fn set_waiting<T: PartTable, M: Marking<T>>(
     top: &Top<T>,
@@ -75,7 +75,7 @@ pub(crate) fn mark_granted<T: PartTable, M: Marking<T>>(
     fetch_add_as::<T, M>(top, place, wait_word(other), 1);
 }
 
-/// Loads the own wait word (`waitStatus` in proc.h, as `ProcSleep` in proc.c reads it).
+/// Loads its own wait word (`waitStatus` in proc.h, as `ProcSleep` in proc.c reads it).
 pub(crate) fn load_wait<T: PartTable, M: Marking<T>>(
     top: &Top<T>,
     place: &mut Place<T>,
@@ -109,7 +109,7 @@ pub(crate) fn ask_cancel<T: PartTable, M: Marking<T>>(
     fetch_or_as::<T, M>(top, place, wait_word(other), 4)
 }
 
-/// Clears the own wait word: the wait is over, since the grant was seen or the wait is gone from the content in hand.
+/// Clears its own wait word: the wait is over, since the grant was seen or the wait is gone from the content in hand.
 pub(crate) fn clear_wait<T: PartTable, M: Marking<T>>(
     top: &Top<T>,
     place: &mut Place<T>,
@@ -126,7 +126,7 @@ pub(crate) fn clear_wait<T: PartTable, M: Marking<T>>(
     store_as::<T, M>(top, place, wait_word(number), 0);
 }
 
-/// Clears the own wait word and records that the wait was taken out of the queue of the content in hand
+/// Clears its own wait word and records that the wait was taken out of the queue of the content in hand
 /// (`RemoveFromWaitQueue` in lock.c).
 pub(crate) fn leave_queue<T: PartTable, M: Marking<T>>(
     top: &Top<T>,

@@ -19,7 +19,7 @@ AnswerIs Conditional content session tag mode answer.Granted = ClashIs content s
 AnswerIs Conditional content session tag mode _ = ⊥
 AnswerIs Waiting content session tag mode answer = WaitingAnswer content session tag mode answer
 
--- What was decided is the answer, and the content after it has a hold more, or a wait more at its place.
+-- What was decided is the answer, and the content after it has one more hold, or one more wait at its place.
 abbrev pub IsDecided : Kind → Content → ℕ → Tag → Mode → Decision → Content → Type 0
 IsDecided kind before session tag mode Granted after =
     AnswerIs kind before session tag mode answer.Granted × (after ≡ add_hold before session tag mode)

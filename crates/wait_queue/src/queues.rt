@@ -8,8 +8,7 @@ ghost use Rattle.wait_queue.specs.declared.queues.InTheWay.TheVariants.{Holds};
 ghost use Rattle.wait_queue.specs.Queues.{ahead_of, by_modes, holding, holding_of, standing, standing_of, blockers_in};
 
 use lock_table::{NoMemory, PartTable, Waiter};
-use modes_core::sessions::SESSIONS;
-use modes_core::{Mode, ModeSet, SessionId, Tag, conflicts};
+use modes_core::{Mode, ModeSet, SESSIONS, SessionId, Tag, conflicts};
 use std::alloc::Global;
 
 /// How a session stands in the way of one that waits.

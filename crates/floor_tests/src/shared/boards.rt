@@ -7,8 +7,7 @@ ghost use Rattle.shared_rule.specs.Seats.{MayCloseBy};
 
 use super::{empty_slots, one_thread};
 use lock_table::{Move, PartTable, PlainPart};
-use shared_rule::board::Board;
-use shared_rule::table::open;
+use shared_rule::{Board, open};
 use std::process::Abort;
 use std::sync::Wait;
 use std::test::Fail;

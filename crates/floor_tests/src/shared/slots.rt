@@ -7,7 +7,7 @@ ghost use Rattle.shared_rule.specs.History.{blank_account};
 use super::one_thread;
 use lock_table::PartTable;
 use modes_core::{Mode, Tag};
-use shared_rule::board::Board;
+use shared_rule::Board;
 use std::process::Abort;
 use std::sync::Wait;
 use std::test::Fail;

@@ -7,7 +7,7 @@ ghost use Rattle.lw_word.specs.LockState.{IsFreeFor, IsHeldIn, taken_in, put_in}
 ghost use Rattle.lock_model.specs.ListWords.{unlocked_in};
 
 use lw_word::{LwMode, LwWord};
-use modes_core::sessions::SESSIONS;
+use modes_core::SESSIONS;
 
 /// The word with one more sharer, or `None` where somebody holds the lock exclusively. No word shows more sharers
 /// than there are sessions, so that the count has room.

@@ -11,7 +11,7 @@ use super::gates::{Gate, Wins};
 use super::waits::{OWNER, TABLE, give_back, see_wait, take};
 use lock_manager::{Acquired, Mode, OwnSession, Part, Refusal, SessionId};
 use lock_table::PartTable;
-use shared_rule::board::Board;
+use shared_rule::Board;
 use std::alloc::Global;
 use std::process::Abort;
 use std::sync::Wait;

@@ -13,7 +13,7 @@ use lock_manager::Mode::{
 use lock_manager::Owner::{Session, Transaction};
 use lock_manager::{Audit, Listing, Mode, OwnSession, Owner, Refusal, TableRow, Tag};
 use lock_table::PartTable;
-use shared_rule::board::Board;
+use shared_rule::Board;
 use std::alloc::Global;
 use std::process::Abort;
 use std::sync::Wait;

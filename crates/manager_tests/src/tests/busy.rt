@@ -9,7 +9,7 @@ use super::races::see_nothing;
 use super::waits::{OWNER, TABLE, take};
 use lock_manager::{Acquired, Mode, OwnSession, Part, Refusal};
 use lock_table::PartTable;
-use shared_rule::board::Board;
+use shared_rule::Board;
 use std::process::Abort;
 use std::sync::Wait;
 use std::sync::atomic::{AtomicBool, Ordering};

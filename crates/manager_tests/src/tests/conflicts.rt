@@ -6,7 +6,7 @@ use super::answers::{Answer, expect_granted, expect_released};
 use super::pair::Pair;
 use lock_manager::{Acquired, How, Mode, OwnSession, Owner, Refusal, SessionId, Tag};
 use lock_table::PartTable;
-use shared_rule::board::Board;
+use shared_rule::Board;
 use std::process::Abort;
 use std::sync::Wait;
 

@@ -11,7 +11,7 @@ use super::desk::{Desk, open_many};
 use super::gates::Gate;
 use lock_manager::{Mode, OwnSession, Owner, Part, Tag};
 use lock_table::PartTable;
-use shared_rule::board::Board;
+use shared_rule::Board;
 use std::alloc::Global;
 use std::process::Abort;
 use std::sync::Wait;

@@ -9,7 +9,7 @@ use super::pair::Pair;
 use super::waits::{OWNER, TABLE, ask, ask_until_heard, give_back, see_wait};
 use lock_manager::{Asked, Mode, OwnSession, Part, SessionId};
 use lock_table::PartTable;
-use shared_rule::board::Board;
+use shared_rule::Board;
 use std::process::Abort;
 use std::sync::Wait;
 use std::sync::atomic::{AtomicBool, AtomicU64, Ordering};

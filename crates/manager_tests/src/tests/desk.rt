@@ -6,8 +6,7 @@ ghost use Rattle.manager_tests.specs.Crews.{AreOf, SeatsAre};
 
 use lock_manager::{Audit, Manager, Opener, OwnSession, Part, Refusal, Session};
 use lock_table::PartTable;
-use shared_rule::board::Board;
-use shared_rule::seat_board::SeatBoard;
+use shared_rule::{Board, SeatBoard};
 use std::alloc::{AllocFailed, Global};
 use std::process::Abort;
 use std::sync::Wait;

@@ -8,7 +8,7 @@ use super::audits::{NOTHING, Numbers, count, end_each};
 use super::desk::{Desk, append, close_many, open};
 use lock_manager::{Mode, OwnSession, Owner, Refusal, Tag};
 use lock_table::PartTable;
-use shared_rule::board::Board;
+use shared_rule::Board;
 use std::alloc::Global;
 use std::process::Abort;
 use std::sync::Wait;

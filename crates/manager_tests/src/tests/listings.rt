@@ -6,7 +6,7 @@ use super::answers::{expect_granted, expect_rows};
 use super::pair::Pair;
 use lock_manager::{Mode, OwnSession, Owner, TableRow, Tag};
 use lock_table::PartTable;
-use shared_rule::board::Board;
+use shared_rule::Board;
 use std::process::Abort;
 use std::sync::Wait;
 

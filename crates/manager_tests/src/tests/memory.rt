@@ -10,7 +10,7 @@ use lock_manager::{
     How, Listing, Mode, OwnSession, Owner, Refusal, SessionId, SlotRow, TableRow, Tag,
 };
 use lock_table::PartTable;
-use shared_rule::board::Board;
+use shared_rule::Board;
 use std::process::Abort;
 use std::sync::Wait;
 

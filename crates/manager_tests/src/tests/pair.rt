@@ -7,7 +7,7 @@ use super::audits::close_counted;
 use super::desk::{Desk, append, open};
 use lock_manager::OwnSession;
 use lock_table::PartTable;
-use shared_rule::board::Board;
+use shared_rule::Board;
 use std::alloc::Global;
 use std::process::Abort;
 use std::sync::Wait;

@@ -11,7 +11,7 @@ use super::waits::{OWNER, TABLE, give_back, see_wait, take};
 use super::wakes::pause;
 use lock_manager::{Mode, OwnSession, Part, SessionId};
 use lock_table::PartTable;
-use shared_rule::board::Board;
+use shared_rule::Board;
 use std::alloc::Global;
 use std::process::Abort;
 use std::sync::Wait;

@@ -10,7 +10,7 @@ use super::pair::Pair;
 use super::waits::{OWNER, TABLE, give_back, queue, take};
 use lock_manager::{Acquired, How, Mode, OwnSession, OwnWaiting, Part, Refusal, SessionId};
 use lock_table::PartTable;
-use shared_rule::board::Board;
+use shared_rule::Board;
 use std::process::Abort;
 use std::sync::Wait;
 use std::thread::{Threads, join_mut};

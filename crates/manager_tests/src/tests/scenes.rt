@@ -7,7 +7,7 @@ use super::races::Race;
 use super::turns::Turn;
 use super::{busy, conflicts, listings, memory, races, turns, waits};
 use lock_manager::Part;
-use shared_rule::board::Board;
+use shared_rule::Board;
 use std::process::Abort;
 use std::sync::Wait;
 use std::thread::Threads;

@@ -11,7 +11,7 @@ use super::conflicts::conflicts;
 use super::desk::{Desk, open_many};
 use lock_manager::{How, Mode, OwnSession, Owner, Part, Refusal, SessionId, Tag};
 use lock_table::PartTable;
-use shared_rule::board::Board;
+use shared_rule::Board;
 use std::alloc::Global;
 use std::process::Abort;
 use std::sync::{Mutex, Wait};

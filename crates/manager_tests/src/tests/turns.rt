@@ -5,7 +5,7 @@ ghost use Rattle.std.specs.Prelude.{◌≡◌};
 use super::pair::Pair;
 use lock_manager::{Acquired, How, Listing, Mode, OwnSession, Owner, Refusal, Tag, Unlocked};
 use lock_table::PartTable;
-use shared_rule::board::Board;
+use shared_rule::Board;
 use std::process::Abort;
 use std::sync::Wait;
 

@@ -12,7 +12,7 @@ use lock_manager::{
     Started, TableRow, Tag,
 };
 use lock_table::PartTable;
-use shared_rule::board::Board;
+use shared_rule::Board;
 use std::process::Abort;
 use std::sync::Wait;
 use std::thread;

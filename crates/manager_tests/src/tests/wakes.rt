@@ -10,7 +10,7 @@ use super::races::end_wait;
 use super::waits::{OWNER, TABLE, ask, give_back, leave, queue, see_wait, take};
 use lock_manager::{Acquired, Asked, Mode, OwnSession, OwnWaiting, Part, Refusal, SessionId};
 use lock_table::PartTable;
-use shared_rule::board::Board;
+use shared_rule::Board;
 use std::alloc::Global;
 use std::process::Abort;
 use std::sync::Wait;

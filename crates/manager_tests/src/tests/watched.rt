@@ -5,8 +5,7 @@ ghost use Rattle.std.specs.Prelude.{◌≡◌};
 use lock_table::{Move, PartTable, Woken};
 use lw_word::SlotWord;
 use modes_core::{Mode, SessionId, Tag};
-use shared_rule::board::Board;
-use shared_rule::busy::Busy;
+use shared_rule::{Board, Busy};
 use std::sync::Wait;
 
 /// Is told of all that is done on a board.

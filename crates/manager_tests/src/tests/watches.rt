@@ -10,7 +10,7 @@ use super::audits::close_counted;
 use super::desk::{Desk, open_many};
 use lock_manager::{Listing, Mode, OwnSession, Owner, Part, SessionId, Tag};
 use lock_table::PartTable;
-use shared_rule::board::Board;
+use shared_rule::Board;
 use std::alloc::Global;
 use std::process::Abort;
 use std::sync::Wait;

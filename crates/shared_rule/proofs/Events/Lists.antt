@@ -342,7 +342,7 @@ module _ {T : Type 0} (content : T → Content) (limit : ℕ) (x : History T) wh
         lists = λ l nobody. (nobody, refl);
       }
 
-  -- What a load of the own sleep word leaves of the words.
+  -- What a load of its own sleep word leaves of the words.
   seen-words : (w : World) (s : ℕ) (zero : Bool) → (with_sleepers w (if zero then after_seeing_none (sleepers w) s else sleepers w)).words ≡ w.words
   seen-words w s true = refl
   seen-words w s false = refl

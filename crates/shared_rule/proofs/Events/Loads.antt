@@ -14,7 +14,7 @@ use Rattle.shared_rule.specs.Shown.{set_word}
 use Rattle.shared_rule.specs.Ruled.{NoneBeyondSlots}
 use Rattle.shared_rule.proofs.Events.Words.{IsAlwaysLawful}
 
--- Loading a session's database, a slot of it, the lock of the own slots, and a strong lock counter.
+-- Loading a session's database, a slot of it, the lock of its own slots, and a strong lock counter.
 
 -- A slot that is stored as it was stays so.
 pub slot-same : (words : Words) (session place n : ℕ) → n ≡ words.slot session place

@@ -229,7 +229,7 @@ module _ {T : Type 0} (content : T → Content) (begun : T → Option Request) (
       (taking-sees old new (λ w steps. subst (λ n. owner < n) (sym steps.is_limit) exists) free is_new)
       (λ s r at_view below. nothing-changes content begun limit id at_word me.0 s r at_view)
 
-  -- of the own session
+  -- of the session's own slots
   pub tries_fast_at : (old new : ℕ) → owner ≡ x.number → IsHeldByNobody old → new ≡ taken_word old → (i : ℕ)
       → i ≡ at_word
       → Allows (Ruled content begun limit) slots id me i (λ n. either (n == old) new n)

@@ -31,7 +31,7 @@ use Rattle.shared_rule.specs.History.{told, in_hand, slots_here}
 use Rattle.shared_rule.proofs.Events.Words.{IsAlwaysLawful}
 use Rattle.shared_rule.proofs.Events.Waits.{home-recorded}
 
--- Setting and clearing a mode in an own slot, moving one from a slot to the table, and storing the own database.
+-- Setting and clearing a mode in a slot of its own, moving one from a slot to the table, and storing its own database.
 
 -- A slot that is set is none beyond the others.
 set-none_beyond : (words : Words) (session place n : ℕ) → place < slot_count → NoneBeyondSlots words

@@ -50,7 +50,7 @@ home-recorded contents p s its own now done unmarked elsewhere q none =
     ]
 
 module _ {T : Type 0} (content : T → Content) (limit : ℕ) (x : History T) where
-  -- Loading the own wait word.
+  -- Loading its own wait word.
   pub loading_wait-lawful : IsAlwaysLawful content limit x (word.Wait x.number) (λ _. Unit {0}) (λ n. n) mark.LoadedWait
   loading_wait-lawful w steps n below shown _ =
       let same : w.words ≡ set_word w.words (word.Wait x.number) n = ap (λ f. record (w.words) { wait = f }) (sym (set_at-same w.words.wait x.number n shown)) in
@@ -89,7 +89,7 @@ module _ {T : Type 0} (content : T → Content) (limit : ℕ) (x : History T) wh
     lists = λ lock nobody. (nobody, refl);
   }
 
-  -- Setting the own wait word to waiting.
+  -- Setting its own wait word to waiting.
   pub setting_waiting-lawful : (its : InHand) (tag : Tag) (mode : Mode) (now : T) → MayMoveBy limit x.number (told content x.number x.marks) (partition_of tag) its (Join tag mode) [] (content now)
       → IsAlwaysLawful content limit x (word.Wait x.number) (λ _. Unit {0}) (λ _. 1) (λ _. mark.SetWaiting tag mode now)
   setting_waiting-lawful its tag mode now may w steps n below shown _ =
@@ -213,7 +213,7 @@ module _ {T : Type 0} (content : T → Content) (limit : ℕ) (x : History T) (p
   marking-lawful (inl may) = marking_first-lawful may
   marking-lawful (inr may) = marking_next-lawful may
 
--- Clearing the own wait word.
+-- Clearing its own wait word.
 
 -- Whether the wait was granted, as the session can tell, is so in the World: it has seen it, or has the content in hand.
 granted-known : (w : World) (s : ℕ) (wait : OwnWait) → MayClearBy s (account w s) wait
