@@ -1,7 +1,7 @@
 //! A manager for each tale, and the calls that make one and its sessions.
 
 ghost use Rattle.std.specs.Prelude.{◌≡◌};
-ghost use Rattle.lock_manager.specs.Crews.{KeepsSeat};
+ghost use Rattle.lock_manager.specs.Crews.{AreOf, KeepsSeat, SeatsAre};
 ghost use Rattle.lock_manager.specs.Managers.{IsOpenerOf};
 
 use crate::allocator::{refuse, was_refused};
@@ -10,7 +10,8 @@ use crate::tales::{ANOTHER_TABLE, TABLE, Tale, object};
 use crate::told::Told;
 use crate::{looks, steady, telling};
 use lock_manager::{
-    Audit, Board, Config, Manager, ManagerDesk, Mode, Opener, OwnSession, Owner, PartTable, Refusal,
+    Audit, Board, Config, Desk, Manager, ManagerDesk, Mode, Opener, OwnSession, Owner, PartTable,
+    Refusal,
 };
 use std::alloc::Global;
 use std::sync::Wait;
@@ -172,12 +173,30 @@ pub fn audit<R: Wait>(rt: &R, alloc: Global, growth: u16) -> Told {
     let counted = manager.audit(rt, &mut opener, &mut sessions);
     let refused = was_refused(alloc);
     let again = manager.audit(rt, &mut opener, &mut sessions);
-    if let Some(session) = sessions.pop() {
-        session.close(rt, &mut opener);
+    let mut desk = ManagerDesk::new(&manager, opener);
+    close_each(rt, &mut desk, sessions);
+    let opener = desk.into_opener();
+    if opener.live() == 0 {
+        manager.finish(opener);
+        return told_of_audits(counted, again, refused);
+    }
+    Told::Otherwise
+}
+
+/// Closes these sessions, over any board.
+fn close_each<T: PartTable, B: Board<T>, D: Desk<OwnSession<T, B>>, R: Wait>(
+    rt: &R,
+    desk: &mut D,
+    mut sessions: Vec<OwnSession<T, B>>,
+)
+    requires seats { SeatsAre B.seat D.seat }
+    requires own { AreOf B.seat (D.manager desk.old) sessions.items }
+    ensures manager { D.manager desk.new ≡ D.manager desk.old }
+{
+    'sessions: while let Some(session) = sessions.pop() {
+        desk.close(rt, session);
     }
     sessions.destroy_empty();
-    manager.finish(opener);
-    told_of_audits(counted, again, refused)
 }
 
 /// Two sessions of a manager of its own go on for long, with every growth refused after their first round.

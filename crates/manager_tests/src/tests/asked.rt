@@ -85,7 +85,37 @@ fn ask<T: PartTable, B: Board<T>, R: Wait>(
     session.ask_cancel(ring.waiter);
 }
 
-/// A round of the session of this number.
+/// The holder takes what the one that waits is to wait for.
+fn prepare<T: PartTable, B: Board<T>, R: Abort + Wait>(
+    rt: &R,
+    session: &mut OwnSession<T, B>,
+    number: u8,
+)
+    ensures seat { B.seat session.new.board ≡ B.seat session.old.board }
+{
+    if number == 0 {
+        take(rt, session, Mode::AccessExclusive);
+    }
+}
+
+/// What the session of this number does in a round.
+fn act<T: PartTable, B: Board<T>, R: Abort + Wait>(
+    rt: &R,
+    ring: &Ring,
+    session: &mut OwnSession<T, B>,
+    number: u8,
+    round: u32,
+)
+    ensures seat { B.seat session.new.board ≡ B.seat session.old.board }
+{
+    match number {
+        0 => release(rt, ring, session, round),
+        1 => wait(rt, ring, session),
+        _ => ask(rt, ring, session, round),
+    }
+}
+
+/// A round of that session.
 fn play_round<T: PartTable, B: Board<T>, R: Abort + Wait>(
     rt: &R,
     ring: &Ring,
@@ -95,15 +125,9 @@ fn play_round<T: PartTable, B: Board<T>, R: Abort + Wait>(
 )
     ensures seat { B.seat session.new.board ≡ B.seat session.old.board }
 {
-    if number == 0 {
-        take(rt, session, Mode::AccessExclusive);
-    }
+    prepare(rt, session, number);
     ring.all.come(rt, 3);
-    match number {
-        0 => release(rt, ring, session, round),
-        1 => wait(rt, ring, session),
-        _ => ask(rt, ring, session, round),
-    }
+    act(rt, ring, session, number, round);
     ring.all.come(rt, 3);
 }
 

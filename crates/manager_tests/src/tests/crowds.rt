@@ -22,8 +22,10 @@ use std::time::{Clock, Duration};
 /// How many sessions there are.
 pub const SESSIONS: u32 = 64;
 
-/// How often each locks and unlocks: 100,032 times all together.
+/// How often each locks and unlocks, and how often all do.
 const ROUNDS: u32 = 1_563;
+
+const ALL: u64 = 100_032;
 
 /// How often the watchdog looks in vain before it gives up, with so many milliseconds between.
 const LOOKS: u32 = 4_000;
@@ -52,10 +54,9 @@ impl Watch {
     }
 }
 
-/// The object of a session: all lie in one partition, since their numbers are 16 apart.
-fn own_object(place: usize) -> Tag {
-    let place = (place % SESSIONS as usize) as u32;
-    Tag::object(5, 1_259, 16_384 + 16 * place, 0)
+/// The object of the session of this number: all lie in one partition, since their numbers are 16 apart.
+fn own_object(number: u32) -> Tag {
+    Tag::object(5, 1_259, 16 * (number % 1_024), 0)
 }
 
 /// Locks an object and unlocks it.
@@ -76,18 +77,18 @@ fn lock_once<T: PartTable, B: Board<T>, R: Abort + Wait>(
 fn lock_often<T: PartTable, B: Board<T>, R: Abort + Wait>(
     rt: &R,
     session: &mut OwnSession<T, B>,
-    place: usize,
     watch: &Watch,
 )
     ensures seat { B.seat session.new.board ≡ B.seat session.old.board }
 {
-    let tag = own_object(place);
+    let number = u32::from(session.id().number());
+    let tag = own_object(number);
     watch.start.come(rt, u64::from(SESSIONS));
     'rounds: for _ in 0..ROUNDS {
         lock_once(rt, session, tag);
         watch.rounds.fetch_add(1, Ordering::SeqCst);
     }
-    watch.ended.fetch_or(1 << (place % 64), Ordering::SeqCst);
+    watch.ended.fetch_or(1 << (number % 64), Ordering::SeqCst);
 }
 
 /// Each session does so in a thread of its own.
@@ -103,8 +104,20 @@ fn lock_side_by_side<B: Board<Part> + Send, R: Abort + Threads + Wait + Sync>(
         rt,
         sessions,
         threads,
-        &|place, session| lock_often(rt, session, place, watch),
+        &|_, session| lock_often(rt, session, watch),
     );
+}
+
+/// The same, and tells that all is over.
+fn lock_until_over<B: Board<Part> + Send, R: Abort + Threads + Wait + Sync>(
+    rt: &R,
+    sessions: &mut [OwnSession<Part, B>],
+    watch: &Watch,
+)
+    ensures own { (manager : ManagerView) → AreOf B.seat manager sessions.old → AreOf B.seat manager sessions.new }
+{
+    lock_side_by_side(rt, sessions, watch);
+    watch.is_over.store(true, Ordering::SeqCst);
 }
 
 /// The same under the watchdog.
@@ -117,10 +130,7 @@ fn lock_watched<B: Board<Part> + Send, R: Abort + Clock + Threads + Wait + Sync>
 {
     join_mut(
         rt,
-        &mut || {
-            lock_side_by_side(rt, sessions, watch);
-            watch.is_over.store(true, Ordering::SeqCst);
-        },
+        &mut || lock_until_over(rt, sessions, watch),
         &mut || guard(rt, watch),
     );
 }
@@ -159,7 +169,7 @@ pub fn crowd<B: Board<Part> + Send, R: Abort + Clock + Threads + Wait + Sync>(
     let watch = Watch::new();
     lock_watched(rt, sessions, &watch);
     let rounds = watch.rounds.load(Ordering::SeqCst);
-    assert_eq!(rt; rounds, u64::from(SESSIONS) * u64::from(ROUNDS));
+    assert_eq!(rt; rounds, ALL);
 }
 
 /// Those of a desk do.

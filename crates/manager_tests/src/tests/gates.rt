@@ -76,11 +76,15 @@ impl Gate {
 
 /// A number for the pause of a side in a round.
 fn pause(round: u32, side: u32) -> u64 {
-    mixed(u64::from(round) << 1 | u64::from(side & 1))
+    mixed(
+        u64::from(round)
+            .wrapping_mul(2)
+            .wrapping_add(u64::from(side)),
+    )
 }
 
 /// A number that looks random, another one for each seed (splitmix).
-pub fn mixed(seed: u64) -> u64 {
+fn mixed(seed: u64) -> u64 {
     let mixed = seed.wrapping_add(1).wrapping_mul(0x9E37_79B9_7F4A_7C15);
     let mixed = (mixed ^ mixed >> 30).wrapping_mul(0xBF58_476D_1CE4_E5B9);
     mixed ^ mixed >> 27
