@@ -44,7 +44,7 @@ fn expect_fit<R: Abort>(rt: &R, wins: &Wins, answer: Answer, count: u16) {
 }
 
 /// The one that waits: it sleeps until it is granted or asked to cancel.
-fn wait<T: PartTable, B: Board<T>, R: Abort + Wait>(
+fn wait_or_leave<T: PartTable, B: Board<T>, R: Abort + Wait>(
     rt: &R,
     ring: &Ring,
     session: &mut OwnSession<T, B>,
@@ -110,7 +110,7 @@ fn act<T: PartTable, B: Board<T>, R: Abort + Wait>(
 {
     match number {
         0 => release(rt, ring, session, round),
-        1 => wait(rt, ring, session),
+        1 => wait_or_leave(rt, ring, session),
         _ => ask(rt, ring, session, round),
     }
 }
