@@ -13,7 +13,7 @@ use Rattle.local_locks.specs.Slots.{Slots, opened, entry_at, slot_at, present, b
 use Rattle.place_index.specs.Notes.{Notes, HasSameNotes, no_place}
 use Rattle.local_locks.specs.declared.ends.End.{End}
 use Rattle.local_locks.specs.declared.ends.Progress.{Progress}
-use Rattle.local_locks.specs.Levels.{Rows, row_at, had_in, own_count_in, told, had, outer_of, IsLeveled, IsLeveledTable, AreMoved}
+use Rattle.local_locks.specs.Levels.{Rows, row_at, had_in, own_count_in, told, had, outer_of, IsLeveled, IsLeveledTable, IsPaced, AreMoved}
 use Rattle.local_locks.proofs.SlotLaws.{at_some, slot_at-set, slot_at-set_other, slot_at-within, slot_at-past, slot_at-push, slot_at-push_before}
 use Rattle.local_locks.proofs.TableSteps.{raised-key, lowered-key, kept-taken, IsTable-raised}
 use Rattle.local_locks.proofs.EndSteps.{table-index}
@@ -162,6 +162,28 @@ leveled-empty slots rows touched empty =
 pub leveled-first : (slots slots' : Slots) (rows : Rows) (depth touched touched' : ℕ) → IsLeveled slots rows depth touched → depth ≡ 0 → IsLeveled slots' rows depth touched'
 leveled-first slots slots' rows depth touched touched' leveled first =
     subst (λ d. IsLeveled slots' rows d touched') (sym first) (leveled-empty slots' rows touched' (first_lists slots rows depth touched leveled first))
+
+-- ---- what is usual in the first level
+
+pub paced-first : (depth at_once last : ℕ) → IsPaced depth at_once last → 0 < at_once → (depth ≡ 0) × (at_once ≡ max_count)
+paced-first depth at_once last (inl first) some = first
+paced-first depth at_once last (inr inner) some = absurd (omega (arith, inner.1))
+
+pub paced-last : (depth at_once last : ℕ) → IsPaced depth at_once last → last < no_place → (depth ≡ 0) × (at_once ≡ max_count)
+paced-last depth at_once last (inl first) there = first
+paced-last depth at_once last (inr inner) there = absurd (omega (arith, inner.2))
+
+-- another slot is looked at first
+pub paced-looked : (depth at_once last last' : ℕ) → IsPaced depth at_once last → (depth ≢ 0 → last' ≡ last) → IsPaced depth at_once last'
+paced-looked depth at_once last last' (inl first) same = inl first
+paced-looked depth at_once last last' (inr inner) same = inr (inner.0, inner.1, omega (arith, same inner.0, inner.2))
+
+-- the innermost level ends
+pub paced-ended :
+    (depth at_once last after : ℕ) → IsPaced depth at_once last → depth ≢ 0 → (((depth - 1 ≡ 0) × (after ≡ max_count)) ⊎ ((depth - 1 ≢ 0) × (after ≡ 0))) → IsPaced (depth - 1) after last
+paced-ended depth at_once last after paced deep (inl first) = inl first
+paced-ended depth at_once last after (inl first) deep (inr none) = absurd (deep first.0)
+paced-ended depth at_once last after (inr inner) deep (inr none) = inr (none.0, none.1, inner.2)
 
 -- ---- a level begins
 

@@ -1,11 +1,11 @@
-use Rattle.std.specs.Prelude.{◌≡◌, ℕ, zero, suc, ◌+◌, ◌-◌, ◌≤◌, ◌<◌, List, [], ◌∷◌, ◌++◌, ◌==◌, length, take, min, Option, Some, None, slice_index_or, if◌then◌else◌}
+use Rattle.std.specs.Prelude.{◌≡◌, ◌≢◌, ◌⊎◌, ℕ, zero, suc, ◌+◌, ◌-◌, ◌≤◌, ◌<◌, List, [], ◌∷◌, ◌++◌, ◌==◌, length, take, min, Option, Some, None, slice_index_or, if◌then◌else◌}
 use Rattle.std.specs.Option.{option_map}
 use Rattle.modes_core.specs.declared.modes.Mode.{Mode}
 use Rattle.modes_core.specs.declared.tags.Tag.{Tag}
 use Rattle.modes_core.specs.declared.sessions.Owner.{Owner}
 use Rattle.modes_core.specs.declared.sessions.Owner.TheVariants.{Session, Transaction}
 use Rattle.local_locks.specs.declared.records.Entry.{Entry}
-use Rattle.local_locks.specs.Owned.{is_of}
+use Rattle.local_locks.specs.Owned.{max_count}
 use Rattle.place_index.specs.Notes.{Notes, no_place}
 use Rattle.local_locks.specs.declared.ends.Progress.{Progress}
 use Rattle.local_locks.specs.Slots.{Slots, slot_at, opened, IsTable}
@@ -91,6 +91,10 @@ pub record AreSettled (level : ℕ) (slots : Slots) (rows : Rows) (new_slots : S
   pub other_lists : (k : ℕ) → place ≤ k → row_at new_rows k ≡ row_at rows k
 
 -- ---- a table with its levels
+
+-- In the first level a count is raised at once up to the limit. In an inner one none is, and no slot is looked at first.
+abbrev pub IsPaced : ℕ → ℕ → ℕ → Type 0
+IsPaced depth at_once last = ((depth ≡ 0) × (at_once ≡ max_count)) ⊎ ((depth ≢ 0) × (at_once ≡ 0) × (no_place ≤ last))
 
 -- There is a list for each slot, and for each that can be made with no growth.
 pub record IsLeveledTable (slots : List Entry) (capacity : ℕ) (index : Notes) (len max_local : ℕ) (progress : Progress) (rows : Rows) (depth touched : ℕ) : Type 0 where

@@ -1,7 +1,8 @@
 //! What tells the levels of a transaction apart: beside each slot a list of what the transaction had of its entry when each
 //! inner level began. In a transaction with one level all of these lists are empty, and nobody reads or writes them.
 
-ghost use Rattle.std.specs.Prelude.{◌≡◌, ◌≢◌, ◌<◌, ◌≤◌, ◌-◌, ℕ, [], length, take, OnOk};
+ghost use Rattle.std.specs.Prelude.{◌≡◌, ◌≢◌, ◌⊎◌, ◌<◌, ◌≤◌, ◌-◌, ℕ, [], length, take, OnOk};
+ghost use Rattle.local_locks.specs.Owned.{max_count};
 ghost use Rattle.local_locks.specs.Levels.{had_in, row_at, own_count_in, level_count_in};
 
 use crate::Entry;
@@ -210,4 +211,23 @@ pub(crate) fn lengthen(outer: &mut Vec<OuterCounts>, number: usize) -> Result<()
         outer.push(OuterCounts::none())?;
     }
     Ok(())
+}
+
+/// Where an entry is looked for first from now on: in an inner level nowhere, so that what is usual in the first one asks for
+/// no level.
+#[inline(always)]
+pub(crate) fn look_first(last: &mut usize, depth: u8, place: usize)
+    ensures first { depth ≡ 0 → last.new ≡ place }
+    ensures inner { depth ≢ 0 → last.new ≡ last.old }
+{
+    if depth == 0 {
+        *last = place;
+    }
+}
+
+/// Up to which count an acquire is counted at once, where so many inner levels have begun.
+pub(crate) fn most_at_once(depth: u8) -> u16
+    ensures { ((depth ≡ 0) × (result ≡ max_count)) ⊎ ((depth ≢ 0) × (result ≡ 0)) }
+{
+    if depth == 0 { u16::MAX } else { 0 }
 }

@@ -89,13 +89,13 @@ impl Entry {
         }
     }
 
-    /// Whether an owner has it, and can have it once more.
+    /// Whether an owner has it, and less often than so many times.
     #[inline(always)]
-    pub(crate) fn can_raise(&self, owner: Owner) -> bool
-        ensures { IsTrue result ↔ ((0 < count_for owner self.now) × (count_for owner self.now < max_count)) }
+    pub(crate) fn can_raise(&self, owner: Owner, most: u16) -> bool
+        ensures { IsTrue result ↔ ((0 < count_for owner self.now) × (count_for owner self.now < most)) }
     {
         let count = self.count_for(owner);
-        count > 0 && count < u16::MAX
+        count > 0 && count < most
     }
 
     /// Whether an owner has it more than once.

@@ -40,13 +40,13 @@ pub(crate) fn lower(slots: &mut Vec<Entry>, place: usize, owner: Owner)
     slots[place].lower(owner);
 }
 
-/// Raises the count of an owner in the entry at a place where it has one and can have one more, and says whether it did. Each
+/// Raises the count of an owner in the entry at a place where it has one and less than so many, and says whether it did. Each
 /// owner has code of its own, so that none is chosen twice.
 #[inline(always)]
-pub(crate) fn raise_held(slots: &mut Vec<Entry>, place: usize, owner: Owner) -> bool
+pub(crate) fn raise_held(slots: &mut Vec<Entry>, place: usize, owner: Owner, most: u16) -> bool
     requires { place < length slots.old.items }
     ensures raised { let count = count_for owner (entry_at slots.old.items place) in
-        IsTrue result ↔ ((0 < count) × (count < max_count)) }
+        IsTrue result ↔ ((0 < count) × (count < most)) }
     ensures slots { result ≡ true → opened slots.new.items
         ≡ slice_set (opened slots.old.items) place (Some (raised owner (entry_at slots.old.items place))) }
     ensures same { result ≡ false → slots.new ≡ slots.old }
@@ -55,17 +55,17 @@ pub(crate) fn raise_held(slots: &mut Vec<Entry>, place: usize, owner: Owner) -> 
     ensures number { length slots.new.items ≡ length slots.old.items }
 {
     match owner {
-        Owner::Session => raise_if_held(slots, place, Owner::Session),
-        Owner::Transaction => raise_if_held(slots, place, Owner::Transaction),
+        Owner::Session => raise_if_held(slots, place, Owner::Session, most),
+        Owner::Transaction => raise_if_held(slots, place, Owner::Transaction, most),
     }
 }
 
 /// The same, where the owner is known.
 #[inline(always)]
-fn raise_if_held(slots: &mut Vec<Entry>, place: usize, owner: Owner) -> bool
+fn raise_if_held(slots: &mut Vec<Entry>, place: usize, owner: Owner, most: u16) -> bool
     requires { place < length slots.old.items }
     ensures raised { let count = count_for owner (entry_at slots.old.items place) in
-        IsTrue result ↔ ((0 < count) × (count < max_count)) }
+        IsTrue result ↔ ((0 < count) × (count < most)) }
     ensures slots { result ≡ true → opened slots.new.items
         ≡ slice_set (opened slots.old.items) place (Some (raised owner (entry_at slots.old.items place))) }
     ensures same { result ≡ false → slots.new ≡ slots.old }
@@ -73,7 +73,7 @@ fn raise_if_held(slots: &mut Vec<Entry>, place: usize, owner: Owner) -> bool
     ensures capacity { vec_capacity slots.new ≡ vec_capacity slots.old }
     ensures number { length slots.new.items ≡ length slots.old.items }
 {
-    if !slots[place].can_raise(owner) {
+    if !slots[place].can_raise(owner, most) {
         return false;
     }
     raise(slots, place, owner);

@@ -7,7 +7,8 @@ ghost use Rattle.local_locks.specs.Owned.{IsWellOwned, IsReserved, IsCrowded};
 
 use crate::ends::Progress;
 use crate::levels::{
-    MOST_INNER, OuterCounts, cut_all, forget, keep, lengthen, level_count, own_count,
+    MOST_INNER, OuterCounts, cut_all, forget, keep, lengthen, level_count, look_first,
+    most_at_once, own_count,
 };
 use crate::looks::{Glance, glance_at, hash_of, key_hash, look, look_up, pair_bits};
 use crate::slots::{
@@ -40,8 +41,10 @@ pub struct LocalTable {
     len: u32,
     max_local: u32,
     progress: Progress,
-    // Where the entry may be that is asked for next.
+    // Where the entry may be that is asked for next. In an inner level it is no place.
     last: usize,
+    // Up to which count an acquire is counted at once: in an inner level none is.
+    at_once: u16,
     // How many levels of the transaction have begun within the first.
     depth: u8,
     // Before that slot the innermost of them has counted nothing.
@@ -55,7 +58,7 @@ impl Model for LocalTable {
     ghost use Rattle.place_index.specs.Notes.{no_place};
     ghost use Rattle.local_locks.specs.Owned.{Owned};
     ghost use Rattle.local_locks.specs.Slots.{opened, present};
-    ghost use Rattle.local_locks.specs.Levels.{outer_of, row_at, IsLeveledTable};
+    ghost use Rattle.local_locks.specs.Levels.{outer_of, row_at, IsLeveledTable, IsPaced};
 
     ghost Value = { Owned };
 
@@ -68,7 +71,8 @@ impl Model for LocalTable {
     } };
 
     ghost invariant = { λ t. IsLeveledTable t.slots.items (vec_capacity t.slots) t.index t.len t.max_local t.progress
-        t.outer.items t.depth t.touched };
+        t.outer.items t.depth t.touched
+        × IsPaced t.depth t.at_once t.last };
 }
 
 impl LocalTable {
@@ -100,6 +104,7 @@ impl LocalTable {
             max_local,
             progress: Progress::start(),
             last: 0,
+            at_once: u16::MAX,
             depth: 0,
             touched: 0,
             outer,
@@ -177,14 +182,11 @@ impl LocalTable {
         ensures max_local { self.new.max_local ≡ self.old.max_local }
         ensures well_owned { IsWellOwned self.new }
     {
-        if self.depth != 0 {
-            return AtOnce::Unknown;
-        }
         match glance_at(&self.slots, &self.index, tag, mode) {
             Glance::Nothing => AtOnce::NotHeld,
             Glance::Place(place) => {
                 let place = place as usize;
-                if !raise_held(&mut self.slots, place, owner) {
+                if !raise_held(&mut self.slots, place, owner, self.at_once) {
                     return AtOnce::Unknown;
                 }
                 // An end that is past the slot leaves this count alone, so it need not come back.
@@ -218,7 +220,7 @@ impl LocalTable {
         if self.slots[place].count_for(owner) == u16::MAX {
             return Err(Refusal::CountFull);
         }
-        self.last = place;
+        look_first(&mut self.last, self.depth, place);
         let now = self.slots[place].transaction;
         keep(&mut self.outer, &mut self.touched, self.depth, place, now);
         raise(&mut self.slots, place, owner);
@@ -250,7 +252,7 @@ impl LocalTable {
     {
         match look(&self.slots, &self.index, self.last, &tag, mode) {
             Some(place) => {
-                self.last = place;
+                look_first(&mut self.last, self.depth, place);
                 if self.slots[place].count_for(owner) == u16::MAX {
                     Err(Refusal::CountFull)
                 } else {
@@ -391,7 +393,7 @@ impl LocalTable {
     {
         match look(&self.slots, &self.index, self.last, &tag, mode) {
             Some(place) => {
-                self.last = place;
+                look_first(&mut self.last, self.depth, place);
                 let now = self.slots[place].transaction;
                 keep(&mut self.outer, &mut self.touched, self.depth, place, now);
                 raise(&mut self.slots, place, owner);
@@ -458,9 +460,9 @@ impl LocalTable {
         let place = self.slots.len();
         let entry = Entry::new(tag, mode, owner);
         self.len += 1;
-        self.last = place;
         self.progress.go_back_to(place);
         push_entry(&mut self.slots, &mut self.index, hash, entry);
+        look_first(&mut self.last, self.depth, place);
         keep(&mut self.outer, &mut self.touched, self.depth, place, 0);
     }
 
@@ -515,9 +517,6 @@ impl LocalTable {
         ensures max_local { self.new.max_local ≡ self.old.max_local }
         ensures well_owned { IsWellOwned self.new }
     {
-        if self.depth != 0 {
-            return None;
-        }
         let last = self.last;
         if last >= self.slots.len() {
             return None;
@@ -569,7 +568,7 @@ impl LocalTable {
             forget(&mut self.outer, self.depth, place, place + 1);
             self.len -= 1;
             // Locks are mostly released in the opposite order of their acquires.
-            self.last = place.wrapping_sub(1);
+            look_first(&mut self.last, self.depth, place.wrapping_sub(1));
             Ok(Unlocked::Released)
         } else {
             lower(&mut self.slots, place, owner);
@@ -627,6 +626,7 @@ impl LocalTable {
         if place == self.slots.len() {
             forget(&mut self.outer, self.depth, 0, place);
             self.depth = 0;
+            self.at_once = u16::MAX;
             tidy(
                 &mut self.slots,
                 &mut self.index,
@@ -669,6 +669,7 @@ impl LocalTable {
         self.progress = Progress::start();
         if place == self.slots.len() {
             self.depth -= 1;
+            self.at_once = most_at_once(self.depth);
             self.touched = 0;
             tidy(
                 &mut self.slots,
@@ -727,6 +728,8 @@ impl LocalTable {
             return Err(Refusal::TooDeep);
         }
         self.depth += 1;
+        self.at_once = 0;
+        self.last = usize::MAX;
         self.touched = self.slots.len();
         Ok(self.depth + 1)
     }
@@ -748,6 +751,7 @@ impl LocalTable {
             return Err(Refusal::NoNested);
         }
         self.depth -= 1;
+        self.at_once = most_at_once(self.depth);
         cut_all(&mut self.outer, self.touched, self.slots.len(), self.depth);
         self.touched = 0;
         Ok(self.depth + 1)

@@ -352,3 +352,21 @@ left-shown old t k q ws s place are there on removed within at once =
     let was = queue-is old t k are (record { queue = q; there = there; on = on }) in
     let one : count_by (λ (wait : Wait). wait.session == s) (map shown_wait q.waiters.items) ≡ count_by (λ (wait : Wait). wait.session == s) (queue_on old t) = ap (count_by (λ (wait : Wait). wait.session == s)) (sym was) in
     ap (map shown_wait) removed ∙ shown-left q.waiters.items s place within at (omega arith) ∙ ap (λ queue. queue_without queue s) (sym was)
+
+-- Where nobody waits, no queue has a wait.
+shown-none : (t : Tag) (slot : Option QueueRecord) → waits_of slot ≡ 0 → waits_at t slot ≡ []
+shown-none t None none = refl
+shown-none t (Some q) none =
+    elim (cases_Bool (tag_eq t q.tag)) [
+      | inl its ↦ cond-true (tag_eq t q.tag) (map shown_wait q.waiters.items) [] its ∙ nothing q.waiters.items none
+      | inr other ↦ cond-false (tag_eq t q.tag) (map shown_wait q.waiters.items) [] other
+    ] where
+      nothing : (ws : List Waiter) → length ws ≡ 0 → map shown_wait ws ≡ []
+      nothing [] none = refl
+      nothing (w ∷ ws) none = absurd (omega arith)
+
+pub nobody-waits : (slots : List (Option QueueRecord)) (t : Tag) → waiting_in slots ≡ 0 → queue_on slots t ≡ []
+unfolding waiting_in queue_on
+nobody-waits [] t none = refl
+nobody-waits (s ∷ slots) t none =
+    ap (λ ws. ws ++ queue_on slots t) (shown-none t s (let here : waits_of s ≡ 0 = omega arith in here)) ∙ nobody-waits slots t (let rest : waiting_in slots ≡ 0 = omega arith in rest)

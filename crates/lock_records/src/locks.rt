@@ -1,6 +1,7 @@
 ghost use Rattle.std.specs.Prelude.{◌≡◌, ◌<◌, ◌≤◌, false, true, IfSome, IfNone, Some};
 ghost use Rattle.modes_core.specs.declared.modes.Mode.{Mode};
 ghost use Rattle.modes_core.specs.Conflict.{conflict};
+ghost use Rattle.modes_core.specs.Tag.{tag_eq};
 ghost use Rattle.slab.specs.Slab.{slab_len, HasRoomFor};
 ghost use Rattle.lock_records.specs.Tally.{counts_in};
 ghost use Rattle.lock_records.specs.Locks.{lock_at, is_on, key_of, IsLockAt, HasNoLock, AreNoted, HasSameLocks, HasMadeLock, IsNewLock, IsIdle, IsCounting, IsDropped};
@@ -77,13 +78,22 @@ fn key_of(tag: &Tag) -> u32
     tag.hash().wrapping_mul(2_654_435_761)
 }
 
+/// Whether both tags are the same one. They are compared where they stand: a copy is stored field by field, and the comparison
+/// waits for that.
+#[inline(always)]
+fn is_tag(tag: &Tag, other: &Tag) -> bool
+    ensures { result ≡ tag_eq tag.now other.now }
+{
+    *tag == *other
+}
+
 /// Whether the place has a record of the object.
 #[inline(always)]
 fn is_lock_on(locks: &Slab<LockRecord>, place: usize, tag: &Tag) -> bool
     ensures { result ≡ is_on tag.now (lock_at locks.now.slots place) }
 {
     match locks.get(place) {
-        Some(lock) => tag.is_same(lock.tag),
+        Some(lock) => is_tag(tag, &lock.tag),
         None => false,
     }
 }
@@ -106,7 +116,36 @@ pub(crate) fn look(
     look_up(locks, index, tag)
 }
 
-/// The same through the index.
+/// The same for a call that mostly follows one on the same object: what it seldom does stands in a function of its own.
+#[inline(always)]
+pub(crate) fn look_again(
+    locks: &Slab<LockRecord>,
+    index: &PlaceIndex,
+    hint: usize,
+    tag: &Tag,
+) -> Option<usize>
+    requires { AreNoted locks.now.slots index.now }
+    ensures found { IfSome result (IsLockAt locks.now.slots tag.now) }
+    ensures absent { IfNone result (HasNoLock locks.now.slots tag.now) }
+{
+    if !is_lock_on(locks, hint, tag) {
+        return look_elsewhere(locks, index, tag);
+    }
+    Some(hint)
+}
+
+/// Through the index, in a function of its own.
+#[cold]
+#[inline(never)]
+fn look_elsewhere(locks: &Slab<LockRecord>, index: &PlaceIndex, tag: &Tag) -> Option<usize>
+    requires { AreNoted locks.now.slots index.now }
+    ensures found { IfSome result (IsLockAt locks.now.slots tag.now) }
+    ensures absent { IfNone result (HasNoLock locks.now.slots tag.now) }
+{
+    look_up(locks, index, tag)
+}
+
+/// Through the index.
 #[inline(always)]
 fn look_up(locks: &Slab<LockRecord>, index: &PlaceIndex, tag: &Tag) -> Option<usize>
     requires { AreNoted locks.now.slots index.now }
@@ -141,7 +180,7 @@ pub(crate) fn look_or_make(
     if absent {
         return make_lock(locks, index, tag);
     }
-    match look(locks, index, hint, tag) {
+    match look_again(locks, index, hint, tag) {
         Some(place) => place,
         None => make_lock(locks, index, tag),
     }

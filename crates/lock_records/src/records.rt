@@ -3,7 +3,7 @@ ghost use Rattle.std.specs.Prelude.{◌≡◌, ◌<◌, ◌≤◌, false, true, 
 use crate::counts::{Counts, counts_of};
 use crate::holders::{HolderRecord, find_holder};
 use crate::listing::push_holds;
-use crate::locks::{LockRecord, drop_empty, look, look_or_make};
+use crate::locks::{LockRecord, drop_empty, look, look_again, look_or_make};
 use crate::objects::{
     add_hold, holder_in_the_way, lower_awaited, make_room, queue_place, raise_awaited, remove_hold,
 };
@@ -85,7 +85,8 @@ impl Records {
 
 /// What a wakeup does at one wait, and what a listing has of the records.
 impl Records {
-    ghost use Rattle.std.specs.Prelude.{ℕ, [], ◌==◌, count_by, OnOk, OnErr, IfSome, IfNone, if◌then◌else◌};
+    ghost use Rattle.std.specs.Prelude.{ℕ, [], ◌==◌, length, count_by, option_map, slice_get, OnOk, OnErr, IfSome, IfNone, if◌then◌else◌};
+    ghost use Rattle.lock_table.specs.Waiter.{shown_wait};
     ghost use Rattle.lock_table.specs.Listing.{has_row};
     ghost use Rattle.lock_records.specs.Queues.{IsQueueAt};
     ghost use Rattle.lock_records.specs.Rows.{AppendsRows, HasMoreRows};
@@ -139,6 +140,17 @@ impl Records {
     {
         match look(&self.locks, &self.index, self.hint, tag) {
             Some(place) => queue_place(&self.locks[place], &self.queues, tag),
+            None => None,
+        }
+    }
+
+    /// The wait at this place of the object's queue, counted from the front.
+    fn waiter_of(&self, tag: &Tag, place: usize) -> Option<Waiter>
+        ensures wait { option_map shown_wait result ≡ slice_get ((content_of self.now).waits tag.now) place }
+        ensures countable { length ((content_of self.now).waits tag.now) ≤ usize.MAX }
+    {
+        match self.queue_of(tag) {
+            Some(at) => self.queues.waiters(at, tag).get(place).copied(),
             None => None,
         }
     }
@@ -266,7 +278,7 @@ impl PartTable for Records {
         if self.is_absent(tag) {
             return false;
         }
-        match look(&self.locks, &self.index, self.hint, tag) {
+        match look_again(&self.locks, &self.index, self.hint, tag) {
             Some(place) => self.locks[place].may_conflict(mode),
             None => false,
         }
@@ -277,7 +289,7 @@ impl PartTable for Records {
         if self.is_absent(tag) {
             return None;
         }
-        match look(&self.locks, &self.index, self.hint, tag) {
+        match look_again(&self.locks, &self.index, self.hint, tag) {
             Some(place) => holder_in_the_way(&self.locks, &self.holders, place, tag, session, mode),
             None => None,
         }
@@ -285,10 +297,11 @@ impl PartTable for Records {
 
     #[inline(always)]
     fn waiter(&self, tag: &Tag, place: usize) -> Option<Waiter> {
-        match self.queue_of(tag) {
-            Some(at) => self.queues.waiters(at, tag).get(place).copied(),
-            None => None,
+        // Mostly nobody waits in a partition.
+        if self.queues.waiting() == 0 {
+            return None;
         }
+        self.waiter_of(tag, place)
     }
 
     fn join(&mut self, session: SessionId, tag: &Tag, mode: Mode, place: usize) {

@@ -9,35 +9,37 @@ use Rattle.local_locks.specs.declared.ends.Progress.{Progress}
 use Rattle.local_locks.specs.declared.records.Entry.{Entry}
 use Rattle.local_locks.proofs.LevelLaws.{well_owned}
 use Rattle.local_locks.proofs.TableSteps.{owner_count-at, entries-raised}
-use Rattle.local_locks.proofs.LevelSteps.{raised-table}
+use Rattle.local_locks.proofs.LevelSteps.{paced-looked, raised-table}
 use Rattle.local_locks.proofs.tables.LocalTable.add.Goals as goal
 
 -- ---- there is an entry
 
 pub invariant_of-self : goal.invariant_of-self
-invariant_of-self c =
-    let es = c.self.inside.slots.items in
-    let at = subst (λ (l : List Entry). IsPlaceOf l c.args.tag c.args.mode c.in-Some.place) c.deref.ensures.value (c.in-Some.ensures {u = tt}) in
-    let count = owner_count-at (present (opened es)) c.args.tag c.args.mode c.args.owner (entry_at es c.in-Some.place) at.found in
-    let seen = ap (λ v. owner_count_of v.entries c.args.tag c.args.mode c.args.owner) c.self.view_is in
-    let limit : count_for c.args.owner (entry_at es c.in-Some.place) ≢ max_count = omega (arith, count, seen, c.requires.countable) in
-    let now : c.index.result.now.transaction ≡ (entry_at es c.in-Some.place).transaction =
-    ap (λ (x : Entry). x.transaction) (c.index.ensures ∙ get_or_default es c.in-Some.place c.index.result.now _ at.within) in
-    let k = c.keep.ensures in
-    subst (λ (p : Progress). IsLeveledTable c.raise.new.slots.items (vec_capacity c.raise.new.slots) c.self.inside.index c.self.inside.len c.self.inside.max_local p
-    c.keep.new.outer.items c.self.inside.depth c.keep.new.touched) (sym c.go_back_to.ensures)
-    (raised-table c.in-Some.place c.index.result.now.transaction c.args.owner c.self.invariant at limit c.raise.ensures.slots c.raise.ensures.number c.raise.ensures.capacity k.number now
-    (record { filled = k.filled; same = k.same; others = k.others; touched_ = k.touched; no_more = k.no_more })).0
+invariant_of-self c = (
+  let es = c.self.inside.slots.items in
+      let at = subst (λ (l : List Entry). IsPlaceOf l c.args.tag c.args.mode c.in-Some.place) c.deref.ensures.value (c.in-Some.ensures {u = tt}) in
+      let count = owner_count-at (present (opened es)) c.args.tag c.args.mode c.args.owner (entry_at es c.in-Some.place) at.found in
+      let seen = ap (λ v. owner_count_of v.entries c.args.tag c.args.mode c.args.owner) c.self.view_is in
+      let limit : count_for c.args.owner (entry_at es c.in-Some.place) ≢ max_count = omega (arith, count, seen, c.requires.countable) in
+      let now : c.index.result.now.transaction ≡ (entry_at es c.in-Some.place).transaction =
+      ap (λ (x : Entry). x.transaction) (c.index.ensures ∙ get_or_default es c.in-Some.place c.index.result.now _ at.within) in
+      let k = c.keep.ensures in
+      subst (λ (p : Progress). IsLeveledTable c.raise.new.slots.items (vec_capacity c.raise.new.slots) c.self.inside.index c.self.inside.len c.self.inside.max_local p
+      c.keep.new.outer.items c.self.inside.depth c.keep.new.touched) (sym c.go_back_to.ensures)
+      (raised-table c.in-Some.place c.index.result.now.transaction c.args.owner c.self.invariant.0 at limit c.raise.ensures.slots c.raise.ensures.number c.raise.ensures.capacity k.number now
+      (record { filled = k.filled; same = k.same; others = k.others; touched_ = k.touched; no_more = k.no_more })).0,
+  paced-looked c.self.inside.depth c.self.inside.at_once c.self.inside.last c.look_first.new.last c.self.invariant.1 c.look_first.ensures.inner,
+)
 
 pub returns-in-Some-clause-well_owned : goal.returns-in-Some-clause-well_owned
-returns-in-Some-clause-well_owned c = well_owned _ _ _ _ _ _ _ _ _ _ _ (invariant_of-self c)
+returns-in-Some-clause-well_owned c = well_owned _ _ _ _ _ _ _ _ _ _ _ (invariant_of-self c).0
 
 pub returns-in-Some-clause-entries : goal.returns-in-Some-clause-entries
 returns-in-Some-clause-entries c =
     let es = c.self.inside.slots.items in
     let at = subst (λ (l : List Entry). IsPlaceOf l c.args.tag c.args.mode c.in-Some.place) c.deref.ensures.value (c.in-Some.ensures {u = tt}) in
     ap present c.raise.ensures.slots
-    ∙ (entries-raised (opened es) c.self.inside.index c.args.tag c.args.mode c.args.owner c.in-Some.place (entry_at es c.in-Some.place) c.self.invariant.table.kept.indexed at.there at.own
+    ∙ (entries-raised (opened es) c.self.inside.index c.args.tag c.args.mode c.args.owner c.in-Some.place (entry_at es c.in-Some.place) c.self.invariant.0.table.kept.indexed at.there at.own
     ∙ ap (λ v. with_one_more v.entries c.args.tag c.args.mode c.args.owner) c.self.view_is)
 
 -- ---- there is none
@@ -58,6 +60,6 @@ returns-in-Some-clause-outer c =
     let now : c.index.result.now.transaction ≡ (entry_at es c.in-Some.place).transaction =
     ap (λ (x : Entry). x.transaction) (c.index.ensures ∙ get_or_default es c.in-Some.place c.index.result.now _ at.within) in
     let k = c.keep.ensures in
-    (raised-table c.in-Some.place c.index.result.now.transaction c.args.owner c.self.invariant at limit c.raise.ensures.slots c.raise.ensures.number c.raise.ensures.capacity k.number now
+    (raised-table c.in-Some.place c.index.result.now.transaction c.args.owner c.self.invariant.0 at limit c.raise.ensures.slots c.raise.ensures.number c.raise.ensures.capacity k.number now
     (record { filled = k.filled; same = k.same; others = k.others; touched_ = k.touched; no_more = k.no_more })).1
     ∙ ap (λ v. v.outer) c.self.view_is

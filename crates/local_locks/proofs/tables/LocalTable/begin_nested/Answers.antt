@@ -7,7 +7,7 @@ use Rattle.local_locks.proofs.LevelSteps.{leveled-begun, table-with}
 use Rattle.local_locks.proofs.tables.LocalTable.begin_nested.Goals as goal
 
 pub returns-then-self-eq-MOST_INNER-clause-well_owned : goal.returns-then-self-eq-MOST_INNER-clause-well_owned
-returns-then-self-eq-MOST_INNER-clause-well_owned c = subst IsWellOwned c.self.view_is (well_owned _ _ _ _ _ _ _ _ _ _ _ c.self.invariant)
+returns-then-self-eq-MOST_INNER-clause-well_owned c = subst IsWellOwned c.self.view_is (well_owned _ _ _ _ _ _ _ _ _ _ _ c.self.invariant.0)
 
 pub returns-clause-too_deep : goal.returns-clause-too_deep
 returns-clause-too_deep c = (
@@ -28,12 +28,12 @@ returns-clause-outer c =
     let slots = opened c.self.inside.slots.items in
     let rows = row_at c.self.inside.outer.items in
     ap (λ n. outer_of n slots rows) (add-one c.self.inside.depth)
-    ∙ ((λ i. outer_of c.self.inside.depth slots rows ++ had-now c.self.inside.depth slots rows c.self.invariant.leveled.within i ∷ [])
+    ∙ ((λ i. outer_of c.self.inside.depth slots rows ++ had-now c.self.inside.depth slots rows c.self.invariant.0.leveled.within i ∷ [])
     ∙ (λ i. (c.self.view_is i).outer ++ of_transaction (c.self.view_is i).entries ∷ []))
 
 pub returns-clause-well_owned : goal.returns-clause-well_owned
 returns-clause-well_owned c =
     well_owned _ _ _ _ _ _ _ _ _ _ _
-    (table-with c.self.invariant c.self.invariant.table
-    (leveled-begun (opened c.self.inside.slots.items) c.self.inside.outer.items c.self.inside.depth c.self.inside.touched c.len-self-inside.result c.self.invariant.leveled c.if-self-eq-MOST_INNER.false)
+    (table-with c.self.invariant.0 c.self.invariant.0.table
+    (leveled-begun (opened c.self.inside.slots.items) c.self.inside.outer.items c.self.inside.depth c.self.inside.touched c.len-self-inside.result c.self.invariant.0.leveled c.if-self-eq-MOST_INNER.false)
     (omega arith) refl refl refl)

@@ -4,7 +4,7 @@ use Rattle.local_locks.proofs.LevelLaws.{well_owned}
 use Rattle.local_locks.proofs.tables.LocalTable.can_add.Goals as goal
 
 pub returns-then-self-clause-well_owned : goal.returns-then-self-clause-well_owned
-returns-then-self-clause-well_owned c = subst IsWellOwned c.self.view_is (well_owned _ _ _ _ _ _ _ _ _ _ _ c.self.invariant)
+returns-then-self-clause-well_owned c = subst IsWellOwned c.self.view_is (well_owned _ _ _ _ _ _ _ _ _ _ _ c.self.invariant.0)
 
 pub returns-else-self-clause-well_owned : goal.returns-else-self-clause-well_owned
-returns-else-self-clause-well_owned c = subst IsWellOwned c.self.view_is (well_owned _ _ _ _ _ _ _ _ _ _ _ c.self.invariant)
+returns-else-self-clause-well_owned c = subst IsWellOwned c.self.view_is (well_owned _ _ _ _ _ _ _ _ _ _ _ c.self.invariant.0)

@@ -1,4 +1,4 @@
-use Rattle.std.proofs.Common.{◌≡◌, ◌≢◌, ◌-◌, ℕ, [], ◌∷◌, ◌++◌, Some, sym, ap, subst, ◌∙◌, length, take, drop, get_or, arith}
+use Rattle.std.proofs.Common.{refl, inl, ◌≡◌, ◌≢◌, ◌-◌, ℕ, [], ◌∷◌, ◌++◌, Some, sym, ap, subst, ◌∙◌, length, take, drop, get_or, arith}
 use Rattle.std.specs.Prelude.{List, find}
 use Rattle.std.proofs.lemmas.List.{take_at}
 use Rattle.local_locks.specs.declared.records.Entry.{Entry}
@@ -40,28 +40,30 @@ tidy-requires-clause-indexed c =
     let walked = walked-slots c.args.end c.deref_mut.result.now c.self.inside.slots.items c.settle-place.new.slots c.settle-place.result c.deref_mut.ensures.value
     c.settle-place.auto.slots c.settle-place.ensures.within c.settle-place.ensures.kept c.settle-place.ensures.settled c.settle-place.ensures.others c.settle-place.ensures.ended in
     let is = take_at c.settle-place.new.slots (drop (length c.settle-place.new.slots) c.self.inside.slots.items) c.self.inside.slots.len (omega (arith, c.settle-place.auto.slots, c.deref_mut.ensures.len)) in
-    let kept = kept-walked c.args.end (opened c.self.inside.slots.items) (opened c.settle-place.new.slots) c.settle-place.result c.self.inside.index c.self.inside.len c.self.inside.max_local c.self.inside.progress walked c.self.invariant.table.kept in
+    let kept = kept-walked c.args.end (opened c.self.inside.slots.items) (opened c.settle-place.new.slots) c.settle-place.result c.self.inside.index c.self.inside.len c.self.inside.max_local c.self.inside.progress walked c.self.invariant.0.table.kept in
     subst (λ (es : List Entry). IsIndexed (opened es) c.self.inside.index) (sym is) kept.indexed
 
 pub invariant_of-self : goal.invariant_of-self
-invariant_of-self c =
-    let es = c.self.inside.slots.items in
-    let mid = take c.self.inside.slots.len (c.settle-place.new.slots ++ drop (length c.settle-place.new.slots) es) in
-    let forgot : (k : ℕ) (e : Entry) → slot_at (opened mid) k ≡ Some e → row_at c.forget.new.outer.items k ≡ [] =
-    λ k e at. c.forget.ensures.empty k (omega arith) (omega (arith, (opened_some mid k e at).0, ap (λ (l : List Entry). length l) (slots_are c), c.settle-place.auto.slots, c.deref_mut.ensures.len, at_end c, length-opened es)) in
-    table-with c.self.invariant
-    (record {
-      kept = subst (λ (p : Progress). IsKept (opened c.tidy.new.slots.items) c.tidy.new.index c.self.inside.len c.self.inside.max_local p) (sym c.come_to.ensures)
-          (kept-tidy c.args.end (opened c.self.inside.slots.items) (opened c.settle-place.new.slots) (opened c.tidy.new.slots.items) c.settle-place.result c.len-then-place-len.result c.self.inside.index c.tidy.new.index
-          c.self.inside.len c.self.inside.max_local c.self.inside.progress (walked c) (at_end c) c.self.invariant.table.kept c.tidy.ensures.indexed (gathered c));
-      few = omega (arith, c.tidy.ensures.shorter, ap (λ (es : List Entry). length es) (slots_are c), c.settle-place.auto.slots, c.deref_mut.ensures.len, c.self.inside.slots.ok.0, c.self.invariant.table.few);
-    })
-    (leveled-empty (opened c.tidy.new.slots.items) c.tidy.new.outer.items c.self.inside.touched (moved-first (opened mid) (opened c.tidy.new.slots.items) c.forget.new.outer.items c.tidy.new.outer.items c.tidy.ensures.moved forgot))
-    (omega (arith, c.tidy.ensures.shorter, ap (λ (l : List Entry). length l) (slots_are c), c.settle-place.auto.slots, c.deref_mut.ensures.len, c.self.inside.slots.ok.0))
-    (c.tidy.ensures.moved.number ∙ c.forget.ensures.number) c.tidy.ensures.capacity c.tidy.ensures.index_room
+invariant_of-self c = (
+  let es = c.self.inside.slots.items in
+      let mid = take c.self.inside.slots.len (c.settle-place.new.slots ++ drop (length c.settle-place.new.slots) es) in
+      let forgot : (k : ℕ) (e : Entry) → slot_at (opened mid) k ≡ Some e → row_at c.forget.new.outer.items k ≡ [] =
+      λ k e at. c.forget.ensures.empty k (omega arith) (omega (arith, (opened_some mid k e at).0, ap (λ (l : List Entry). length l) (slots_are c), c.settle-place.auto.slots, c.deref_mut.ensures.len, at_end c, length-opened es)) in
+      table-with c.self.invariant.0
+      (record {
+        kept = subst (λ (p : Progress). IsKept (opened c.tidy.new.slots.items) c.tidy.new.index c.self.inside.len c.self.inside.max_local p) (sym c.come_to.ensures)
+            (kept-tidy c.args.end (opened c.self.inside.slots.items) (opened c.settle-place.new.slots) (opened c.tidy.new.slots.items) c.settle-place.result c.len-then-place-len.result c.self.inside.index c.tidy.new.index
+            c.self.inside.len c.self.inside.max_local c.self.inside.progress (walked c) (at_end c) c.self.invariant.0.table.kept c.tidy.ensures.indexed (gathered c));
+        few = omega (arith, c.tidy.ensures.shorter, ap (λ (es : List Entry). length es) (slots_are c), c.settle-place.auto.slots, c.deref_mut.ensures.len, c.self.inside.slots.ok.0, c.self.invariant.0.table.few);
+      })
+      (leveled-empty (opened c.tidy.new.slots.items) c.tidy.new.outer.items c.self.inside.touched (moved-first (opened mid) (opened c.tidy.new.slots.items) c.forget.new.outer.items c.tidy.new.outer.items c.tidy.ensures.moved forgot))
+      (omega (arith, c.tidy.ensures.shorter, ap (λ (l : List Entry). length l) (slots_are c), c.settle-place.auto.slots, c.deref_mut.ensures.len, c.self.inside.slots.ok.0))
+      (c.tidy.ensures.moved.number ∙ c.forget.ensures.number) c.tidy.ensures.capacity c.tidy.ensures.index_room,
+  inl (refl, refl),
+)
 
 pub returns-then-place-len-clause-well_owned : goal.returns-then-place-len-clause-well_owned
-returns-then-place-len-clause-well_owned c = well_owned _ _ _ _ _ _ _ _ _ _ _ (invariant_of-self c)
+returns-then-place-len-clause-well_owned c = well_owned _ _ _ _ _ _ _ _ _ _ _ (invariant_of-self c).0
 
 pub returns-then-place-len-clause-entries : goal.returns-then-place-len-clause-entries
 returns-then-place-len-clause-entries c =
@@ -99,7 +101,7 @@ take_ended-requires-clause-indexed c =
     let walked = walked-slots c.args.end c.deref_mut.result.now c.self.inside.slots.items c.settle-place.new.slots c.settle-place.result c.deref_mut.ensures.value
     c.settle-place.auto.slots c.settle-place.ensures.within c.settle-place.ensures.kept c.settle-place.ensures.settled c.settle-place.ensures.others c.settle-place.ensures.ended in
     let is = take_at c.settle-place.new.slots (drop (length c.settle-place.new.slots) c.self.inside.slots.items) c.self.inside.slots.len (omega (arith, c.settle-place.auto.slots, c.deref_mut.ensures.len)) in
-    let kept = kept-walked c.args.end (opened c.self.inside.slots.items) (opened c.settle-place.new.slots) c.settle-place.result c.self.inside.index c.self.inside.len c.self.inside.max_local c.self.inside.progress walked c.self.invariant.table.kept in
+    let kept = kept-walked c.args.end (opened c.self.inside.slots.items) (opened c.settle-place.new.slots) c.settle-place.result c.self.inside.index c.self.inside.len c.self.inside.max_local c.self.inside.progress walked c.self.invariant.0.table.kept in
     subst (λ (es : List Entry). IsIndexed (opened es) c.self.inside.index) (sym is) kept.indexed
 
 pub overflow_sub-self : goal.overflow_sub-self
@@ -107,38 +109,40 @@ overflow_sub-self c =
     let walked = walked-slots c.args.end c.deref_mut.result.now c.self.inside.slots.items c.settle-place.new.slots c.settle-place.result c.deref_mut.ensures.value
     c.settle-place.auto.slots c.settle-place.ensures.within c.settle-place.ensures.kept c.settle-place.ensures.settled c.settle-place.ensures.others c.settle-place.ensures.ended in
     let is = take_at c.settle-place.new.slots (drop (length c.settle-place.new.slots) c.self.inside.slots.items) c.self.inside.slots.len (omega (arith, c.settle-place.auto.slots, c.deref_mut.ensures.len)) in
-    let kept = kept-walked c.args.end (opened c.self.inside.slots.items) (opened c.settle-place.new.slots) c.settle-place.result c.self.inside.index c.self.inside.len c.self.inside.max_local c.self.inside.progress walked c.self.invariant.table.kept in
+    let kept = kept-walked c.args.end (opened c.self.inside.slots.items) (opened c.settle-place.new.slots) c.settle-place.result c.self.inside.index c.self.inside.len c.self.inside.max_local c.self.inside.progress walked c.self.invariant.0.table.kept in
     let number = sym (ap (λ (es : List Entry). length (present (opened es))) is) ∙ c.take_ended.ensures.taken.number in
     omega (arith, kept.number, number)
 
 pub invariant_of-self-2 : goal.invariant_of-self-2
-invariant_of-self-2 c =
-    let walked = walked-slots c.args.end c.deref_mut.result.now c.self.inside.slots.items c.settle-place.new.slots c.settle-place.result c.deref_mut.ensures.value
-    c.settle-place.auto.slots c.settle-place.ensures.within c.settle-place.ensures.kept c.settle-place.ensures.settled c.settle-place.ensures.others c.settle-place.ensures.ended in
-    let is = take_at c.settle-place.new.slots (drop (length c.settle-place.new.slots) c.self.inside.slots.items) c.self.inside.slots.len (omega (arith, c.settle-place.auto.slots, c.deref_mut.ensures.len)) in
-    let kept = kept-walked c.args.end (opened c.self.inside.slots.items) (opened c.settle-place.new.slots) c.settle-place.result c.self.inside.index c.self.inside.len c.self.inside.max_local c.self.inside.progress walked c.self.invariant.table.kept in
-    let number = sym (ap (λ (es : List Entry). length (present (opened es))) is) ∙ c.take_ended.ensures.taken.number in
-    let es = c.self.inside.slots.items in
-    let t = c.take_ended.ensures.taken in
-    let mid : (k : ℕ) → slot_at (opened (take c.self.inside.slots.len (c.settle-place.new.slots ++ drop (length c.settle-place.new.slots) es))) k ≡ slot_at (opened c.settle-place.new.slots) k =
-    λ k. ap (λ (l : List Entry). slot_at (opened l) k) is in
-    table-with c.self.invariant
-    (record {
-      kept = subst (λ (p : Progress). IsKept (opened c.take_ended.new.slots.items) c.take_ended.new.index (c.self.inside.len - 1) c.self.inside.max_local p) (sym c.come_to-2.ensures)
-          (kept-next c.args.end (opened c.take_ended.new.slots.items) c.take_ended.new.index (c.self.inside.len - 1) c.self.inside.max_local c.settle-place.result c.take_ended.ensures.taken.gone
-          (kept-taken (opened c.settle-place.new.slots) (opened c.take_ended.new.slots.items) c.self.inside.index c.take_ended.new.index c.self.inside.len c.self.inside.max_local (came_to c.args.end c.settle-place.result) c.settle-place.result
-          kept c.take_ended.ensures.indexed c.take_ended.ensures.taken.gone (λ k apart. c.take_ended.ensures.taken.others k apart ∙ ap (λ (es : List Entry). slot_at (opened es) k) is) number));
-      few = omega (arith, c.take_ended.ensures.taken.shorter, ap (λ (es : List Entry). length es) is, c.settle-place.auto.slots, c.deref_mut.ensures.len, c.self.inside.slots.ok.0, c.self.invariant.table.few);
-    })
-    (leveled-ended c.args.end (opened es) (opened c.take_ended.new.slots.items) c.self.inside.outer.items c.forget-2.new.outer.items c.self.inside.depth c.self.inside.touched c.min-from.result c.settle-place.result
-    c.self.invariant.leveled (past-le c.args.end (opened es) (reached c.args.end c.self.inside.progress) c.min-from.result (omega (arith, c.min-from.ensures, c.reached.ensures)) (c.self.invariant.table.kept.past c.args.end)) c.settle-place.ensures.on
-    (λ k before. t.others k (λ q. omega arith) ∙ (mid k ∙ walked.settled k before)) t.gone (λ k after. t.others k (λ q. omega arith) ∙ (mid k ∙ walked.others k (omega arith)))
-    c.forget-2.ensures.empty c.forget-2.ensures.before c.forget-2.ensures.behind)
-    (omega (arith, t.shorter, ap (λ (l : List Entry). length l) is, c.settle-place.auto.slots, c.deref_mut.ensures.len, c.self.inside.slots.ok.0))
-    c.forget-2.ensures.number c.take_ended.ensures.capacity c.take_ended.ensures.index_room
+invariant_of-self-2 c = (
+  let walked = walked-slots c.args.end c.deref_mut.result.now c.self.inside.slots.items c.settle-place.new.slots c.settle-place.result c.deref_mut.ensures.value
+      c.settle-place.auto.slots c.settle-place.ensures.within c.settle-place.ensures.kept c.settle-place.ensures.settled c.settle-place.ensures.others c.settle-place.ensures.ended in
+      let is = take_at c.settle-place.new.slots (drop (length c.settle-place.new.slots) c.self.inside.slots.items) c.self.inside.slots.len (omega (arith, c.settle-place.auto.slots, c.deref_mut.ensures.len)) in
+      let kept = kept-walked c.args.end (opened c.self.inside.slots.items) (opened c.settle-place.new.slots) c.settle-place.result c.self.inside.index c.self.inside.len c.self.inside.max_local c.self.inside.progress walked c.self.invariant.0.table.kept in
+      let number = sym (ap (λ (es : List Entry). length (present (opened es))) is) ∙ c.take_ended.ensures.taken.number in
+      let es = c.self.inside.slots.items in
+      let t = c.take_ended.ensures.taken in
+      let mid : (k : ℕ) → slot_at (opened (take c.self.inside.slots.len (c.settle-place.new.slots ++ drop (length c.settle-place.new.slots) es))) k ≡ slot_at (opened c.settle-place.new.slots) k =
+      λ k. ap (λ (l : List Entry). slot_at (opened l) k) is in
+      table-with c.self.invariant.0
+      (record {
+        kept = subst (λ (p : Progress). IsKept (opened c.take_ended.new.slots.items) c.take_ended.new.index (c.self.inside.len - 1) c.self.inside.max_local p) (sym c.come_to-2.ensures)
+            (kept-next c.args.end (opened c.take_ended.new.slots.items) c.take_ended.new.index (c.self.inside.len - 1) c.self.inside.max_local c.settle-place.result c.take_ended.ensures.taken.gone
+            (kept-taken (opened c.settle-place.new.slots) (opened c.take_ended.new.slots.items) c.self.inside.index c.take_ended.new.index c.self.inside.len c.self.inside.max_local (came_to c.args.end c.settle-place.result) c.settle-place.result
+            kept c.take_ended.ensures.indexed c.take_ended.ensures.taken.gone (λ k apart. c.take_ended.ensures.taken.others k apart ∙ ap (λ (es : List Entry). slot_at (opened es) k) is) number));
+        few = omega (arith, c.take_ended.ensures.taken.shorter, ap (λ (es : List Entry). length es) is, c.settle-place.auto.slots, c.deref_mut.ensures.len, c.self.inside.slots.ok.0, c.self.invariant.0.table.few);
+      })
+      (leveled-ended c.args.end (opened es) (opened c.take_ended.new.slots.items) c.self.inside.outer.items c.forget-2.new.outer.items c.self.inside.depth c.self.inside.touched c.min-from.result c.settle-place.result
+      c.self.invariant.0.leveled (past-le c.args.end (opened es) (reached c.args.end c.self.inside.progress) c.min-from.result (omega (arith, c.min-from.ensures, c.reached.ensures)) (c.self.invariant.0.table.kept.past c.args.end)) c.settle-place.ensures.on
+      (λ k before. t.others k (λ q. omega arith) ∙ (mid k ∙ walked.settled k before)) t.gone (λ k after. t.others k (λ q. omega arith) ∙ (mid k ∙ walked.others k (omega arith)))
+      c.forget-2.ensures.empty c.forget-2.ensures.before c.forget-2.ensures.behind)
+      (omega (arith, t.shorter, ap (λ (l : List Entry). length l) is, c.settle-place.auto.slots, c.deref_mut.ensures.len, c.self.inside.slots.ok.0))
+      c.forget-2.ensures.number c.take_ended.ensures.capacity c.take_ended.ensures.index_room,
+  c.self.invariant.1,
+)
 
 pub returns-clause-well_owned : goal.returns-clause-well_owned
-returns-clause-well_owned c = well_owned _ _ _ _ _ _ _ _ _ _ _ (invariant_of-self-2 c)
+returns-clause-well_owned c = well_owned _ _ _ _ _ _ _ _ _ _ _ (invariant_of-self-2 c).0
 
 -- the entry that the end takes away next, and the entries without it
 stepped : (c : goal.After-self-2-1) →
@@ -147,7 +151,7 @@ stepped c =
     let walked = walked-slots c.args.end c.deref_mut.result.now c.self.inside.slots.items c.settle-place.new.slots c.settle-place.result c.deref_mut.ensures.value
     c.settle-place.auto.slots c.settle-place.ensures.within c.settle-place.ensures.kept c.settle-place.ensures.settled c.settle-place.ensures.others c.settle-place.ensures.ended in
     let is = take_at c.settle-place.new.slots (drop (length c.settle-place.new.slots) c.self.inside.slots.items) c.self.inside.slots.len (omega (arith, c.settle-place.auto.slots, c.deref_mut.ensures.len)) in
-    let kept = kept-walked c.args.end (opened c.self.inside.slots.items) (opened c.settle-place.new.slots) c.settle-place.result c.self.inside.index c.self.inside.len c.self.inside.max_local c.self.inside.progress walked c.self.invariant.table.kept in
+    let kept = kept-walked c.args.end (opened c.self.inside.slots.items) (opened c.settle-place.new.slots) c.settle-place.result c.self.inside.index c.self.inside.len c.self.inside.max_local c.self.inside.progress walked c.self.invariant.0.table.kept in
     let stops : c.settle-place.result ≢ length c.self.inside.slots.items = λ same. c.if-place-len.false (same ∙ sym (c.len-2.ensures ∙ c.self.inside.slots.ok.0)) in
     let at = walked_place c.args.end c.self.inside.slots.items c.settle-place.new.slots c.settle-place.result c.index-entry.result.now walked stops
     (c.index-entry.ensures ∙ ap (λ (es : List Entry). get_or es c.settle-place.result c.index-entry.result.now) is) in

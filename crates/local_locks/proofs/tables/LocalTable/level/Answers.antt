@@ -10,4 +10,4 @@ returns-clause-level c =
     omega (arith, ap (λ v. length v.outer) c.self.view_is, length-outer c.self.inside.depth (opened c.self.inside.slots.items) (row_at c.self.inside.outer.items))
 
 pub returns-clause-well_owned : goal.returns-clause-well_owned
-returns-clause-well_owned c = subst IsWellOwned c.self.view_is (well_owned _ _ _ _ _ _ _ _ _ _ _ c.self.invariant)
+returns-clause-well_owned c = subst IsWellOwned c.self.view_is (well_owned _ _ _ _ _ _ _ _ _ _ _ c.self.invariant.0)

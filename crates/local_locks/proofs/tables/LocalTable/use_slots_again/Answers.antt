@@ -12,24 +12,26 @@ use Rattle.local_locks.proofs.OpenLaws.{length-opened}
 use Rattle.local_locks.proofs.tables.LocalTable.use_slots_again.Goals as goal
 
 pub invariant_of-self : goal.invariant_of-self
-invariant_of-self c =
-    table-with c.self.invariant
-    (record {
-      kept = subst (λ (p : Progress). IsKept (opened c.compact.new.slots.items) c.compact.new.index c.self.inside.len c.self.inside.max_local p) (sym c.start-self-inside.ensures)
-          (kept-compact (opened c.self.inside.slots.items) (opened c.compact.new.slots.items) c.self.inside.index c.compact.new.index c.self.inside.len c.self.inside.max_local c.self.inside.progress
-          c.self.invariant.table.kept c.compact.ensures.indexed c.compact.ensures.entries);
-      few = omega (arith, c.compact.ensures.full, c.self.invariant.table.few, length-present-le (opened c.self.inside.slots.items), length-opened c.self.inside.slots.items);
-    })
-    (leveled-moved (opened c.self.inside.slots.items) (opened c.compact.new.slots.items) c.self.inside.outer.items c.compact.new.outer.items c.self.inside.depth c.self.inside.touched
-    c.self.invariant.leveled c.compact.ensures.moved)
-    (omega (arith, c.compact.ensures.full, length-present-le (opened c.self.inside.slots.items), length-opened c.self.inside.slots.items))
-    c.compact.ensures.moved.number c.compact.ensures.slot_room c.compact.ensures.index_room
+invariant_of-self c = (
+  table-with c.self.invariant.0
+      (record {
+        kept = subst (λ (p : Progress). IsKept (opened c.compact.new.slots.items) c.compact.new.index c.self.inside.len c.self.inside.max_local p) (sym c.start-self-inside.ensures)
+            (kept-compact (opened c.self.inside.slots.items) (opened c.compact.new.slots.items) c.self.inside.index c.compact.new.index c.self.inside.len c.self.inside.max_local c.self.inside.progress
+            c.self.invariant.0.table.kept c.compact.ensures.indexed c.compact.ensures.entries);
+        few = omega (arith, c.compact.ensures.full, c.self.invariant.0.table.few, length-present-le (opened c.self.inside.slots.items), length-opened c.self.inside.slots.items);
+      })
+      (leveled-moved (opened c.self.inside.slots.items) (opened c.compact.new.slots.items) c.self.inside.outer.items c.compact.new.outer.items c.self.inside.depth c.self.inside.touched
+      c.self.invariant.0.leveled c.compact.ensures.moved)
+      (omega (arith, c.compact.ensures.full, length-present-le (opened c.self.inside.slots.items), length-opened c.self.inside.slots.items))
+      c.compact.ensures.moved.number c.compact.ensures.slot_room c.compact.ensures.index_room,
+  c.self.invariant.1,
+)
 
 pub returns-then-slots-eq-MAX_SLOTS-clause-well_owned : goal.returns-then-slots-eq-MAX_SLOTS-clause-well_owned
-returns-then-slots-eq-MAX_SLOTS-clause-well_owned c = well_owned _ _ _ _ _ _ _ _ _ _ _ (invariant_of-self c)
+returns-then-slots-eq-MAX_SLOTS-clause-well_owned c = well_owned _ _ _ _ _ _ _ _ _ _ _ (invariant_of-self c).0
 
 pub returns-else-self-slots-clause-well_owned : goal.returns-else-self-slots-clause-well_owned
-returns-else-self-slots-clause-well_owned c = subst IsWellOwned c.self.view_is (well_owned _ _ _ _ _ _ _ _ _ _ _ c.self.invariant)
+returns-else-self-slots-clause-well_owned c = subst IsWellOwned c.self.view_is (well_owned _ _ _ _ _ _ _ _ _ _ _ c.self.invariant.0)
 
 pub returns-then-slots-eq-MAX_SLOTS-clause-outer : goal.returns-then-slots-eq-MAX_SLOTS-clause-outer
 returns-then-slots-eq-MAX_SLOTS-clause-outer c =
