@@ -47,13 +47,17 @@ fn topic_of(alloc: Global, words: &[&str]) -> Result<String, AllocError> {
 
 /// Adds the forms of all lines, and what their words may be.
 fn push_all(text: &mut String) -> Result<(), AllocError> {
-    let forms = match FORMS.split_once("\n\nExamples:") {
-        Some((forms, _)) => forms,
-        None => FORMS,
-    };
-    text.push_str(forms)?;
+    text.push_str(forms_and_words())?;
     text.push_str("\n\nLines of a shell:\n")?;
     text.push_str(SHELL_LINES)
+}
+
+/// The forms of a script's lines, below a title, and what their words may be.
+fn forms_and_words() -> &'static str {
+    match FORMS.split_once("\n\nExamples:") {
+        Some((forms, _)) => forms,
+        None => FORMS,
+    }
 }
 
 /// The forms of a script's lines, below a title.
