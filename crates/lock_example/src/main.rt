@@ -1,10 +1,11 @@
-//! What a server does with the lock manager: two sessions in turns, and a day of a small bank.
+//! What a server does with the lock manager: two sessions in turns, a day of a small bank, and a monitor.
 #![tactic(auto)]
 
 mod bank;
 mod connections;
 mod day;
 mod limits;
+mod monitor;
 mod pool;
 mod report;
 mod tellers;
@@ -14,5 +15,6 @@ mod watch;
 fn main(rt: HostRuntime) -> anyhow::Result<()> {
     turns::show(&rt, rt.alloc())?;
     report::show(&rt, rt.alloc())?;
+    monitor::show(&rt, rt.alloc())?;
     Ok(())
 }

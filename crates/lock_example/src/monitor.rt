@@ -1,0 +1,214 @@
+//! A monitor: a thread that logs who waits, for what and for whom, as `log_lock_waits` does in the server.
+
+ghost use Rattle.std.specs.Prelude.{◌≡◌};
+ghost use Rattle.lock_manager.specs.Crews.{KeepsSeat, SeatsAre};
+
+use crate::bank::{ACCOUNTS, DATABASE};
+use lock_manager::{
+    Blocker, Board, Config, Desk, InTheWay, MOST_SESSIONS, Manager, ManagerDesk, Mode, OwnSession,
+    OwnWaiting, Owner, Part, QueueRow, Started, TableRow,
+};
+use std::alloc::Global;
+use std::io;
+use std::sync::Wait;
+use std::sync::atomic::{AtomicBool, Ordering};
+use std::thread::{self, Threads, join_mut};
+use std::time::{Clock, Duration};
+
+/// How many milliseconds the monitor sleeps between two looks.
+const PAUSE: u64 = 5;
+
+/// By session numbers.
+const NUMBERS: usize = MOST_SESSIONS as usize;
+
+/// Looks again and again at who waits, and logs each wait once, until it is over. The session is the monitor's own.
+pub fn keep_logging<B: Board<Part>, R: Wait + Clock + Print>(
+    rt: &R,
+    monitor: &mut OwnSession<Part, B>,
+    is_over: &AtomicBool,
+) -> anyhow::Result<()>
+    ensures seat { KeepsSeat B.seat monitor.old monitor.new }
+{
+    let mut logged = [false; NUMBERS];
+    'looks: for _ in rt.forever() {
+        log_waits(rt, monitor, &mut logged)?;
+        if is_over.load(Ordering::SeqCst) {
+            break;
+        }
+        thread::sleep(rt, Duration::from_millis(PAUSE));
+    }
+    Ok(())
+}
+
+/// Logs those who wait and did not at the look before.
+fn log_waits<B: Board<Part>, R: Wait + Print>(
+    rt: &R,
+    monitor: &mut OwnSession<Part, B>,
+    logged: &mut [bool; NUMBERS],
+) -> anyhow::Result<()>
+    ensures seat { KeepsSeat B.seat monitor.old monitor.new }
+{
+    let listing = monitor.list(rt)?;
+    let mut waits = [false; NUMBERS];
+    'rows: for row in &listing.table {
+        let number = usize::from(row.session.number());
+        if !row.granted && !logged[number] {
+            log_wait(rt, monitor, row)?;
+        }
+        waits[number] |= !row.granted;
+    }
+    *logged = waits;
+    Ok(())
+}
+
+/// Logs a wait: those in its way, and the queue that it stands in. Nobody is in its way where it has ended since the listing.
+fn log_wait<B: Board<Part>, R: Wait + Print>(
+    rt: &R,
+    monitor: &mut OwnSession<Part, B>,
+    row: &TableRow,
+) -> anyhow::Result<()>
+    ensures seat { KeepsSeat B.seat monitor.old monitor.new }
+{
+    let blockers = monitor.blockers(rt, row.tag, row.session)?;
+    let queue = monitor.queue(rt, row.tag)?;
+    if !blockers.is_empty() {
+        print_wait(rt, row, blockers.as_slice(), queue.as_slice())?;
+    }
+    Ok(())
+}
+
+/// Prints the line.
+fn print_wait<R: Print>(
+    rt: &R,
+    row: &TableRow,
+    blockers: &[Blocker],
+    queue: &[QueueRow],
+) -> io::Result<()> {
+    print!(rt; "{} waits for {} on {}:", row.session, row.mode, row.tag)?;
+    for (place, blocker) in blockers.iter().enumerate() {
+        let before = if place == 0 { " " } else { ", " };
+        let does = match blocker.how {
+            InTheWay::Holds => "holds",
+            InTheWay::StandsBefore => "awaits",
+        };
+        print!(rt; "{before}{} {does} {}", blocker.session, blocker.mode)?;
+    }
+    for (place, waiter) in queue.iter().enumerate() {
+        let before = if place == 0 { "; queue " } else { ", " };
+        print!(rt; "{before}{}", waiter.session)?;
+    }
+    println!(rt;)
+}
+
+/// Those who come behind the reader, in their order: an ALTER, a read and a write.
+static COMING: [Mode; 3] = [Mode::AccessExclusive, Mode::AccessShare, Mode::RowExclusive];
+
+/// Has sessions wait behind one that reads, and a monitor log them.
+pub fn show<R: Threads + Wait + Clock + Print + Sync>(rt: &R, alloc: Global) -> anyhow::Result<()> {
+    let config = Config {
+        sessions: 5,
+        max_local: 16,
+    };
+    let (manager, opener) = Manager::new(alloc, config)?;
+    let mut desk = ManagerDesk::new(&manager, opener);
+    let logged = read_and_watch(rt, &mut desk);
+    let opener = desk.into_opener();
+    if opener.live() == 0 {
+        manager.finish(opener);
+    }
+    logged
+}
+
+/// A session reads the accounts, and another one watches those who come behind it.
+fn read_and_watch<
+    B: Board<Part> + Send,
+    D: Desk<OwnSession<Part, B>>,
+    R: Threads + Wait + Clock + Print + Sync,
+>(rt: &R, desk: &mut D) -> anyhow::Result<()>
+    requires seats { SeatsAre B.seat D.seat }
+    ensures manager { D.manager desk.new ≡ D.manager desk.old }
+{
+    let mut reader = desk.open(DATABASE)?;
+    let read = reader.try_lock(rt, ACCOUNTS, Mode::AccessShare, Owner::Transaction);
+    let watched = watch(rt, desk);
+    desk.close(rt, reader);
+    read?;
+    watched
+}
+
+/// Opens the session that watches.
+fn watch<
+    B: Board<Part> + Send,
+    D: Desk<OwnSession<Part, B>>,
+    R: Threads + Wait + Clock + Print + Sync,
+>(rt: &R, desk: &mut D) -> anyhow::Result<()>
+    requires seats { SeatsAre B.seat D.seat }
+    ensures manager { D.manager desk.new ≡ D.manager desk.old }
+{
+    let mut monitor = desk.open(DATABASE)?;
+    let logged = come(rt, desk, &mut monitor, COMING.as_slice());
+    desk.close(rt, monitor);
+    logged
+}
+
+/// The first of these comes, asks for the accounts and waits, and the others come behind it. Once all wait, the monitor looks.
+fn come<
+    B: Board<Part> + Send,
+    D: Desk<OwnSession<Part, B>>,
+    R: Threads + Wait + Clock + Print + Sync,
+>(rt: &R, desk: &mut D, monitor: &mut OwnSession<Part, B>, modes: &[Mode]) -> anyhow::Result<()>
+    requires seats { SeatsAre B.seat D.seat }
+    ensures manager { D.manager desk.new ≡ D.manager desk.old }
+    ensures seat { KeepsSeat B.seat monitor.old monitor.new }
+{
+    let Some((mode, others)) = modes.split_first() else {
+        return log_beside(rt, monitor);
+    };
+    let session = desk.open(DATABASE)?;
+    match session.start(rt, ACCOUNTS, *mode, Owner::Transaction) {
+        Started::Queued(waiting) => {
+            let logged = come(rt, desk, monitor, others);
+            let session = leave(rt, waiting);
+            desk.close(rt, session);
+            logged
+        }
+        Started::Granted(session) | Started::AlreadyHeld(session) => {
+            desk.close(rt, session);
+            Ok(())
+        }
+        Started::Refused(session, refusal) => {
+            desk.close(rt, session);
+            Err(refusal.into())
+        }
+    }
+}
+
+/// The session of a wait that is given up.
+fn leave<B: Board<Part>, R: Wait>(rt: &R, waiting: OwnWaiting<Part, B>) -> OwnSession<Part, B>
+    ensures seat { B.seat result.board ≡ B.seat waiting.board }
+{
+    let (session, _) = waiting.cancel(rt).into_parts();
+    session
+}
+
+/// The monitor is in a thread of its own while the server goes on in this one.
+fn log_beside<B: Board<Part> + Send, R: Threads + Wait + Clock + Print + Sync>(
+    rt: &R,
+    monitor: &mut OwnSession<Part, B>,
+) -> anyhow::Result<()>
+    ensures seat { KeepsSeat B.seat monitor.old monitor.new }
+{
+    let is_over = AtomicBool::new(false);
+    let (logged, ()) = join_mut(
+        rt,
+        &mut || keep_logging(rt, monitor, &is_over),
+        &mut || go_on(rt, &is_over),
+    );
+    logged
+}
+
+/// The server goes on until the monitor is to end: here for some of its looks.
+fn go_on<R: Wait + Clock>(rt: &R, is_over: &AtomicBool) {
+    thread::sleep(rt, Duration::from_millis(4 * PAUSE));
+    is_over.store(true, Ordering::SeqCst);
+}
