@@ -2,8 +2,8 @@
 //! nobody goes on. So no session sleeps for ever in the wait list of the partition's lightweight lock.
 
 ghost use Rattle.std.specs.Prelude.{◌≡◌};
-ghost use Rattle.lock_manager.specs.Managers.{ManagerView};
-ghost use Rattle.manager_tests.specs.Crews.{AreOf, SeatsAre};
+ghost use Rattle.lock_manager.specs.Crews.{KeepManagers};
+ghost use Rattle.manager_tests.specs.Crews.{SeatsAre};
 
 use super::answers::{expect_granted, expect_released};
 use super::audits::close_counted;
@@ -97,7 +97,7 @@ fn lock_side_by_side<B: Board<Part> + Send, R: Abort + Threads + Wait + Sync>(
     sessions: &mut [OwnSession<Part, B>],
     watch: &Watch,
 )
-    ensures own { (manager : ManagerView) → AreOf B.seat manager sessions.old → AreOf B.seat manager sessions.new }
+    ensures own { KeepManagers B.seat sessions.old sessions.new }
 {
     let threads = sessions.len().max(1);
     for_each_mut(
@@ -108,13 +108,13 @@ fn lock_side_by_side<B: Board<Part> + Send, R: Abort + Threads + Wait + Sync>(
     );
 }
 
-/// The same, and tells that all is over.
+/// The same, and that all is over is told.
 fn lock_until_over<B: Board<Part> + Send, R: Abort + Threads + Wait + Sync>(
     rt: &R,
     sessions: &mut [OwnSession<Part, B>],
     watch: &Watch,
 )
-    ensures own { (manager : ManagerView) → AreOf B.seat manager sessions.old → AreOf B.seat manager sessions.new }
+    ensures own { KeepManagers B.seat sessions.old sessions.new }
 {
     lock_side_by_side(rt, sessions, watch);
     watch.is_over.store(true, Ordering::SeqCst);
@@ -126,7 +126,7 @@ fn lock_watched<B: Board<Part> + Send, R: Abort + Clock + Threads + Wait + Sync>
     sessions: &mut [OwnSession<Part, B>],
     watch: &Watch,
 )
-    ensures own { (manager : ManagerView) → AreOf B.seat manager sessions.old → AreOf B.seat manager sessions.new }
+    ensures own { KeepManagers B.seat sessions.old sessions.new }
 {
     join_mut(
         rt,
@@ -160,11 +160,11 @@ fn guard<R: Abort + Clock + Wait>(rt: &R, watch: &Watch) {
 }
 
 /// As many sessions as there can be lock and unlock on one partition.
-pub fn crowd<B: Board<Part> + Send, R: Abort + Clock + Threads + Wait + Sync>(
+fn crowd<B: Board<Part> + Send, R: Abort + Clock + Threads + Wait + Sync>(
     rt: &R,
     sessions: &mut [OwnSession<Part, B>],
 )
-    ensures own { (manager : ManagerView) → AreOf B.seat manager sessions.old → AreOf B.seat manager sessions.new }
+    ensures own { KeepManagers B.seat sessions.old sessions.new }
 {
     let watch = Watch::new();
     lock_watched(rt, sessions, &watch);

@@ -14,5 +14,5 @@ close_counted-requires-clause-own g c =
     ap (λ n. take n (sessions ++ rest)) many ∙ take-append_seam sessions rest in
     subst (λ those. AreOf g.B.Board.seat (g.D.Desk.manager c.open_many-sessions.new.desk) those) (sym whole)
     (subst (λ m. AreOf g.B.Board.seat m sessions) (sym c.open_many-sessions.ensures.manager)
-    (c.crowd.ensures.own manager
+    (c.crowd.ensures.own.each manager
     (subst (λ those. AreOf g.B.Board.seat manager those) (sym c.as_mut_slice.ensures.value) c.open_many-sessions.ensures.own)))
