@@ -198,7 +198,7 @@ struct Counts {
 /// a digit names a session whose lines are all taken.
 fn script_of(alloc: Global, tale: &Tale, lines: u32, code: u32) -> Result<Option<String>, Fail> {
     let (opening, actors, _) = *tale;
-    let many = actors.len() as u32;
+    let many = u32::try_from(actors.len()).unwrap_or(0);
     let mut script = String::from_str(alloc, opening)?;
     let mut taken = vec![in alloc; 0; actors.len()]?;
     let mut digits = code;
@@ -255,7 +255,10 @@ fn count_all(
         possible: 0,
         left_out: 0,
     };
-    let codes = (tale.1.len() as u32).checked_pow(lines).unwrap_or(0);
+    let codes = u32::try_from(tale.1.len())
+        .unwrap_or(0)
+        .checked_pow(lines)
+        .unwrap_or(0);
     for code in 0..codes {
         if let Some(script) = script_of(rt.alloc(), tale, lines, code)? {
             count(rt, script.as_str(), &mut counts);
