@@ -157,9 +157,10 @@ fn told_of_audits(
 
 /// Counts what a session has with this growth refused, and once more.
 pub fn audit<R: Wait>(rt: &R, alloc: Global, growth: u16) -> Told {
-    let Ok((manager, mut opener)) = Manager::new(alloc, CONFIG) else {
+    let Ok((manager, opener)) = Manager::new(alloc, CONFIG) else {
         return Told::Otherwise;
     };
+    let mut opener = opener;
     let Ok(mut sessions) = Vec::with_capacity(alloc, 1) else {
         return Told::Otherwise;
     };
