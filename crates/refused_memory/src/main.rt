@@ -6,7 +6,6 @@
 mod allocator;
 mod calls;
 mod events;
-mod looks;
 mod managers;
 mod parts;
 mod steady;

@@ -1,18 +1,13 @@
 //! A manager for each tale, and the calls that make one and its sessions.
 
 ghost use Rattle.std.specs.Prelude.{◌≡◌};
-ghost use Rattle.lock_manager.specs.Crews.{AreOf, KeepsSeat, SeatsAre};
 ghost use Rattle.lock_manager.specs.Managers.{IsOpenerOf};
 
 use crate::allocator::{refuse, was_refused};
-use crate::looks::Look;
-use crate::tales::{ANOTHER_TABLE, TABLE, Tale, object};
+use crate::tales::Tale;
 use crate::told::Told;
-use crate::{looks, steady, telling};
-use lock_manager::{
-    Audit, Board, Config, Desk, Manager, ManagerDesk, Mode, Opener, OwnSession, Owner, PartTable,
-    Refusal,
-};
+use crate::{steady, telling};
+use lock_manager::{Config, Manager, ManagerDesk, Opener, Refusal};
 use std::alloc::Global;
 use std::sync::Wait;
 
@@ -93,111 +88,6 @@ fn open_again<R: Wait>(rt: &R, manager: &Manager, opener: &mut Opener) -> bool
     let number = session.id().number();
     session.close(rt, opener);
     number == 0
-}
-
-/// Looks at a queue at the desk of a manager of its own, with this growth refused.
-pub fn look<R: Wait>(rt: &R, alloc: Global, look: Look, growth: u16) -> Told {
-    let Ok((manager, opener)) = Manager::new(alloc, CONFIG) else {
-        return Told::Otherwise;
-    };
-    let mut desk = ManagerDesk::new(&manager, opener);
-    let told = look_at(rt, alloc, &mut desk, look, growth);
-    let opener = desk.into_opener();
-    if opener.live() == 0 {
-        manager.finish(opener);
-        return told;
-    }
-    Told::Otherwise
-}
-
-/// The board of the shared table is named here for it.
-fn look_at<R: Wait>(
-    rt: &R,
-    alloc: Global,
-    desk: &mut ManagerDesk<'_>,
-    look: Look,
-    growth: u16,
-) -> Told
-    ensures { desk.new.manager.now ≡ desk.old.manager.now }
-{
-    looks::tell(rt, alloc, desk, look, growth)
-}
-
-/// What an audit is to count: a weak mode by a slot, and a strong one and four objects in the table.
-const COUNTED: Audit = Audit {
-    fast: 1,
-    table: 5,
-    strong: 1,
-};
-
-/// Takes what an audit is to count.
-fn take_counted<T: PartTable, B: Board<T>, R: Wait>(rt: &R, session: &mut OwnSession<T, B>)
-    ensures seat { KeepsSeat B.seat session.old session.new }
-{
-    let owner = Owner::Transaction;
-    let _weak = session.try_lock(rt, TABLE, Mode::AccessShare, owner);
-    let _strong = session.try_lock(rt, ANOTHER_TABLE, Mode::Share, owner);
-    'objects: for place in 0..4 {
-        let _object = session.try_lock(rt, object(place), Mode::RowShare, owner);
-    }
-}
-
-/// What two audits answered, of which the first one had this growth refused.
-fn told_of_audits(
-    counted: Result<Audit, Refusal>,
-    again: Result<Audit, Refusal>,
-    refused: bool,
-) -> Told {
-    let is_right = again == Ok(COUNTED);
-    match counted {
-        Ok(counted) => Told::of(refused, false, is_right && counted == COUNTED),
-        Err(refusal) => Told::of(refused, refusal == Refusal::NoMemory, is_right),
-    }
-}
-
-/// Counts what a session has with this growth refused, and once more.
-pub fn audit<R: Wait>(rt: &R, alloc: Global, growth: u16) -> Told {
-    let Ok((manager, opener)) = Manager::new(alloc, CONFIG) else {
-        return Told::Otherwise;
-    };
-    let mut opener = opener;
-    let Ok(mut sessions) = Vec::with_capacity(alloc, 1) else {
-        return Told::Otherwise;
-    };
-    let Ok(mut session) = opener.session(&manager, 5) else {
-        sessions.destroy_empty();
-        return Told::Otherwise;
-    };
-    take_counted(rt, &mut session);
-    sessions.push_reserved(session);
-    refuse(alloc, growth);
-    let counted = manager.audit(rt, &mut opener, &mut sessions);
-    let refused = was_refused(alloc);
-    let again = manager.audit(rt, &mut opener, &mut sessions);
-    let mut desk = ManagerDesk::new(&manager, opener);
-    close_each(rt, &mut desk, sessions);
-    let opener = desk.into_opener();
-    if opener.live() == 0 {
-        manager.finish(opener);
-        return told_of_audits(counted, again, refused);
-    }
-    Told::Otherwise
-}
-
-/// Closes these sessions, over any board.
-fn close_each<T: PartTable, B: Board<T>, D: Desk<OwnSession<T, B>>, R: Wait>(
-    rt: &R,
-    desk: &mut D,
-    mut sessions: Vec<OwnSession<T, B>>,
-)
-    requires seats { SeatsAre B.seat D.seat }
-    requires own { AreOf B.seat (D.manager desk.old) sessions.items }
-    ensures manager { D.manager desk.new ≡ D.manager desk.old }
-{
-    'sessions: while let Some(session) = sessions.pop() {
-        desk.close(rt, session);
-    }
-    sessions.destroy_empty();
 }
 
 /// Two sessions of a manager of its own go on for long, with every growth refused after their first round.
