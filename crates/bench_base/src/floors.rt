@@ -118,6 +118,45 @@ impl Words {
         self.counter.fetch_sub(1, Ordering::SeqCst);
     }
 
+    /// A partition taken and put once.
+    #[inline(never)]
+    fn pass_partition(&self) {
+        take(&self.partition);
+        put(&self.partition);
+    }
+
+    /// A weak mode that the slots have no way for, and the partition refuses.
+    #[inline(never)]
+    fn find_counted_and_pass(&self) {
+        take(&self.own.fast);
+        self.counter.load(Ordering::SeqCst);
+        put(&self.own.fast);
+        take(&self.partition);
+        put(&self.partition);
+    }
+
+    /// So many modes in the table, each taken and given back.
+    pub fn table_pairs(&self, steps: u64) {
+        for _ in 0..steps {
+            self.pass_partition();
+            self.pass_partition();
+        }
+    }
+
+    /// So many attempts on an object that are refused.
+    pub fn refused_objects(&self, steps: u64) {
+        for _ in 0..steps {
+            self.pass_partition();
+        }
+    }
+
+    /// So many attempts on a relation that are refused.
+    pub fn refused_relations(&self, steps: u64) {
+        for _ in 0..steps {
+            self.find_counted_and_pass();
+        }
+    }
+
     /// So many weak modes, each taken and given back.
     pub fn weak_pairs(&self, steps: u64) {
         for step in 0..steps {

@@ -28,15 +28,19 @@ pub enum Kind {
     Relations(Mode),
     /// Other objects of a catalogue, each in this mode.
     Objects(Mode),
+    /// Objects of one partition, each in this mode.
+    OnePartition(Mode),
     /// Each relation in all eight modes.
     Modes,
 }
 
-/// How many sessions there can be, how many keys are held from the start, and how many a few relations are.
+/// How many sessions there can be, how many keys are held from the start, how many objects of one partition, and how many a few
+/// relations are.
 #[derive(Clone, Copy)]
 pub struct Size {
     pub sessions: u32,
     pub held: u32,
+    pub crowd: u32,
     pub few: u32,
 }
 
@@ -65,6 +69,14 @@ pub enum KeyList {
     Refused,
     /// The same objects, each in AccessExclusiveLock, as the other session has them.
     OfOther,
+    /// Objects of one partition that nobody has, each in AccessShareLock.
+    InPartition,
+    /// Objects of the same partition that the other session has, each in AccessExclusiveLock.
+    Crowd,
+    /// A few of these, each in AccessShareLock.
+    RefusedInCrowd,
+    /// The same few, each in AccessExclusiveLock.
+    FewOfCrowd,
 }
 
 impl KeyList {
@@ -85,6 +97,14 @@ impl KeyList {
             KeyList::Ten => (relations, 300_000, COMMITTED),
             KeyList::Refused => (objects, 100_000, size.held),
             KeyList::OfOther => (Kind::Objects(Mode::AccessExclusive), 100_000, size.held),
+            KeyList::InPartition => (Kind::OnePartition(Mode::AccessShare), 0, NEW_KEYS),
+            KeyList::Crowd => (
+                Kind::OnePartition(Mode::AccessExclusive),
+                100_000,
+                size.crowd,
+            ),
+            KeyList::RefusedInCrowd => (Kind::OnePartition(Mode::AccessShare), 100_000, size.few),
+            KeyList::FewOfCrowd => (Kind::OnePartition(Mode::AccessExclusive), 100_000, size.few),
         };
         list_keys(alloc, kind, database, from, count)
     }
@@ -95,6 +115,11 @@ fn key(kind: Kind, database: u32, number: u32) -> Key {
         Kind::Relations(mode) => (Tag::relation(database, 16384u32.wrapping_add(number)), mode),
         Kind::Objects(mode) => (
             Tag::object(database, 1259, 16384u32.wrapping_add(number), 0),
+            mode,
+        ),
+        // Numbers that are sixteen apart lie in one partition.
+        Kind::OnePartition(mode) => (
+            Tag::object(database, 1259, number.wrapping_mul(16), 0),
             mode,
         ),
         Kind::Modes => (

@@ -72,6 +72,7 @@ fn print_size<R: CpuClock + AllocGlobal + Print>(
     let size = Size {
         sessions: 1,
         held,
+        crowd: 0,
         few: 0,
     };
     let keys = KeyList::Held.keys(rt.alloc(), database, size)?;

@@ -3,6 +3,7 @@
 #![tactic(auto)]
 
 mod doors;
+mod figures;
 mod floors;
 mod keys;
 pub mod levels_page;
@@ -13,11 +14,12 @@ mod rounds;
 mod rows;
 mod shared_map;
 
+pub use figures::{Figures, csv, print_table, svg};
 pub use floors::Words;
 pub use keys::{Key, KeyList, Kind, Size, keys_of_partition, list_keys};
 pub use loops::{double_passes, passes};
 pub use rounds::{
     ROUNDS, Spread, Times, WIDTH, cpu_nanos, print_header, print_ratio, print_time, wall_nanos,
 };
-pub use rows::{Line, Row, STEPS, lines, print_ratios, print_times};
+pub use rows::{Line, Row, STEPS, lines, print_ratios, print_times, time_of};
 pub use shared_map::{SharedMap, count_held, map_all, map_and_uncount, map_pairs};

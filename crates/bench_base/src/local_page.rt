@@ -161,6 +161,7 @@ fn print_size<R: CpuClock + AllocGlobal + Print>(
     let size = Size {
         sessions: 1,
         held,
+        crowd: 0,
         few: 0,
     };
     let mut bed = Bed::new(rt.alloc(), database, owner, size)?;

@@ -11,6 +11,7 @@ pub const STEPS: u32 = 100_000;
 const STEPS_FOR_CHECKED: u32 = 100;
 
 /// A row of a table of times.
+#[derive(Drop)]
 pub struct Row<W> {
     /// What it times.
     pub name: &'static str,

@@ -1,10 +1,9 @@
 //! The page of the fast path.
 
 use crate::session_bed::Work;
-use crate::session_page::{Page, print_page};
+use crate::session_page::{Asked, Page, print_page};
 use anyhow::Result;
 use bench_base::{KeyList, Row, STEPS, Size};
-use modes_core::Owner;
 use std::sync::Wait;
 use std::time::CpuClock;
 
@@ -15,11 +14,13 @@ static SIZES: [Size; 2] = [
     Size {
         sessions: 8,
         held: 0,
+        crowd: 0,
         few: FEW,
     },
     Size {
         sessions: 64,
         held: 0,
+        crowd: 0,
         few: FEW,
     },
 ];
@@ -119,19 +120,12 @@ static ROWS: [Row<Work>; 10] = [
 ];
 
 /// Prints the table of times, or with `check` what fewer of the same steps leave.
-pub fn print<R: Wait + CpuClock + AllocGlobal + Print>(
-    rt: &R,
-    database: u32,
-    owner: Owner,
-    check: bool,
-) -> Result<()> {
+pub fn print<R: Wait + CpuClock + AllocGlobal + Print>(rt: &R, asked: Asked) -> Result<()> {
     let page = Page {
         name: "fast path on one thread",
         rows: ROWS.as_slice(),
         beside: "to the floor",
-        database,
-        owner,
-        check,
+        asked,
     };
     print_page(rt, &page, SIZES.as_slice())
 }

@@ -2,30 +2,35 @@
 //! fixed run instead, whose output does not depend on time.
 #![tactic(auto)]
 
+mod arguments;
 mod crew;
 mod fast_page;
+mod figure_files;
 mod handover_page;
 mod manager_page;
 mod pair;
+mod progress;
 mod session_bed;
 mod session_doors;
 mod session_loops;
 mod session_page;
 mod threads_page;
 mod turns;
+mod workloads;
 
+use crate::arguments::{Page, Wanted, parse};
+use crate::figure_files::{open_files, write_files};
+use crate::progress::Progress;
+use crate::session_page::Asked;
 use bench_base::{levels_page, local_page};
-use clap::{Arg, ArgAction, Command};
 use modes_core::Owner;
-use std::alloc::Global;
 use std::env;
-use std::io::{self, Write};
+use std::fs::Files;
+use std::io::{self, IsTerminal, Write};
 use std::process::ExitCode;
 use std::sync::Wait;
 use std::thread::Threads;
 use std::time::{Clock, CpuClock};
-
-static PAGES: [&str; 5] = ["local", "manager", "fast", "threads", "handover"];
 
 /// The status of pages that were printed, and of a text that was asked for.
 const SUCCESS: u8 = 0;
@@ -36,57 +41,11 @@ const FAULT: u8 = 1;
 /// The status where the program's own words are refused.
 const REFUSED_WORDS: u8 = 2;
 
-/// What the words of the command line ask for.
-#[derive(Clone, Copy)]
-struct Wanted {
-    check: bool,
-    pages: [bool; 5],
-}
-
-/// What the words ask for. Refused words and a call for help are an error.
-fn parse<'a>(alloc: Global, words: &'a [String]) -> Result<Wanted, clap::Error> {
-    let matches = command(alloc)?.try_get_matches_from(words)?;
-    Ok(Wanted {
-        check: matches.get_flag("check"),
-        pages: pages_of(matches.get_str("page")),
-    })
-}
-
-/// What words there can be.
-fn command<'a>(alloc: Global) -> Result<Command<'a>, clap::Error> {
-    let page = Arg::new(alloc, "page")
-        .value_name("PAGE")
-        .value_parser(PAGES.as_slice())
-        .help(
-            "The local table, the lock manager on one thread, its fast path, it in threads, or a lock handed over; all if left out",
-        );
-    let check = Arg::new(alloc, "check")
-        .long("check")
-        .action(ArgAction::SetTrue)
-        .help("A small fixed run, with no times in its output");
-    Ok(
-        Command::new(alloc, "lock_bench")
-            .about("Times the parts of the lock manager")
-            .arg(page)?
-            .arg(check)?,
-    )
-}
-
-/// The page of this name, or all where none is named.
-fn pages_of(name: Option<&str>) -> [bool; 5] {
-    let mut pages = [name.is_none(); 5];
-    for number in 0..5 {
-        if name == Some(PAGES[number]) {
-            pages[number] = true;
-        }
-    }
-    pages
-}
-
 /// Prints the pages. The status is 0, 2 for refused words, and 1 for any other fault.
 fn main(rt: HostRuntime) -> ExitCode {
     let mut errors = rt.stderr();
-    match run(&rt, read_words(&rt), &mut errors) {
+    let is_terminal = errors.is_terminal();
+    match run(&rt, read_words(&rt), &mut errors, is_terminal) {
         Ok(status) => ExitCode::from(status),
         Err(error) => {
             // Where the errors can't be written, the status says it alone.
@@ -102,17 +61,15 @@ fn read_words(rt: &HostRuntime) -> io::Result<Vec<String>> {
 }
 
 /// Prints what the words ask for, and answers the status.
-fn run<R: Threads + Wait + Clock + CpuClock + AllocGlobal + Print + Sync, E: Write>(
-    rt: &R,
-    words: io::Result<Vec<String>>,
-    errors: &mut E,
-) -> anyhow::Result<u8> {
+fn run<
+    R: Threads + Wait + Clock + CpuClock + AllocGlobal + Print + Eprint + Files + Sync,
+    E: Write,
+>(rt: &R, words: io::Result<Vec<String>>, errors: &mut E, is_terminal: bool) -> anyhow::Result<u8> {
     let words = words?;
     match parse(rt.alloc(), words.as_slice()) {
         Ok(wanted) => {
-            // From outside, so that no call is specialised to it.
-            let database = if words.is_empty() { 1 } else { 5 };
-            print_pages(rt, &wanted, database)?;
+            let asked = asked_of(words.is_empty(), wanted.check);
+            print_pages(rt, &wanted, asked, Progress::new(is_terminal))?;
             Ok(SUCCESS)
         }
         Err(error) if error.use_stderr() => {
@@ -126,32 +83,83 @@ fn run<R: Threads + Wait + Clock + CpuClock + AllocGlobal + Print + Sync, E: Wri
     }
 }
 
-fn print_pages<R: Threads + Wait + Clock + CpuClock + AllocGlobal + Print + Sync>(
-    rt: &R,
-    wanted: &Wanted,
-    database: u32,
-) -> anyhow::Result<()> {
-    let owner = if database == 1 {
-        Owner::Session
+/// How the pages are asked for. Database and owner come from outside, so that no call is specialised to them.
+fn asked_of(has_no_words: bool, check: bool) -> Asked {
+    let (database, owner) = if has_no_words {
+        (1, Owner::Session)
     } else {
-        Owner::Transaction
+        (5, Owner::Transaction)
     };
-    let check = wanted.check;
-    let [local, manager, fast, threads, handover] = wanted.pages;
-    if local {
+    Asked {
+        database,
+        owner,
+        check,
+    }
+}
+
+/// Prints the pages that are wanted.
+fn print_pages<R: Threads + Wait + Clock + CpuClock + AllocGlobal + Print + Eprint + Files + Sync>(
+    rt: &R,
+    wanted: &Wanted<'_>,
+    asked: Asked,
+    progress: Progress,
+) -> anyhow::Result<()> {
+    open_files(rt, wanted)?;
+    print_on_one_thread(rt, wanted, asked, progress)?;
+    print_in_threads(rt, wanted, asked, progress)?;
+    if wanted.has(Page::Workloads) {
+        let figures = workloads::print(rt, asked, progress)?;
+        write_files(rt, wanted, figures.as_slice())?;
+    }
+    Ok(())
+}
+
+/// Prints those of what one thread does.
+fn print_on_one_thread<R: Wait + CpuClock + AllocGlobal + Print + Eprint>(
+    rt: &R,
+    wanted: &Wanted<'_>,
+    asked: Asked,
+    progress: Progress,
+) -> anyhow::Result<()> {
+    let Asked {
+        database,
+        owner,
+        check,
+    } = asked;
+    if wanted.has(Page::Local) {
+        progress.note(rt, "the local table");
         local_page::print(rt, database, owner, check)?;
         levels_page::print(rt, database, check)?;
     }
-    if manager {
-        manager_page::print(rt, database, owner, check)?;
+    if wanted.has(Page::Manager) {
+        progress.note(rt, "the lock manager on one thread");
+        manager_page::print(rt, asked)?;
     }
-    if fast {
-        fast_page::print(rt, database, owner, check)?;
+    if wanted.has(Page::Fast) {
+        progress.note(rt, "its fast path");
+        fast_page::print(rt, asked)?;
     }
-    if threads {
+    Ok(())
+}
+
+/// Prints those of what several do.
+fn print_in_threads<R: Threads + Wait + Clock + AllocGlobal + Print + Eprint + Sync>(
+    rt: &R,
+    wanted: &Wanted<'_>,
+    asked: Asked,
+    progress: Progress,
+) -> anyhow::Result<()> {
+    let Asked {
+        database,
+        owner,
+        check,
+    } = asked;
+    if wanted.has(Page::Threads) {
+        progress.note(rt, "the lock manager in threads");
         threads_page::print(rt, database, owner, check)?;
     }
-    if handover {
+    if wanted.has(Page::Handover) {
+        progress.note(rt, "a lock handed over");
         handover_page::print(rt, database, owner, check)?;
     }
     Ok(())

@@ -1,10 +1,9 @@
 //! The page of the lock manager on one thread.
 
 use crate::session_bed::Work;
-use crate::session_page::{Page, print_page};
+use crate::session_page::{Asked, Page, print_page};
 use anyhow::Result;
 use bench_base::{KeyList, Row, STEPS, Size};
-use modes_core::Owner;
 use std::sync::Wait;
 use std::time::CpuClock;
 
@@ -15,16 +14,19 @@ static SIZES: [Size; 3] = [
     Size {
         sessions: 2,
         held: 16,
+        crowd: 0,
         few: HELD,
     },
     Size {
         sessions: 64,
         held: 16,
+        crowd: 0,
         few: HELD,
     },
     Size {
         sessions: 64,
         held: 1600,
+        crowd: 0,
         few: HELD,
     },
 ];
@@ -152,19 +154,12 @@ static ROWS: [Row<Work>; 13] = [
 ];
 
 /// Prints the table of times, or with `check` what fewer of the same steps leave.
-pub fn print<R: Wait + CpuClock + AllocGlobal + Print>(
-    rt: &R,
-    database: u32,
-    owner: Owner,
-    check: bool,
-) -> Result<()> {
+pub fn print<R: Wait + CpuClock + AllocGlobal + Print>(rt: &R, asked: Asked) -> Result<()> {
     let page = Page {
         name: "lock manager on one thread",
         rows: ROWS.as_slice(),
         beside: "to the same work on the map",
-        database,
-        owner,
-        check,
+        asked,
     };
     print_page(rt, &page, SIZES.as_slice())
 }

@@ -34,6 +34,8 @@ pub enum Work {
     HeldPair,
     /// It is asked for, and refused.
     Refused,
+    /// It is asked for, and refused since the other session has it in AccessExclusiveLock.
+    RefusedRelation,
     /// It is asked for by a slot, and refused since the other session has it in AccessExclusiveLock.
     RefusedBySlot,
     /// It is taken, and after all of them comes a commit.
@@ -54,6 +56,12 @@ pub enum Work {
     RefusedFloor,
     /// The atomic steps of a strong pair.
     StrongFloor,
+    /// The atomic steps of a pair in the table.
+    TableFloor,
+    /// The atomic steps of a refused attempt on an object.
+    RefusedObjectFloor,
+    /// The atomic steps of a refused attempt on a relation.
+    RefusedRelationFloor,
 }
 
 /// A map in a mutex, the words of the floors, and what the other session has where a slot is to be refused.
@@ -85,6 +93,7 @@ fn map_of<R: Wait + AllocGlobal>(
 ) -> Result<SharedMap, AllocError> {
     let map: SharedMap = Mutex::new(HashMap::new(rt.alloc()));
     add_to_map(rt, &map, KeyList::OfOther, database, size)?;
+    add_to_map(rt, &map, KeyList::Crowd, database, size)?;
     add_to_map(rt, &map, KeyList::Few, database, size)?;
     Ok(map)
 }
@@ -121,7 +130,9 @@ impl Bed {
         match line.work {
             Work::OneEmptyCall => return Ok(passes(keys, owner, laps)),
             Work::TwoEmptyCalls => return Ok(double_passes(keys, owner, laps)),
-            Work::Refused => return Ok(count_refused(rt, session, keys, owner, laps)),
+            Work::Refused | Work::RefusedRelation => return Ok(count_refused(
+                rt, session, keys, owner, laps,
+            )),
             Work::RefusedBySlot => return Ok(count_strong_counted(session, keys, owner, laps)),
             Work::MapLookUp => return Ok(count_held(rt, &self.map, keys, laps)),
             Work::MapPair => map_pairs(rt, &self.map, keys, laps)?,
@@ -129,6 +140,9 @@ impl Bed {
             Work::PairFloor => self.words.weak_pairs(line.steps()),
             Work::RefusedFloor => self.words.refusals(line.steps()),
             Work::StrongFloor => self.words.strong_pairs(line.steps()),
+            Work::TableFloor => self.words.table_pairs(line.steps()),
+            Work::RefusedObjectFloor => self.words.refused_objects(line.steps()),
+            Work::RefusedRelationFloor => self.words.refused_relations(line.steps()),
             _ => lock_pairs(rt, session, keys, owner, laps)?,
         }
         Ok(0)
@@ -188,7 +202,12 @@ impl Bed {
         let owner = Owner::Transaction;
         match line.work {
             Work::HeldPair => lock_all(rt, &mut pair.first, line.keys.as_slice(), owner),
-            Work::RefusedBySlot => lock_all(rt, &mut pair.second, few_strong, owner),
+            Work::RefusedBySlot | Work::RefusedRelation => lock_all(
+                rt,
+                &mut pair.second,
+                few_strong,
+                owner,
+            ),
             _ => Ok(()),
         }
     }

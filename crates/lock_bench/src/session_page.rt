@@ -17,6 +17,15 @@ use std::io;
 use std::sync::Wait;
 use std::time::CpuClock;
 
+/// How a page is asked for.
+#[derive(Clone, Copy)]
+pub struct Asked {
+    pub database: u32,
+    pub owner: Owner,
+    /// Whether only one round is made, and told without times.
+    pub check: bool,
+}
+
 /// The rows of a page, and how it is asked for.
 #[derive(Clone, Copy)]
 pub struct Page<'a> {
@@ -24,10 +33,7 @@ pub struct Page<'a> {
     pub rows: &'a [Row<Work>],
     /// What is said above the ratios.
     pub beside: &'a str,
-    pub database: u32,
-    pub owner: Owner,
-    /// Whether only one round is made, and told without times.
-    pub check: bool,
+    pub asked: Asked,
 }
 
 /// Prints the page, for a manager of each size.
@@ -36,19 +42,23 @@ pub fn print_page<R: Wait + CpuClock + AllocGlobal + Print>(
     page: &Page<'_>,
     sizes: &[Size],
 ) -> Result<()> {
-    if page.check {
-        println!(rt; "{}", page.name)?;
-    } else {
-        print_header(
-            rt,
-            page.name,
-            "of the thread's processor time with the empty loop taken off",
-        )?;
-    }
+    print_heading(rt, page.name, page.asked)?;
     for size in sizes {
         print_size(rt, page, *size)?;
     }
     Ok(())
+}
+
+/// Prints what the page is of.
+pub fn print_heading<R: Print>(rt: &R, name: &str, asked: Asked) -> io::Result<()> {
+    if asked.check {
+        return println!(rt; "{name}");
+    }
+    print_header(
+        rt,
+        name,
+        "of the thread's processor time with the empty loop taken off",
+    )
 }
 
 /// Prints the rows for a manager of this size.
@@ -58,17 +68,13 @@ fn print_size<R: Wait + CpuClock + AllocGlobal + Print>(
     size: Size,
 ) -> Result<()> {
     print_size_header(rt, size)?;
-    let config = Config {
-        sessions: size.sessions,
-        max_local: 65536,
-        slot_groups: 1,
-    };
-    let (manager, mut opener) = Manager::new(rt.alloc(), config)?;
-    let mut pair = Pair::open(rt, &manager, &mut opener, page.database)?;
-    let printed = print_pair(rt, &mut pair, page, size);
-    pair.close(rt, &mut opener);
-    manager.finish(opener);
-    printed
+    let asked = page.asked;
+    let mut lines = lines(rt.alloc(), page.rows, asked.database, size, asked.check)?;
+    run_lines(rt, asked, size, lines.as_mut_slice())?;
+    if asked.check {
+        return Ok(());
+    }
+    print_rows(rt, lines.as_slice(), page.beside)
 }
 
 fn print_size_header<R: Print>(rt: &R, size: Size) -> io::Result<()> {
@@ -80,19 +86,44 @@ fn print_size_header<R: Print>(rt: &R, size: Size) -> io::Result<()> {
     }
 }
 
-/// The rounds of all rows, of which only one is made and told where the page asks for a check.
-fn print_pair<T: PartTable, B: Board<T>, R: Wait + CpuClock + AllocGlobal + Print>(
+/// The rounds of all rows with a manager of this size, of which only one is made and told where the page asks for a check.
+pub fn run_lines<R: Wait + CpuClock + AllocGlobal + Print>(
+    rt: &R,
+    asked: Asked,
+    size: Size,
+    lines: &mut [Line<Work>],
+) -> Result<()> {
+    let config = Config {
+        sessions: size.sessions,
+        max_local: 65536,
+        slot_groups: 1,
+    };
+    let (manager, mut opener) = Manager::new(rt.alloc(), config)?;
+    let mut pair = Pair::open(rt, &manager, &mut opener, asked.database)?;
+    let done = run_pair(rt, &mut pair, asked, size, lines);
+    pair.close(rt, &mut opener);
+    manager.finish(opener);
+    done
+}
+
+/// The same with two sessions.
+fn run_pair<T: PartTable, B: Board<T>, R: Wait + CpuClock + AllocGlobal + Print>(
     rt: &R,
     pair: &mut Pair<T, B>,
-    page: &Page<'_>,
+    asked: Asked,
     size: Size,
+    lines: &mut [Line<Work>],
 ) -> Result<()>
     ensures first { B.seat pair.new.first.board ≡ B.seat pair.old.first.board }
     ensures second { B.seat pair.new.second.board ≡ B.seat pair.old.second.board }
 {
-    hold_of_other(rt, &mut pair.second, page.database, size)?;
-    let bed = Bed::new(rt, page.database, page.owner, size)?;
-    print_bed(rt, pair, &bed, page, size)
+    hold_of_other(rt, &mut pair.second, asked.database, size)?;
+    let bed = Bed::new(rt, asked.database, asked.owner, size)?;
+    if asked.check {
+        check_rows(rt, pair, &bed, lines)
+    } else {
+        time_rows(rt, pair, &bed, lines)
+    }
 }
 
 /// Takes what the other session has throughout.
@@ -104,28 +135,23 @@ fn hold_of_other<T: PartTable, B: Board<T>, R: Wait + AllocGlobal>(
 ) -> Result<()>
     ensures seat { B.seat session.new.board ≡ B.seat session.old.board }
 {
-    let keys = KeyList::OfOther.keys(rt.alloc(), database, size)?;
-    lock_all(rt, session, keys.as_slice(), Owner::Session)?;
-    Ok(())
+    hold_list(rt, session, KeyList::OfOther, database, size)?;
+    hold_list(rt, session, KeyList::Crowd, database, size)
 }
 
-/// The same with what the rows run on.
-fn print_bed<T: PartTable, B: Board<T>, R: Wait + CpuClock + AllocGlobal + Print>(
+/// Takes what is in the list.
+fn hold_list<T: PartTable, B: Board<T>, R: Wait + AllocGlobal>(
     rt: &R,
-    pair: &mut Pair<T, B>,
-    bed: &Bed,
-    page: &Page<'_>,
+    session: &mut OwnSession<T, B>,
+    list: KeyList,
+    database: u32,
     size: Size,
 ) -> Result<()>
-    ensures first { B.seat pair.new.first.board ≡ B.seat pair.old.first.board }
-    ensures second { B.seat pair.new.second.board ≡ B.seat pair.old.second.board }
+    ensures seat { B.seat session.new.board ≡ B.seat session.old.board }
 {
-    let mut lines = lines(rt.alloc(), page.rows, page.database, size, page.check)?;
-    if page.check {
-        return check_rows(rt, pair, bed, lines.as_slice());
-    }
-    time_rows(rt, pair, bed, lines.as_mut_slice())?;
-    print_rows(rt, lines.as_slice(), page.beside)
+    let keys = list.keys(rt.alloc(), database, size)?;
+    lock_all(rt, session, keys.as_slice(), Owner::Session)?;
+    Ok(())
 }
 
 /// Times every row, each once in a round.

@@ -5,12 +5,15 @@ ghost use Rattle.lock_manager.specs.Managers.{IsNew};
 ghost use Rattle.manager_tests.specs.Crews.{SeatsAre};
 
 mod answers;
+mod asked;
 mod audits;
 mod busy;
 mod conflicts;
 mod counted;
+mod crowds;
 mod deeds;
 mod desk;
+mod gates;
 mod limits;
 mod listings;
 mod memory;
@@ -37,6 +40,7 @@ use std::process::Abort;
 use std::sync::Wait;
 use std::test::Fail;
 use std::thread::Threads;
+use std::time::Clock;
 use threads::Plan;
 use turn_lists::LISTS;
 
@@ -54,8 +58,12 @@ enum Story<'a> {
     Asks(u32, Plan),
     /// They sleep in one queue for this mode, each in a thread of its own.
     Queue(Mode),
+    /// One waits for what another gives back while a third one asks it to cancel, so many times.
+    Asked(u32),
     /// One lists while three lock and unlock, each in a thread of its own.
     Watch,
+    /// As many as there can be lock and unlock on one partition.
+    Crowd,
     /// One sleeps in a queue until the wait ahead of it is cancelled.
     LetGoByCancel,
     /// One sleeps in a queue until it is asked to cancel.
@@ -63,12 +71,11 @@ enum Story<'a> {
 }
 
 /// Tells a story, with sessions from a desk.
-fn tell<B: Board<Part> + Send, D: Desk<OwnSession<Part, B>>, R: Abort + Threads + Wait + Sync>(
-    rt: &R,
-    alloc: Global,
-    desk: &mut D,
-    story: Story<'_>,
-)
+fn tell<
+    B: Board<Part> + Send,
+    D: Desk<OwnSession<Part, B>>,
+    R: Abort + Clock + Threads + Wait + Sync + Print,
+>(rt: &R, alloc: Global, desk: &mut D, story: Story<'_>)
     requires seats { SeatsAre B.seat D.seat }
     ensures manager { D.manager desk.new ≡ D.manager desk.old }
     ensures live { D.live desk.new ≡ D.live desk.old }
@@ -85,7 +92,9 @@ fn tell<B: Board<Part> + Send, D: Desk<OwnSession<Part, B>>, R: Abort + Threads 
         Story::Holds(limits) => limits::hold_all(rt, alloc, desk, limits),
         Story::Asks(number, plan) => threads::ask_in_threads(rt, alloc, desk, number, plan),
         Story::Queue(mode) => queues::wake_sleepers(rt, alloc, desk, mode),
-        Story::Watch => watches::list_beside(rt, alloc, desk),
+        Story::Asked(rounds) => asked::race_at(rt, alloc, desk, rounds),
+        Story::Watch => watches::watch_at(rt, alloc, desk),
+        Story::Crowd => crowds::crowd_at(rt, alloc, desk),
         Story::LetGoByCancel => wakes::let_go_by_a_cancel(rt, alloc, desk),
         Story::WokenAsAsked => wakes::woken_as_asked(rt, alloc, desk),
     }
@@ -102,7 +111,7 @@ fn make_at_last(alloc: Global, config: Config) -> Result<(Manager, Opener), Refu
 }
 
 /// Tells it at the desk of a manager.
-fn tell_at<R: Abort + Threads + Wait + Sync>(
+fn tell_at<R: Abort + Clock + Threads + Wait + Sync + Print>(
     rt: &R,
     alloc: Global,
     desk: &mut ManagerDesk<'_>,
@@ -115,7 +124,7 @@ fn tell_at<R: Abort + Threads + Wait + Sync>(
 }
 
 /// A story from the manager's beginning to its end.
-fn run<R: Abort + Threads + Wait + Sync>(
+fn run<R: Abort + Clock + Threads + Wait + Sync + Print>(
     rt: &R,
     alloc: Global,
     config: Config,
@@ -258,9 +267,11 @@ fn many_sessions_do_as_the_stories_say(rt: HostRuntime) -> Result<(), Fail> {
         (4, Story::Asks(4, Plan::of(10_000, 1, false))),
         (4, Story::Asks(4, Plan::of(10_000, 1, true))),
         (8, Story::Asks(8, Plan::of(3_000, 2, true))),
+        (asked::SESSIONS, Story::Asked(1_000)),
         (watches::SESSIONS, Story::Watch),
         (queues::MANY + 1, Story::Queue(Mode::AccessExclusive)),
         (queues::MANY + 1, Story::Queue(Mode::AccessShare)),
+        (crowds::SESSIONS, Story::Crowd),
         (3, Story::LetGoByCancel),
         (2, Story::WokenAsAsked),
     ] {

@@ -28,8 +28,16 @@ const USUAL_GROUPS: u32 = 1;
 
 const USUAL_GROUPS_SHOWN: &str = "1";
 
-/// The version that `--version` shows.
-const VERSION: &str = "0.1.0";
+/// The program's name, and the version that `--version` shows.
+pub const PROGRAM: &str = "lock_scenario";
+
+pub const VERSION: &str = "0.1.0";
+
+/// What `--help` says first.
+pub const ABOUT: &str = "Run scripts against PostgreSQL's lock manager";
+
+/// The option that prints the man page.
+const MAN: &str = "--man";
 
 /// What `--help` shows of the script language, and of a run.
 const LINES_AND_EXAMPLE: &str = "Lines of a script begin with:
@@ -40,7 +48,7 @@ Example:
   lock_scenario run --sessions 2 < scenarios/object_lock.scn";
 
 /// What `run --help` shows beside its options: each line of a script with its words, and what they may be.
-const FORMS: &str = "Lines of a script, after lock_scenario run < FILE:
+pub const FORMS: &str = "Lines of a script, after lock_scenario run < FILE:
   session NAME DB                 open a session of a database
   try NAME TAG MODE [session]     take a lock, if nothing is in the way
   fast NAME TAG MODE [session]    take a lock by a fast-path slot, or not at all
@@ -93,6 +101,38 @@ the strong lock counters: by an audit then, and when all sessions are closed.
 Example:
   lock_scenario hammer --sessions 4 --rounds 1000";
 
+/// What `orders --help` shows beside its options.
+const MERGES: &str =
+    "The lines that open sessions come first. Each session's other lines keep their order, and
+those of different sessions are merged in every way. An order in which a line addresses
+a session that waits is none, and is counted apart. For each way to end, the answers of
+each session and who is left waiting, it prints how many orders lead there, and the first
+of them as a script.
+
+Example:
+  lock_scenario orders < scenarios/an_upgrade_of_two_shared_locks.scn";
+
+/// The subcommand that runs a script's lines in every order.
+const ORDERS: &str = "orders";
+
+/// How many orders it runs at most, and how many where the command line doesn't say, and as `--help` shows it.
+const MOST_ORDERS: u32 = 1_000_000;
+
+const USUAL_ORDERS: u32 = 10_000;
+
+const USUAL_ORDERS_SHOWN: &str = "10000";
+
+/// What `shell --help` shows beside its options.
+const TYPED: &str =
+    "Type the lines of a script, which lock_scenario run --help has, and help, help COMMAND,
+help STATEMENT, as in help alter table, or end. A bad line is told, and the shell goes on.
+
+Example:
+  lock_scenario shell";
+
+/// The subcommand that runs lines as they are typed.
+const SHELL: &str = "shell";
+
 /// The subcommand that prints the conflict table.
 const MODES: &str = "modes";
 
@@ -141,9 +181,8 @@ fn with_styles<'a>(alloc: Global, run: Command<'a>) -> Result<Command<'a>, Alloc
     run.arg(echo)?.arg(json)?.arg(graph)
 }
 
-/// The command line: `run [--sessions N] [--max-local M] [--slot-groups G] [--echo] [--json] [--graph LANGUAGE]`, `modes`, or
-/// `hammer --sessions N --rounds K`.
-fn command<'a>(alloc: Global) -> Result<Command<'a>, AllocError> {
+/// The subcommand with the options of how large the lock manager is.
+fn with_limits<'a>(alloc: Global, command: Command<'a>) -> Result<Command<'a>, AllocError> {
     let sessions = Arg::new(alloc, "sessions")
         .long("sessions")
         .value_name("N")
@@ -162,22 +201,51 @@ fn command<'a>(alloc: Global) -> Result<Command<'a>, AllocError> {
         .help("How many groups of sixteen fast-path slots a session has")
         .value_parser(value_parser!(u32).range(1..=i64::from(MOST_GROUPS)))
         .default_value(USUAL_GROUPS_SHOWN);
+    command.arg(sessions)?.arg(max_local)?.arg(slot_groups)
+}
+
+/// The subcommand `orders [--sessions N] [--max-local M] [--slot-groups G] [--limit K]`.
+fn orders_command<'a>(alloc: Global) -> Result<Command<'a>, AllocError> {
+    let limit = Arg::new(alloc, "limit")
+        .long("limit")
+        .value_name("K")
+        .help("How many orders are run at most")
+        .value_parser(value_parser!(u32).range(1..=i64::from(MOST_ORDERS)))
+        .default_value(USUAL_ORDERS_SHOWN);
+    let orders = Command::new(alloc, ORDERS)
+        .about("Run the script's lines in every order, and count how it ends")
+        .after_help(MERGES);
+    with_limits(alloc, orders)?.arg(limit)
+}
+
+/// The command line: `run [--sessions N] [--max-local M] [--slot-groups G] [--echo] [--json] [--graph LANGUAGE]`,
+/// `orders [--sessions N] [--max-local M] [--slot-groups G] [--limit K]`, `shell [--sessions N] [--max-local M] [--slot-groups G]`, `modes`,
+/// `hammer --sessions N --rounds K`, or `--man`.
+fn command<'a>(alloc: Global) -> Result<Command<'a>, AllocError> {
     let run = Command::new(alloc, "run")
         .about("Run the script on standard input")
-        .after_help(FORMS)
-        .arg(sessions)?
-        .arg(max_local)?
-        .arg(slot_groups)?;
+        .after_help(FORMS);
+    let run = with_limits(alloc, run)?;
     let run = with_styles(alloc, run)?;
+    let shell = Command::new(alloc, SHELL)
+        .about("Run lines as they are typed, with help")
+        .after_help(TYPED);
     let modes = Command::new(alloc, MODES)
         .about("Print which lock modes conflict")
         .after_help(MASKS);
-    Command::new(alloc, "lock_scenario")
+    let man = Arg::new(alloc, "man")
+        .long("man")
+        .help("Print the man page")
+        .action(ArgAction::SetTrue);
+    Command::new(alloc, PROGRAM)
         .version(VERSION)
-        .about("Run scripts against PostgreSQL's lock manager")
+        .about(ABOUT)
         .after_help(LINES_AND_EXAMPLE)
         .subcommand_required(true)
+        .arg(man)?
         .subcommand(run)?
+        .subcommand(orders_command(alloc)?)?
+        .subcommand(with_limits(alloc, shell)?)?
         .subcommand(modes)?
         .subcommand(hammer_command(alloc)?)
 }
@@ -207,10 +275,16 @@ pub struct Hammer {
 pub enum Task {
     /// To run the script on standard input, and to show it in this style.
     Run(Limits, Style),
+    /// To run the lines of the script on standard input in so many orders at most.
+    Orders(Limits, u32),
+    /// To run lines as they are typed.
+    Shell(Limits),
     /// To have sessions lock and unlock in threads.
     Hammer(Hammer),
     /// To print the conflict table.
     Modes,
+    /// To print the man page.
+    Man,
 }
 
 /// What words come to that ask for no run.
@@ -251,9 +325,29 @@ pub fn parse_arguments(alloc: Global, words: &[String]) -> Result<Task, NoRun>
     ensures rounds { IfOk result (λ task. OfHammer task
         (λ hammer. (1 ≤ hammer.rounds) × (hammer.rounds ≤ 1000000))) }
 {
+    if asks_for_man(words) {
+        return Ok(Task::Man);
+    }
     match task_of(alloc, words) {
         Ok(task) => Ok(task),
         Err(error) => Err(NoRun::of(alloc, &error)),
+    }
+}
+
+/// Whether the first word behind the program's name is the option that prints the man page. No subcommand is wanted then, as
+/// none is for the help.
+fn asks_for_man(words: &[String]) -> bool {
+    match words.get(1) {
+        Some(word) => word.as_str() == MAN,
+        None => false,
+    }
+}
+
+/// The text of the help that these words ask for.
+pub fn help_text(alloc: Global, words: &'static [&'static str]) -> Result<String, AllocError> {
+    match command(alloc)?.try_get_matches_from(words) {
+        Ok(_) => Ok(String::new(alloc)),
+        Err(error) => format!(in alloc; "{error}"),
     }
 }
 
@@ -270,23 +364,33 @@ fn task_of<'a>(alloc: Global, words: &'a [String]) -> Result<Task, Error>
         (λ hammer. (1 ≤ hammer.rounds) × (hammer.rounds ≤ 1000000))) }
 {
     let matches = command(alloc)?.try_get_matches_from(words)?;
-    let (sessions, max_local, slot_groups, style) = match matches.subcommand() {
-        Some((name, _)) if name == MODES => return Ok(Task::Modes),
-        Some((name, hammer)) if name == HAMMER => return Ok(Task::Hammer(hammer_of(hammer))),
-        Some((_, run)) => (
-            run.get_one::<u32>("sessions").unwrap_or(USUAL_SESSIONS),
-            run.get_one::<u32>("max-local").unwrap_or(USUAL_LOCAL),
-            run.get_one::<u32>("slot-groups").unwrap_or(USUAL_GROUPS),
-            style_of(run),
-        ),
-        None => (USUAL_SESSIONS, USUAL_LOCAL, USUAL_GROUPS, Style::PLAIN),
-    };
-    let limits = Limits {
+    match matches.subcommand() {
+        Some((name, _)) if name == MODES => Ok(Task::Modes),
+        Some((name, hammer)) if name == HAMMER => Ok(Task::Hammer(hammer_of(hammer))),
+        Some((name, shell)) if name == SHELL => Ok(Task::Shell(limits_of(shell))),
+        Some((name, orders)) if name == ORDERS => {
+            let most = orders.get_one::<u32>("limit").unwrap_or(USUAL_ORDERS);
+            Ok(Task::Orders(limits_of(orders), most))
+        }
+        Some((_, run)) => Ok(Task::Run(limits_of(run), style_of(run))),
+        None => Ok(Task::Man),
+    }
+}
+
+/// How large a lock manager the words ask for.
+fn limits_of(words: &ArgMatches) -> Limits
+    ensures sessions { (1 ≤ result.sessions) × (result.sessions ≤ 64) }
+    ensures max_local { (1 ≤ result.max_local) × (result.max_local ≤ 65536) }
+    ensures slot_groups { (1 ≤ result.slot_groups) × (result.slot_groups ≤ 8) }
+{
+    let sessions = words.get_one::<u32>("sessions").unwrap_or(USUAL_SESSIONS);
+    let max_local = words.get_one::<u32>("max-local").unwrap_or(USUAL_LOCAL);
+    let slot_groups = words.get_one::<u32>("slot-groups").unwrap_or(USUAL_GROUPS);
+    Limits {
         sessions: sessions.clamp(1, MOST_SESSIONS),
         max_local: max_local.clamp(1, MOST_LOCAL),
         slot_groups: slot_groups.clamp(1, MOST_GROUPS),
-    };
-    Ok(Task::Run(limits, style))
+    }
 }
 
 /// The style that the words of a run ask for.

@@ -129,6 +129,12 @@ impl<W: Write + Drop> Output<W> {
         written(writeln!(self.writer, "{text}"))
     }
 
+    /// Tells somebody at a shell this text, at once.
+    pub fn tell(&mut self, text: &str) -> Result<(), Fault> {
+        written(write!(self.writer, "{text}"))?;
+        self.flush()
+    }
+
     /// Passes on what was printed.
     pub fn flush(&mut self) -> Result<(), Fault> {
         written(self.writer.flush())

@@ -1,14 +1,18 @@
 //! The program as a function of its words and its streams.
 ghost use Rattle.std.specs.Prelude.{◌≤◌, IfOk};
 
-use crate::arguments::{Hammer, NoRun, Task, parse_arguments};
+use crate::arguments::{Hammer, Limits, NoRun, Task, parse_arguments};
 use crate::hammer::{run_hammer, run_watched_hammer};
+use crate::man::man_page;
 use crate::modes::print_modes;
+use crate::orders::OnManagers;
 use crate::progress::ProgressLine;
-use crate::run::run_styled_script;
+use crate::run::{run_shell, run_styled_script};
 use crate::workers::OpenGate;
 use lock_manager::Config;
 use lock_script::Fault;
+use script_orders::{OrdersLine, run_orders};
+use std::alloc::Global;
 use std::io::{self, BufWriter, Read, Write};
 use std::sync::Wait;
 use std::thread::Threads;
@@ -80,6 +84,10 @@ fn run_words<
             print_modes(output)?;
             Ok(SUCCESS)
         }
+        Ok(Task::Man) => {
+            print_man(alloc, output)?;
+            Ok(SUCCESS)
+        }
         Ok(Task::Hammer(hammer)) => {
             swing(rt, hammer, output, errors)?;
             Ok(SUCCESS)
@@ -95,6 +103,14 @@ fn run_words<
                 invite(errors.writer);
             }
             run_styled_script(rt, input.reader, output, config, style)?;
+            Ok(SUCCESS)
+        }
+        Ok(Task::Shell(limits)) => {
+            talk(rt, limits, input, output)?;
+            Ok(SUCCESS)
+        }
+        Ok(Task::Orders(limits, most)) => {
+            merge(rt, limits, most, input.reader, output, errors)?;
             Ok(SUCCESS)
         }
         Err(NoRun::Text(text)) => {
@@ -127,6 +143,53 @@ fn swing<H: AllocGlobal + Clock + Threads + Wait + Sync, W: Write + Drop, E: Wri
         }
     }
     run_hammer(rt, &OpenGate, output, hammer.sessions, hammer.rounds)
+}
+
+/// Runs the script's lines in every order, so many at most, and shows to somebody at a terminal how many were run.
+fn merge<H: AllocGlobal + Wait, R: Read + Drop, W: Write + Drop, E: Write>(
+    rt: &H,
+    limits: Limits,
+    most: u32,
+    reader: R,
+    output: W,
+    errors: &mut Errors<E>,
+) -> Result<(), Fault>
+    requires sessions { (1 ≤ limits.sessions) × (limits.sessions ≤ 64) }
+    requires max_local { (1 ≤ limits.max_local) × (limits.max_local ≤ 65536) }
+{
+    let output = BufWriter::new(rt.alloc(), output).map_err(|_| Fault::NoMemory)?;
+    let mut line = OrdersLine {
+        is_terminal: errors.is_terminal,
+        writer: errors.writer,
+    };
+    run_orders(rt, &OnManagers { limits }, reader, output, &mut line, most)
+}
+
+/// Runs lines as they are typed.
+fn talk<H: AllocGlobal + Wait, R: Read + Drop, W: Write + Drop>(
+    rt: &H,
+    limits: Limits,
+    input: Source<R>,
+    output: W,
+) -> Result<(), Fault>
+    requires sessions { (1 ≤ limits.sessions) × (limits.sessions ≤ 64) }
+    requires max_local { (1 ≤ limits.max_local) × (limits.max_local ≤ 65536) }
+{
+    let output = BufWriter::new(rt.alloc(), output).map_err(|_| Fault::NoMemory)?;
+    let config = Config {
+        sessions: limits.sessions,
+        max_local: limits.max_local,
+        slot_groups: limits.slot_groups,
+    };
+    run_shell(rt, input.reader, output, config, input.is_terminal)
+}
+
+/// Prints the man page.
+fn print_man<W: Write + Drop>(alloc: Global, output: W) -> Result<(), Fault> {
+    match man_page(alloc) {
+        Ok(page) => print_text(output, page.as_str()),
+        Err(_) => Err(Fault::NoMemory),
+    }
 }
 
 /// Says to somebody at a terminal that the script is read from there.

@@ -8,6 +8,7 @@ ghost use Rattle.scenario.specs.Stage.{SeatsAre};
 use crate::desk::{Desk, SharedDesk};
 use crate::output::Output;
 use crate::sessions::{Began, Looked, Stage};
+use crate::shell::Shell;
 use crate::style::Style;
 use lock_manager::{Config, Manager, Opener, OwnSession, Owner, Refusal, TableRow, Tag};
 use lock_script::{Caller, Command, Fault, LineReader, Name, Opened, Target, parse};
@@ -43,12 +44,55 @@ pub fn run_styled_script<H: AllocGlobal + Wait, R: Read + Drop, W: Write + Drop>
     requires sessions { (1 ≤ config.sessions) × (config.sessions ≤ 64) }
     requires max_local { (1 ≤ config.max_local) × (config.max_local ≤ 65536) }
 {
+    act_out(rt, reader, writer, config, style, None)
+}
+
+/// Runs the lines that the reader gives as a shell does: a bad line is told, with the nearest good word, and the shell goes
+/// on. It ends with the line `end`, the input, or another fault, and then the sessions that are open are closed in silence.
+pub fn run_shell<H: AllocGlobal + Wait, R: Read + Drop, W: Write + Drop>(
+    rt: &H,
+    reader: R,
+    writer: W,
+    config: Config,
+    is_terminal: bool,
+) -> Result<(), Fault>
+    requires sessions { (1 ≤ config.sessions) × (config.sessions ≤ 64) }
+    requires max_local { (1 ≤ config.max_local) × (config.max_local ≤ 65536) }
+{
+    let shell = Shell {
+        alloc: rt.alloc(),
+        is_terminal,
+    };
+    act_out(rt, reader, writer, config, Style::PLAIN, Some(shell))
+}
+
+/// Runs a script, or a shell, against a lock manager of its own.
+fn act_out<H: AllocGlobal + Wait, R: Read + Drop, W: Write + Drop>(
+    rt: &H,
+    reader: R,
+    writer: W,
+    config: Config,
+    style: Style,
+    shell: Option<Shell>,
+) -> Result<(), Fault>
+    requires sessions { (1 ≤ config.sessions) × (config.sessions ≤ 64) }
+    requires max_local { (1 ≤ config.max_local) × (config.max_local ≤ 65536) }
+{
     let alloc = rt.alloc();
     let Ok((manager, opener)) = Manager::new(alloc, config) else {
         return Err(Fault::NoMemory);
     };
     let output = Output::styled(alloc, writer, style);
-    let played = play(rt, alloc, &SharedDesk, &manager, opener, reader, output);
+    let played = play(
+        rt,
+        alloc,
+        &SharedDesk,
+        &manager,
+        opener,
+        reader,
+        output,
+        shell,
+    );
     let Ok((opener, ended)) = played else {
         return Err(Fault::NoMemory);
     };
@@ -74,6 +118,7 @@ fn play<
     opener: Opener,
     reader: R,
     output: Output<W>,
+    shell: Option<Shell>,
 ) -> Result<(Opener, Result<(), Fault>), AllocError>
     requires seats { SeatsAre B.seat D.seat }
     requires own { IsOpenerOf opener manager.now }
@@ -84,14 +129,14 @@ fn play<
 {
     let stage = Stage::new(alloc, manager, opener)?;
     let mut scene = Scene { stage, output };
-    let ended = scene.play(desk, rt, reader);
+    let ended = scene.act_out(desk, rt, reader, shell);
     Ok((scene.into_stage().into_opener(), ended))
 }
 
 /// What the lines of a script act on: a lock manager with its sessions, and the output.
 pub struct Scene<'a, T: PartTable, B: Board<T>, W: Write + Drop> {
     pub stage: Stage<'a, T, B>,
-    output: Output<W>,
+    pub(crate) output: Output<W>,
 }
 
 impl<'a, T: PartTable, B: Board<T>, W: Write + Drop> Scene<'a, T, B, W> {
@@ -127,9 +172,43 @@ impl<'a, T: PartTable, B: Board<T>, W: Write + Drop> Scene<'a, T, B, W> {
         ensures none_open { self.new.stage.sessions.resting ≡ [] }
         ensures none_live { self.new.stage.opener.live ≡ 0 }
     {
-        let ended = self.run_lines(desk, rt, reader);
+        self.act_out(desk, rt, reader, None)
+    }
+
+    /// Plays a script, or has a shell, and then closes the sessions that are open.
+    fn act_out<D: Desk<'a, OwnSession<T, B>>, H: Wait, R: Read + Drop>(
+        &mut self,
+        desk: &D,
+        rt: &H,
+        reader: R,
+        shell: Option<Shell>,
+    ) -> Result<(), Fault>
+        requires seats { SeatsAre B.seat D.seat }
+        ensures manager { self.new.stage.manager.now ≡ self.old.stage.manager.now }
+        ensures none_waits { self.new.stage.sessions.waiting ≡ [] }
+        ensures none_open { self.new.stage.sessions.resting ≡ [] }
+        ensures none_live { self.new.stage.opener.live ≡ 0 }
+    {
+        let ended = self.run_all(desk, rt, reader, shell);
         self.stage.close_all(desk, rt);
         ended
+    }
+
+    /// Runs the lines of a script, or of a shell.
+    fn run_all<D: Desk<'a, OwnSession<T, B>>, H: Wait, R: Read + Drop>(
+        &mut self,
+        desk: &D,
+        rt: &H,
+        reader: R,
+        shell: Option<Shell>,
+    ) -> Result<(), Fault>
+        requires seats { SeatsAre B.seat D.seat }
+        ensures manager { self.new.stage.manager.now ≡ self.old.stage.manager.now }
+    {
+        match shell {
+            None => self.run_lines(desk, rt, reader),
+            Some(shell) => self.converse(desk, rt, reader, shell),
+        }
     }
 
     /// Runs the lines of the reader, to its end or to the first fault.
@@ -162,7 +241,7 @@ impl<'a, T: PartTable, B: Board<T>, W: Write + Drop> Scene<'a, T, B, W> {
     }
 
     /// Runs a command and then polls those who wait, and passes on what both print.
-    fn run<D: Desk<'a, OwnSession<T, B>>, H: Wait>(
+    pub(crate) fn run<D: Desk<'a, OwnSession<T, B>>, H: Wait>(
         &mut self,
         desk: &D,
         rt: &H,

@@ -11,9 +11,15 @@ mod hammers;
 #[cfg(test)]
 mod inputs;
 #[cfg(test)]
+mod mans;
+#[cfg(test)]
 mod nested;
 #[cfg(test)]
+mod orders;
+#[cfg(test)]
 mod pipes;
+#[cfg(test)]
+mod printed;
 #[cfg(test)]
 mod programs;
 #[cfg(test)]
@@ -26,6 +32,8 @@ mod scenarios;
 mod scenes;
 #[cfg(test)]
 mod scripts;
+#[cfg(test)]
+mod shells;
 #[cfg(test)]
 mod streams;
 #[cfg(test)]

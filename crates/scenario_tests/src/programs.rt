@@ -25,7 +25,7 @@ impl Read for Input<'_> {
     }
 }
 
-fn words_of(alloc: Global, line: &str) -> Result<Vec<String>, Fail> {
+pub fn words_of(alloc: Global, line: &str) -> Result<Vec<String>, Fail> {
     let mut words = Vec::new(alloc);
     for word in line.split(' ') {
         words.push(String::from_str(alloc, word)?)?;
@@ -34,7 +34,7 @@ fn words_of(alloc: Global, line: &str) -> Result<Vec<String>, Fail> {
 }
 
 /// Words, and how many sessions and local entries or rounds they ask for, where they aren't refused.
-static WORDS: [(&str, Option<(u32, u32)>); 30] = [
+static WORDS: [(&str, Option<(u32, u32)>); 37] = [
     ("lock_scenario run", Some((8, 1024))),
     ("lock_scenario run --sessions 1", Some((1, 1024))),
     ("lock_scenario run --sessions=64", Some((64, 1024))),
@@ -77,6 +77,16 @@ static WORDS: [(&str, Option<(u32, u32)>); 30] = [
     ("lock_scenario run --slot-groups 9", None),
     ("lock_scenario run --slot-groups x", None),
     ("lock_scenario run more", None),
+    ("lock_scenario --man", Some((0, 0))),
+    ("lock_scenario run --man", None),
+    ("lock_scenario orders", Some((8, 10_000))),
+    (
+        "lock_scenario orders --limit 1000000 --sessions 2",
+        Some((2, 1_000_000)),
+    ),
+    ("lock_scenario orders --limit 0", None),
+    ("lock_scenario shell --max-local 3", Some((8, 3))),
+    ("lock_scenario shell more", None),
 ];
 
 #[test]
@@ -89,8 +99,10 @@ fn reads_its_own_words(rt: HostRuntime) -> Result<(), Fail> {
             Ok(Task::Run(limits, _)) => Some((limits.sessions, limits.max_local)),
             Ok(Task::Hammer(hammer)) => Some((hammer.sessions, hammer.rounds)),
             Err(NoRun::Refused(_)) => None,
-            // The conflict table, which has no limits.
-            Ok(Task::Modes) => Some((0, 0)),
+            Ok(Task::Orders(limits, most)) => Some((limits.sessions, most)),
+            Ok(Task::Shell(limits)) => Some((limits.sessions, limits.max_local)),
+            // The conflict table and the man page, which have no limits.
+            Ok(Task::Modes) | Ok(Task::Man) => Some((0, 0)),
             // A text, and being out of memory: limits that no row has.
             Err(_) => Some((0, 1)),
         };
@@ -103,15 +115,18 @@ fn reads_its_own_words(rt: HostRuntime) -> Result<(), Fail> {
 const HELP: &str = "\
 Run scripts against PostgreSQL's lock manager
 
-Usage: lock_scenario <COMMAND>
+Usage: lock_scenario [OPTIONS] <COMMAND>
 
 Commands:
   run     Run the script on standard input
+  orders  Run the script's lines in every order, and count how it ends
+  shell   Run lines as they are typed, with help
   modes   Print which lock modes conflict
   hammer  Lock and unlock in many threads, and count what is left
   help    Print this message or the help of the given subcommand(s)
 
 Options:
+      --man      Print the man page
   -h, --help     Print help
   -V, --version  Print version
 
@@ -227,7 +242,7 @@ const INVITATION: &str = "reading a script from the terminal; run --help shows i
 
 /// A script, and whether reading it fails at its end; the status of the program on it, and what it writes to its
 /// output and to its errors.
-type Run = (&'static str, bool, u8, &'static str, &'static str);
+pub type Run = (&'static str, bool, u8, &'static str, &'static str);
 
 const RUN: &str = "lock_scenario run";
 
@@ -293,7 +308,7 @@ static RUNS: [(&str, Run); 15] = [
             false,
             2,
             "",
-            "error: unrecognized subcommand 'storm'\n\nUsage: lock_scenario <COMMAND>\n\n\
+            "error: unrecognized subcommand 'storm'\n\nUsage: lock_scenario [OPTIONS] <COMMAND>\n\n\
              For more information, try '--help'.\n",
         ),
     ),
@@ -408,7 +423,7 @@ static TYPED: [(&str, Run); 4] = [
 ];
 
 /// Runs the program on these words, and checks its status and both its texts.
-fn expect_program(
+pub fn expect_program(
     rt: &(impl Abort + AllocGlobal + Clock + Threads + Wait + Sync),
     words: io::Result<Vec<String>>,
     is_terminal: bool,

@@ -4,6 +4,7 @@ ghost use Rattle.std.specs.Prelude.{◌≡◌};
 
 use super::answers::Answer;
 use super::busy::{take_until_seen, try_until_busy};
+use super::gates::Gate;
 use super::pair::Pair;
 use super::waits::{OWNER, TABLE, ask, ask_until_heard, give_back, see_wait};
 use lock_manager::{Asked, Mode, OwnSession, Part, SessionId};
@@ -12,7 +13,6 @@ use shared_rule::Board;
 use std::process::Abort;
 use std::sync::Wait;
 use std::sync::atomic::{AtomicBool, AtomicU64, Ordering};
-use std::thread;
 use std::thread::{Threads, join_mut};
 
 /// What a session does with the table.
@@ -22,6 +22,8 @@ pub enum Deed {
     TryFast(Mode),
     /// Asks for a mode.
     Try(Mode),
+    /// Gives all back.
+    Commit,
     /// Asks for a mode, and sleeps until the wait is over.
     Lock(Mode),
     /// Asks this session to cancel until it is heard, which is once that one waits.
@@ -36,28 +38,78 @@ pub enum Deed {
     TakeUntilSeen,
 }
 
-/// What the two threads show each other.
+/// What the two threads do, and what they show each other.
 #[derive(Drop)]
 struct Shown {
-    /// How many of them have begun.
-    arrived: AtomicU64,
+    deeds: (Deed, Deed),
+    /// In which round of a race they are.
+    round: u32,
+    gate: Gate,
+    /// How many of them have ended.
+    ended: AtomicU64,
+    /// Whether the first one was the first to end.
+    is_first_ahead: AtomicBool,
     /// Whether the slots were found busy.
     is_busy: AtomicBool,
 }
 
-/// Waits until both threads have come here.
-pub fn begin<R: Wait>(rt: &R, arrived: &AtomicU64) {
-    arrived.fetch_add(1, Ordering::SeqCst);
-    for _ in rt.forever() {
-        if arrived.load(Ordering::SeqCst) >= 2 {
-            return;
+impl Shown {
+    /// Nothing is done yet.
+    fn of(of_first: Deed, of_second: Deed, round: u32) -> Shown {
+        Shown {
+            deeds: (of_first, of_second),
+            round,
+            gate: Gate::new(),
+            ended: AtomicU64::new(0),
+            is_first_ahead: AtomicBool::new(false),
+            is_busy: AtomicBool::new(false),
         }
-        thread::yield_now();
+    }
+
+    /// What the one on this side does.
+    fn deed(&self, side: u32) -> Deed {
+        if side == 0 {
+            self.deeds.0
+        } else {
+            self.deeds.1
+        }
+    }
+
+    /// The one on this side has ended.
+    fn end(&self, side: u32) {
+        if self.ended.fetch_add(1, Ordering::SeqCst) == 0 {
+            self.is_first_ahead.store(side == 0, Ordering::SeqCst);
+        }
     }
 }
 
-/// Does it once both have begun. What a request was answered, if it is one.
+/// How two that did something side by side have ended.
+#[derive(Clone, Copy)]
+pub struct Ended {
+    /// What each was answered, if it was a request.
+    pub of_first: Option<Answer>,
+    pub of_second: Option<Answer>,
+    /// Whether the first one was the first to end.
+    pub is_first_ahead: bool,
+}
+
+/// Does what the one on this side does, once both have begun. What a request was answered, if it is one.
 fn act<T: PartTable, B: Board<T>, R: Abort + Wait>(
+    rt: &R,
+    shown: &Shown,
+    session: &mut OwnSession<T, B>,
+    side: u32,
+) -> Option<Answer>
+    ensures seat { B.seat session.new.board ≡ B.seat session.old.board }
+{
+    shown.gate.pass(rt, shown.round, side);
+    let answer = do_deed(rt, shown, session, shown.deed(side));
+    shown.end(side);
+    answer
+}
+
+/// Does it. What a request was answered, if it is one.
+fn do_deed<T: PartTable, B: Board<T>, R: Abort + Wait>(
     rt: &R,
     shown: &Shown,
     session: &mut OwnSession<T, B>,
@@ -65,10 +117,13 @@ fn act<T: PartTable, B: Board<T>, R: Abort + Wait>(
 ) -> Option<Answer>
     ensures seat { B.seat session.new.board ≡ B.seat session.old.board }
 {
-    begin(rt, &shown.arrived);
     match deed {
         Deed::TryFast(mode) => Some(session.try_fast(TABLE, mode, OWNER)),
         Deed::Try(mode) => Some(session.try_lock(rt, TABLE, mode, OWNER)),
+        Deed::Commit => {
+            session.commit(rt);
+            None
+        }
         Deed::Lock(mode) => Some(session.acquire(rt, TABLE, mode, OWNER)),
         Deed::AskUntilHeard(number) => {
             ask_until_heard(rt, session, number);
@@ -95,29 +150,49 @@ fn act<T: PartTable, B: Board<T>, R: Abort + Wait>(
     }
 }
 
-/// Two that are lent do something, the one beside the other, and what each was answered. The two deeds are lent too, since the
-/// check covers no two closures each of which borrows a variable of its own beside its session.
+/// Two that are lent do something, the one beside the other.
 fn act_on_loan<B: Board<Part> + Send, R: Abort + Threads + Wait + Sync>(
     rt: &R,
+    shown: &Shown,
     first: &mut OwnSession<Part, B>,
     second: &mut OwnSession<Part, B>,
-    deeds: &(Deed, Deed),
-) -> (Option<Answer>, Option<Answer>)
+) -> Ended
     ensures first { B.seat first.new.board ≡ B.seat first.old.board }
     ensures second { B.seat second.new.board ≡ B.seat second.old.board }
 {
-    let shown = Shown {
-        arrived: AtomicU64::new(0),
-        is_busy: AtomicBool::new(false),
-    };
-    join_mut(
+    let (of_first, of_second) = join_mut(
         rt,
-        &mut || act(rt, &shown, first, deeds.0),
-        &mut || act(rt, &shown, second, deeds.1),
-    )
+        &mut || act(rt, shown, first, 0),
+        &mut || act(rt, shown, second, 1),
+    );
+    Ended {
+        of_first,
+        of_second,
+        is_first_ahead: shown.is_first_ahead.load(Ordering::SeqCst),
+    }
 }
 
-/// Each of two sessions does something, the one beside the other, and what each was answered.
+/// Each of two sessions does something, the one beside the other, in this round of a race.
+pub fn race_side_by_side<B: Board<Part> + Send, R: Abort + Threads + Wait + Sync>(
+    rt: &R,
+    pair: Pair<Part, B>,
+    of_first: Deed,
+    of_second: Deed,
+    round: u32,
+) -> (Pair<Part, B>, Ended)
+    ensures first { B.seat result.0.first.board ≡ B.seat pair.first.board }
+    ensures second { B.seat result.0.second.board ≡ B.seat pair.second.board }
+{
+    let Pair {
+        mut first,
+        mut second,
+    } = pair;
+    let shown = Shown::of(of_first, of_second, round);
+    let ended = act_on_loan(rt, &shown, &mut first, &mut second);
+    (Pair { first, second }, ended)
+}
+
+/// The same by itself, and what each was answered.
 pub fn act_side_by_side<B: Board<Part> + Send, R: Abort + Threads + Wait + Sync>(
     rt: &R,
     pair: Pair<Part, B>,
@@ -127,11 +202,6 @@ pub fn act_side_by_side<B: Board<Part> + Send, R: Abort + Threads + Wait + Sync>
     ensures first { B.seat result.0.first.board ≡ B.seat pair.first.board }
     ensures second { B.seat result.0.second.board ≡ B.seat pair.second.board }
 {
-    let Pair {
-        mut first,
-        mut second,
-    } = pair;
-    let deeds = (of_first, of_second);
-    let (for_first, for_second) = act_on_loan(rt, &mut first, &mut second, &deeds);
-    (Pair { first, second }, for_first, for_second)
+    let (pair, ended) = race_side_by_side(rt, pair, of_first, of_second, 0);
+    (pair, ended.of_first, ended.of_second)
 }

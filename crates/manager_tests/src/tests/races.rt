@@ -1,9 +1,11 @@
-//! Two sessions in threads of their own, which begin each round at the same moment, and what each is answered.
+//! Two sessions in threads of their own, which begin each round at a gate, each after a pause of its own, and what each is
+//! answered. A race has to be won by each side, or it shows nothing.
 
 ghost use Rattle.std.specs.Prelude.{◌≡◌, IfSome, None};
 
 use super::answers::{Answer, expect_acted, expect_granted, expect_rows};
-use super::deeds::{Deed, act_side_by_side, begin};
+use super::deeds::{Deed, act_side_by_side, race_side_by_side};
+use super::gates::{Gate, Wins};
 use super::pair::Pair;
 use super::waits::{OWNER, TABLE, give_back, queue, take};
 use lock_manager::{Acquired, How, Mode, OwnSession, OwnWaiting, Part, Refusal, SessionId};
@@ -11,7 +13,6 @@ use lock_table::PartTable;
 use shared_rule::Board;
 use std::process::Abort;
 use std::sync::Wait;
-use std::sync::atomic::AtomicU64;
 use std::thread::{Threads, join_mut};
 
 /// What two sessions race for.
@@ -25,6 +26,32 @@ pub enum Race {
     CancelAgainstRelease(Mode, Mode),
     /// The second one goes to sleep while the first one asks it to cancel.
     AskAgainstSleep,
+}
+
+impl Race {
+    /// What is said of it, with how often each side won.
+    fn name(self) -> &'static str {
+        match self {
+            Race::WeakAgainstStrong(_, _) => "a weak mode against a strong one",
+            Race::StrongOverWeak(_, _) =>
+                "two strong modes over weak ones, by who is answered first",
+            Race::CancelAgainstRelease(_, _) => "a release against a cancel",
+            Race::AskAgainstSleep => "a request to cancel against the way to sleep",
+        }
+    }
+
+    /// Whether it has two sides that may win.
+    fn has_sides(self) -> bool {
+        !matches!(self, Race::AskAgainstSleep)
+    }
+}
+
+/// In which round of a race the two threads are, where they begin it, and how often each side has won.
+#[derive(Drop)]
+struct Round<'a> {
+    number: u32,
+    gate: Gate,
+    wins: &'a Wins,
 }
 
 /// A strong mode was refused, since the session holds this mode.
@@ -49,11 +76,14 @@ fn expect_one<R: Abort>(
     strong: Option<Answer>,
     session: SessionId,
     mode: Mode,
+    wins: &Wins,
 ) {
     if is_granted(rt, weak) {
         expect_in_the_way(rt, strong, session, mode);
+        wins.first();
     } else {
         expect_acted(rt, strong, Ok(Acquired::Granted));
+        wins.second();
     }
 }
 
@@ -63,18 +93,48 @@ fn try_weak_against_strong<B: Board<Part> + Send, R: Abort + Threads + Wait + Sy
     pair: Pair<Part, B>,
     weak: Mode,
     strong: Mode,
+    round: &Round<'_>,
 ) -> Pair<Part, B>
     ensures first { B.seat result.first.board ≡ B.seat pair.first.board }
     ensures second { B.seat result.second.board ≡ B.seat pair.second.board }
 {
-    let (mut pair, for_weak, for_strong) = act_side_by_side(
+    let (mut pair, ended) = race_side_by_side(
         rt,
         pair,
         Deed::TryFast(weak),
         Deed::Try(strong),
+        round.number,
     );
-    expect_one(rt, for_weak, for_strong, pair.first.id(), weak);
-    pair.first.commit(rt);
+    let holder = pair.first.id();
+    expect_one(
+        rt,
+        ended.of_first,
+        ended.of_second,
+        holder,
+        weak,
+        round.wins,
+    );
+    pair.second.commit(rt);
+    try_beside_release(rt, pair, weak, strong, round)
+}
+
+/// The first one gives back what it has, if anything, while the second one asks for the strong mode once more.
+fn try_beside_release<B: Board<Part> + Send, R: Abort + Threads + Wait + Sync>(
+    rt: &R,
+    pair: Pair<Part, B>,
+    weak: Mode,
+    strong: Mode,
+    round: &Round<'_>,
+) -> Pair<Part, B>
+    ensures first { B.seat result.first.board ≡ B.seat pair.first.board }
+    ensures second { B.seat result.second.board ≡ B.seat pair.second.board }
+{
+    let tries = Deed::Try(strong);
+    let (mut pair, ended) = race_side_by_side(rt, pair, Deed::Commit, tries, round.number);
+    let answer = ended.of_second;
+    if answer != Some(Ok(Acquired::Granted)) {
+        expect_in_the_way(rt, answer, pair.first.id(), weak);
+    }
     pair.second.commit(rt);
     pair
 }
@@ -97,6 +157,7 @@ fn try_strong_over_weak<B: Board<Part> + Send, R: Abort + Threads + Wait + Sync>
     pair: Pair<Part, B>,
     weak: Mode,
     strong: Mode,
+    round: &Round<'_>,
 ) -> Pair<Part, B>
     ensures first { B.seat result.first.board ≡ B.seat pair.first.board }
     ensures second { B.seat result.second.board ≡ B.seat pair.second.board }
@@ -104,14 +165,16 @@ fn try_strong_over_weak<B: Board<Part> + Send, R: Abort + Threads + Wait + Sync>
     let mut pair = pair;
     take_fast(rt, &mut pair.first, weak);
     take_fast(rt, &mut pair.second, weak);
-    let (mut pair, for_first, for_second) = act_side_by_side(
+    let (mut pair, ended) = race_side_by_side(
         rt,
         pair,
         Deed::Try(strong),
         Deed::Try(strong),
+        round.number,
     );
-    expect_in_the_way(rt, for_first, pair.second.id(), weak);
-    expect_in_the_way(rt, for_second, pair.first.id(), weak);
+    expect_in_the_way(rt, ended.of_first, pair.second.id(), weak);
+    expect_in_the_way(rt, ended.of_second, pair.first.id(), weak);
+    round.wins.count(ended.is_first_ahead);
     give_back(rt, &mut pair.first, weak);
     give_back(rt, &mut pair.second, weak);
     pair
@@ -134,14 +197,15 @@ fn give_back_if<T: PartTable, B: Board<T>, R: Abort + Wait>(
 /// Cancels the wait. Where it was granted the mode is given back.
 fn cancel<T: PartTable, B: Board<T>, R: Abort + Wait>(
     rt: &R,
-    arrived: &AtomicU64,
+    round: &Round<'_>,
     waiting: OwnWaiting<T, B>,
     mode: Mode,
 ) -> OwnSession<T, B>
     ensures seat { B.seat result.board ≡ B.seat waiting.board }
 {
-    begin(rt, arrived);
+    round.gate.pass(rt, round.number, 1);
     let (mut session, answer) = waiting.cancel(rt).into_parts();
+    round.wins.count(answer.is_ok());
     give_back_if(rt, &mut session, mode, answer.is_ok());
     session
 }
@@ -149,7 +213,7 @@ fn cancel<T: PartTable, B: Board<T>, R: Abort + Wait>(
 /// Cancels the wait that is lent.
 fn cancel_lent<T: PartTable, B: Board<T>, R: Abort + Wait>(
     rt: &R,
-    arrived: &AtomicU64,
+    round: &Round<'_>,
     waiting: &mut Option<OwnWaiting<T, B>>,
     mode: Mode,
 ) -> OwnSession<T, B>
@@ -157,7 +221,7 @@ fn cancel_lent<T: PartTable, B: Board<T>, R: Abort + Wait>(
     ensures seat { IfSome waiting.old (λ waiting. B.seat result.board ≡ B.seat waiting.board) }
 {
     match waiting.take() {
-        Some(waiting) => cancel(rt, arrived, waiting, mode),
+        Some(waiting) => cancel(rt, round, waiting, mode),
         None => panic!(rt; "no wait"),
     }
 }
@@ -165,13 +229,13 @@ fn cancel_lent<T: PartTable, B: Board<T>, R: Abort + Wait>(
 /// Gives a mode back.
 fn release<T: PartTable, B: Board<T>, R: Abort + Wait>(
     rt: &R,
-    arrived: &AtomicU64,
+    round: &Round<'_>,
     session: &mut OwnSession<T, B>,
     mode: Mode,
 )
     ensures seat { B.seat session.new.board ≡ B.seat session.old.board }
 {
-    begin(rt, arrived);
+    round.gate.pass(rt, round.number, 0);
     give_back(rt, session, mode);
 }
 
@@ -193,6 +257,7 @@ fn expect_none<T: PartTable, B: Board<T>, R: Abort>(rt: &R, session: &OwnSession
 /// The one that waits cancels its wait for the first mode while the other one gives back the second one.
 fn cancel_on_loan<B: Board<Part> + Send, R: Abort + Threads + Wait + Sync>(
     rt: &R,
+    round: &Round<'_>,
     waiting: &mut Option<OwnWaiting<Part, B>>,
     session: &mut OwnSession<Part, B>,
     modes: &(Mode, Mode),
@@ -201,11 +266,10 @@ fn cancel_on_loan<B: Board<Part> + Send, R: Abort + Threads + Wait + Sync>(
     ensures seat { IfSome waiting.old (λ waiting. B.seat result.board ≡ B.seat waiting.board) }
     ensures its_seat { B.seat session.new.board ≡ B.seat session.old.board }
 {
-    let arrived = AtomicU64::new(0);
     let (cancelled, ()) = join_mut(
         rt,
-        &mut || cancel_lent(rt, &arrived, waiting, modes.0),
-        &mut || release(rt, &arrived, session, modes.1),
+        &mut || cancel_lent(rt, round, waiting, modes.0),
+        &mut || release(rt, round, session, modes.1),
     );
     cancelled
 }
@@ -216,6 +280,7 @@ fn cancel_as_released<B: Board<Part> + Send, R: Abort + Threads + Wait + Sync>(
     pair: Pair<Part, B>,
     held: Mode,
     awaited: Mode,
+    round: &Round<'_>,
 ) -> Pair<Part, B>
     ensures first { B.seat result.first.board ≡ B.seat pair.first.board }
     ensures second { B.seat result.second.board ≡ B.seat pair.second.board }
@@ -223,7 +288,7 @@ fn cancel_as_released<B: Board<Part> + Send, R: Abort + Threads + Wait + Sync>(
     let Pair { mut first, second } = pair;
     take(rt, &mut first, held);
     let mut waiting = Some(queue(rt, second, awaited));
-    let second = cancel_on_loan(rt, &mut waiting, &mut first, &(awaited, held));
+    let second = cancel_on_loan(rt, round, &mut waiting, &mut first, &(awaited, held));
     end_wait(waiting);
     expect_none(rt, &first);
     expect_none(rt, &second);
@@ -252,14 +317,19 @@ fn race_once<B: Board<Part> + Send, R: Abort + Threads + Wait + Sync>(
     rt: &R,
     pair: Pair<Part, B>,
     race: Race,
+    round: &Round<'_>,
 ) -> Pair<Part, B>
     ensures first { B.seat result.first.board ≡ B.seat pair.first.board }
     ensures second { B.seat result.second.board ≡ B.seat pair.second.board }
 {
     match race {
-        Race::WeakAgainstStrong(weak, strong) => try_weak_against_strong(rt, pair, weak, strong),
-        Race::StrongOverWeak(weak, strong) => try_strong_over_weak(rt, pair, weak, strong),
-        Race::CancelAgainstRelease(held, awaited) => cancel_as_released(rt, pair, held, awaited),
+        Race::WeakAgainstStrong(weak, strong) => {
+            try_weak_against_strong(rt, pair, weak, strong, round)
+        }
+        Race::StrongOverWeak(weak, strong) => try_strong_over_weak(rt, pair, weak, strong, round),
+        Race::CancelAgainstRelease(held, awaited) => {
+            cancel_as_released(rt, pair, held, awaited, round)
+        }
         Race::AskAgainstSleep => ask_before_sleep(rt, pair),
     }
 }
@@ -276,8 +346,8 @@ pub fn see_nothing<T: PartTable, B: Board<T>, R: Abort + Wait>(
     assert_eq!(rt; session.strong_count(TABLE.strong_index()), 0);
 }
 
-/// Round after round, at the end of which nothing stands.
-pub fn race_often<B: Board<Part> + Send, R: Abort + Threads + Wait + Sync>(
+/// Round after round, at the end of which nothing stands, and each side has won.
+pub fn race_often<B: Board<Part> + Send, R: Abort + Threads + Wait + Sync + Print>(
     rt: &R,
     pair: Pair<Part, B>,
     race: Race,
@@ -287,9 +357,18 @@ pub fn race_often<B: Board<Part> + Send, R: Abort + Threads + Wait + Sync>(
     ensures second { B.seat result.second.board ≡ B.seat pair.second.board }
 {
     let mut pair = pair;
-    'rounds: for _ in 0..rounds {
-        pair = race_once(rt, pair, race);
+    let wins = Wins::none();
+    'rounds: for number in 0..rounds {
+        let round = Round {
+            number,
+            gate: Gate::new(),
+            wins: &wins,
+        };
+        pair = race_once(rt, pair, race, &round);
     }
     see_nothing(rt, &mut pair.first);
+    if race.has_sides() {
+        wins.expect_both(rt, race.name());
+    }
     pair
 }

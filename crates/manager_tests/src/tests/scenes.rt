@@ -36,7 +36,7 @@ pub enum Scene<'a> {
 }
 
 /// Plays a scene.
-pub fn perform<B: Board<Part> + Send, R: Abort + Threads + Wait + Sync>(
+pub fn perform<B: Board<Part> + Send, R: Abort + Threads + Wait + Sync + Print>(
     rt: &R,
     mut pair: Pair<Part, B>,
     scene: Scene<'_>,

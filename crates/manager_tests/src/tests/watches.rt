@@ -5,7 +5,7 @@ ghost use Rattle.std.specs.Prelude.{◌≡◌, ◌<◌};
 ghost use Rattle.lock_manager.specs.Managers.{ManagerView};
 ghost use Rattle.manager_tests.specs.Crews.{AreOf, SeatsAre};
 
-use super::answers::expect_released;
+use super::answers::{expect_granted, expect_released};
 use super::audits::close_counted;
 use super::desk::{Desk, open_many};
 use lock_manager::{Listing, Mode, OwnSession, Owner, Part, SessionId, Tag};
@@ -14,15 +14,13 @@ use shared_rule::Board;
 use std::alloc::Global;
 use std::process::Abort;
 use std::sync::Wait;
-use std::sync::atomic::{AtomicU64, Ordering};
+use std::sync::atomic::{AtomicBool, AtomicU64, Ordering};
 use std::thread::{Threads, for_each_mut};
 
 /// How many sessions there are, of which the first one lists.
 pub const SESSIONS: u32 = 4;
 
-const LISTINGS: u32 = 300;
-
-const ROUNDS: u32 = 10_000;
+const LISTINGS: u32 = 1_000;
 
 /// What each session says of its hold on its relation, by numbers that rise.
 #[derive(Drop)]
@@ -31,6 +29,8 @@ struct Words {
     may_hold: [AtomicU64; 4],
     /// Odd from when it has the hold until before it gives it back.
     holds: [AtomicU64; 4],
+    /// Whether the first session has listed for the last time.
+    is_over: AtomicBool,
 }
 
 impl Words {
@@ -48,6 +48,7 @@ impl Words {
                 AtomicU64::new(0),
                 AtomicU64::new(0),
             ],
+            is_over: AtomicBool::new(false),
         }
     }
 }
@@ -187,9 +188,10 @@ fn list_often<T: PartTable, B: Board<T>, R: Abort + Wait>(
     'listings: for _ in 0..LISTINGS {
         list_once(rt, words, session);
     }
+    words.is_over.store(true, Ordering::SeqCst);
 }
 
-/// Each other one holds its own over and over.
+/// Each other one holds its own over and over, until the listings are over.
 fn hold_often<T: PartTable, B: Board<T>, R: Abort + Wait>(
     rt: &R,
     words: &Words,
@@ -197,7 +199,10 @@ fn hold_often<T: PartTable, B: Board<T>, R: Abort + Wait>(
 )
     ensures seat { B.seat session.new.board ≡ B.seat session.old.board }
 {
-    'rounds: for _ in 0..ROUNDS {
+    'rounds: for _ in rt.forever() {
+        if words.is_over.load(Ordering::SeqCst) {
+            return;
+        }
         hold_once(rt, words, session);
     }
 }
@@ -216,11 +221,11 @@ fn play<T: PartTable, B: Board<T>, R: Abort + Wait>(
     }
     let tag = relation(0);
     let mode = Mode::AccessShare;
-    if session.try_lock(rt, tag, mode, Owner::Session).is_ok() {
-        list_often(rt, words, session);
-        let released = session.unlock(rt, tag, mode, Owner::Session);
-        expect_released(rt, released, tag, mode);
-    }
+    let answer = session.acquire(rt, tag, mode, Owner::Session);
+    expect_granted(rt, answer, tag, mode);
+    list_often(rt, words, session);
+    let released = session.unlock(rt, tag, mode, Owner::Session);
+    expect_released(rt, released, tag, mode);
 }
 
 /// Each session does so in a thread of its own.
@@ -240,8 +245,19 @@ fn play_side_by_side<B: Board<Part> + Send, R: Abort + Threads + Wait + Sync>(
     );
 }
 
-/// A session of a desk lists while three others lock and unlock.
-pub fn list_beside<
+/// A session lists while three others lock and unlock.
+pub fn list_beside<B: Board<Part> + Send, R: Abort + Threads + Wait + Sync>(
+    rt: &R,
+    sessions: &mut [OwnSession<Part, B>],
+)
+    ensures own { (manager : ManagerView) → AreOf B.seat manager sessions.old → AreOf B.seat manager sessions.new }
+{
+    let words = Words::new();
+    play_side_by_side(rt, &words, sessions);
+}
+
+/// Those of a desk do.
+pub fn watch_at<
     B: Board<Part> + Send,
     D: Desk<OwnSession<Part, B>>,
     R: Abort + Threads + Wait + Sync,
@@ -251,7 +267,6 @@ pub fn list_beside<
     ensures live { D.live desk.new ≡ D.live desk.old }
 {
     let mut sessions = open_many(rt, alloc, desk, SESSIONS);
-    let words = Words::new();
-    play_side_by_side(rt, &words, sessions.as_mut_slice());
+    list_beside(rt, sessions.as_mut_slice());
     close_counted(rt, desk, sessions);
 }

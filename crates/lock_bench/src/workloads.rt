@@ -1,0 +1,241 @@
+//! The page of workloads: each beside its own floor and the same work on a map in a mutex, in one run.
+
+use crate::progress::Progress;
+use crate::session_bed::Work;
+use crate::session_page::{Asked, print_heading, run_lines};
+use anyhow::Result;
+use bench_base::{
+    Figures, KeyList, Line, Row, STEPS, Size, WIDTH, lines, print_table, print_times, time_of,
+};
+use std::sync::Wait;
+use std::time::CpuClock;
+
+const EMPTY: &str = "empty loop";
+
+const FLOOR: &str = "floor: its atomic steps";
+
+const MAP: &str = "map in a mutex: the same work";
+
+/// How many locks a commit ends, and how many the session has that takes held ones again.
+const FEW: u32 = 10;
+
+/// What is timed with a manager of its own.
+#[derive(Clone, Copy)]
+struct Workload {
+    name: &'static str,
+    work: Work,
+    list: KeyList,
+    /// The loop that is taken off: of one call or of two.
+    empty: Work,
+    floor: Work,
+    /// What is done on the map, with which keys.
+    map: Work,
+    map_list: KeyList,
+    sessions: u32,
+    /// How many objects of one partition the other session has.
+    crowd: u32,
+}
+
+static WORKLOADS: [Workload; 9] = [
+    Workload {
+        name: "weak relation lock, by a slot",
+        work: Work::Pair,
+        list: KeyList::Weak,
+        empty: Work::TwoEmptyCalls,
+        floor: Work::PairFloor,
+        map: Work::MapPair,
+        map_list: KeyList::Weak,
+        sessions: 8,
+        crowd: 0,
+    },
+    Workload {
+        name: "ten relations and a commit, for each",
+        work: Work::TakeAndCommit,
+        list: KeyList::Ten,
+        empty: Work::OneEmptyCall,
+        floor: Work::PairFloor,
+        map: Work::MapPair,
+        map_list: KeyList::Ten,
+        sessions: 8,
+        crowd: 0,
+    },
+    Workload {
+        name: "strong relation lock",
+        work: Work::Pair,
+        list: KeyList::Strong,
+        empty: Work::TwoEmptyCalls,
+        floor: Work::StrongFloor,
+        map: Work::MapPair,
+        map_list: KeyList::Strong,
+        sessions: 64,
+        crowd: 0,
+    },
+    Workload {
+        name: "object lock, beside 10",
+        work: Work::Pair,
+        list: KeyList::InPartition,
+        empty: Work::TwoEmptyCalls,
+        floor: Work::TableFloor,
+        map: Work::MapPair,
+        map_list: KeyList::InPartition,
+        sessions: 8,
+        crowd: 10,
+    },
+    Workload {
+        name: "object lock, beside 10,000",
+        work: Work::Pair,
+        list: KeyList::InPartition,
+        empty: Work::TwoEmptyCalls,
+        floor: Work::TableFloor,
+        map: Work::MapPair,
+        map_list: KeyList::InPartition,
+        sessions: 8,
+        crowd: 10_000,
+    },
+    // It makes no atomic step.
+    Workload {
+        name: "held already",
+        work: Work::HeldPair,
+        list: KeyList::Few,
+        empty: Work::TwoEmptyCalls,
+        floor: Work::TwoEmptyCalls,
+        map: Work::MapPair,
+        map_list: KeyList::Few,
+        sessions: 8,
+        crowd: 0,
+    },
+    Workload {
+        name: "refused attempt, relation",
+        work: Work::RefusedRelation,
+        list: KeyList::Few,
+        empty: Work::OneEmptyCall,
+        floor: Work::RefusedRelationFloor,
+        map: Work::MapLookUp,
+        map_list: KeyList::Few,
+        sessions: 8,
+        crowd: 0,
+    },
+    Workload {
+        name: "refused attempt, object, beside 10",
+        work: Work::Refused,
+        list: KeyList::RefusedInCrowd,
+        empty: Work::OneEmptyCall,
+        floor: Work::RefusedObjectFloor,
+        map: Work::MapLookUp,
+        map_list: KeyList::FewOfCrowd,
+        sessions: 8,
+        crowd: 10,
+    },
+    Workload {
+        name: "refused attempt, object, beside 10,000",
+        work: Work::Refused,
+        list: KeyList::RefusedInCrowd,
+        empty: Work::OneEmptyCall,
+        floor: Work::RefusedObjectFloor,
+        map: Work::MapLookUp,
+        map_list: KeyList::FewOfCrowd,
+        sessions: 8,
+        crowd: 10_000,
+    },
+];
+
+impl Workload {
+    fn size(&self) -> Size {
+        Size {
+            sessions: self.sessions,
+            held: 0,
+            crowd: self.crowd,
+            few: FEW,
+        }
+    }
+
+    /// The rows that are timed for it.
+    fn rows(&self) -> [Row<Work>; 4] {
+        [
+            row(EMPTY, self.empty, self.list, None),
+            row(self.name, self.work, self.list, Some(EMPTY)),
+            row(FLOOR, self.floor, self.list, Some(EMPTY)),
+            row(MAP, self.map, self.map_list, Some(EMPTY)),
+        ]
+    }
+
+    /// What its rows took.
+    fn figures(&self, lines: &[Line<Work>]) -> Figures {
+        Figures {
+            name: self.name,
+            sessions: self.sessions,
+            crowd: self.crowd,
+            time: time_of(lines, self.name),
+            floor: time_of(lines, FLOOR),
+            map: time_of(lines, MAP),
+        }
+    }
+}
+
+/// A row that is compared with no other.
+fn row(name: &'static str, work: Work, list: KeyList, empty: Option<&'static str>) -> Row<Work> {
+    Row {
+        name,
+        work,
+        list,
+        steps: STEPS,
+        empty,
+        beside: None,
+    }
+}
+
+/// Prints the times of each workload and a table of them all, and gives the figures; with a check what fewer of the same steps
+/// leave, and no figures.
+pub fn print<R: Wait + CpuClock + AllocGlobal + Print + Eprint>(
+    rt: &R,
+    asked: Asked,
+    progress: Progress,
+) -> Result<Vec<Figures>> {
+    print_heading(rt, "workloads", asked)?;
+    let figures = print_workloads(rt, asked, progress)?;
+    if !asked.check {
+        print_table(rt, figures.as_slice())?;
+    }
+    Ok(figures)
+}
+
+/// Prints the rows of each workload.
+fn print_workloads<R: Wait + CpuClock + AllocGlobal + Print + Eprint>(
+    rt: &R,
+    asked: Asked,
+    progress: Progress,
+) -> Result<Vec<Figures>> {
+    let mut all = Vec::new(rt.alloc());
+    for workload in &WORKLOADS {
+        progress.note(rt, workload.name);
+        if let Some(figures) = print_workload(rt, workload, asked)? {
+            all.push(figures)?;
+        }
+    }
+    Ok(all)
+}
+
+/// Prints the rows of a workload, with a manager of its own.
+fn print_workload<R: Wait + CpuClock + AllocGlobal + Print>(
+    rt: &R,
+    workload: &Workload,
+    asked: Asked,
+) -> Result<Option<Figures>> {
+    let Workload { name, sessions, .. } = *workload;
+    println!(rt; "{name}: {sessions} sessions")?;
+    let size = workload.size();
+    let rows = workload.rows();
+    let mut lines = lines(
+        rt.alloc(),
+        rows.as_slice(),
+        asked.database,
+        size,
+        asked.check,
+    )?;
+    run_lines(rt, asked, size, lines.as_mut_slice())?;
+    if asked.check {
+        return Ok(None);
+    }
+    print_times(rt, WIDTH, lines.as_slice())?;
+    Ok(Some(workload.figures(lines.as_slice())))
+}

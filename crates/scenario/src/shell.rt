@@ -1,0 +1,181 @@
+//! A shell: the lines of a script as somebody types them, with help, and with what is wrong with a bad one.
+ghost use Rattle.std.specs.Prelude.{◌≡◌};
+ghost use Rattle.scenario.specs.Stage.{SeatsAre};
+
+use crate::desk::Desk;
+use crate::hints::{correction, help};
+use crate::run::Scene;
+use lock_manager::OwnSession;
+use lock_script::{Defect, Fault, LineReader, Name, OpenSessions, parse, split_words};
+use lock_table::PartTable;
+use shared_rule::Board;
+use std::alloc::{AllocError, Global};
+use std::io::{Read, Write};
+use std::sync::Wait;
+
+/// What stands before each line at a terminal.
+const PROMPT: &str = "lock> ";
+
+/// What is said first at a terminal.
+const GREETING: &str = "help lists the commands, end closes all sessions\n";
+
+/// A shell, with the memory for what it tells.
+#[derive(Clone, Copy)]
+pub struct Shell {
+    pub alloc: Global,
+    /// Whether somebody types the lines at a terminal, and has a prompt.
+    pub is_terminal: bool,
+}
+
+/// What a line is to a shell.
+enum Asked {
+    /// To end.
+    End,
+    /// For help: this text.
+    Help(String),
+    /// A line of a script.
+    Line,
+}
+
+impl Shell {
+    /// What a line asks for.
+    fn understand(self, line: &str) -> Result<Asked, AllocError> {
+        let words = split_words(line);
+        match words.as_slice().split_first() {
+            Some((verb, _)) if *verb == "end" => Ok(Asked::End),
+            Some((verb, words)) if *verb == "help" => Ok(Asked::Help(help(self.alloc, words)?)),
+            _ => Ok(Asked::Line),
+        }
+    }
+}
+
+/// The names of the sessions that are open.
+fn names_of<S, W>(alloc: Global, sessions: &OpenSessions<S, W>) -> Result<Vec<Name>, AllocError> {
+    let mut names = Vec::new(alloc);
+    for place in 0..sessions.resting.len() {
+        names.push(sessions.resting.at(place).name)?;
+    }
+    for place in 0..sessions.waiting.len() {
+        names.push(sessions.waiting.at(place).name)?;
+    }
+    Ok(names)
+}
+
+impl<'a, T: PartTable, B: Board<T>, W: Write + Drop> Scene<'a, T, B, W> {
+    /// Runs the lines of a shell, to the line that ends it, the end of the reader, or a fault that is no bad line's.
+    pub fn converse<D: Desk<'a, OwnSession<T, B>>, H: Wait, R: Read + Drop>(
+        &mut self,
+        desk: &D,
+        rt: &H,
+        reader: R,
+        shell: Shell,
+    ) -> Result<(), Fault>
+        requires seats { SeatsAre B.seat D.seat }
+        ensures manager { self.new.stage.manager.now ≡ self.old.stage.manager.now }
+    {
+        let mut lines = LineReader::new(reader);
+        self.prompt(shell, GREETING)?;
+        'lines: for _ in 0..u64::MAX {
+            self.prompt(shell, PROMPT)?;
+            match lines.next_line() {
+                Ok(Some(line)) => {
+                    if self.answer(desk, rt, line.as_str(), shell)? {
+                        return Ok(());
+                    }
+                }
+                Ok(None) => return self.prompt(shell, "\n"),
+                Err(fault) => self.pass_over(fault)?,
+            }
+        }
+        Ok(())
+    }
+
+    /// Says something at a terminal.
+    fn prompt(&mut self, shell: Shell, text: &'static str) -> Result<(), Fault>
+        ensures manager { self.new.stage.manager.now ≡ self.old.stage.manager.now }
+    {
+        if shell.is_terminal {
+            self.output.tell(text)
+        } else {
+            Ok(())
+        }
+    }
+
+    /// Goes on behind a line that isn't ASCII text, which was read to its end. Other faults end the shell.
+    fn pass_over(&mut self, fault: Fault) -> Result<(), Fault>
+        ensures manager { self.new.stage.manager.now ≡ self.old.stage.manager.now }
+    {
+        match fault {
+            Fault::BadLine {
+                what: Defect::NotAsciiText,
+                ..
+            } => self.output.tell("bad line: not ASCII text\n"),
+            _ => Err(fault),
+        }
+    }
+
+    /// Answers a line, and says whether it ends the shell.
+    fn answer<D: Desk<'a, OwnSession<T, B>>, H: Wait>(
+        &mut self,
+        desk: &D,
+        rt: &H,
+        line: &str,
+        shell: Shell,
+    ) -> Result<bool, Fault>
+        requires seats { SeatsAre B.seat D.seat }
+        ensures manager { self.new.stage.manager.now ≡ self.old.stage.manager.now }
+    {
+        match shell.understand(line) {
+            Ok(Asked::End) => Ok(true),
+            Ok(Asked::Help(text)) => {
+                self.output.tell(text.as_str())?;
+                Ok(false)
+            }
+            Ok(Asked::Line) => {
+                self.answer_line(desk, rt, line, shell)?;
+                Ok(false)
+            }
+            Err(_) => Err(Fault::NoMemory),
+        }
+    }
+
+    /// Runs a line of a script, or tells what is wrong with it.
+    fn answer_line<D: Desk<'a, OwnSession<T, B>>, H: Wait>(
+        &mut self,
+        desk: &D,
+        rt: &H,
+        line: &str,
+        shell: Shell,
+    ) -> Result<(), Fault>
+        requires seats { SeatsAre B.seat D.seat }
+        ensures manager { self.new.stage.manager.now ≡ self.old.stage.manager.now }
+    {
+        match parse(line, &self.stage.sessions) {
+            Ok(Some(command)) => self.run(desk, rt, command),
+            Ok(None) => Ok(()),
+            Err(what) => self.correct(line, what, shell),
+        }
+    }
+
+    /// Tells what is wrong with a line.
+    fn correct(&mut self, line: &str, what: Defect, shell: Shell) -> Result<(), Fault>
+        ensures manager { self.new.stage.manager.now ≡ self.old.stage.manager.now }
+    {
+        let stage = &self.stage;
+        match correct_text(shell.alloc, line, what, &stage.sessions) {
+            Ok(text) => self.output.tell(text.as_str()),
+            Err(_) => Err(Fault::NoMemory),
+        }
+    }
+}
+
+/// What is wrong with a line, where these sessions are open.
+fn correct_text<S, W>(
+    alloc: Global,
+    line: &str,
+    what: Defect,
+    sessions: &OpenSessions<S, W>,
+) -> Result<String, AllocError> {
+    let names = names_of(alloc, sessions)?;
+    correction(alloc, line, what, names.as_slice())
+}

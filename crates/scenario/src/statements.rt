@@ -1,0 +1,119 @@
+//! The lock that an SQL command takes on its table, for the help of a shell.
+
+use modes_core::Mode;
+use std::alloc::AllocError;
+
+/// SQL commands, the mode that each takes on its table, and what else is to be said.
+static STATEMENTS: [(&str, Mode, &str); 36] = [
+    ("SELECT", Mode::AccessShare, ""),
+    ("SELECT FOR UPDATE", Mode::RowShare, ""),
+    ("SELECT FOR NO KEY UPDATE", Mode::RowShare, ""),
+    ("SELECT FOR SHARE", Mode::RowShare, ""),
+    ("SELECT FOR KEY SHARE", Mode::RowShare, ""),
+    ("COPY TO", Mode::AccessShare, ""),
+    ("COPY FROM", Mode::RowExclusive, ""),
+    ("PG_DUMP", Mode::AccessShare, ""),
+    ("INSERT", Mode::RowExclusive, ""),
+    (
+        "INSERT",
+        Mode::RowShare,
+        " on the table that a foreign key refers to",
+    ),
+    ("UPDATE", Mode::RowExclusive, ""),
+    ("DELETE", Mode::RowExclusive, ""),
+    ("MERGE", Mode::RowExclusive, ""),
+    ("VACUUM", Mode::ShareUpdateExclusive, ""),
+    ("VACUUM FULL", Mode::AccessExclusive, ""),
+    ("ANALYZE", Mode::ShareUpdateExclusive, ""),
+    ("CREATE STATISTICS", Mode::ShareUpdateExclusive, ""),
+    ("COMMENT ON TABLE", Mode::ShareUpdateExclusive, ""),
+    ("CREATE INDEX", Mode::Share, ""),
+    (
+        "CREATE INDEX CONCURRENTLY",
+        Mode::ShareUpdateExclusive,
+        " session",
+    ),
+    ("CREATE TRIGGER", Mode::ShareRowExclusive, ""),
+    (
+        "REINDEX",
+        Mode::Share,
+        ", and AccessExclusiveLock on the index",
+    ),
+    (
+        "REINDEX CONCURRENTLY",
+        Mode::ShareUpdateExclusive,
+        " session",
+    ),
+    ("DROP INDEX", Mode::AccessExclusive, ""),
+    (
+        "DROP INDEX CONCURRENTLY",
+        Mode::ShareUpdateExclusive,
+        " session",
+    ),
+    ("DROP TABLE", Mode::AccessExclusive, ""),
+    ("TRUNCATE", Mode::AccessExclusive, ""),
+    ("CLUSTER", Mode::AccessExclusive, ""),
+    ("REFRESH MATERIALIZED VIEW", Mode::AccessExclusive, ""),
+    (
+        "REFRESH MATERIALIZED VIEW CONCURRENTLY",
+        Mode::Exclusive,
+        "",
+    ),
+    (
+        "ALTER TABLE",
+        Mode::AccessExclusive,
+        ", in most forms: columns, types, constraints, names, owners",
+    ),
+    (
+        "ALTER TABLE VALIDATE CONSTRAINT",
+        Mode::ShareUpdateExclusive,
+        ", and so SET STATISTICS, CLUSTER ON, SET (fillfactor ..)",
+    ),
+    (
+        "ALTER TABLE ADD FOREIGN KEY",
+        Mode::ShareRowExclusive,
+        " on both tables",
+    ),
+    (
+        "ALTER TABLE DISABLE TRIGGER",
+        Mode::ShareRowExclusive,
+        ", and so ENABLE TRIGGER",
+    ),
+    (
+        "ALTER TABLE ATTACH PARTITION",
+        Mode::ShareUpdateExclusive,
+        " on the parent, AccessExclusiveLock on the table attached",
+    ),
+    (
+        "LOCK TABLE",
+        Mode::AccessExclusive,
+        ", or the mode that it names",
+    ),
+];
+
+/// Adds a line for each SQL command that begins with these words.
+pub fn push_statements(text: &mut String, words: &str) -> Result<(), AllocError> {
+    for (name, mode, note) in &STATEMENTS {
+        if begins_with(name, words) {
+            write!(text, "  {name} takes {mode}{note}\n")?;
+        }
+    }
+    Ok(())
+}
+
+/// Whether a text begins with these words, in letters of either case.
+fn begins_with(text: &str, words: &str) -> bool {
+    let (text, words) = (text.as_bytes(), words.as_bytes());
+    match text.get(..words.len()) {
+        Some(front) => front.eq_ignore_ascii_case(words) && is_word_end(text.get(words.len())),
+        None => false,
+    }
+}
+
+/// Whether a word ends before this byte.
+fn is_word_end(next: Option<&u8>) -> bool {
+    match next {
+        Some(byte) => *byte == b' ',
+        None => true,
+    }
+}

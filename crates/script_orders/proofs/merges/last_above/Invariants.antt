@@ -1,0 +1,9 @@
+use Rattle.std.proofs.Common.{◌<◌, length, slice_index}
+use Rattle.script_orders.proofs.merges.last_above.Given as goal
+
+abbrev pub invariant-places : goal.invariant-places
+invariant-places l = record {
+  behind : l.place < l.found;
+  within : l.found < length l.merge;
+  above : slice_index l.merge l.place < slice_index l.merge l.found;
+}

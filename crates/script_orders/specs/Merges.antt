@@ -1,0 +1,8 @@
+use Rattle.std.specs.Prelude.{◌≡◌, ℕ, ◌<◌, List, length, slice_index}
+
+-- The first place at which two merges differ has the later session in the second one.
+pub record ComesLater (old new : List ℕ) : Type 0 where
+  pub place : ℕ
+  pub within : place < length old
+  pub front : (k : ℕ) → k < place → slice_index new k ≡ slice_index old k
+  pub later : slice_index old place < slice_index new place

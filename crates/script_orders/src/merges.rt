@@ -1,0 +1,61 @@
+//! The merges of several sessions' lines. A merge is a list of sessions, each as often as it has lines: whose line comes when. So
+//! each session's lines keep their order in every merge.
+
+ghost use Rattle.std.specs.Prelude.{◌≡◌, ◌<◌, ◌≤◌, ◌+◌, true, false, length, take, slice_index, IfSome};
+ghost use Rattle.std.specs.List.Sorted.{IsPermutation};
+ghost use Rattle.script_orders.specs.Merges.{ComesLater};
+
+/// Goes on to the next merge of the same sessions, or answers that there is none. The first merge of all has the sessions in
+/// ascending order. Each merge comes later than the one before, so none comes twice.
+pub fn next_merge(merge: &mut [usize]) -> bool
+    ensures same { IsPermutation merge.old merge.new }
+    ensures later { result ≡ true → ComesLater merge.old merge.new }
+    ensures last { result ≡ false → merge.new ≡ merge.old }
+{
+    let Some(place) = last_ascent(merge) else {
+        return false;
+    };
+    let other = last_above(merge, place);
+    merge.swap(place, other);
+    turn_round(merge, place + 1);
+    true
+}
+
+/// The last place whose session comes before the one behind it.
+fn last_ascent(merge: &[usize]) -> Option<usize>
+    ensures ascent { IfSome result (λ place. (place + 1 < length merge.now)
+        × (slice_index merge.now place < slice_index merge.now (place + 1))) }
+{
+    let mut found = None;
+    'places: for place in 0..merge.len().saturating_sub(1) {
+        if merge[place] < merge[place + 1] {
+            found = Some(place);
+        }
+    }
+    found
+}
+
+/// The last place behind this one with a session that comes after this one's.
+fn last_above(merge: &[usize], place: usize) -> usize
+    requires behind { place + 1 < length merge.now }
+    requires ascent { slice_index merge.now place < slice_index merge.now (place + 1) }
+    ensures behind { (place < result) × (result < length merge.now) }
+    ensures above { slice_index merge.now place < slice_index merge.now result }
+{
+    let mut found = place + 1;
+    'places: for other in place + 1..merge.len() {
+        if merge[place] < merge[other] {
+            found = other;
+        }
+    }
+    found
+}
+
+/// Turns round what stands from this place on.
+fn turn_round(merge: &mut [usize], from: usize)
+    requires { from ≤ length merge.old }
+    ensures same { IsPermutation merge.old merge.new }
+    ensures front { take from merge.new ≡ take from merge.old }
+{
+    merge[from..].reverse();
+}

@@ -1,0 +1,32 @@
+//! How many orders were run, on a line that is written anew.
+
+use std::io::Write;
+
+/// After so many orders the line is written.
+const ORDERS_A_LINE: u32 = 128;
+
+/// The line, which only a terminal is shown.
+#[derive(Drop)]
+pub struct OrdersLine<'a, E> {
+    pub writer: &'a mut E,
+    pub is_terminal: bool,
+}
+
+impl<E: Write> OrdersLine<'_, E> {
+    /// So many orders were run.
+    pub fn renew(&mut self, orders: u32) {
+        if self.is_terminal && orders % ORDERS_A_LINE == 0 {
+            // Where the line can't be written, the orders are run all the same.
+            let _ = write!(self.writer, "\r{orders} orders\x1b[K");
+            let _ = self.writer.flush();
+        }
+    }
+
+    /// All are run, and the line is gone.
+    pub fn end(&mut self) {
+        if self.is_terminal {
+            let _ = write!(self.writer, "\r\x1b[K");
+            let _ = self.writer.flush();
+        }
+    }
+}
