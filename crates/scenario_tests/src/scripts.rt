@@ -7,7 +7,7 @@ use crate::{advisory, groups, nested, queues, waiting};
 use lock_manager::{Config, MOST_GROUPS, MOST_LOCAL, MOST_SESSIONS};
 use lock_script::{Defect, Fault};
 use scenario::run_script;
-use std::alloc::Global;
+use std::alloc::{AllocError, Global};
 use std::io::{self, ErrorKind, Read};
 use std::process::Abort;
 use std::sync::Wait;
@@ -275,22 +275,57 @@ fn fill_all_groups(alloc: Global) -> Result<(String, String), Fail> {
     Ok((script, printed))
 }
 
-#[test]
-fn eight_groups_have_128_slots(rt: HostRuntime) -> Result<(), Fail> {
-    let (mut script, mut printed) = fill_all_groups(rt.alloc())?;
+/// Lines by which a strong lock of another session moves each of 128 relations, and those of the listing behind them: all stand in the
+/// table then.
+fn move_all_slots(
+    alloc: Global,
+    script: &mut String,
+    printed: &mut String,
+) -> Result<(), AllocError> {
     for number in 0..128u32 {
-        let relation = number.wrapping_add(16384);
-        let line = format!(in rt.alloc();
-            "try b 5/{relation} AccessExclusiveLock\nunlock a 5/{relation} AccessShareLock\n"
+        let line = format!(in alloc;
+            "try b 5/{} AccessExclusiveLock\n",
+            number.wrapping_add(16384)
         )?;
         script.push_str(line.as_str())?;
-        printed.push_str("b: refused 1 conflict a AccessShareLock held\na: released\n")?;
+        printed.push_str("b: refused 1 conflict a AccessShareLock held\n")?;
     }
-    script.push_str("list b\nfast a 5/16513 AccessShareLock\nlist b\n")?;
-    printed.push_str(
-        "table a 5/16512 AccessShareLock granted\nrows 1\na: granted\n\
-         fast a 31 5/16513 AccessShareLock\ntable a 5/16512 AccessShareLock granted\nrows 2\n",
-    )?;
+    script.push_str("list b\n")?;
+    for number in 0..129u32 {
+        let line = format!(in alloc;
+            "table a 5/{} AccessShareLock granted\n",
+            number.wrapping_add(16384)
+        )?;
+        printed.push_str(line.as_str())?;
+    }
+    printed.push_str("rows 129\n")
+}
+
+/// What is released in the table leaves its group's slots free to be counted anew, and those of other groups as they are.
+const AFTER_MOVES: &str = "fast a 5/16520 AccessShareLock\n\
+    unlock a 5/16384 AccessShareLock\n\
+    fast a 5/16520 AccessShareLock\n\
+    fast a 5/16513 AccessShareLock\n\
+    commit a\n\
+    fast a 5/16513 AccessShareLock\n\
+    list b\n";
+
+const AFTER_MOVES_PRINTED: &str = "a: refused 9 slots full\n\
+    a: released\n\
+    a: granted\n\
+    a: refused 9 slots full\n\
+    a: committed\n\
+    a: granted\n\
+    fast a 31 5/16513 AccessShareLock\n\
+    rows 1\n";
+
+#[test]
+fn eight_groups_have_128_slots(rt: HostRuntime) -> Result<(), Fail> {
+    let alloc = rt.alloc();
+    let (mut script, mut printed) = fill_all_groups(alloc)?;
+    move_all_slots(alloc, &mut script, &mut printed)?;
+    script.push_str(AFTER_MOVES)?;
+    printed.push_str(AFTER_MOVES_PRINTED)?;
     expect_run(&rt, ALL_GROUPS, script.as_str(), printed.as_str(), "")
 }
 

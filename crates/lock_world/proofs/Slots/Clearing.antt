@@ -97,16 +97,16 @@ pub AreInGroups-clear :
     AreInGroups groups slot → AreInGroups groups (set_at slot place (word_without (slot place) mode))
 AreInGroups-clear groups slot mode place weak old k within used =
     elim (cases_eq k place) [
-      | inl here ↦
+      | inl its_place ↦
           let word : ℕ = word_without (slot place) mode in
-          let same = set_at-here slot place word k here in
+          let same = set_at-here slot place word k its_place in
           let left : is_slot_of word (relation_in word) ≡ true =
           and_from (in_use word) (nat_eq (relation_in word) (relation_in word)) (ap in_use (sym same) ∙ used) (eq-eqb (relation_in word) (relation_in word) refl) in
           let was = and_parts (in_use (slot place)) (nat_eq (relation_in (slot place)) (relation_in word)) (was_slot_of (slot place) (relation_in word) mode weak left) in
           ap (λ w. may_use groups (relation_in w) k) same
           ∙ ap (λ r. may_use groups r k) (sym (eqb-true (relation_in (slot place)) (relation_in word) was.1))
-          ∙ ap (λ j. may_use groups (relation_in (slot j)) k) (sym here)
-          ∙ old k within (ap (λ j. in_use (slot j)) here ∙ was.0)
+          ∙ ap (λ j. may_use groups (relation_in (slot j)) k) (sym its_place)
+          ∙ old k within (ap (λ j. in_use (slot j)) its_place ∙ was.0)
       | inr other ↦
           let same = set_at-else slot place (word_without (slot place) mode) k other in
           ap (λ w. may_use groups (relation_in w) k) same ∙ old k within (ap in_use (sym same) ∙ used)

@@ -115,11 +115,11 @@ pub AreInGroups-set :
     AreInGroups groups slot → AreInGroups groups (set_at slot place (word_with (slot place) relation mode))
 AreInGroups-set groups slot relation mode place fits weak usable old k within used =
     elim (cases_eq k place) [
-      | inl here ↦
+      | inl its_place ↦
           let word : ℕ = word_with (slot place) relation mode in
           let of_it : relation_in (set_at slot place word k) ≡ relation =
-          ap relation_in (set_at-here slot place word k here) ∙ relation_in-word_with (slot place) relation mode fits weak in
-          ap (λ r. may_use groups r k) of_it ∙ ap (may_use groups relation) here ∙ usable
+          ap relation_in (set_at-here slot place word k its_place) ∙ relation_in-word_with (slot place) relation mode fits weak in
+          ap (λ r. may_use groups r k) of_it ∙ ap (may_use groups relation) its_place ∙ usable
       | inr other ↦
           let same = set_at-else slot place (word_with (slot place) relation mode) k other in
           ap (λ w. may_use groups (relation_in w) k) same ∙ old k within (ap in_use (sym same) ∙ used)
