@@ -294,15 +294,7 @@ impl<T: PartTable> Opener<T> {
         let strong = count_counters(table, &mut self.place);
         let mut fast = 0;
         let sizes = self.sizes;
-        count_from(
-            rt,
-            table,
-            &mut self.place,
-            &sizes,
-            0,
-            &mut fast,
-            rows,
-        )?;
+        count_from(rt, table, &mut self.place, &sizes, 0, &mut fast, rows)?;
         Ok(Audit {
             fast,
             table: granted_in(rows.as_slice()),

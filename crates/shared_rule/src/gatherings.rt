@@ -33,8 +33,12 @@ impl<'a, T: PartTable> Model for Absent<'a, T> {
     ghost Value = { Seated };
 
     ghost view = { λ absent.
-        record { number = absent.number; limit = absent.sizes.sessions; groups = absent.sizes.groups;
-        table = absent.table.now.table_id } };
+        record {
+          number = absent.number;
+          limit = absent.sizes.sessions;
+          groups = absent.sizes.groups;
+          table = absent.table.now.table_id;
+        } };
 
     ghost invariant = { λ absent. IsSized absent.table.now.table_id × (absent.sizes ≡ absent.table.now.key)
         × (absent.number < absent.sizes.sessions) × HasGroups absent.table.now.table_id absent.sizes.groups };

@@ -80,8 +80,12 @@ impl<T: PartTable> OneThread<T> {
 
 impl<T: PartTable> Board<T> for OneThread<T> {
     ghost seat = { λ board.
-        record { number = board.number; limit = board.sizes.sessions; groups = board.sizes.groups;
-        table = board.table.shared.table_id } };
+        record {
+          number = board.number;
+          limit = board.sizes.sessions;
+          groups = board.sizes.groups;
+          table = board.table.shared.table_id;
+        } };
 
     ghost view = { λ board. first_account T.content board.place.me.0.sessions };
 

@@ -54,8 +54,14 @@ impl<T: PartTable> Opener<T> {
         requires sized { IsSized place.table_id }
         requires grouped { HasGroups place.table_id sizes.now.groups }
         requires few { sizes.now.sessions ≤ 64 }
-        ensures { result ≡ record { table = place.table_id; issued = 0; limit = sizes.now.sessions;
-            groups = sizes.now.groups; closed = []; gathered = [] } }
+        ensures { result ≡ record {
+          table = place.table_id;
+          issued = 0;
+          limit = sizes.now.sessions;
+          groups = sizes.now.groups;
+          closed = [];
+          gathered = [];
+        } }
     {
         Opener {
             place,
@@ -93,8 +99,12 @@ impl<T: PartTable> Opener<T> {
         ensures blank { IfSome result (λ board. ⟦<SeatBoard<'a, T> as Board<T>>⟧.view board ≡ blank_account) }
         ensures stack { IfSome result (λ board. ⟦<SeatBoard<'a, T> as Board<T>>⟧.stack board ≡ nothing_due) }
         ensures seat { IfSome result (λ board. ⟦<SeatBoard<'a, T> as Board<T>>⟧.seat board
-            ≡ record { number = self.old.issued; limit = self.old.limit; groups = self.old.groups;
-            table = self.old.table }) }
+            ≡ record {
+              number = self.old.issued;
+              limit = self.old.limit;
+              groups = self.old.groups;
+              table = self.old.table;
+            }) }
     {
         if self.issued == self.sizes.sessions {
             return None;

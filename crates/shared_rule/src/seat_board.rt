@@ -137,8 +137,12 @@ impl<'a, T: PartTable> SeatBoard<'a, T> {
 
 impl<'a, T: PartTable> Board<T> for SeatBoard<'a, T> {
     ghost seat = { λ board.
-        record { number = board.number; limit = board.sizes.sessions; groups = board.sizes.groups;
-        table = board.table.now.table_id } };
+        record {
+          number = board.number;
+          limit = board.sizes.sessions;
+          groups = board.sizes.groups;
+          table = board.table.now.table_id;
+        } };
 
     ghost view = { λ board. first_account T.content board.place.me.0.sessions };
 

@@ -119,8 +119,14 @@ pub fn open<T: PartTable>(
     requires parts { AreNew T.content T.begun parts.items }
     ensures key { IfOk result (λ opened. opened.0.shared.key ≡ sizes.now) }
     ensures opener { IfOk result (λ opened.
-        opened.1 ≡ record { table = opened.0.shared.table_id; issued = 0; limit = sizes.now.sessions;
-        groups = sizes.now.groups; closed = []; gathered = [] }) }
+        opened.1 ≡ record {
+          table = opened.0.shared.table_id;
+          issued = 0;
+          limit = sizes.now.sessions;
+          groups = sizes.now.groups;
+          closed = [];
+          gathered = [];
+        }) }
     ensures refused { IfErr result (λ refused. refused.slots.items ≡ parts.items) }
 {
     let words = match first_words(alloc, sizes.groups) {

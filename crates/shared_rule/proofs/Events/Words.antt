@@ -114,7 +114,7 @@ module _ {T : Type 0} (content : T → Content) where
     pub home : KeepsHome w.contents noted.after.contents
     pub lists : KeepsLists w noted.after
 
-  abbrev pub IsAlwaysLawful : ℕ → History T → Word → (ℕ → Type 0) → (ℕ → ℕ) → (ℕ → Mark T) → Type 0
+  abbrev pub IsAlwaysLawful : Sizes → History T → Word → (ℕ → Type 0) → (ℕ → ℕ) → (ℕ → Mark T) → Type 0
   IsAlwaysLawful sizes x word expected next mark =
       (w : World) → Stepper sizes w x.number (told content x.number x.marks)
       → (n : ℕ) → n < 2 ^ 64 → n ≡ word_in w.words word → expected n

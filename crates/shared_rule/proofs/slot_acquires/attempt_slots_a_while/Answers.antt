@@ -13,4 +13,4 @@ loop-preserved g c =
 
 pub attempt_slots-requires-clause-lawful : goal.attempt_slots-requires-clause-lawful
 attempt_slots-requires-clause-lawful g c =
-    may-still g.T.PartTable.content c.args.place.now c.loop.place c.loop.place c.loop.invariant c.args.top.now.key.groups c.args.mode c.args.owner c.requires.lawful
+    may-still g.T.PartTable.content c.args.place.now c.loop.place c.loop.place c.loop.invariant c.args.mode c.args.owner c.requires.lawful

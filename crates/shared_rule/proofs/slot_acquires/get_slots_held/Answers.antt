@@ -13,4 +13,4 @@ loop-preserved g c =
 
 pub get_slots_in_turn-requires-clause-lawful : goal.get_slots_in_turn-requires-clause-lawful
 get_slots_in_turn-requires-clause-lawful g c =
-    may-still g.T.PartTable.content c.args.place.now c.loop.place c.loop.place c.loop.invariant c.args.top.now.key.groups c.args.mode c.args.owner c.requires.lawful
+    may-still g.T.PartTable.content c.args.place.now c.loop.place c.loop.place c.loop.invariant c.args.mode c.args.owner c.requires.lawful
