@@ -28,7 +28,7 @@ use Rattle.fast_path.specs.Slots.{group_of_tag, group_loads, account_loading, ac
 use Rattle.fast_path.specs.Slots.{IsOfGroup, NoneInGroup, IsHighestUnused, IsSeenOf, IsSeenUnused, Sights}
 use Rattle.fast_path.specs.Slots.{count_in, one_more_in, AreCounted, AreUseCounts}
 use Rattle.fast_path.specs.Grants.{GrantsInSlot, HasOwnSlots, HasRoom, without_slots}
-use Rattle.fast_path.proofs.UseCounts.{counted-fewer}
+use Rattle.fast_path.proofs.GroupCounts.{counted-fewer}
 use Rattle.fast_path.proofs.Showing.{within-of_group}
 
 -- A grant by the fast path, through its steps.
@@ -75,8 +75,11 @@ pub unused-takes :
 unused-takes groups slot relation place some few highest none = record {
   within = within-of_group groups relation place some few highest.within;
   usable = eq-eqb (place / group_size) (group_of_relation groups relation) highest.within;
-  its_or_unused = inr (highest.unused, λ other within usable.
-      none other (eqb-true (other / group_size) (group_of_relation groups relation) usable));
+  its_or_unused = inr (
+    highest.unused,
+    λ other within usable.
+        none other (eqb-true (other / group_size) (group_of_relation groups relation) usable),
+  );
 }
 
 its_relation :

@@ -1,6 +1,6 @@
 mod Loading
 mod Words
-pub mod UseCounts
+pub mod GroupCounts
 mod Looking
 mod Granting
 mod Releasing

@@ -1,6 +1,6 @@
 use Rattle.std.proofs.Common.{◌≡◌, ◌≢◌, ℕ, ◌+◌, ◌<◌, Bool, true, false, nat_eq, suc, Option, Some, None}
 use Rattle.std.proofs.Common.{refl, sym, ap, ◌∙◌, subst, inl, inr, arith}
-use Rattle.std.specs.Prelude.{◌/◌, ◌&&◌, if◌then◌else◌, IfSome, IfNone}
+use Rattle.std.specs.Prelude.{◌*◌, ◌/◌, ◌&&◌, if◌then◌else◌, IfSome, IfNone}
 use Rattle.std.proofs.lemmas.Bool.{cases_eq, and_from, eq-eqb, ne_eqb, cond-true, cond-false}
 use Rattle.lw_word.specs.SlotWord.{in_use, relation_in}
 use Rattle.lock_table.specs.Total.{total, how_many}
@@ -196,6 +196,10 @@ module _ (group : ℕ) (word : ℕ → ℕ) (relation limit : ℕ) (its last : O
         full = tt;
         counted = counted-same (λ k. in_use (in_group group word k)) limit count so_far.counted unused_there;
       }
+
+-- A place of one of so many groups is below the number of their slots.
+pub place-below : (group groups place : ℕ) → IsOfGroup group place → group < groups → place < group_size * groups
+place-below group groups place its below = omega (arith, its, below)
 
 -- What is found among all slots of the group.
 module _ (group : ℕ) (word : ℕ → ℕ) (relation : ℕ) (its last : Option SeenSlot) (count : ℕ)

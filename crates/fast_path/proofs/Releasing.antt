@@ -26,7 +26,7 @@ use Rattle.fast_path.specs.declared.use_counts.UseCounts.{UseCounts}
 use Rattle.fast_path.specs.Slots.{group_of_tag, group_loads, account_loading, account_tried, IsReady}
 use Rattle.fast_path.specs.Slots.{IsOfGroup, NoneInGroup, IsSeenOf, Sights, count_in, counting, AreCounted, AreUseCounts}
 use Rattle.fast_path.specs.Releases.{ClearsSlot, FindsNoSlot, IsUnused}
-use Rattle.fast_path.proofs.UseCounts.{counted-fewer}
+use Rattle.fast_path.proofs.GroupCounts.{counted-fewer}
 use Rattle.fast_path.proofs.Showing.{within-of_group, no_slot-none}
 
 -- A release by the fast path, through its steps.
@@ -102,7 +102,7 @@ cleared-fewer :
 cleared-fewer slot place mode weak k relation its below shown = elim (cases_eq k place) [
   | inl same ↦
       ap (λ p. shows (slot p) relation its) same
-      ∙ (and_parts (not (mode_eq its mode && (relation_in (slot place) == relation))) (shows (slot place) relation its)
+      ∙ (and_parts (not (mode_eq its mode)) (shows (slot place) relation its)
       (sym (shows-word_without (slot place) mode weak relation its)
       ∙ ap (λ w. shows w relation its) (sym (set_at-here slot place (word_without (slot place) mode) k same)) ∙ shown)).1
   | inr other ↦

@@ -1,7 +1,8 @@
 //! The transfer of fast-path locks that stand in a strong lock's way (`FastPathTransferRelationLocks` in lock.c).
 
-ghost use Rattle.std.specs.Prelude.{◌≡◌, ◌<◌, ◌≤◌, false, true, None, length};
+ghost use Rattle.std.specs.Prelude.{◌≡◌, ◌<◌, ◌≤◌, ◌*◌, false, true, None, length};
 ghost use Rattle.modes_core.specs.Tag.{is_strong_on};
+ghost use Rattle.lock_world.specs.SlotHolds.{group_size};
 ghost use Rattle.lock_world.specs.Account.{Account};
 ghost use Rattle.lock_world.specs.Counted.{is_counted, is_at};
 ghost use Rattle.lock_world.specs.Happens.Counters.{most_counted};
@@ -132,6 +133,7 @@ fn adopt<T: PartTable, B: Board<T>, R: Wait>(
     strong: Mode,
 ) -> Result<(), NoMemory>
     requires exists { owner < (B.seat board.old).limit }
+    requires there { place < group_size * (B.seat board.old).groups }
     requires strong { is_strong_on tag.now strong ≡ true }
     requires next { is_at owner (B.view board.old).fast.counted tag.now strong ≡ true }
     requires in_hand { HasSlots (B.view board.old) owner place word tag.now }
@@ -158,6 +160,7 @@ fn move_modes<T: PartTable, B: Board<T>>(
     strong: Mode,
 ) -> Result<(), NoMemory>
     requires exists { owner < (B.seat board.old).limit }
+    requires there { place < group_size * (B.seat board.old).groups }
     requires strong { is_strong_on tag.now strong ≡ true }
     requires next { is_at owner (B.view board.old).fast.counted tag.now strong ≡ true }
     requires none_begun { T.begun content.old ≡ None }

@@ -1,8 +1,8 @@
-use Rattle.std.proofs.Common.{◌≡◌, ◌∙◌, ℕ, ◌+◌, refl, sym, arith, rules}
-use Rattle.lock_world.specs.SlotHolds.{place_in_group}
+use Rattle.std.proofs.Common.{◌≡◌, ◌∙◌, ℕ, ◌+◌, refl, sym, subst, arith, rules}
+use Rattle.lock_world.specs.SlotHolds.{group_size, place_in_group}
 use Rattle.shared_rule.specs.History.{slots_here}
 use Rattle.fast_path.proofs.Loading.{loading-begun, loading-next, loading-shows}
-use Rattle.fast_path.proofs.Looking.{sights-none, sights-its, sights-other, sights-unused, sights-same, sights-all}
+use Rattle.fast_path.proofs.Looking.{SightsBelow, sights-none, sights-its, sights-other, sights-unused, sights-same, sights-all}
 use Rattle.fast_path.proofs.slot_words.look_through.Goals as goal
 use Rattle.fast_path.proofs.slot_words.look_through.Goals.{then-in_use+then-relation, then-in_use+else-relation}
 use Rattle.fast_path.proofs.slot_words.look_through.Goals.{else-in_use}
@@ -64,5 +64,8 @@ loop-index-preserved g c =
 pub returns-clause-sighted : goal.returns-clause-sighted
 returns-clause-sighted g c =
     let a = g.B.Board.view c.args.board.now in
+    let last : c.loop-index.index ≡ group_size = omega (arith, c.loop-index-test.false, c.loop-index.auto.index-end) in
     sights-all c.args.group (slots_here (a.fast.slots c.args.owner)).word c.args.relation c.loop-index.of_relation
-    c.loop-index.highest_unused c.loop-index.used_count c.loop-index.invariant.sights
+    c.loop-index.highest_unused c.loop-index.used_count
+    (subst (λ k. SightsBelow c.args.group (slots_here (a.fast.slots c.args.owner)).word c.args.relation k
+    c.loop-index.of_relation c.loop-index.highest_unused c.loop-index.used_count) last c.loop-index.invariant.sights)

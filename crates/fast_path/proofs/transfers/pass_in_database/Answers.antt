@@ -1,8 +1,24 @@
-use Rattle.std.proofs.Common.{ℕ, ap, ◌∙◌}
-use Rattle.lock_world.specs.SlotHolds.{group_of_relation}
+use Rattle.std.proofs.Common.{ℕ, ◌*◌, ◌<◌, sym, ap, ◌∙◌, subst}
+use Rattle.std.specs.Prelude.{IfSome}
+use Rattle.lock_world.specs.SlotHolds.{group_size, group_of_relation}
+use Rattle.shared_rule.specs.Boards.{Seated}
+use Rattle.shared_rule.specs.History.{slots_here}
+use Rattle.fast_path.specs.Slots.{IsSeenOf}
+use Rattle.fast_path.proofs.Looking.{place-below}
 use Rattle.fast_path.proofs.Passing.{next-before, finds, relation-found, may_pass-nothing, may_pass-adopted}
 use Rattle.fast_path.proofs.Passing.{passes-nothing, passes-adopting, stops-adopting}
 use Rattle.fast_path.proofs.transfers.pass_in_database.Goals as goal
+
+pub adopt-requires-clause-there : goal.adopt-requires-clause-there
+adopt-requires-clause-there g c =
+    let looks = c.look_through-of_relation in
+    let word = (slots_here ((g.B.Board.view c.args.board.now).fast.slots c.args.owner)).word in
+    let seen = subst (λ found. IfSome found (IsSeenOf c.group_of-group.result word c.relation_number-relation.result)) c.in-Some.is
+    looks.ensures.sighted.found in
+    let below : c.group_of-group.result < (g.B.Board.seat c.args.board.now).groups =
+    subst (λ (k : ℕ). c.group_of-group.result < k) c.groups.ensures.value c.group_of-group.ensures.exists in
+    subst (λ (s : Seated). c.in-Some.slot.place < group_size * s.groups) (sym looks.ensures.seat)
+    (place-below c.group_of-group.result (g.B.Board.seat c.args.board.now).groups c.in-Some.slot.place seen.within below)
 
 pub pass_fast-requires-clause-lawful : goal.pass_fast-requires-clause-lawful
 pass_fast-requires-clause-lawful g c =

@@ -20,7 +20,7 @@ use Rattle.shared_rule.specs.History.{blank_account}
 use Rattle.shared_rule.specs.Boards.{Stack, nothing_due}
 use Rattle.fast_path.specs.declared.use_counts.UseCounts.{UseCounts}
 use Rattle.fast_path.specs.Slots.{count_in, AreCounted}
-use Rattle.fast_path.proofs.UseCounts.{counted-fewer}
+use Rattle.fast_path.proofs.GroupCounts.{counted-fewer}
 use Rattle.lock_manager.specs.Rest.{counted_for, account_at_rest, IsUseCount, IsAtRest}
 use Rattle.lock_manager.specs.Requests.{counted_granted, account_granted}
 use Rattle.lock_manager.proofs.Lemmas.Rest.Ends.{own_with-key, with_strong, counted_for-cons}
