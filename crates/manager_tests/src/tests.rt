@@ -24,8 +24,10 @@ mod scenes;
 mod threads;
 mod turn_lists;
 mod turns;
+mod unsteady;
 mod waits;
 mod wakes;
+mod watched;
 mod watches;
 
 use desk::{Desk, ManagerDesk};
@@ -43,6 +45,7 @@ use std::thread::Threads;
 use std::time::Clock;
 use threads::Plan;
 use turn_lists::LISTS;
+use unsteady::Crew;
 
 /// What the sessions of a manager do.
 #[derive(Clone, Copy)]
@@ -247,6 +250,27 @@ fn a_thousand_races_end_as_one_of_the_two_had_won(rt: HostRuntime) -> Result<(),
     ] {
         let story = Story::OfTwo(Scene::Races(race, rounds));
         run(&rt, rt.alloc(), two(8), story)?;
+    }
+    Ok(())
+}
+
+#[test]
+fn races_end_so_where_threads_pause_between_steps(rt: HostRuntime) -> Result<(), Fail> {
+    for race in [
+        Race::WeakAgainstStrong(Mode::AccessShare, Mode::AccessExclusive),
+        Race::StrongOverWeak(Mode::RowExclusive, Mode::Share),
+        Race::CancelAgainstRelease(Mode::AccessExclusive, Mode::AccessShare),
+        Race::AskAgainstSleep,
+    ] {
+        unsteady::race_with_pauses(&rt, rt.alloc(), race, 1_000)?;
+    }
+    Ok(())
+}
+
+#[test]
+fn many_sessions_do_so_where_threads_pause_between_steps(rt: HostRuntime) -> Result<(), Fail> {
+    for crew in [Crew::Asked(1_000), Crew::Watch, Crew::Crowd] {
+        unsteady::act_with_pauses(&rt, rt.alloc(), crew)?;
     }
     Ok(())
 }

@@ -160,7 +160,7 @@ fn guard<R: Abort + Clock + Wait>(rt: &R, watch: &Watch) {
 }
 
 /// As many sessions as there can be lock and unlock on one partition.
-fn crowd<B: Board<Part> + Send, R: Abort + Clock + Threads + Wait + Sync>(
+pub fn crowd<B: Board<Part> + Send, R: Abort + Clock + Threads + Wait + Sync>(
     rt: &R,
     sessions: &mut [OwnSession<Part, B>],
 )
