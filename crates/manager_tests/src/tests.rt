@@ -2,7 +2,7 @@
 
 ghost use Rattle.std.specs.Prelude.{◌≡◌, IfOk};
 ghost use Rattle.lock_manager.specs.Managers.{IsNew};
-ghost use Rattle.manager_tests.specs.Crews.{SeatsAre};
+ghost use Rattle.lock_manager.specs.Crews.{SeatsAre};
 
 mod answers;
 mod asked;
@@ -28,9 +28,10 @@ mod waits;
 mod wakes;
 mod watches;
 
-use desk::{Desk, ManagerDesk};
 use limits::Limits;
-use lock_manager::{Config, Final, Manager, Mode, Opener, OwnSession, Part, Refusal};
+use lock_manager::{
+    Config, Desk, Final, Manager, ManagerDesk, Mode, Opener, OwnSession, Part, Refusal,
+};
 use pair::Pair;
 use races::Race;
 use scenes::{Scene, perform};
@@ -48,9 +49,9 @@ use turn_lists::LISTS;
 #[derive(Clone, Copy)]
 enum Story<'a> {
     OfTwo(Scene<'a>),
-    /// One takes many modes and gives them back, where memory may be wanting once.
+    /// One takes many modes and gives them back, where memory may run out once.
     GoesOn,
-    /// Three are lent to audits, where memory may be wanting once.
+    /// Three are lent to audits, where memory may run out once.
     Audits,
     /// So many have as many local entries as they may.
     Holds(Limits),
