@@ -302,7 +302,7 @@ fn all_local_entries_can_be_held_at_once(rt: HostRuntime) -> Result<(), Fail> {
 
 /// Run it under `rt try --test --fail-alloc N` for an allocation that fails.
 #[test]
-fn sessions_go_on_where_memory_was_wanting_once(rt: HostRuntime) -> Result<(), Fail> {
+fn sessions_go_on_where_memory_ran_out_once(rt: HostRuntime) -> Result<(), Fail> {
     let one = Config {
         sessions: 1,
         max_local: memory::MANY,
