@@ -2,7 +2,7 @@
 
 ghost use Rattle.std.specs.Prelude.{◌≡◌, IfOk};
 ghost use Rattle.lock_manager.specs.Managers.{IsNew};
-ghost use Rattle.manager_tests.specs.Crews.{SeatsAre};
+ghost use Rattle.lock_manager.specs.Crews.{SeatsAre};
 
 mod answers;
 mod asked;
@@ -30,9 +30,10 @@ mod wakes;
 mod watched;
 mod watches;
 
-use desk::{Desk, ManagerDesk};
 use limits::Limits;
-use lock_manager::{Config, Final, Manager, Mode, Opener, OwnSession, Part, Refusal};
+use lock_manager::{
+    Config, Desk, Final, Manager, ManagerDesk, Mode, Opener, OwnSession, Part, Refusal,
+};
 use pair::Pair;
 use races::Race;
 use scenes::{Scene, perform};
@@ -51,9 +52,9 @@ use unsteady::Crew;
 #[derive(Clone, Copy)]
 enum Story<'a> {
     OfTwo(Scene<'a>),
-    /// One takes many modes and gives them back, where memory may be wanting once.
+    /// One takes many modes and gives them back, where memory may run out once.
     GoesOn,
-    /// Three are lent to audits, where memory may be wanting once.
+    /// Three are lent to audits, where memory may run out once.
     Audits,
     /// So many have as many local entries as they may.
     Holds(Limits),
@@ -325,7 +326,7 @@ fn all_local_entries_can_be_held_at_once(rt: HostRuntime) -> Result<(), Fail> {
 
 /// Run it under `rt try --test --fail-alloc N` for an allocation that fails.
 #[test]
-fn sessions_go_on_where_memory_was_wanting_once(rt: HostRuntime) -> Result<(), Fail> {
+fn sessions_go_on_where_memory_ran_out_once(rt: HostRuntime) -> Result<(), Fail> {
     let one = Config {
         sessions: 1,
         max_local: memory::MANY,
