@@ -1,29 +1,31 @@
-//! A manager for each tale, and the calls that make one and its sessions.
+//! A manager for each act, and the calls that make one and a session.
 
 ghost use Rattle.std.specs.Prelude.{◌≡◌};
 ghost use Rattle.lock_manager.specs.Managers.{IsOpenerOf};
 
+use crate::acts;
+use crate::acts::Act;
 use crate::allocator::{refuse, was_refused};
-use crate::tales::Tale;
 use crate::told::Told;
-use crate::{steady, telling};
 use lock_manager::{Config, Manager, ManagerDesk, Opener, Refusal};
 use std::alloc::Global;
 use std::sync::Wait;
 
 const CONFIG: Config = Config {
-    sessions: 4,
+    sessions: 8,
     max_local: 64,
     slot_groups: 1,
 };
 
-/// Tells a tale at the desk of a manager of its own, with this growth refused.
-pub fn tell<R: Wait>(rt: &R, alloc: Global, tale: &Tale, growth: u16) -> Told {
+const DATABASE: u32 = 5;
+
+/// Does so at the desk of a manager of its own, with this growth refused.
+pub fn act<R: Wait>(rt: &R, alloc: Global, act: Act<'_>, growth: u16) -> Told {
     let Ok((manager, opener)) = Manager::new(alloc, CONFIG) else {
         return Told::Otherwise;
     };
     let mut desk = ManagerDesk::new(&manager, opener);
-    let told = tell_at(rt, alloc, &mut desk, tale, growth);
+    let told = act_at(rt, alloc, &mut desk, act, growth);
     let opener = desk.into_opener();
     if opener.live() == 0 {
         manager.finish(opener);
@@ -33,16 +35,17 @@ pub fn tell<R: Wait>(rt: &R, alloc: Global, tale: &Tale, growth: u16) -> Told {
 }
 
 /// The board of the shared table is named here alone.
-fn tell_at<R: Wait>(
+fn act_at<R: Wait>(
     rt: &R,
     alloc: Global,
     desk: &mut ManagerDesk<'_>,
-    tale: &Tale,
+    act: Act<'_>,
     growth: u16,
 ) -> Told
-    ensures { desk.new.manager.now ≡ desk.old.manager.now }
+    requires none_live { desk.old.opener.live ≡ 0 }
+    ensures manager { desk.new.manager.now ≡ desk.old.manager.now }
 {
-    telling::tell(rt, alloc, desk, tale, growth)
+    acts::act(rt, alloc, desk, act, growth)
 }
 
 /// Makes a manager with this growth refused.
@@ -65,7 +68,7 @@ pub fn open<R: Wait>(rt: &R, alloc: Global, growth: u16) -> Told {
         return Told::Otherwise;
     };
     refuse(alloc, growth);
-    let opened = opener.session(&manager, 5);
+    let opened = opener.session(&manager, DATABASE);
     let refused = was_refused(alloc);
     match opened {
         Ok(session) => {
@@ -83,32 +86,10 @@ pub fn open<R: Wait>(rt: &R, alloc: Global, growth: u16) -> Told {
 fn open_again<R: Wait>(rt: &R, manager: &Manager, opener: &mut Opener) -> bool
     requires { IsOpenerOf opener.old manager.now }
 {
-    let Ok(session) = opener.session(manager, 5) else {
+    let Ok(session) = opener.session(manager, DATABASE) else {
         return false;
     };
     let number = session.id().number();
     session.close(rt, opener);
     number == 0
-}
-
-/// Two sessions of a manager of its own go on for long, with every growth refused after their first round.
-pub fn go_on<R: Wait>(rt: &R, alloc: Global) -> Told {
-    let Ok((manager, opener)) = Manager::new(alloc, CONFIG) else {
-        return Told::Otherwise;
-    };
-    let mut desk = ManagerDesk::new(&manager, opener);
-    let told = go_on_at(rt, alloc, &mut desk);
-    let opener = desk.into_opener();
-    if opener.live() == 0 {
-        manager.finish(opener);
-        return told;
-    }
-    Told::Otherwise
-}
-
-/// The board of the shared table is named here for it.
-fn go_on_at<R: Wait>(rt: &R, alloc: Global, desk: &mut ManagerDesk<'_>) -> Told
-    ensures { desk.new.manager.now ≡ desk.old.manager.now }
-{
-    steady::tell(rt, alloc, desk)
 }

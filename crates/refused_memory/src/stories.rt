@@ -1,7 +1,8 @@
 //! What is told, call by call.
 
+use crate::acts::Act;
+use crate::looks::Look;
 use crate::parts::PartCall;
-use crate::tales::Tale;
 use crate::told::Told;
 use crate::{events, managers, parts};
 use std::alloc::Global;
@@ -24,15 +25,15 @@ pub enum Story<'a> {
     OfPlain(PartCall),
     /// `run_events`.
     RunsEvents,
-    /// Of a session.
-    Of(&'a Tale),
+    /// At the desk of a manager.
+    AtDesk(Act<'a>),
 }
 
 /// Each but those of sessions, with its name and how many growths it takes. A manager takes three for each of 16 partitions, one for
 /// each of 128 places of wait lists, and five for the lists of partitions, of slots and of words, and for the table of both. A local
 /// table takes one for its slots, two for their index, and three for the counts of outer levels, a list that grows to 16. A session has
-/// that and a box.
-pub static STORIES: [(&'static str, Story<'static>, u16); 11] = [
+/// that and a box. The list of an audit's rows grows to four and to eight.
+pub static STORIES: [(&'static str, Story<'static>, u16); 14] = [
     ("Manager::new", Story::MakesManager, 181),
     ("Opener::session", Story::OpensSession, 7),
     ("LocalTable::new", Story::MakesLocalTable, 6),
@@ -64,6 +65,17 @@ pub static STORIES: [(&'static str, Story<'static>, u16); 11] = [
     ),
     ("rows of a plain part", Story::OfPlain(PartCall::Rows), 1),
     ("run_events", Story::RunsEvents, 20),
+    (
+        "audit, five rows of the table",
+        Story::AtDesk(Act::Audits),
+        2,
+    ),
+    ("queue, a row", Story::AtDesk(Act::Looks(Look::Queue)), 1),
+    (
+        "blockers, a row",
+        Story::AtDesk(Act::Looks(Look::Blockers)),
+        1,
+    ),
 ];
 
 /// Tells a story with this growth refused.
@@ -76,6 +88,6 @@ pub fn tell<R: Wait>(rt: &R, alloc: Global, story: Story<'_>, growth: u16) -> To
         Story::OfRecords(call) => parts::of_records(alloc, call, growth),
         Story::OfPlain(call) => parts::of_plain(alloc, call, growth),
         Story::RunsEvents => events::run(alloc, growth),
-        Story::Of(tale) => managers::tell(rt, alloc, tale, growth),
+        Story::AtDesk(act) => managers::act(rt, alloc, act, growth),
     }
 }
