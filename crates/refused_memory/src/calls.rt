@@ -1,10 +1,10 @@
 //! Calls of a session that may take memory, each by a function that takes the session and gives it back.
 
-ghost use Rattle.std.specs.Prelude.{◌≡◌};
+ghost use Rattle.std.specs.Prelude.{◌≡◌, IfOk, IfErr};
 ghost use Rattle.lock_manager.specs.Crews.{KeepsSeat};
 
 use lock_manager::{
-    Acquired, Board, How, Mode, OwnSession, Owner, PartTable, Refusal, Started, Tag,
+    Acquired, Board, How, Mode, OwnSession, OwnWaiting, Owner, PartTable, Refusal, Started, Tag,
 };
 use std::sync::Wait;
 
@@ -88,6 +88,33 @@ fn try_fast<T: PartTable, B: Board<T>>(
     (session, answer_of(answer))
 }
 
+/// Begins to wait for an object. Where it has not to wait the session comes back.
+pub fn queue<T: PartTable, B: Board<T>, R: Wait>(
+    rt: &R,
+    session: OwnSession<T, B>,
+    tag: Tag,
+) -> Result<OwnWaiting<T, B>, OwnSession<T, B>>
+    ensures waits { IfOk result (λ waiting. B.seat waiting.board ≡ B.seat session.board) }
+    ensures back { IfErr result (λ back. KeepsSeat B.seat session back) }
+{
+    match session.start(rt, tag, Mode::Exclusive, Owner::Transaction) {
+        Started::Queued(waiting) => Ok(waiting),
+        Started::Granted(session) => Err(session),
+        Started::AlreadyHeld(session) => Err(session),
+        Started::Refused(session, _) => Err(session),
+    }
+}
+
+/// A wait is cancelled.
+pub fn end_wait<T: PartTable, B: Board<T>, R: Wait>(
+    rt: &R,
+    waiting: OwnWaiting<T, B>,
+) -> OwnSession<T, B>
+    ensures seat { B.seat result.board ≡ B.seat waiting.board }
+{
+    waiting.cancel(rt).into_parts().0
+}
+
 fn start<T: PartTable, B: Board<T>, R: Wait>(
     rt: &R,
     session: OwnSession<T, B>,
@@ -99,7 +126,7 @@ fn start<T: PartTable, B: Board<T>, R: Wait>(
     match session.start(rt, tag, mode, Owner::Transaction) {
         Started::Granted(session) => (session, Answer::Granted),
         Started::AlreadyHeld(session) => (session, Answer::AlreadyHeld),
-        Started::Queued(waiting) => (waiting.cancel(rt).into_parts().0, Answer::Queued),
+        Started::Queued(waiting) => (end_wait(rt, waiting), Answer::Queued),
         Started::Refused(session, refusal) => (session, refused(refusal)),
     }
 }

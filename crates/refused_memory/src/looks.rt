@@ -4,9 +4,10 @@ ghost use Rattle.std.specs.Prelude.{◌≡◌};
 ghost use Rattle.lock_manager.specs.Crews.{KeepsSeat, SeatsAre};
 
 use crate::allocator::{refuse, was_refused};
+use crate::calls::{end_wait, queue};
 use crate::told::Told;
 use lock_manager::Mode::Exclusive;
-use lock_manager::{Board, Desk, OwnSession, Owner, PartTable, Refusal, SessionId, Started, Tag};
+use lock_manager::{Board, Desk, OwnSession, Owner, PartTable, Refusal, SessionId, Tag};
 use std::alloc::Global;
 use std::sync::Wait;
 
@@ -82,14 +83,12 @@ fn look_at_wait<T: PartTable, B: Board<T>, R: Wait>(
     ensures first { KeepsSeat B.seat first.old first.new }
     ensures second { KeepsSeat B.seat second result.0 }
 {
-    match second.start(rt, OBJECT, Exclusive, Owner::Transaction) {
-        Started::Queued(waiting) => {
+    match queue(rt, second, OBJECT) {
+        Ok(waiting) => {
             let told = look_twice(rt, alloc, first, kind, waiting.id(), growth);
-            (waiting.cancel(rt).into_parts().0, told)
+            (end_wait(rt, waiting), told)
         }
-        Started::Granted(second) => (second, Told::Otherwise),
-        Started::AlreadyHeld(second) => (second, Told::Otherwise),
-        Started::Refused(second, _) => (second, Told::Otherwise),
+        Err(second) => (second, Told::Otherwise),
     }
 }
 

@@ -3,7 +3,9 @@
 //! none, and then each call is made once.
 #![tactic(auto)]
 
+mod acts;
 mod allocator;
+mod audits;
 mod calls;
 mod events;
 mod looks;
@@ -15,6 +17,7 @@ mod tales;
 mod telling;
 mod told;
 
+use acts::Act;
 use allocator::{refuse, was_refused};
 use anyhow::bail;
 use std::alloc::Global;
@@ -68,7 +71,7 @@ fn tell_all<R: Wait + Print>(rt: &R, alloc: Global, listens: bool) -> anyhow::Re
         tell_in_turn(rt, alloc, listens, name, *story, *growths)?;
     }
     for tale in &TALES {
-        let story = Story::Of(tale);
+        let story = Story::AtDesk(Act::Tells(tale));
         tell_in_turn(rt, alloc, listens, tale.name, story, tale.growths)?;
     }
     Ok(())
@@ -83,7 +86,7 @@ fn main(rt: HostRuntime) -> anyhow::Result<()> {
         println!(rt; "no growth is refused by this allocator")?;
     }
     tell_all(&rt, rt.alloc(), listens)?;
-    if managers::go_on(&rt, rt.alloc()) != Told::Answered {
+    if managers::act(&rt, rt.alloc(), Act::GoesOn, 0) != Told::Answered {
         bail!("sessions that go on: it went otherwise");
     }
     println!(rt;

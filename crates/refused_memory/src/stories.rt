@@ -1,8 +1,8 @@
 //! What is told, call by call.
 
+use crate::acts::Act;
 use crate::looks::Look;
 use crate::parts::PartCall;
-use crate::tales::Tale;
 use crate::told::Told;
 use crate::{events, managers, parts};
 use std::alloc::Global;
@@ -25,12 +25,8 @@ pub enum Story<'a> {
     OfPlain(PartCall),
     /// `run_events`.
     RunsEvents,
-    /// `Manager::audit`.
-    Audits,
-    /// `queue` or `blockers`, of an object that a session waits for.
-    Looks(Look),
-    /// Of a session.
-    Of(&'a Tale),
+    /// At the desk of a manager.
+    AtDesk(Act<'a>),
 }
 
 /// Each but those of sessions, with its name and how many growths it takes. A manager takes three for each of 16 partitions, one for
@@ -69,9 +65,17 @@ pub static STORIES: [(&'static str, Story<'static>, u16); 14] = [
     ),
     ("rows of a plain part", Story::OfPlain(PartCall::Rows), 1),
     ("run_events", Story::RunsEvents, 20),
-    ("audit, five rows of the table", Story::Audits, 2),
-    ("queue, a row", Story::Looks(Look::Queue), 1),
-    ("blockers, a row", Story::Looks(Look::Blockers), 1),
+    (
+        "audit, five rows of the table",
+        Story::AtDesk(Act::Audits),
+        2,
+    ),
+    ("queue, a row", Story::AtDesk(Act::Looks(Look::Queue)), 1),
+    (
+        "blockers, a row",
+        Story::AtDesk(Act::Looks(Look::Blockers)),
+        1,
+    ),
 ];
 
 /// Tells a story with this growth refused.
@@ -84,8 +88,6 @@ pub fn tell<R: Wait>(rt: &R, alloc: Global, story: Story<'_>, growth: u16) -> To
         Story::OfRecords(call) => parts::of_records(alloc, call, growth),
         Story::OfPlain(call) => parts::of_plain(alloc, call, growth),
         Story::RunsEvents => events::run(alloc, growth),
-        Story::Audits => managers::audit(rt, alloc, growth),
-        Story::Looks(look) => managers::look(rt, alloc, look, growth),
-        Story::Of(tale) => managers::tell(rt, alloc, tale, growth),
+        Story::AtDesk(act) => managers::act(rt, alloc, act, growth),
     }
 }

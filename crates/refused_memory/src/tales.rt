@@ -7,14 +7,16 @@ use lock_manager::{Mode, Tag};
 /// What a session has.
 pub type Hold = (Tag, Mode);
 
-/// A session asks for something, beside three others.
+/// A session asks for something, beside three others and those that wait.
 #[derive(Clone, Copy)]
 pub struct Tale {
     pub name: &'static str,
     /// What each of the others has.
     pub others: [Option<Hold>; 3],
-    /// How many objects the asking one has, each in a mode that nobody else asks for.
+    /// How many objects the asking one has, each in a mode that none of these asks for.
     pub own: u32,
+    /// How many further sessions wait for one of these objects, each for another one.
+    pub waiters: u32,
     pub call: Call,
     pub answer: Answer,
     /// How many growths the call takes.
@@ -67,12 +69,13 @@ const ONE: [Option<Hold>; 3] = [Some((OBJECT, Exclusive)), None, None];
 const ONE_OF_MANY: [Option<Hold>; 3] = [Some((MANY, Exclusive)), None, None];
 
 /// All of them.
-pub static TALES: [Tale; 14] = [
+pub static TALES: [Tale; 15] = [
     // Three in a partition that has had nothing yet: a lock record, a holder record, and room for a queue.
     Tale {
         name: "try_lock, an object",
         others: NOBODY,
         own: 0,
+        waiters: 0,
         call: Call::Try(OBJECT, Exclusive),
         answer: Answer::Granted,
         growths: 3,
@@ -82,6 +85,7 @@ pub static TALES: [Tale; 14] = [
         name: "try_lock, an object of a session that has sixteen",
         others: NOBODY,
         own: 16,
+        waiters: 0,
         call: Call::Try(OBJECT, Exclusive),
         answer: Answer::Granted,
         growths: 7,
@@ -91,6 +95,7 @@ pub static TALES: [Tale; 14] = [
         name: "try_lock, the seventeenth object of a partition",
         others: NOBODY,
         own: 16,
+        waiters: 0,
         call: Call::Try(MANY, Exclusive),
         answer: Answer::Granted,
         growths: 8,
@@ -99,6 +104,7 @@ pub static TALES: [Tale; 14] = [
         name: "try_lock, a weak mode by a slot",
         others: NOBODY,
         own: 16,
+        waiters: 0,
         call: Call::Try(TABLE, AccessShare),
         answer: Answer::Granted,
         growths: 4,
@@ -109,6 +115,7 @@ pub static TALES: [Tale; 14] = [
         name: "try_lock, a strong mode, with nothing beside",
         others: READERS,
         own: 0,
+        waiters: 0,
         call: Call::Try(TABLE, AccessExclusive),
         answer: Answer::Conflict(0, AccessShare),
         growths: 3,
@@ -117,6 +124,7 @@ pub static TALES: [Tale; 14] = [
         name: "try_lock, a strong mode, with one object beside",
         others: READERS,
         own: 1,
+        waiters: 0,
         call: Call::Try(TABLE, AccessExclusive),
         answer: Answer::Conflict(0, AccessShare),
         growths: 1,
@@ -125,6 +133,7 @@ pub static TALES: [Tale; 14] = [
         name: "try_lock, a strong mode, with two objects beside",
         others: READERS,
         own: 2,
+        waiters: 0,
         call: Call::Try(TABLE, AccessExclusive),
         answer: Answer::Conflict(0, AccessShare),
         growths: 1,
@@ -133,6 +142,7 @@ pub static TALES: [Tale; 14] = [
         name: "try_lock, a strong mode, with three objects beside",
         others: READERS,
         own: 3,
+        waiters: 0,
         call: Call::Try(TABLE, AccessExclusive),
         answer: Answer::Conflict(0, AccessShare),
         growths: 2,
@@ -141,6 +151,7 @@ pub static TALES: [Tale; 14] = [
         name: "try_fast",
         others: NOBODY,
         own: 16,
+        waiters: 0,
         call: Call::Fast(TABLE, RowExclusive),
         answer: Answer::Granted,
         growths: 4,
@@ -149,6 +160,7 @@ pub static TALES: [Tale; 14] = [
         name: "start, granted",
         others: NOBODY,
         own: 0,
+        waiters: 0,
         call: Call::Start(OBJECT, Share),
         answer: Answer::Granted,
         growths: 3,
@@ -158,14 +170,26 @@ pub static TALES: [Tale; 14] = [
         name: "start, queued",
         others: ONE_OF_MANY,
         own: 3,
+        waiters: 0,
         call: Call::Start(MANY, Share),
         answer: Answer::Queued,
         growths: 2,
+    },
+    // Five lock records and their holder records, with one for each wait, have room. Four queue records are full.
+    Tale {
+        name: "start, queued, with four objects awaited beside",
+        others: ONE_OF_MANY,
+        own: 4,
+        waiters: 4,
+        call: Call::Start(MANY, Share),
+        answer: Answer::Queued,
+        growths: 1,
     },
     Tale {
         name: "lock, granted",
         others: NOBODY,
         own: 16,
+        waiters: 0,
         call: Call::Lock(OBJECT, Share),
         answer: Answer::Granted,
         growths: 7,
@@ -174,6 +198,7 @@ pub static TALES: [Tale; 14] = [
         name: "lock, a conflict for a conditional one",
         others: ONE,
         own: 0,
+        waiters: 0,
         call: Call::Try(OBJECT, Share),
         answer: Answer::Conflict(0, Exclusive),
         growths: 0,
@@ -183,6 +208,7 @@ pub static TALES: [Tale; 14] = [
         name: "list, three rows of slots and sixteen of the table",
         others: READERS,
         own: 16,
+        waiters: 0,
         call: Call::List,
         answer: Answer::Rows { fast: 3, table: 16 },
         growths: 4,

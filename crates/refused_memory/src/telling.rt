@@ -4,7 +4,7 @@ ghost use Rattle.std.specs.Prelude.{◌≡◌, ◌≤◌};
 ghost use Rattle.lock_manager.specs.Crews.{IsOf, KeepsSeat, SeatsAre};
 
 use crate::allocator::{refuse, was_refused};
-use crate::calls::{Answer, make, try_lock};
+use crate::calls::{Answer, end_wait, make, queue};
 use crate::tales::{Hold, TABLE, Tale, object};
 use crate::told::Told;
 use lock_manager::{Board, Desk, Listing, Mode, OwnSession, Owner, PartTable, SlotRow, TableRow};
@@ -108,6 +108,39 @@ fn ask<T: PartTable, B: Board<T>, R: Wait>(
     (session, Told::of(true, answer.is_wanting(), is_right))
 }
 
+/// So many sessions open and wait for an object each that the asking one has. Once all of them do, it asks.
+fn with_waiters<T: PartTable, B: Board<T>, D: Desk<OwnSession<T, B>>, R: Wait>(
+    rt: &R,
+    alloc: Global,
+    desk: &mut D,
+    session: OwnSession<T, B>,
+    tale: &Tale,
+    waiters: u32,
+    growth: u16,
+) -> (OwnSession<T, B>, Told)
+    requires seats { SeatsAre B.seat D.seat }
+    ensures seat { KeepsSeat B.seat session result.0 }
+    ensures manager { D.manager desk.new ≡ D.manager desk.old }
+{
+    if waiters == 0 {
+        return ask(rt, alloc, session, tale, growth);
+    }
+    let Ok(waiter) = desk.open(DATABASE) else {
+        return (session, Told::Otherwise);
+    };
+    match queue(rt, waiter, object(waiters - 1)) {
+        Ok(waiting) => {
+            let answered = with_waiters(rt, alloc, desk, session, tale, waiters - 1, growth);
+            desk.close(rt, end_wait(rt, waiting));
+            answered
+        }
+        Err(waiter) => {
+            desk.close(rt, waiter);
+            (session, Told::Otherwise)
+        }
+    }
+}
+
 /// The asking session takes what it has, and asks.
 fn with_asking<T: PartTable, B: Board<T>, D: Desk<OwnSession<T, B>>, R: Wait>(
     rt: &R,
@@ -123,7 +156,7 @@ fn with_asking<T: PartTable, B: Board<T>, D: Desk<OwnSession<T, B>>, R: Wait>(
         return Told::Otherwise;
     };
     take_own(rt, &mut session, tale.own);
-    let (session, told) = ask(rt, alloc, session, tale, growth);
+    let (session, told) = with_waiters(rt, alloc, desk, session, tale, tale.waiters, growth);
     desk.close(rt, session);
     told
 }

@@ -1,7 +1,7 @@
 use Rattle.std.proofs.Common.{◌≡◌}
 use Rattle.std.specs.Prelude.{vec_len}
 use Rattle.lock_manager.specs.Crews.{AreOf}
-use Rattle.refused_memory.proofs.managers.close_each.Given as goal
+use Rattle.refused_memory.proofs.audits.close_each.Given as goal
 
 abbrev pub invariant-sessions : goal.invariant-sessions
 invariant-sessions g l = record {

@@ -1,0 +1,45 @@
+//! What happens at a desk, over any board.
+
+ghost use Rattle.std.specs.Prelude.{◌≡◌};
+ghost use Rattle.lock_manager.specs.Crews.{SeatsAre};
+
+use crate::looks::Look;
+use crate::tales::Tale;
+use crate::told::Told;
+use crate::{audits, looks, steady, telling};
+use lock_manager::{Board, Desk, OwnSession, PartTable};
+use std::alloc::Global;
+use std::sync::Wait;
+
+/// What happens at the desk of a manager.
+#[derive(Clone, Copy)]
+pub enum Act<'a> {
+    /// A tale is told.
+    Tells(&'a Tale),
+    /// An audit counts.
+    Audits,
+    /// A session looks at a queue, or at who is in the way there.
+    Looks(Look),
+    /// Two sessions go on for long, with every growth refused after their first round.
+    GoesOn,
+}
+
+/// Does so at a desk that has nothing yet, with this growth refused.
+pub fn act<T: PartTable, B: Board<T>, D: Desk<OwnSession<T, B>>, R: Wait>(
+    rt: &R,
+    alloc: Global,
+    desk: &mut D,
+    act: Act<'_>,
+    growth: u16,
+) -> Told
+    requires seats { SeatsAre B.seat D.seat }
+    requires none_live { D.live desk.old ≡ 0 }
+    ensures manager { D.manager desk.new ≡ D.manager desk.old }
+{
+    match act {
+        Act::Tells(tale) => telling::tell(rt, alloc, desk, tale, growth),
+        Act::Audits => audits::tell(rt, alloc, desk, growth),
+        Act::Looks(look) => looks::tell(rt, alloc, desk, look, growth),
+        Act::GoesOn => steady::tell(rt, alloc, desk),
+    }
+}
