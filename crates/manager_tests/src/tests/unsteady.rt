@@ -28,6 +28,9 @@ const DATABASE: u32 = 5;
 
 const MAX_LOCAL: u32 = 8;
 
+/// How many groups of fast-path slots each session has.
+const GROUPS: u8 = 2;
+
 /// How many looks a short pause has at most, and a long one, which is longer than it takes to wake a thread.
 const SHORT: u64 = 512;
 
@@ -121,7 +124,7 @@ fn open_table(alloc: Global, sessions: u8) -> Result<(SharedTable<Part>, Opener<
 {
     let sizes = Sizes {
         sessions,
-        groups: 1,
+        groups: GROUPS,
     };
     match open(alloc, &sizes, empty_slots(alloc)?) {
         Ok(opened) => Ok(opened),

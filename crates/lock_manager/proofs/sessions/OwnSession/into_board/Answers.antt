@@ -8,7 +8,7 @@ use Rattle.lock_manager.proofs.sessions.OwnSession.into_board.Goals as goal
 
 pub returns-clause-closable : goal.returns-clause-closable
 returns-clause-closable g c =
-    MayCloseBy-rest _ _ _ _ _ _ c.end_all.ensures.rest (c.end_all.ensures.entries ∙ left_by-close c.deref_mut.result.now.locals.entries)
+    MayCloseBy-rest _ _ _ _ _ _ _ c.end_all.ensures.rest (c.end_all.ensures.entries ∙ left_by-close c.deref_mut.result.now.locals.entries)
 
 pub returns-clause-released : goal.returns-clause-released
 returns-clause-released g c =
