@@ -220,7 +220,7 @@ impl<T: PartTable, B: Board<T>> OwnSession<T, B> {
     /// nobody (`FastPathGrantRelationLock` in lock.c, where the lock of its own slots is free). What the session has
     /// already is counted once more, wherever it stands, unless the owner's count is full. It is refused, in this
     /// order, where the mode on the object may not go by a slot, the local table is full, memory runs out, all
-    /// sixteen slots are in use, somebody has the lock of its own slots, or a strong lock is counted. After a refusal
+    /// sixteen slots of the relation's group are in use, somebody has the lock of its own slots, or a strong lock is counted. After a refusal
     /// the session holds what it held.
     pub fn try_fast(&mut self, tag: Tag, mode: Mode, owner: Owner) -> Result<Acquired, Refusal>
         // What it is answered.
