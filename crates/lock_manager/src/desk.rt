@@ -1,17 +1,17 @@
-//! Desks, which open and close the sessions of a manager for a program that is written over any board.
+//! Desks, which open, count and close the sessions of a manager for a program that is written over any board.
 
-ghost use Rattle.std.specs.Prelude.{◌≡◌, ◌+◌, ◌-◌, IfOk, OnOk, OnErr};
+ghost use Rattle.std.specs.Prelude.{◌≡◌, ◌+◌, ◌-◌, All, length, IfOk, OnOk, OnErr};
 ghost use Rattle.lock_manager.specs.Managers.{IsOpenerOf};
 
 use crate::keeper::Part;
 use crate::manager::{Manager, Opener};
 use crate::sessions::Session;
 use modes_core::Refusal;
-use shared_rule::{Board, SeatBoard};
+use shared_rule::{Audit, Board, SeatBoard};
 use std::sync::Wait;
 
-/// Opens and closes the sessions of one manager. A program that is written against it is over any board, which makes its
-/// proofs cheap, and names the board of the shared table in one call alone, to which the `ManagerDesk` is lent.
+/// Opens and closes the sessions of one manager, and counts what they have. A program that is written against it is over any
+/// board, which makes its proofs cheap, and names the board of the shared table in one call alone, to which the `ManagerDesk` is lent.
 pub trait Desk<S> {
     ghost use Rattle.std.specs.Prelude.{ℕ};
     ghost use Rattle.shared_rule.specs.Boards.{Seated};
@@ -36,6 +36,21 @@ pub trait Desk<S> {
     /// How many are open.
     fn live(&self) -> u32
         ensures { result ≡ live self.now };
+
+    /// Two sessions meet (`Session::meet`): no hold of the one conflicts with a hold of the other. The other comes back.
+    fn meet(&self, session: &mut S, other: S) -> S
+        requires same_manager { (seat other).table ≡ (seat session.old).table }
+        ensures kept { seat session.new ≡ seat session.old }
+        ensures its_kept { seat result ≡ seat other };
+
+    /// Counts what stands in the manager, all of whose open sessions are lent (`Manager::audit`). It is refused where memory runs out.
+    fn audit<R: Wait>(&mut self, rt: &R, sessions: &mut Vec<S>) -> Result<Audit, Refusal>
+        requires own { All (λ session. (seat session).table ≡ (manager self.old).table) sessions.old.items }
+        requires all { length sessions.old.items ≡ live self.old }
+        ensures manager { manager self.new ≡ manager self.old }
+        ensures live { live self.new ≡ live self.old }
+        ensures own { All (λ session. (seat session).table ≡ (manager self.old).table) sessions.new.items }
+        ensures as_many { length sessions.new.items ≡ length sessions.old.items };
 
     /// Closes one of its sessions.
     fn close<R: Wait>(&mut self, rt: &R, session: S)
@@ -89,6 +104,30 @@ impl<'a> Desk<Session<'a>> for ManagerDesk<'a> {
 
     fn live(&self) -> u32 {
         self.opener.live()
+    }
+
+    fn meet(&self, session: &mut Session<'a>, other: Session<'a>) -> Session<'a>
+        requires same_manager { let B = ⟦<SeatBoard<'a, Part> as Board<Part>>⟧ in
+            (B.seat other.board).table ≡ (B.seat session.old.board).table }
+        ensures kept { let B = ⟦<SeatBoard<'a, Part> as Board<Part>>⟧ in
+            B.seat session.new.board ≡ B.seat session.old.board }
+        ensures its_kept { let B = ⟦<SeatBoard<'a, Part> as Board<Part>>⟧ in
+            B.seat result.board ≡ B.seat other.entry.board }
+    {
+        session.meet(other)
+    }
+
+    fn audit<R: Wait>(&mut self, rt: &R, sessions: &mut Vec<Session<'a>>) -> Result<Audit, Refusal>
+        requires own { let B = ⟦<SeatBoard<'a, Part> as Board<Part>>⟧ in
+            All (λ session. (B.seat session.board).table ≡ self.old.manager.now.table) sessions.old.items }
+        requires all { length sessions.old.items ≡ self.old.opener.live }
+        ensures manager { self.new.manager.now ≡ self.old.manager.now }
+        ensures live { self.new.opener.live ≡ self.old.opener.live }
+        ensures own { let B = ⟦<SeatBoard<'a, Part> as Board<Part>>⟧ in
+            All (λ session. (B.seat session.board).table ≡ self.old.manager.now.table) sessions.new.items }
+        ensures as_many { length sessions.new.items ≡ length sessions.old.items }
+    {
+        self.manager.audit(rt, &mut self.opener, sessions)
     }
 
     fn close<R: Wait>(&mut self, rt: &R, session: Session<'a>)

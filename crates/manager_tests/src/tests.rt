@@ -2,7 +2,7 @@
 
 ghost use Rattle.std.specs.Prelude.{◌≡◌, IfOk};
 ghost use Rattle.lock_manager.specs.Managers.{IsNew};
-ghost use Rattle.manager_tests.specs.Crews.{SeatsAre};
+ghost use Rattle.lock_manager.specs.Crews.{SeatsAre};
 
 mod answers;
 mod asked;
@@ -24,13 +24,16 @@ mod scenes;
 mod threads;
 mod turn_lists;
 mod turns;
+mod unsteady;
 mod waits;
 mod wakes;
+mod watched;
 mod watches;
 
-use desk::{Desk, ManagerDesk};
 use limits::Limits;
-use lock_manager::{Config, Final, Manager, Mode, Opener, OwnSession, Part, Refusal};
+use lock_manager::{
+    Config, Desk, Final, Manager, ManagerDesk, Mode, Opener, OwnSession, Part, Refusal,
+};
 use pair::Pair;
 use races::Race;
 use scenes::{Scene, perform};
@@ -43,14 +46,15 @@ use std::thread::Threads;
 use std::time::Clock;
 use threads::Plan;
 use turn_lists::LISTS;
+use unsteady::Crew;
 
 /// What the sessions of a manager do.
 #[derive(Clone, Copy)]
 enum Story<'a> {
     OfTwo(Scene<'a>),
-    /// One takes many modes and gives them back, where memory may be wanting once.
+    /// One takes many modes and gives them back, where memory may run out once.
     GoesOn,
-    /// Three are lent to audits, where memory may be wanting once.
+    /// Three are lent to audits, where memory may run out once.
     Audits,
     /// So many have as many local entries as they may.
     Holds(Limits),
@@ -252,6 +256,27 @@ fn a_thousand_races_end_as_one_of_the_two_had_won(rt: HostRuntime) -> Result<(),
 }
 
 #[test]
+fn races_end_so_where_threads_pause_between_steps(rt: HostRuntime) -> Result<(), Fail> {
+    for race in [
+        Race::WeakAgainstStrong(Mode::AccessShare, Mode::AccessExclusive),
+        Race::StrongOverWeak(Mode::RowExclusive, Mode::Share),
+        Race::CancelAgainstRelease(Mode::AccessExclusive, Mode::AccessShare),
+        Race::AskAgainstSleep,
+    ] {
+        unsteady::race_with_pauses(&rt, rt.alloc(), race, 1_000)?;
+    }
+    Ok(())
+}
+
+#[test]
+fn many_sessions_do_so_where_threads_pause_between_steps(rt: HostRuntime) -> Result<(), Fail> {
+    for crew in [Crew::Asked(1_000), Crew::Watch, Crew::Crowd] {
+        unsteady::act_with_pauses(&rt, rt.alloc(), crew)?;
+    }
+    Ok(())
+}
+
+#[test]
 fn many_sessions_do_as_the_stories_say(rt: HostRuntime) -> Result<(), Fail> {
     for (sessions, story) in [
         (4, Story::Asks(4, Plan::of(10_000, 4, false))),
@@ -301,7 +326,7 @@ fn all_local_entries_can_be_held_at_once(rt: HostRuntime) -> Result<(), Fail> {
 
 /// Run it under `rt try --test --fail-alloc N` for an allocation that fails.
 #[test]
-fn sessions_go_on_where_memory_was_wanting_once(rt: HostRuntime) -> Result<(), Fail> {
+fn sessions_go_on_where_memory_ran_out_once(rt: HostRuntime) -> Result<(), Fail> {
     let one = Config {
         sessions: 1,
         max_local: memory::MANY,

@@ -6,6 +6,7 @@
 mod allocator;
 mod calls;
 mod events;
+mod looks;
 mod managers;
 mod parts;
 mod steady;

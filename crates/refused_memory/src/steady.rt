@@ -4,7 +4,7 @@ ghost use Rattle.std.specs.Prelude.{◌≡◌};
 ghost use Rattle.lock_manager.specs.Crews.{KeepsSeat, SeatsAre};
 
 use crate::allocator::{refuse_all, was_refused};
-use crate::tales::{Hold, TABLE, object};
+use crate::tales::{ANOTHER_TABLE, Hold, TABLE, object};
 use crate::told::Told;
 use lock_manager::Mode::{AccessExclusive, AccessShare, Exclusive, RowExclusive, Share};
 use lock_manager::{
@@ -25,11 +25,6 @@ const OBJECT: Tag = Tag::Object {
     class: 1_259,
     object: 16_384,
     sub_object: 0,
-};
-
-const ANOTHER_TABLE: Tag = Tag::Relation {
-    database: 5,
-    relation: 16_385,
 };
 
 /// What a session does in a round.

@@ -1,5 +1,6 @@
 //! What is told, call by call.
 
+use crate::looks::Look;
 use crate::parts::PartCall;
 use crate::tales::Tale;
 use crate::told::Told;
@@ -24,6 +25,10 @@ pub enum Story<'a> {
     OfPlain(PartCall),
     /// `run_events`.
     RunsEvents,
+    /// `Manager::audit`.
+    Audits,
+    /// `queue` or `blockers`, of an object that a session waits for.
+    Looks(Look),
     /// Of a session.
     Of(&'a Tale),
 }
@@ -31,8 +36,8 @@ pub enum Story<'a> {
 /// Each but those of sessions, with its name and how many growths it takes. A manager takes three for each of 16 partitions, one for
 /// each of 128 places of wait lists, and five for the lists of partitions, of slots and of words, and for the table of both. A local
 /// table takes one for its slots, two for their index, and three for the counts of outer levels, a list that grows to 16. A session has
-/// that and a box.
-pub static STORIES: [(&'static str, Story<'static>, u16); 11] = [
+/// that and a box. The list of an audit's rows grows to four and to eight.
+pub static STORIES: [(&'static str, Story<'static>, u16); 14] = [
     ("Manager::new", Story::MakesManager, 181),
     ("Opener::session", Story::OpensSession, 7),
     ("LocalTable::new", Story::MakesLocalTable, 6),
@@ -64,6 +69,9 @@ pub static STORIES: [(&'static str, Story<'static>, u16); 11] = [
     ),
     ("rows of a plain part", Story::OfPlain(PartCall::Rows), 1),
     ("run_events", Story::RunsEvents, 20),
+    ("audit, five rows of the table", Story::Audits, 2),
+    ("queue, a row", Story::Looks(Look::Queue), 1),
+    ("blockers, a row", Story::Looks(Look::Blockers), 1),
 ];
 
 /// Tells a story with this growth refused.
@@ -76,6 +84,8 @@ pub fn tell<R: Wait>(rt: &R, alloc: Global, story: Story<'_>, growth: u16) -> To
         Story::OfRecords(call) => parts::of_records(alloc, call, growth),
         Story::OfPlain(call) => parts::of_plain(alloc, call, growth),
         Story::RunsEvents => events::run(alloc, growth),
+        Story::Audits => managers::audit(rt, alloc, growth),
+        Story::Looks(look) => managers::look(rt, alloc, look, growth),
         Story::Of(tale) => managers::tell(rt, alloc, tale, growth),
     }
 }

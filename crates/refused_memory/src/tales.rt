@@ -26,6 +26,12 @@ pub const TABLE: Tag = Tag::Relation {
     relation: 16_384,
 };
 
+/// The next one.
+pub const ANOTHER_TABLE: Tag = Tag::Relation {
+    database: 5,
+    relation: 16_385,
+};
+
 const OBJECT: Tag = Tag::Object {
     database: 5,
     class: 1_259,

@@ -4,10 +4,9 @@ ghost use Rattle.std.specs.Prelude.{◌≡◌, ◌≤◌, ◌++◌, ◌∷◌, [
 ghost use Rattle.lock_manager.specs.Crews.{AreOf, SeatsAre};
 
 use crate::arguments::Hammer;
-use crate::counting::{AuditDesk, CountingDesk};
 use crate::progress::{Progress, Unwatched};
 use crate::workers::{Act, DATABASE, Gate, Reports, all_act};
-use lock_manager::{Audit, Board, Config, Final, Manager, OwnSession, Part};
+use lock_manager::{Audit, Board, Config, Desk, Final, Manager, ManagerDesk, OwnSession, Part};
 use lock_script::Fault;
 use std::alloc::{AllocFailed, Global};
 use std::io::Write;
@@ -21,7 +20,7 @@ const MAX_LOCAL: u32 = 16;
 /// round `r` session `s` asks relation `5/(16384 + r % 4)` for the mode with number `1 + (s + r) % 8`, and unlocks what it is granted;
 /// every sixteenth time it waits, and else it is refused where something is in the way. When all threads have ended, each
 /// session takes AccessShareLock on `5/16384`, the first one ShareLock on `5/16385`, and two lines are written: what an audit
-/// counts, and, when all sessions are closed, what the manager has then. Where a gate answered no, or memory was wanting, it ends
+/// counts, and, when all sessions are closed, what the manager has then. Where a gate answered no, or memory ran out, it ends
 /// with `GateHeld` or `NoMemory` when all threads have ended and all sessions are closed.
 pub fn run_hammer<H: AllocGlobal + Threads + Wait + Sync, G: Gate + Sync, W: Write + Drop>(
     rt: &H,
@@ -56,7 +55,7 @@ pub fn run_watched_hammer<
         return Err(Fault::NoMemory);
     };
     let mut writer = writer;
-    let mut desk = AuditDesk::new(&manager, opener);
+    let mut desk = ManagerDesk::new(&manager, opener);
     let reports = Reports::new(progress);
     let hammered = hammer(rt, alloc, gate, &reports, &mut desk, &mut writer, size);
     let opener = desk.into_opener();
@@ -68,7 +67,7 @@ pub fn run_watched_hammer<
 /// Opens the sessions, has them play, and closes them. The board of the shared table is named above alone: this is over any board.
 fn hammer<
     B: Board<Part> + Send,
-    D: CountingDesk<OwnSession<Part, B>>,
+    D: Desk<OwnSession<Part, B>>,
     G: Gate + Sync,
     H: Threads + Wait + Sync,
     P: Progress + Sync,
@@ -100,7 +99,7 @@ fn hammer<
 /// The sessions play their rounds, take their last locks, and what they have is counted and written.
 fn play<
     B: Board<Part> + Send,
-    D: CountingDesk<OwnSession<Part, B>>,
+    D: Desk<OwnSession<Part, B>>,
     G: Gate + Sync,
     H: Threads + Wait + Sync,
     P: Progress + Sync,
@@ -132,8 +131,8 @@ fn play<
     }
 }
 
-/// Opens so many sessions, in the order of their numbers, behind those that there are. Where memory is wanting fewer are open.
-fn open_many<B: Board<Part>, D: CountingDesk<OwnSession<Part, B>>, R: Wait>(
+/// Opens so many sessions, in the order of their numbers, behind those that there are. Where memory runs out fewer are open.
+fn open_many<B: Board<Part>, D: Desk<OwnSession<Part, B>>, R: Wait>(
     rt: &R,
     desk: &mut D,
     crew: &mut Vec<OwnSession<Part, B>>,
@@ -153,7 +152,7 @@ fn open_many<B: Board<Part>, D: CountingDesk<OwnSession<Part, B>>, R: Wait>(
 }
 
 /// Opens a session, and puts it behind the others. It is closed again where there is no memory to keep it.
-fn open_behind<B: Board<Part>, D: CountingDesk<OwnSession<Part, B>>, R: Wait>(
+fn open_behind<B: Board<Part>, D: Desk<OwnSession<Part, B>>, R: Wait>(
     rt: &R,
     desk: &mut D,
     crew: &mut Vec<OwnSession<Part, B>>,
@@ -177,7 +176,7 @@ fn open_behind<B: Board<Part>, D: CountingDesk<OwnSession<Part, B>>, R: Wait>(
     }
 }
 
-/// Puts it behind the others. Where memory is wanting it comes back, and the list is as before: a session can't be let go.
+/// Puts it behind the others. Where memory runs out it comes back, and the list is as before: a session can't be let go.
 fn append<S>(list: &mut Vec<S>, session: S) -> Result<(), S>
     ensures { MatchResult result (λ _. list.new.items ≡ list.old.items ++ session ∷ [])
         (λ back. (back ≡ session) × (list.new.items ≡ list.old.items)) }
@@ -189,7 +188,7 @@ fn append<S>(list: &mut Vec<S>, session: S) -> Result<(), S>
 }
 
 /// Closes them all.
-fn close_many<B: Board<Part>, D: CountingDesk<OwnSession<Part, B>>, R: Wait>(
+fn close_many<B: Board<Part>, D: Desk<OwnSession<Part, B>>, R: Wait>(
     rt: &R,
     desk: &mut D,
     mut crew: Vec<OwnSession<Part, B>>,

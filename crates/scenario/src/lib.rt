@@ -3,7 +3,6 @@
 #![tactic(auto)]
 
 mod arguments;
-mod counting;
 mod desk;
 mod hammer;
 mod hints;

@@ -2,14 +2,14 @@
 
 ghost use Rattle.std.specs.Prelude.{◌≡◌};
 ghost use Rattle.lock_manager.specs.Managers.{ManagerView};
-ghost use Rattle.manager_tests.specs.Crews.{AreOf, SeatsAre};
+ghost use Rattle.lock_manager.specs.Crews.{AreOf, SeatsAre};
 
 use super::answers::Answer;
 use super::audits::close_counted;
-use super::desk::{Desk, open_many};
+use super::desk::open_many;
 use super::gates::{Gate, Wins};
 use super::waits::{OWNER, TABLE, give_back, see_wait, take};
-use lock_manager::{Acquired, Mode, OwnSession, Part, Refusal, SessionId};
+use lock_manager::{Acquired, Desk, Mode, OwnSession, Part, Refusal, SessionId};
 use lock_table::PartTable;
 use shared_rule::Board;
 use std::alloc::Global;

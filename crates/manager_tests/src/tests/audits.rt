@@ -1,17 +1,17 @@
 //! Audits, with all open sessions lent, beside numbers that were counted by hand, and beside what one of the sessions sees.
 
 ghost use Rattle.std.specs.Prelude.{◌≡◌, ◌+◌, ◌-◌, ◌<◌, length};
-ghost use Rattle.manager_tests.specs.Crews.{AreOf, SeatsAre};
+ghost use Rattle.lock_manager.specs.Crews.{AreOf, SeatsAre};
 
 use super::answers::expect_granted;
-use super::desk::{Desk, append, close_many, open};
-use super::memory::is_wanting;
+use super::desk::{append, close_many, open};
+use super::memory::is_out_of_memory;
 use lock_manager::Mode::{
     AccessExclusive, AccessShare, RowExclusive, RowShare, Share, ShareRowExclusive,
     ShareUpdateExclusive,
 };
 use lock_manager::Owner::{Session, Transaction};
-use lock_manager::{Audit, Listing, Mode, OwnSession, Owner, Refusal, TableRow, Tag};
+use lock_manager::{Audit, Desk, Listing, Mode, OwnSession, Owner, Refusal, TableRow, Tag};
 use lock_table::PartTable;
 use shared_rule::Board;
 use std::alloc::Global;
@@ -73,7 +73,7 @@ fn take<T: PartTable, B: Board<T>, R: Abort + Wait>(
     ensures seat { B.seat session.new.board ≡ B.seat session.old.board }
 {
     let mut answer = session.try_lock(rt, tag, mode, owner);
-    if is_wanting(&answer) {
+    if is_out_of_memory(&answer) {
         answer = session.try_lock(rt, tag, mode, owner);
     }
     expect_granted(rt, answer, tag, mode);

@@ -10,13 +10,13 @@ use super::turn_lists::{COUNT_FULL, LOCAL_FULL, NOT_ELIGIBLE, NOT_HELD};
 use super::turns::Answer::{AlreadyHeld, Ended, Granted, Modes, Released, StillHeld, Times};
 use super::turns::Call::{Acquire, Commit, Count, Database, Fast, Held, Try, Unlock};
 use super::turns::{Answer, Call, take_turn};
+use super::watched::{Watch, WatchedBoard};
 use lock_manager::Mode::{AccessExclusive, AccessShare, Share};
 use lock_manager::OwnSession;
 use lock_manager::Owner::{Session, Transaction};
-use lock_table::{Move, PartTable, PlainPart, Woken, empty_parts};
-use lw_word::SlotWord;
-use modes_core::{Mode, SessionId, Tag};
-use shared_rule::{Board, Busy, Kept, OneThread, in_slots};
+use lock_table::{PartTable, PlainPart, empty_parts};
+use modes_core::Tag;
+use shared_rule::{Board, Kept, OneThread, in_slots};
 use std::alloc::Global;
 use std::process::Abort;
 use std::sync::Wait;
@@ -47,177 +47,12 @@ impl Steps {
     }
 }
 
-/// A board that counts all that is done on it, but for what it tells of itself.
-#[derive(Drop)]
-struct CountingBoard<'a, B> {
-    board: B,
-    steps: &'a Steps,
-}
-
-impl<'a, B> CountingBoard<'a, B> {
-    fn over(board: B, steps: &'a Steps) -> Self
-        ensures { result.board ≡ board }
-    {
-        CountingBoard { board, steps }
-    }
-}
-
-impl<'a, T: PartTable, B: Board<T>> Board<T> for CountingBoard<'a, B> {
-    ghost seat = { λ counting. B.seat counting.board };
-
-    ghost view = { λ counting. B.view counting.board };
-
-    ghost stack = { λ counting. B.stack counting.board };
-
-    fn number(&self) -> SessionId {
-        self.board.number()
+impl<'a> Watch for &'a Steps {
+    fn before(&self) {
+        self.count();
     }
 
-    fn sessions(&self) -> u8 {
-        self.board.sessions()
-    }
-
-    fn take_part<R: Wait>(&mut self, rt: &R, part: u8) -> T {
-        self.steps.count();
-        self.board.take_part(rt, part)
-    }
-
-    fn put_part(&mut self, part: u8, done: &Move, content: T) {
-        self.steps.count();
-        self.board.put_part(part, done, content);
-    }
-
-    fn take_fast<R: Wait>(&mut self, rt: &R, owner: SessionId) {
-        self.steps.count();
-        self.board.take_fast(rt, owner);
-    }
-
-    fn try_take_fast(&mut self) -> Result<(), Busy> {
-        self.steps.count();
-        self.board.try_take_fast()
-    }
-
-    fn put_fast(&mut self, owner: SessionId) {
-        self.steps.count();
-        self.board.put_fast(owner);
-    }
-
-    fn share_fast<R: Wait>(&mut self, rt: &R, owner: SessionId) {
-        self.steps.count();
-        self.board.share_fast(rt, owner);
-    }
-
-    fn unshare_fast(&mut self, owner: SessionId) {
-        self.steps.count();
-        self.board.unshare_fast(owner);
-    }
-
-    fn pass_fast(&mut self, owner: SessionId, tag: &Tag, mode: Mode) {
-        self.steps.count();
-        self.board.pass_fast(owner, tag, mode);
-    }
-
-    fn add_strong(&mut self, tag: &Tag, mode: Mode) {
-        self.steps.count();
-        self.board.add_strong(tag, mode);
-    }
-
-    fn sub_strong(&mut self, tag: &Tag, mode: Mode) {
-        self.steps.count();
-        self.board.sub_strong(tag, mode);
-    }
-
-    fn load_database(&mut self, owner: SessionId) -> u64 {
-        self.steps.count();
-        self.board.load_database(owner)
-    }
-
-    fn store_database(&mut self, database: u32) {
-        self.steps.count();
-        self.board.store_database(database);
-    }
-
-    fn load_slot(&mut self, owner: SessionId, place: u8) -> SlotWord {
-        self.steps.count();
-        self.board.load_slot(owner, place)
-    }
-
-    fn load_strong(&mut self, index: u16) -> u64 {
-        self.steps.count();
-        self.board.load_strong(index)
-    }
-
-    fn set_slot(&mut self, place: u8, shown: SlotWord, tag: &Tag, mode: Mode) {
-        self.steps.count();
-        self.board.set_slot(place, shown, tag, mode);
-    }
-
-    fn clear_slot(&mut self, place: u8, shown: SlotWord, tag: &Tag, mode: Mode) {
-        self.steps.count();
-        self.board.clear_slot(place, shown, tag, mode);
-    }
-
-    fn transfer_slot(
-        &mut self,
-        owner: SessionId,
-        place: u8,
-        shown: SlotWord,
-        tag: &Tag,
-        mode: Mode,
-        strong: Mode,
-        content: &T,
-    ) {
-        self.steps.count();
-        self.board
-            .transfer_slot(owner, place, shown, tag, mode, strong, content);
-    }
-
-    fn set_waiting(&mut self, tag: &Tag, mode: Mode, content: &T) {
-        self.steps.count();
-        self.board.set_waiting(tag, mode, content);
-    }
-
-    fn mark_granted(
-        &mut self,
-        part: u8,
-        other: SessionId,
-        done: &Move,
-        woken: &Woken,
-        content: &T,
-    ) {
-        self.steps.count();
-        self.board.mark_granted(part, other, done, woken, content);
-    }
-
-    fn load_wait(&mut self) -> u64 {
-        self.steps.count();
-        self.board.load_wait()
-    }
-
-    fn ask_cancel(&mut self, other: SessionId) -> u64 {
-        self.steps.count();
-        self.board.ask_cancel(other)
-    }
-
-    fn clear_wait(&mut self) {
-        self.steps.count();
-        self.board.clear_wait();
-    }
-
-    fn leave_queue(&mut self, woken: &Woken, content: &T) {
-        self.steps.count();
-        self.board.leave_queue(woken, content);
-    }
-
-    fn sleep<R: Wait>(&self, rt: &R, shown: u64) {
-        self.steps.count();
-        self.board.sleep(rt, shown);
-    }
-
-    fn wake(&mut self, other: SessionId) {
-        self.steps.count();
-        self.board.wake(other);
-    }
+    fn after(&self) {}
 }
 
 const DATABASE: u32 = 5;
@@ -377,8 +212,8 @@ fn make_all_over<T: PartTable, B: Board<T> + Drop, R: Abort + Wait>(
     requires stack { B.stack board ≡ nothing_due }
 {
     let steps = Steps::none();
-    let board = CountingBoard::over(board, &steps);
-    let mut session: OwnSession<T, CountingBoard<'_, B>> = match OwnSession::over(
+    let board = WatchedBoard::over(board, &steps);
+    let mut session: OwnSession<T, WatchedBoard<B, &Steps>> = match OwnSession::over(
         alloc, board, DATABASE, MAX_LOCAL,
     ) {
         Ok(session) => session,

@@ -3,13 +3,13 @@
 
 ghost use Rattle.std.specs.Prelude.{◌≡◌};
 ghost use Rattle.lock_manager.specs.Crews.{KeepManagers};
-ghost use Rattle.manager_tests.specs.Crews.{SeatsAre};
+ghost use Rattle.lock_manager.specs.Crews.{SeatsAre};
 
 use super::answers::{expect_granted, expect_released};
 use super::audits::close_counted;
-use super::desk::{Desk, open_many};
+use super::desk::open_many;
 use super::gates::Gate;
-use lock_manager::{Mode, OwnSession, Owner, Part, Tag};
+use lock_manager::{Desk, Mode, OwnSession, Owner, Part, Tag};
 use lock_table::PartTable;
 use shared_rule::Board;
 use std::alloc::Global;
@@ -160,7 +160,7 @@ fn guard<R: Abort + Clock + Wait>(rt: &R, watch: &Watch) {
 }
 
 /// As many sessions as there can be lock and unlock on one partition.
-fn crowd<B: Board<Part> + Send, R: Abort + Clock + Threads + Wait + Sync>(
+pub fn crowd<B: Board<Part> + Send, R: Abort + Clock + Threads + Wait + Sync>(
     rt: &R,
     sessions: &mut [OwnSession<Part, B>],
 )

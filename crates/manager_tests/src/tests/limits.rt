@@ -1,12 +1,12 @@
 //! As many local entries as there may be, of one session and of all: granted, counted, listed and given back.
 
 ghost use Rattle.std.specs.Prelude.{◌≡◌, ◌+◌, length};
-ghost use Rattle.manager_tests.specs.Crews.{AreOf, SeatsAre};
+ghost use Rattle.lock_manager.specs.Crews.{AreOf, SeatsAre};
 
 use super::answers::{expect_granted, expect_rows};
 use super::audits::{NOTHING, Numbers, count, end_each};
-use super::desk::{Desk, append, close_many, open};
-use lock_manager::{Mode, OwnSession, Owner, Refusal, Tag};
+use super::desk::{append, close_many, open};
+use lock_manager::{Desk, Mode, OwnSession, Owner, Refusal, Tag};
 use lock_table::PartTable;
 use shared_rule::Board;
 use std::alloc::Global;

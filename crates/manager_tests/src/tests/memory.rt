@@ -1,13 +1,13 @@
 //! Want of memory is an answer, after which nothing is lost.
 
 ghost use Rattle.std.specs.Prelude.{◌≡◌, ◌<◌};
-ghost use Rattle.manager_tests.specs.Crews.{SeatsAre};
+ghost use Rattle.lock_manager.specs.Crews.{SeatsAre};
 
 use super::answers::{Answer, expect_answer, expect_granted, expect_released};
-use super::desk::{Desk, open};
+use super::desk::open;
 use super::pair::Pair;
 use lock_manager::{
-    How, Listing, Mode, OwnSession, Owner, Refusal, SessionId, SlotRow, TableRow, Tag,
+    Desk, How, Listing, Mode, OwnSession, Owner, Refusal, SessionId, SlotRow, TableRow, Tag,
 };
 use lock_table::PartTable;
 use shared_rule::Board;
@@ -24,7 +24,7 @@ fn object(number: u32) -> (Tag, Mode) {
 }
 
 /// Whether there was no memory.
-pub fn is_wanting(answer: &Answer) -> bool {
+pub fn is_out_of_memory(answer: &Answer) -> bool {
     *answer == Err(Refusal::NoMemory)
 }
 
@@ -39,7 +39,7 @@ fn try_at_last<T: PartTable, B: Board<T>, R: Abort + Wait>(
 {
     let held = session.held(tag).mask();
     let answer = session.try_lock(rt, tag, mode, Owner::Session);
-    if !is_wanting(&answer) {
+    if !is_out_of_memory(&answer) {
         return answer;
     }
     assert_eq!(rt; session.held(tag).mask(), held);
@@ -187,7 +187,7 @@ fn try_strong_at_last<T: PartTable, B: Board<T>, R: Abort + Wait>(
     ensures seat { B.seat session.new.board ≡ B.seat session.old.board }
 {
     let answer = session.try_lock(rt, TABLE, Mode::AccessExclusive, Owner::Session);
-    if !is_wanting(&answer) {
+    if !is_out_of_memory(&answer) {
         return answer;
     }
     see_no_trace(rt, session);

@@ -1,11 +1,11 @@
 //! Two sessions of one manager.
 
 ghost use Rattle.std.specs.Prelude.{◌≡◌, ◌+◌, ◌-◌};
-ghost use Rattle.manager_tests.specs.Crews.{SeatsAre};
+ghost use Rattle.lock_manager.specs.Crews.{SeatsAre};
 
 use super::audits::close_counted;
-use super::desk::{Desk, append, open};
-use lock_manager::OwnSession;
+use super::desk::{append, open};
+use lock_manager::{Desk, OwnSession};
 use lock_table::PartTable;
 use shared_rule::Board;
 use std::alloc::Global;

@@ -2,14 +2,14 @@
 
 ghost use Rattle.std.specs.Prelude.{◌≡◌};
 ghost use Rattle.lock_manager.specs.Managers.{ManagerView};
-ghost use Rattle.manager_tests.specs.Crews.{AreOf, SeatsAre};
+ghost use Rattle.lock_manager.specs.Crews.{AreOf, SeatsAre};
 
 use super::answers::expect_granted;
 use super::audits::close_counted;
-use super::desk::{Desk, open_many};
+use super::desk::open_many;
 use super::waits::{OWNER, TABLE, give_back, see_wait, take};
 use super::wakes::pause;
-use lock_manager::{Mode, OwnSession, Part, SessionId};
+use lock_manager::{Desk, Mode, OwnSession, Part, SessionId};
 use lock_table::PartTable;
 use shared_rule::Board;
 use std::alloc::Global;

@@ -118,7 +118,7 @@ fn try_weak_against_strong<B: Board<Part> + Send, R: Abort + Threads + Wait + Sy
     try_beside_release(rt, pair, weak, strong, round)
 }
 
-/// The first one gives back what it has, if anything, while the second one asks for the strong mode once more.
+/// The first one takes the weak mode by a slot, and gives it back from there while the second one asks for the strong mode.
 fn try_beside_release<B: Board<Part> + Send, R: Abort + Threads + Wait + Sync>(
     rt: &R,
     pair: Pair<Part, B>,
@@ -129,6 +129,9 @@ fn try_beside_release<B: Board<Part> + Send, R: Abort + Threads + Wait + Sync>(
     ensures first { B.seat result.first.board ≡ B.seat pair.first.board }
     ensures second { B.seat result.second.board ≡ B.seat pair.second.board }
 {
+    let mut pair = pair;
+    pair.first.commit(rt);
+    take_fast(rt, &mut pair.first, weak);
     let tries = Deed::Try(strong);
     let (mut pair, ended) = race_side_by_side(rt, pair, Deed::Commit, tries, round.number);
     let answer = ended.of_second;

@@ -31,7 +31,7 @@ pub enum Scene<'a> {
     /// They race for something, over and over.
     Races(Race, u32),
     FindsSlotsBusy,
-    /// One's strong mode moves the other's weak ones, where memory may be wanting once.
+    /// One's strong mode moves the other's weak ones, where memory may run out once.
     MovesAtLast,
 }
 

@@ -3,13 +3,13 @@
 
 ghost use Rattle.std.specs.Prelude.{◌≡◌, ◌<◌, ◌≤◌};
 ghost use Rattle.lock_manager.specs.Managers.{ManagerView};
-ghost use Rattle.manager_tests.specs.Crews.{AreOf, SeatsAre};
+ghost use Rattle.lock_manager.specs.Crews.{AreOf, SeatsAre};
 
 use super::answers::{expect_granted, expect_released};
 use super::audits::close_counted;
 use super::conflicts::conflicts;
-use super::desk::{Desk, open_many};
-use lock_manager::{How, Mode, OwnSession, Owner, Part, Refusal, SessionId, Tag};
+use super::desk::open_many;
+use lock_manager::{Desk, How, Mode, OwnSession, Owner, Part, Refusal, SessionId, Tag};
 use lock_table::PartTable;
 use shared_rule::Board;
 use std::alloc::Global;

@@ -1,14 +1,14 @@
 //! Sessions that sleep until another one lets them go or asks them to cancel, and wakes them.
 
 ghost use Rattle.std.specs.Prelude.{◌≡◌, IfSome, None};
-ghost use Rattle.manager_tests.specs.Crews.{SeatsAre};
+ghost use Rattle.lock_manager.specs.Crews.{SeatsAre};
 
 use super::answers::expect_answer;
 use super::audits::close_counted;
-use super::desk::{Desk, append, open};
+use super::desk::{append, open};
 use super::races::end_wait;
 use super::waits::{OWNER, TABLE, ask, give_back, leave, queue, see_wait, take};
-use lock_manager::{Acquired, Asked, Mode, OwnSession, OwnWaiting, Part, Refusal, SessionId};
+use lock_manager::{Acquired, Asked, Desk, Mode, OwnSession, OwnWaiting, Part, Refusal, SessionId};
 use lock_table::PartTable;
 use shared_rule::Board;
 use std::alloc::Global;

@@ -3,12 +3,12 @@
 
 ghost use Rattle.std.specs.Prelude.{◌≡◌, ◌<◌};
 ghost use Rattle.lock_manager.specs.Managers.{ManagerView};
-ghost use Rattle.manager_tests.specs.Crews.{AreOf, SeatsAre};
+ghost use Rattle.lock_manager.specs.Crews.{AreOf, SeatsAre};
 
 use super::answers::{expect_granted, expect_released};
 use super::audits::close_counted;
-use super::desk::{Desk, open_many};
-use lock_manager::{Listing, Mode, OwnSession, Owner, Part, SessionId, Tag};
+use super::desk::open_many;
+use lock_manager::{Desk, Listing, Mode, OwnSession, Owner, Part, SessionId, Tag};
 use lock_table::PartTable;
 use shared_rule::Board;
 use std::alloc::Global;

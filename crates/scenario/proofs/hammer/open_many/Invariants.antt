@@ -4,7 +4,7 @@ use Rattle.scenario.proofs.hammer.open_many.Given as goal
 
 abbrev pub invariant-sessions : goal.invariant-sessions
 invariant-sessions g l = record {
-  manager : g.D.CountingDesk.manager l.desk ≡ g.D.CountingDesk.manager l.fn.desk;
-  own : AreOf g.B.Board.seat (g.D.CountingDesk.manager l.fn.desk) l.crew.items;
-  live : g.D.CountingDesk.live l.desk ≡ length l.crew.items;
+  manager : g.D.Desk.manager l.desk ≡ g.D.Desk.manager l.fn.desk;
+  own : AreOf g.B.Board.seat (g.D.Desk.manager l.fn.desk) l.crew.items;
+  live : g.D.Desk.live l.desk ≡ length l.crew.items;
 }

@@ -1,9 +1,14 @@
-use Rattle.std.proofs.Common.{subst}
+use Rattle.std.proofs.Common.{◌∙◌, subst}
 use Rattle.local_locks.specs.declared.ends.End.TheVariants.{Close}
 use Rattle.local_locks.specs.Owned.{ended_by}
 use Rattle.lock_manager.specs.declared.sessions.Own.{Own}
 use Rattle.lock_manager.specs.Releases.{ReleasesAll}
+use Rattle.lock_manager.proofs.Lemmas.Rest.Entries.{MayCloseBy-rest, left_by-close}
 use Rattle.lock_manager.proofs.sessions.OwnSession.into_board.Goals as goal
+
+pub returns-clause-closable : goal.returns-clause-closable
+returns-clause-closable g c =
+    MayCloseBy-rest _ _ _ _ _ _ c.end_all.ensures.rest (c.end_all.ensures.entries ∙ left_by-close c.deref_mut.result.now.locals.entries)
 
 pub returns-clause-released : goal.returns-clause-released
 returns-clause-released g c =

@@ -1,6 +1,6 @@
 use Rattle.std.proofs.Common.{◌≡◌, ◌+◌, length}
 use Rattle.std.specs.Prelude.{vec_len}
-use Rattle.manager_tests.specs.Crews.{AreOf}
+use Rattle.lock_manager.specs.Crews.{AreOf}
 use Rattle.manager_tests.proofs.tests.audits.end_each.Given as goal
 
 abbrev pub invariant-sessions : goal.invariant-sessions

@@ -1,5 +1,5 @@
 use Rattle.std.proofs.Common.{◌≡◌, ◌+◌, length}
-use Rattle.manager_tests.specs.Crews.{AreOf}
+use Rattle.lock_manager.specs.Crews.{AreOf}
 use Rattle.manager_tests.proofs.tests.audits.open_each.Given as goal
 
 abbrev pub invariant-places : goal.invariant-places

@@ -1,6 +1,6 @@
 use Rattle.std.proofs.Common.{◌≡◌, ◌-◌}
 use Rattle.std.specs.Prelude.{vec_len}
-use Rattle.manager_tests.specs.Crews.{AreOf}
+use Rattle.lock_manager.specs.Crews.{AreOf}
 use Rattle.manager_tests.proofs.tests.desk.close_many.Given as goal
 
 abbrev pub invariant-sessions : goal.invariant-sessions

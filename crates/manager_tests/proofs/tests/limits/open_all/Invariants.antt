@@ -1,5 +1,5 @@
 use Rattle.std.proofs.Common.{◌≡◌, ◌+◌, length}
-use Rattle.manager_tests.specs.Crews.{AreOf}
+use Rattle.lock_manager.specs.Crews.{AreOf}
 use Rattle.manager_tests.proofs.tests.limits.open_all.Given as goal
 
 abbrev pub invariant-sessions : goal.invariant-sessions

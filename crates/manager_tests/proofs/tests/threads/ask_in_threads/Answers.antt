@@ -1,6 +1,6 @@
 use Rattle.std.proofs.Common.{◌≡◌, ◌++◌, length, take, drop, sym, ap, subst, ◌∙◌, arith}
 use Rattle.std.proofs.Math.Seq.{take-append_seam}
-use Rattle.manager_tests.specs.Crews.{AreOf}
+use Rattle.lock_manager.specs.Crews.{AreOf}
 use Rattle.manager_tests.proofs.tests.threads.ask_in_threads.Goals as goal
 
 pub close_counted-requires-clause-own : goal.close_counted-requires-clause-own

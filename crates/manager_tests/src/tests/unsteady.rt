@@ -1,0 +1,250 @@
+//! Races on boards that pause now and then, before and after a step. So other sessions' steps come between any two of a session,
+//! far more often than threads meet there by themselves.
+
+ghost use Rattle.std.specs.Prelude.{◌≡◌, ◌≤◌, All, IfOk};
+ghost use Rattle.lock_manager.specs.Crews.{KeepManagers};
+ghost use Rattle.shared_rule.specs.Opening.{AreNew};
+
+use super::desk::append;
+use super::gates::mixed;
+use super::pair::Pair;
+use super::races::{Race, race_often};
+use super::watched::{Watch, WatchedBoard};
+use super::{asked, crowds, watches};
+use lock_manager::{OwnSession, Part};
+use lock_table::{PartTable, empty_parts};
+use modes_core::SessionId;
+use shared_rule::{Board, Kept, Opener, SeatBoard, SharedTable, Top, in_slots, open};
+use std::alloc::Global;
+use std::process::Abort;
+use std::sync::Wait;
+use std::sync::atomic::{AtomicU64, Ordering};
+use std::test::Fail;
+use std::thread;
+use std::thread::Threads;
+use std::time::Clock;
+
+const DATABASE: u32 = 5;
+
+const MAX_LOCAL: u32 = 8;
+
+/// How many looks a short pause has at most, and a long one, which is longer than it takes to wake a thread.
+const SHORT: u64 = 512;
+
+const LONG: u64 = 65_536;
+
+/// Pauses now and then. Its numbers look random, and are the same for each session at each run.
+#[derive(Drop)]
+struct Pauses {
+    turn: AtomicU64,
+}
+
+impl Pauses {
+    /// Those of the session with this number.
+    fn of(number: SessionId) -> Self {
+        Pauses {
+            turn: AtomicU64::new(u64::from(number.number()) << 32),
+        }
+    }
+
+    /// Looks so often at a number.
+    fn spin(&self, looks: u64) {
+        for _ in 0..looks {
+            self.turn.load(Ordering::SeqCst);
+        }
+    }
+
+    /// One pause in two is none, one in eight leaves the processor to others, and one in sixty-four is long.
+    fn pause(&self) {
+        let number = mixed(self.turn.fetch_add(1, Ordering::SeqCst));
+        let looks = number >> 8;
+        match number % 64 {
+            0 => self.spin(looks % LONG),
+            1..=8 => thread::yield_now(),
+            9..=31 => self.spin(looks % SHORT),
+            _ => {}
+        }
+    }
+}
+
+impl Watch for Pauses {
+    fn before(&self) {
+        self.pause();
+    }
+
+    fn after(&self) {
+        self.pause();
+    }
+}
+
+/// What more than two sessions do.
+#[derive(Clone, Copy)]
+pub enum Crew {
+    /// One waits for what another gives back while a third one asks it to cancel, so many times.
+    Asked(u32),
+    /// One lists while three lock and unlock.
+    Watch,
+    /// As many as there can be lock and unlock on one partition.
+    Crowd,
+}
+
+impl Crew {
+    /// How many sessions there are.
+    fn sessions(self) -> u8
+        ensures few { result ≤ 64 }
+    {
+        match self {
+            Crew::Asked(_) => 3,
+            Crew::Watch => 4,
+            Crew::Crowd => 64,
+        }
+    }
+}
+
+/// A session at the shared table, on a board that pauses.
+type Unsteady<'a> = OwnSession<Part, WatchedBoard<SeatBoard<'a, Part>, Pauses>>;
+
+/// Sixteen empty partitions, each in its slot.
+fn empty_slots(alloc: Global) -> Result<Vec<Kept<Part>>, Fail>
+    ensures new { let T = ⟦<Part as PartTable>⟧ in IfOk result (λ slots. AreNew T.content T.begun slots.items) }
+{
+    Ok(in_slots(alloc, empty_parts(alloc, Part::new)?)?)
+}
+
+/// A table for so many sessions, and who gives their numbers out.
+fn open_table(alloc: Global, sessions: u8) -> Result<(SharedTable<Part>, Opener<Part>), Fail>
+    requires few { sessions ≤ 64 }
+    ensures table { IfOk result (λ opened. opened.1.table ≡ opened.0.shared.table_id) }
+    ensures key { IfOk result (λ opened. opened.1.limit ≡ opened.0.shared.key) }
+    ensures limit { IfOk result (λ opened. opened.1.limit ≡ sessions) }
+{
+    match open(alloc, sessions, empty_slots(alloc)?) {
+        Ok(opened) => Ok(opened),
+        Err(_) => Err("out of memory".into()),
+    }
+}
+
+/// The next session.
+fn open_next<'a, R: Abort>(
+    rt: &R,
+    alloc: Global,
+    table: &'a Top<Part>,
+    opener: &mut Opener<Part>,
+) -> Unsteady<'a>
+    requires table { (opener.old.table ≡ table.now.table_id) × (opener.old.limit ≡ table.now.key) }
+    requires few { opener.old.limit ≤ 64 }
+    ensures opener { (opener.new.table ≡ opener.old.table) × (opener.new.limit ≡ opener.old.limit) }
+    ensures own { let B = ⟦<WatchedBoard<SeatBoard<'a, Part>, Pauses> as Board<Part>>⟧ in
+        (B.seat result.board).table ≡ opener.old.table }
+{
+    let board = opener.session(table).expect(rt, "a session");
+    let pauses = Pauses::of(board.number());
+    match OwnSession::over(
+        alloc,
+        WatchedBoard::over(board, pauses),
+        DATABASE,
+        MAX_LOCAL,
+    ) {
+        Ok(session) => session,
+        Err(_) => panic!(rt; "no memory for a session"),
+    }
+}
+
+/// So many sessions, in the order of their numbers.
+fn open_all<'a, R: Abort>(
+    rt: &R,
+    alloc: Global,
+    table: &'a Top<Part>,
+    opener: &mut Opener<Part>,
+    number: u8,
+) -> Vec<Unsteady<'a>>
+    requires table { (opener.old.table ≡ table.now.table_id) × (opener.old.limit ≡ table.now.key) }
+    requires few { opener.old.limit ≤ 64 }
+    ensures opener { opener.new.table ≡ opener.old.table }
+    ensures own { let B = ⟦<WatchedBoard<SeatBoard<'a, Part>, Pauses> as Board<Part>>⟧ in
+        All (λ session. (B.seat session.board).table ≡ opener.old.table) result.items }
+{
+    let mut sessions = Vec::new(alloc);
+    'sessions: for _ in 0..number {
+        let session = open_next(rt, alloc, table, opener);
+        append(rt, &mut sessions, session);
+    }
+    sessions
+}
+
+/// Ends a session: all that it holds is released, and its number is that of a closed one.
+fn close<'a, R: Wait>(rt: &R, opener: &mut Opener<Part>, session: Unsteady<'a>)
+    requires own { let B = ⟦<WatchedBoard<SeatBoard<'a, Part>, Pauses> as Board<Part>>⟧ in
+        (B.seat session.board).table ≡ opener.old.table }
+    ensures opener { opener.new.table ≡ opener.old.table }
+{
+    opener.close(session.into_board(rt).into_watched());
+}
+
+/// Ends them all.
+fn close_all<'a, R: Wait>(rt: &R, opener: &mut Opener<Part>, mut sessions: Vec<Unsteady<'a>>)
+    requires own { let B = ⟦<WatchedBoard<SeatBoard<'a, Part>, Pauses> as Board<Part>>⟧ in
+        All (λ session. (B.seat session.board).table ≡ opener.old.table) sessions.items }
+{
+    'sessions: while let Some(session) = sessions.pop() {
+        close(rt, opener, session);
+    }
+    sessions.destroy_empty();
+}
+
+/// These sessions do so.
+fn act<B: Board<Part> + Send, R: Abort + Clock + Threads + Wait + Sync + Print>(
+    rt: &R,
+    sessions: &mut [OwnSession<Part, B>],
+    crew: Crew,
+)
+    ensures own { KeepManagers B.seat sessions.old sessions.new }
+{
+    match crew {
+        Crew::Asked(rounds) => asked::race_three(rt, sessions, rounds),
+        Crew::Watch => watches::list_beside(rt, sessions),
+        Crew::Crowd => crowds::crowd(rt, sessions),
+    }
+}
+
+/// Those of a list do, which comes back.
+fn act_all<B: Board<Part> + Send, R: Abort + Clock + Threads + Wait + Sync + Print>(
+    rt: &R,
+    mut sessions: Vec<OwnSession<Part, B>>,
+    crew: Crew,
+) -> Vec<OwnSession<Part, B>>
+    ensures own { KeepManagers B.seat sessions.items result.items }
+{
+    act(rt, sessions.as_mut_slice(), crew);
+    sessions
+}
+
+/// As many sessions as there are to be do so at a table of their own, on boards that pause.
+pub fn act_with_pauses<R: Abort + Clock + Threads + Wait + Sync + Print>(
+    rt: &R,
+    alloc: Global,
+    crew: Crew,
+) -> Result<(), Fail> {
+    let number = crew.sessions();
+    let (table, mut opener) = open_table(alloc, number)?;
+    let sessions = open_all(rt, alloc, &table.shared, &mut opener, number);
+    let sessions = act_all(rt, sessions, crew);
+    close_all(rt, &mut opener, sessions);
+    Ok(())
+}
+
+/// Two sessions race at a table of their own, on boards that pause.
+pub fn race_with_pauses<R: Abort + Threads + Wait + Sync + Print>(
+    rt: &R,
+    alloc: Global,
+    race: Race,
+    rounds: u32,
+) -> Result<(), Fail> {
+    let (table, mut opener) = open_table(alloc, 2)?;
+    let first = open_next(rt, alloc, &table.shared, &mut opener);
+    let second = open_next(rt, alloc, &table.shared, &mut opener);
+    let Pair { first, second } = race_often(rt, Pair { first, second }, race, rounds);
+    close(rt, &mut opener, second);
+    close(rt, &mut opener, first);
+    Ok(())
+}

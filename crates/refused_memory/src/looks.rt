@@ -1,0 +1,119 @@
+//! Looks at a queue, over any board: a session waits for what another one has, which lists the queue or those in the way.
+
+ghost use Rattle.std.specs.Prelude.{◌≡◌};
+ghost use Rattle.lock_manager.specs.Crews.{KeepsSeat, SeatsAre};
+
+use crate::allocator::{refuse, was_refused};
+use crate::told::Told;
+use lock_manager::Mode::Exclusive;
+use lock_manager::{Board, Desk, OwnSession, Owner, PartTable, Refusal, SessionId, Started, Tag};
+use std::alloc::Global;
+use std::sync::Wait;
+
+const DATABASE: u32 = 5;
+
+const OBJECT: Tag = Tag::Object {
+    database: 5,
+    class: 1_259,
+    object: 16_384,
+    sub_object: 0,
+};
+
+/// A call that looks.
+#[derive(Clone, Copy)]
+pub enum Look {
+    /// `queue`.
+    Queue,
+    /// `blockers`.
+    Blockers,
+}
+
+/// How many rows a look answers.
+fn rows_of<T: PartTable, B: Board<T>, R: Wait>(
+    rt: &R,
+    session: &mut OwnSession<T, B>,
+    look: Look,
+    waiter: SessionId,
+) -> Result<usize, Refusal>
+    ensures seat { KeepsSeat B.seat session.old session.new }
+{
+    match look {
+        Look::Queue => match session.queue(rt, OBJECT) {
+            Ok(rows) => Ok(rows.len()),
+            Err(refusal) => Err(refusal),
+        },
+        Look::Blockers => match session.blockers(rt, OBJECT, waiter) {
+            Ok(rows) => Ok(rows.len()),
+            Err(refusal) => Err(refusal),
+        },
+    }
+}
+
+/// Looks with this growth refused, and once more where it was. There is one row.
+fn look_twice<T: PartTable, B: Board<T>, R: Wait>(
+    rt: &R,
+    alloc: Global,
+    session: &mut OwnSession<T, B>,
+    kind: Look,
+    waiter: SessionId,
+    growth: u16,
+) -> Told
+    ensures seat { KeepsSeat B.seat session.old session.new }
+{
+    refuse(alloc, growth);
+    let answer = rows_of(rt, session, kind, waiter);
+    let refused = was_refused(alloc);
+    if answer.is_ok() {
+        return Told::of(refused, false, answer == Ok(1));
+    }
+    let again = rows_of(rt, session, kind, waiter) == Ok(1);
+    Told::of(refused, answer == Err(Refusal::NoMemory), again)
+}
+
+/// The second one waits for the object meanwhile, which the first one has.
+fn look_at_wait<T: PartTable, B: Board<T>, R: Wait>(
+    rt: &R,
+    alloc: Global,
+    first: &mut OwnSession<T, B>,
+    second: OwnSession<T, B>,
+    kind: Look,
+    growth: u16,
+) -> (OwnSession<T, B>, Told)
+    ensures first { KeepsSeat B.seat first.old first.new }
+    ensures second { KeepsSeat B.seat second result.0 }
+{
+    match second.start(rt, OBJECT, Exclusive, Owner::Transaction) {
+        Started::Queued(waiting) => {
+            let told = look_twice(rt, alloc, first, kind, waiting.id(), growth);
+            (waiting.cancel(rt).into_parts().0, told)
+        }
+        Started::Granted(second) => (second, Told::Otherwise),
+        Started::AlreadyHeld(second) => (second, Told::Otherwise),
+        Started::Refused(second, _) => (second, Told::Otherwise),
+    }
+}
+
+/// Two sessions of a desk do so.
+pub fn tell<T: PartTable, B: Board<T>, D: Desk<OwnSession<T, B>>, R: Wait>(
+    rt: &R,
+    alloc: Global,
+    desk: &mut D,
+    kind: Look,
+    growth: u16,
+) -> Told
+    requires seats { SeatsAre B.seat D.seat }
+    ensures manager { D.manager desk.new ≡ D.manager desk.old }
+{
+    let Ok(mut first) = desk.open(DATABASE) else {
+        return Told::Otherwise;
+    };
+    let Ok(second) = desk.open(DATABASE) else {
+        desk.close(rt, first);
+        return Told::Otherwise;
+    };
+    let taken = first.try_lock(rt, OBJECT, Exclusive, Owner::Transaction);
+    let (second, told) = look_at_wait(rt, alloc, &mut first, second, kind, growth);
+    desk.close(rt, first);
+    desk.close(rt, second);
+    if taken.is_ok() { told } else { Told::Otherwise }
+}
