@@ -393,6 +393,7 @@ fn print_sessions<R: Threads + Wait + Clock + CpuClock + AllocGlobal + Print + S
     let config = Config {
         sessions: MOST_THREADS,
         max_local: 1_024,
+        slot_groups: 1,
     };
     let (manager, opener) = Manager::new(rt.alloc(), config)?;
     let mut desk = ManagerDesk::new(&manager, opener);
