@@ -348,9 +348,15 @@ fn sessions_go_on_where_memory_ran_out_once(rt: HostRuntime) -> Result<(), Fail>
         max_local: 8,
         slot_groups: 1,
     };
+    // Each relation of theirs is of a group of its own, and none of the first one.
+    let three_in_groups = Config {
+        slot_groups: 8,
+        ..three
+    };
     for (config, story) in [
         (one, Story::GoesOn),
         (three, Story::Audits),
+        (three_in_groups, Story::Audits),
         (two(memory::MOVED), Story::OfTwo(Scene::MovesAtLast)),
     ] {
         run(&rt, rt.alloc(), config, story)?;

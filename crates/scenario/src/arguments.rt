@@ -219,8 +219,8 @@ fn orders_command<'a>(alloc: Global) -> Result<Command<'a>, AllocError> {
 }
 
 /// The command line: `run [--sessions N] [--max-local M] [--slot-groups G] [--echo] [--json] [--graph LANGUAGE]`,
-/// `orders` with the same three limits and `[--limit K]`, `shell` with these three, `modes`, `hammer --sessions N --rounds K`, or
-/// `--man`.
+/// `orders [--sessions N] [--max-local M] [--slot-groups G] [--limit K]`,
+/// `shell [--sessions N] [--max-local M] [--slot-groups G]`, `modes`, `hammer --sessions N --rounds K`, or `--man`.
 fn command<'a>(alloc: Global) -> Result<Command<'a>, AllocError> {
     let run = Command::new(alloc, "run")
         .about("Run the script on standard input")

@@ -249,7 +249,7 @@ const RUN: &str = "lock_scenario run";
 const OPENED: &str = "a: session 0 database 5\n";
 
 /// Words with a run of the program on them.
-static RUNS: [(&str, Run); 15] = [
+static RUNS: [(&str, Run); 18] = [
     ("lock_scenario modes", ("frob", false, 0, MODES, "")),
     ("lock_scenario modes --help", ("", false, 0, MODES_HELP, "")),
     (RUN, ("session a 5\n", false, 0, OPENED, "")),
@@ -298,6 +298,39 @@ static RUNS: [(&str, Run); 15] = [
             2,
             "",
             "error: invalid value '65' for '--sessions <N>': 65 is not in 1..=64\n\n\
+             For more information, try '--help'.\n",
+        ),
+    ),
+    (
+        "lock_scenario run --slot-groups 2",
+        (
+            "session a 5\ntry a 5/16384 AccessShareLock\ntry a 5/16385 AccessShareLock\nlist a\n",
+            false,
+            0,
+            "a: session 0 database 5\na: granted\na: granted\n\
+             fast a 15 5/16384 AccessShareLock\nfast a 31 5/16385 AccessShareLock\nrows 2\n",
+            "",
+        ),
+    ),
+    (
+        "lock_scenario run --slot-groups 0",
+        (
+            "session a 5\n",
+            false,
+            2,
+            "",
+            "error: invalid value '0' for '--slot-groups <G>': 0 is not in 1..=8\n\n\
+             For more information, try '--help'.\n",
+        ),
+    ),
+    (
+        "lock_scenario run --slot-groups 9",
+        (
+            "session a 5\n",
+            false,
+            2,
+            "",
+            "error: invalid value '9' for '--slot-groups <G>': 9 is not in 1..=8\n\n\
              For more information, try '--help'.\n",
         ),
     ),

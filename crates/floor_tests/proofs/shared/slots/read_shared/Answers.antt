@@ -61,7 +61,7 @@ returns-clause-none_shared g c =
     let view = g.B.Board.view in
     let own : ℕ = c.number-own.result in
     let number : ℕ = (g.B.Board.seat c.store_database.new.self).number in
-    let was = shared number own c.load_database-database.result c.load_slot-shown.result
+    let was = shared (g.B.Board.seat c.store_database.new.self).groups number own c.load_database-database.result c.load_slot-shown.result
     (view c.args.board.now) (view c.store_database.new.self) (view c.share_fast.new.self) (view c.load_database-database.new.self)
     (view c.load_slot-shown.new.self) c.requires.blank c.store_database.ensures.view c.share_fast.ensures.shared
     c.load_database-database.ensures.view c.load_slot-shown.ensures.view in
