@@ -18,7 +18,7 @@ use Rattle.lock_world.specs.World.{TraceEntry, Took, Episode}
 use Rattle.lock_world.specs.SlotHolds.{slot_holds, used_in}
 use Rattle.fast_path.specs.declared.use_counts.UseCounts.{UseCounts}
 use Rattle.fast_path.specs.Slots.{group_of_tag, group_loads, count_in, counting}
-use Rattle.fast_path.specs.Releases.{ClearsSlot}
+use Rattle.fast_path.specs.Releases.{IsUnused, ClearsSlot}
 use Rattle.shared_rule.specs.Boards.{Seated}
 use Rattle.shared_rule.specs.Episodes.{account_episode}
 use Rattle.shared_rule.specs.Lawful.{MayPutPart}

@@ -84,7 +84,7 @@ fn audit_all<'a, R: Wait>(
     requires empty { rows.old.items ≡ [] }
     ensures audited { let B = ⟦<SeatBoard<'a, Part> as Board<Part>>⟧ in
         Audits B.seat B.view B.stack numbers.old.limit numbers.old.groups (reverse sessions.old.items)
-            (reverse sessions.new.items) result }
+        (reverse sessions.new.items) result }
     ensures numbers { numbers.new ≡ numbers.old }
 {
     let Some(session) = sessions.pop() else {

@@ -1,9 +1,11 @@
-use Rattle.std.proofs.Common.{◌≡◌, [], refl, sym, ap, ◌∙◌, List, arith}
+use Rattle.std.proofs.Common.{◌≡◌, [], refl, sym, ap, ◌∙◌, subst, List, arith}
 use Rattle.local_locks.specs.declared.ends.End.{End}
 use Rattle.local_locks.specs.declared.ends.End.TheVariants.{Commit, Abort, Close, Inner}
 use Rattle.local_locks.specs.declared.records.Entry.{Entry}
 use Rattle.local_locks.specs.Owned.{ended_by, found_by, outer_after}
 use Rattle.local_locks.proofs.EntryLaws.{distinct-found}
+use Rattle.shared_rule.specs.Boards.{Seated}
+use Rattle.lock_manager.specs.Rest.{IsUseCount}
 use Rattle.lock_manager.proofs.Lemmas.Rest.Acquires.{rest-database}
 use Rattle.lock_manager.proofs.Lemmas.Rest.Ends.{rest-held, rest-counted, rest-next, rest-left, rest-found, releases-next}
 use Rattle.lock_manager.proofs.releases.end_all.Goals as goal
@@ -45,7 +47,10 @@ entries-preserved g c = record {
       (g.B.Board.view c.release_hold.new.board)
       (g.B.Board.stack c.entries.board) (g.B.Board.stack c.release_hold.new.board) (found_by c.args.end c.entries.own.locals) (found_by c.args.end c.end_next.new.self)
       (c.in-Some.tag, c.in-Some.mode) (distinct-found c.args.end c.entries.own.locals c.entries.invariant.kept.well_owned.once) c.in-Some.ensures.next (c.in-Some.ensures.entries refl)
-      c.release_hold.ensures.account c.release_hold.ensures.use_count c.release_hold.ensures.stack c.entries.invariant.rest;
+      c.release_hold.ensures.account
+      (subst (λ (s : Seated). IsUseCount s.groups (g.B.Board.view c.release_hold.new.board) c.release_hold.new.uses) c.entries.invariant.kept.seat_
+      c.release_hold.ensures.use_count)
+      c.release_hold.ensures.stack c.entries.invariant.rest;
   steps = λ last left others. c.entries.invariant.steps last left
       (releases-next (g.B.Board.seat c.args.board.now) (g.B.Board.seat c.entries.board) c.args.end (g.B.Board.view c.entries.board)
       (g.B.Board.view c.release_hold.new.board) last c.entries.own.uses c.release_hold.new.uses left (found_by c.args.end c.entries.own.locals) (found_by c.args.end c.end_next.new.self)

@@ -5,6 +5,9 @@ use Rattle.lock_manager.specs.Requests.{DecidesInPart}
 use Rattle.lock_manager.proofs.Lemmas.Requests.Whole.{led-by_table, led-refused, led-decides, led-weak_account, requests-decided}
 use Rattle.lock_manager.proofs.requests.request.Goals as goal
 
+pub returns-then-is_strong-clause-use_count : goal.returns-then-is_strong-clause-use_count
+returns-then-is_strong-clause-use_count g c = c.request_strong.ensures.use_count c.args.uses.now c.requires.use_count
+
 pub returns-then-not-is_eligible-clause-steps : goal.returns-then-not-is_eligible-clause-steps
 returns-then-not-is_eligible-clause-steps g c =
     let seat = g.B.Board.seat c.args.board.now in
