@@ -25,7 +25,7 @@ pub enum Act<'a> {
 }
 
 /// Does so at a desk that has nothing yet, with this growth refused.
-pub fn act<T: PartTable, B: Board<T>, D: Desk<OwnSession<T, B>>, R: Wait>(
+pub fn perform<T: PartTable, B: Board<T>, D: Desk<OwnSession<T, B>>, R: Wait>(
     rt: &R,
     alloc: Global,
     desk: &mut D,

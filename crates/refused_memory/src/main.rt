@@ -86,7 +86,7 @@ fn main(rt: HostRuntime) -> anyhow::Result<()> {
         println!(rt; "no growth is refused by this allocator")?;
     }
     tell_all(&rt, rt.alloc(), listens)?;
-    if managers::act(&rt, rt.alloc(), Act::GoesOn, 0) != Told::Answered {
+    if managers::perform(&rt, rt.alloc(), Act::GoesOn, 0) != Told::Answered {
         bail!("sessions that go on: it went otherwise");
     }
     println!(rt;

@@ -20,12 +20,12 @@ const CONFIG: Config = Config {
 const DATABASE: u32 = 5;
 
 /// Does so at the desk of a manager of its own, with this growth refused.
-pub fn act<R: Wait>(rt: &R, alloc: Global, act: Act<'_>, growth: u16) -> Told {
+pub fn perform<R: Wait>(rt: &R, alloc: Global, act: Act<'_>, growth: u16) -> Told {
     let Ok((manager, opener)) = Manager::new(alloc, CONFIG) else {
         return Told::Otherwise;
     };
     let mut desk = ManagerDesk::new(&manager, opener);
-    let told = act_at(rt, alloc, &mut desk, act, growth);
+    let told = perform_at(rt, alloc, &mut desk, act, growth);
     let opener = desk.into_opener();
     if opener.live() == 0 {
         manager.finish(opener);
@@ -35,7 +35,7 @@ pub fn act<R: Wait>(rt: &R, alloc: Global, act: Act<'_>, growth: u16) -> Told {
 }
 
 /// The board of the shared table is named here alone.
-fn act_at<R: Wait>(
+fn perform_at<R: Wait>(
     rt: &R,
     alloc: Global,
     desk: &mut ManagerDesk<'_>,
@@ -45,7 +45,7 @@ fn act_at<R: Wait>(
     requires none_live { desk.old.opener.live ≡ 0 }
     ensures manager { desk.new.manager.now ≡ desk.old.manager.now }
 {
-    acts::act(rt, alloc, desk, act, growth)
+    acts::perform(rt, alloc, desk, act, growth)
 }
 
 /// Makes a manager with this growth refused.

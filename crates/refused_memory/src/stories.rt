@@ -88,6 +88,6 @@ pub fn tell<R: Wait>(rt: &R, alloc: Global, story: Story<'_>, growth: u16) -> To
         Story::OfRecords(call) => parts::of_records(alloc, call, growth),
         Story::OfPlain(call) => parts::of_plain(alloc, call, growth),
         Story::RunsEvents => events::run(alloc, growth),
-        Story::AtDesk(act) => managers::act(rt, alloc, act, growth),
+        Story::AtDesk(act) => managers::perform(rt, alloc, act, growth),
     }
 }

@@ -3,15 +3,17 @@ use Rattle.std.proofs.Math.Seq.{take-append_seam}
 use Rattle.lock_manager.specs.Crews.{AreOf}
 use Rattle.manager_tests.proofs.tests.unsteady.act_all.Goals as goal
 
-pub returns-clause-own : goal.returns-clause-own
-returns-clause-own g c = record {
-  each = λ manager own.
-      let sessions = c.act.new.sessions in
-      let rest = drop (length sessions) c.args.sessions.items in
-      let many : c.args.sessions.len ≡ length sessions =
-      omega (arith, c.args.sessions.ok.0, c.as_mut_slice.ensures.len, c.act.auto.sessions) in
-      let whole : take c.args.sessions.len (sessions ++ rest) ≡ sessions =
-      ap (λ n. take n (sessions ++ rest)) many ∙ take-append_seam sessions rest in
-      subst (λ those. AreOf g.B.Board.seat manager those) (sym whole)
-      (c.act.ensures.own.each manager (subst (λ those. AreOf g.B.Board.seat manager those) (sym c.as_mut_slice.ensures.value) own));
+pub returns : goal.returns
+returns g c = record {
+  own = record {
+    each = λ manager own.
+        let sessions = c.act.new.sessions in
+        let rest = drop (length sessions) c.args.sessions.items in
+        let many : c.args.sessions.len ≡ length sessions =
+        omega (arith, c.args.sessions.ok.0, c.as_mut_slice.ensures.len, c.act.auto.sessions) in
+        let whole : take c.args.sessions.len (sessions ++ rest) ≡ sessions =
+        ap (λ n. take n (sessions ++ rest)) many ∙ take-append_seam sessions rest in
+        subst (λ those. AreOf g.B.Board.seat manager those) (sym whole)
+        (c.act.ensures.own.each manager (subst (λ those. AreOf g.B.Board.seat manager those) (sym c.as_mut_slice.ensures.value) own));
+  };
 }

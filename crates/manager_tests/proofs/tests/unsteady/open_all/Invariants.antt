@@ -1,4 +1,4 @@
-use Rattle.std.proofs.Common.{◌≡◌, ◌×◌, All}
+use Rattle.std.proofs.Common.{◌≡◌, All}
 use Rattle.manager_tests.proofs.tests.unsteady.open_all.Given as goal
 
 abbrev pub invariant-sessions : goal.invariant-sessions
