@@ -17,6 +17,7 @@ use std::process::Abort;
 use std::test::Fail;
 
 mod boards;
+mod latecomers;
 mod slots;
 
 // The indexes in these tests are worked by hand: 16 times 16 words for partitions, 1,024 for counters, 16 unused,
